@@ -1,4 +1,4 @@
--- A call that enters losses and one event behind them, by which the list may change: a write.
+-- A call that enters losses, or more, and one event behind them, by which the list may change: a write.
 use Rattle.std.proofs.Common.{◌≡◌, ◌⊎◌, inl, inr, ℕ, ◌<◌, ◌≤◌, ◌==◌, ◌||◌, Bool, true, false, List, [], ◌∷◌, ◌++◌, length, refl, sym, ◌∙◌, ap, subst, arith, append-nil}
 use Rattle.std.specs.Prelude.{IsFalse, ⊤}
 use Rattle.std.specs.List.{list_any}
@@ -13,7 +13,7 @@ use Rattle.superblocks.specs.Reading.{Scope, is_clean, list_length, role_count}
 use Rattle.flat_history.specs.declared.events.Entry.{Entry}
 use Rattle.flat_history.specs.declared.events.Event.{Event}
 use Rattle.flat_history.specs.Epochs.{HasRoomForEvents, OpensAlike}
-use Rattle.flat_history.specs.Flat.{now}
+use Rattle.flat_history.specs.Flat.{now, values_of}
 use Rattle.flat_history.specs.Legal.{level_at, level_after, IsLegalEvent}
 use Rattle.flat_history.specs.Losses.{is_unsynced, unsettles}
 use Rattle.flat_history.specs.OneShape.{is_unsettled}
@@ -26,7 +26,6 @@ use Rattle.shape_changes.specs.Steady.{IsMoreTold, IsSafeNow, IsSafeOver, KeepsS
 use Rattle.views.proofs.SoundViews.{throughout-kept}
 use Rattle.call_entries.specs.Losing.{losses_of}
 use Rattle.call_entries.proofs.CallLaws.{losses-are, last_end-behind}
-use Rattle.call_entries.proofs.StepLaws.{faults-are}
 use Rattle.call_entries.proofs.LosingLaws.{entries-both}
 use Rattle.kept_history.specs.Recorded.{IsHistoryKept, IsLegalCall, IsCallGoing, entry_of, ends_reshape, gives_some}
 use Rattle.kept_history.specs.Safe.{world_in, IsFilledRight, IsSafeHistory}
@@ -36,10 +35,10 @@ use Rattle.kept_history.proofs.Lists.{newest-in}
 use Rattle.kept_history.proofs.Seen.{now-more}
 use Rattle.kept_history.proofs.Calls.{safe-called}
 use Rattle.kept_history.proofs.KeptCalls.{kept-call}
-use Rattle.kept_history.proofs.Entered.{adds_only, AreAdding, told-adding, told-added, adding-losses, length-adding}
+use Rattle.kept_history.proofs.Entered.{adds_only, AreAdding, told-adding, told-added, length-adding}
 use Rattle.kept_history.proofs.Reshapes.{call-ends_none}
 use Rattle.history_calls.specs.Reliable.{IsReliable, AreToldGone}
-use Rattle.history_calls.proofs.Behind.{AreLostOrMissing, IsAmong, IsBehind, early-losses, is-behind, legal-losses, and-true}
+use Rattle.history_calls.proofs.Behind.{AreFirst, first-of, AreLostOrMissing, IsAmong, IsBehind, early-losses, is-behind, legal-losses, or-false, and-true}
 use Rattle.history_calls.proofs.Quiet.{IsLeftBehind}
 
 -- An event that only adds to what is told: it settles nothing, keeps the length and the level, and neither ends a reshape nor gives a role.
@@ -49,24 +48,31 @@ pub record IsAdding (event : Event) : Type 0 where
   pub ends : ends_reshape event ≡ false
   pub level : (n : ℕ) → level_after n event ≡ n
 
--- What is asked of a call, from this tape to that one with its end there.
-pub record ChangesList (given : Given) (tape : List Operation) (scope : Scope) (first : ℕ) (entries : List Entry) (old new : Members) (carried : ℕ → Bool) (reshaping : Bool)
-    (who : Who) (roles spares : ℕ) (event : Event) (tape' : List Operation) (end : ℕ) : Type 0 where
+-- ---- with more before its event
+
+-- What is asked of a call, from this tape to that one with its end there, that enters these events before its last one: by each value that they allow.
+pub record ChangesEarly (given : Given) (tape : List Operation) (scope : Scope) (first : ℕ) (entries : List Entry) (old new : Members) (carried : ℕ → Bool) (reshaping : Bool)
+    (who : Who) (early : List Event) (event : Event) (tape' : List Operation) (end : ℕ) : Type 0 where
   pub rise : IsRisen ⊤ old new tape tape'
-  pub keeps : (told : Ledger) → IsFilledRight (world_in given tape scope first) entries → IsMoreTold (told_now (world_in given tape scope first) carried reshaping entries) told
-      → ((x : ℕ) → x < list_length old.newest → IsIn (told.values x) (now (opening_list (world_in given tape scope first)) (entries ++ entries_of who end (losses_of roles spares ++ event ∷ [])) x))
-      → HasRoomLeft old tape tape' → AreGoneTold told new → IsUncleanTold told old → (unsettles event ≡ true → told.unclean ≡ true)
+  pub keeps : (told : Ledger) → IsReliable (world_in given tape' scope first) (entries ++ entries_of who end (early ++ event ∷ []))
+      → AreToldGone (world_in given tape' scope first) (entries ++ entries_of who end (early ++ event ∷ [])) new → IsFilledRight (world_in given tape scope first) entries
+      → IsMoreTold (told_now (world_in given tape scope first) carried reshaping entries) told
+      → ((x : ℕ) (v : Sector) → x < list_length old.newest → IsIn (values_of (opening_list (world_in given tape scope first)) (entries ++ entries_of who end (early ++ event ∷ [])) x) v → IsIn (told.values x) v)
+      → HasRoomLeft old tape tape' → AreGoneTold told new → IsUncleanTold told old
+      → (list_any (λ e. unsettles e.event) (entries_of who end (early ++ event ∷ [])) ≡ true → told.unclean ≡ true)
       → IsSafeOver (world_in given tape scope first) given told old tape → KeepsSafe (world_in given tape scope first) given told new tape tape'
   pub legal : IsReliable (world_in given tape scope first) entries
-      → AreToldGone (world_in given tape' scope first) (entries ++ entries_of who end (losses_of roles spares)) new
-      → level_at (world_in given tape' scope first) (entries ++ entries_of who end (losses_of roles spares)) ≡ level_at (world_in given tape scope first) entries
-      → IsLegalEvent (world_in given tape' scope first) (entries ++ entries_of who end (losses_of roles spares)) (entry_of who end event) [] event
+      → AreToldGone (world_in given tape' scope first) (entries ++ entries_of who end early) new
+      → level_at (world_in given tape' scope first) (entries ++ entries_of who end early) ≡ level_at (world_in given tape scope first) entries
+      → IsLegalCall (world_in given tape' scope first) entries who end (early ++ event ∷ [])
 
 module _ (given : Given) (tape : List Operation) (scope : Scope) (first : ℕ) (entries : List Entry) (old new : Members) (carried : ℕ → Bool) (reshaping : Bool)
-    (who : Who) (roles spares : ℕ) (event : Event) (ops : List Operation)
+    (who : Who) (early : List Event) (IsTaken : ℕ → Type 0) (event : Event) (ops : List Operation) (are : AreFirst early IsTaken)
     (goes : IsCallGoing entries who) (caller : IsFalse (who.caller == 254)) (adding : IsAdding event) (few : role_count new.newest ≤ 16)
-    (missing : AreLostOrMissing old new (IsAmong roles))
-    (sized : list_length new.newest ≡ list_length old.newest) (clean : is_clean new.newest ≡ false → (is_clean old.newest ≡ false) ⊎ (unsettles event ≡ true)) (sizes_are : scope.sizes ≡ sizes given)
+    (missing : AreLostOrMissing old new IsTaken)
+    (sized : list_length new.newest ≡ list_length old.newest)
+    (clean : is_clean new.newest ≡ false → (is_clean old.newest ≡ false) ⊎ (list_any (λ e. unsettles e.event) (entries_of who (length (tape ++ ops)) (early ++ event ∷ [])) ≡ true))
+    (sizes_are : scope.sizes ≡ sizes given)
     (gone : IsReliable (world_in given tape scope first) entries → AreToldGone (world_in given tape scope first) entries old)
     (unclean : is_clean old.newest ≡ false → (is_unsynced (world_in given tape scope first) entries || is_unsettled entries) ≡ true)
     (recorded : IsHistoryKept (IsReliable (world_in given tape scope first) entries) (world_in given tape scope first) (list_length old.newest) entries)
@@ -74,7 +80,7 @@ module _ (given : Given) (tape : List Operation) (scope : Scope) (first : ℕ) (
     → IsSafeHistory ⊤ (world_in given tape scope first) given old carried reshaping entries)
     (now_safe : IsFilledRight (world_in given tape scope first) entries → HasRoomForEvents (world_in given tape scope first) → OpensAlike (world_in given tape scope first)
     → IsSafeOver (world_in given tape scope first) given (told_now (world_in given tape scope first) carried reshaping entries) old tape)
-    (call : ChangesList given tape scope first entries old new carried reshaping who roles spares event (tape ++ ops) (length (tape ++ ops))) where
+    (call : ChangesEarly given tape scope first entries old new carried reshaping who early event (tape ++ ops) (length (tape ++ ops))) where
   abbrev world : World
   world = world_in given tape scope first
 
@@ -84,23 +90,17 @@ module _ (given : Given) (tape : List Operation) (scope : Scope) (first : ℕ) (
   abbrev end : ℕ
   end = length (tape ++ ops)
 
-  abbrev losses : List Event
-  losses = losses_of roles spares
-
-  abbrev more : List Entry
-  more = entries_of who (length (tape ++ ops)) (losses_of roles spares)
-
   abbrev added : List Entry
-  added = entries_of who (length (tape ++ ops)) (losses_of roles spares ++ event ∷ [])
+  added = entries_of who (length (tape ++ ops)) (early ++ event ∷ [])
 
   abbrev all : List Entry
-  all = entries ++ entries_of who (length (tape ++ ops)) (losses_of roles spares ++ event ∷ [])
+  all = entries ++ entries_of who (length (tape ++ ops)) (early ++ event ∷ [])
 
-  behind : IsBehind (world_in given tape scope first) (world_in given (tape ++ ops) scope first) entries new who (length (tape ++ ops)) (losses_of roles spares) event
-  behind = is-behind given tape scope first entries old new who (losses_of roles spares) (IsAmong roles) event ops (early-losses roles spares) adding.gives adding.ends adding.level few missing gone recorded
+  behind : IsBehind (world_in given tape scope first) (world_in given (tape ++ ops) scope first) entries new who (length (tape ++ ops)) early (event ∷ [])
+  behind = is-behind given tape scope first entries old new who early IsTaken (event ∷ []) ops are (or-false (gives_some event) false adding.gives refl) adding.level few missing gone recorded
 
   adds-all : AreAdding added
-  adds-all = adding-losses who end losses (event ∷ []) (faults-are losses (losses-are roles spares)) (and-true (adds_only event) true adding.adds refl)
+  adds-all = are.adds who end (event ∷ []) (and-true (adds_only event) true adding.adds refl)
 
   -- ---- what is told
 
@@ -117,16 +117,9 @@ module _ (given : Given) (tape : List Operation) (scope : Scope) (first : ℕ) (
   told-last : IsMoreTold told (told_now later carried reshaping all)
   told-last = told-added later carried reshaping entries added adds-all behind.gives_all
 
-  told-unsettled : unsettles event ≡ true → told.unclean ≡ true
-  told-unsettled is = last-of (is_unsynced later entries) (is_unsettled entries) (list_any (λ e. unsettles e.event) added)
-      (ap (λ (l : List Entry). list_any (λ e. unsettles e.event) l) (entries-both who end losses (event ∷ []))
-      ∙ list_any-append (λ e. unsettles e.event) more (entries_of who end (event ∷ [])) ∙ last-true (list_any (λ e. unsettles e.event) more) (unsettles event) is)
+  told-unsettled : list_any (λ e. unsettles e.event) added ≡ true → told.unclean ≡ true
+  told-unsettled is = last-of (is_unsynced later entries) (is_unsettled entries) (list_any (λ e. unsettles e.event) added) is
     where
-      last-true : (a b : Bool) → b ≡ true → (a || (b || false)) ≡ true
-      last-true true b e = refl
-      last-true false true e = refl
-      last-true false false e = absurd (cc)
-
       last-of : (a b c : Bool) → c ≡ true → (a || (b || c)) ≡ true
       last-of true b c e = refl
       last-of false true c e = refl
@@ -138,24 +131,17 @@ module _ (given : Given) (tape : List Operation) (scope : Scope) (first : ℕ) (
     | inr wrote ↦ told-last.unclean (told-unsettled wrote)
   ]
 
+  -- each value that the history allows
+  allowed : (x : ℕ) (v : Sector) → x < list_length old.newest → IsIn (values_of (opening_list world) all x) v → IsIn (told.values x) v
+  allowed x v lt may = subst (λ (l : List Sector). IsIn (values_of l all x) v) (sym behind.opened) may
+
   -- ---- the history
 
-  legal-call : IsReliable later all → IsLegalCall later entries who end (losses ++ event ∷ [])
-  legal-call fills = legal-losses later entries who end losses (event ∷ []) (losses-are roles spares) (call.legal (behind.right fills) (behind.gone_more fills) behind.level_more, tt, tt)
-
   recorded-all : IsHistoryKept (IsReliable later all) later (list_length new.newest) all
-  recorded-all = kept-call (IsReliable world entries) (IsReliable later all) world ops (list_length old.newest) (list_length new.newest) entries who (losses ++ event ∷ []) goes recorded behind.right caller
+  recorded-all = kept-call (IsReliable world entries) (IsReliable later all) world ops (list_length old.newest) (list_length new.newest) entries who (early ++ event ∷ []) goes recorded behind.right caller
       (λ fills. inr behind.gives_all) (length-adding (length (opening_list world)) entries added adds-all ∙ recorded.sized ∙ sym sized)
-      (last_end-behind first entries who end losses event) legal-call
-      (λ fills. call-ends_none later entries who end (losses ++ event ∷ []) behind.ends)
-
-  -- ---- the list
-
-  now-same : (x : ℕ) → now (opening_list later) all x ≡ now (opening_list world) all x
-  now-same x = ap (λ (l : List Sector). now l all x) behind.opened
-
-  allowed : (x : ℕ) → x < list_length old.newest → IsIn (told.values x) (now (opening_list world) all x)
-  allowed x lt = subst (IsIn (told.values x)) (now-same x) (newest-in (opening_list later) all x (let size = recorded-all.sized in omega (arith, lt, size, sized)))
+      (last_end-behind first entries who end early event) (λ fills. call.legal (behind.right fills) (behind.gone_more fills) behind.level_more)
+      (λ fills. call-ends_none later entries who end (early ++ event ∷ []) (are.ends (event ∷ []) (or-false (ends_reshape event) false adding.ends refl)))
 
   -- ---- each mark
 
@@ -164,7 +150,7 @@ module _ (given : Given) (tape : List Operation) (scope : Scope) (first : ℕ) (
     was = safe (behind.fills fills) (room-before world ops begun room) (alike-before world ops begun alike)
 
     stretch : KeepsSafe world given told new tape (tape ++ ops)
-    stretch = call.keeps told (behind.fills fills) told-first allowed (room-now world ops begun old was.counted room)
+    stretch = call.keeps told (record { fills = fills; room = room; alike = alike }) (behind.gone_all (record { fills = fills; room = room; alike = alike })) (behind.fills fills) told-first allowed (room-now world ops begun old was.counted room)
         (λ role lt miss. behind.counts_all (record { fills = fills; room = room; alike = alike }) role lt miss)
         (λ dirty. told-first.unclean (unclean dirty)) told-unsettled
         (now-more (OpensFit world) scope given (told_now world carried reshaping entries) told old (disk given.start tape) told-first (now_safe (behind.fills fills) (room-before world ops begun room) (alike-before world ops begun alike)))
@@ -175,12 +161,12 @@ module _ (given : Given) (tape : List Operation) (scope : Scope) (first : ℕ) (
     abbrev all_of : List Event → List Entry
     all_of l = entries ++ entries_of who (length (tape ++ ops)) l
 
-    no-more : (losses ++ event ∷ []) ++ [] ≡ losses ++ event ∷ []
-    no-more = append-nil (losses ++ event ∷ [])
+    no-more : (early ++ event ∷ []) ++ [] ≡ early ++ event ∷ []
+    no-more = append-nil (early ++ event ∷ [])
 
     safe-all : IsSafeHistory ⊤ later given new carried reshaping all
     safe-all = subst (λ (l : List Event). IsSafeHistory ⊤ later given new carried reshaping (all_of l)) no-more
-        (safe-called ⊤ given tape scope first entries old new carried carried reshaping reshaping who (losses ++ event ∷ []) [] told ops (tape ++ ops) end refl refl sizes_are begun recorded.ends was
+        (safe-called ⊤ given tape scope first entries old new carried carried reshaping reshaping who (early ++ event ∷ []) [] told ops (tape ++ ops) end refl refl sizes_are begun recorded.ends was
         (subst (λ (l : List Event). IsFilledRight later (all_of l)) (sym no-more) fills) call.rise
         (λ claimed opened mark low high. throughout-kept world given told new ops refl begun stretch (was.sound tt) opened mark (omega (arith, begun, low)) high)
         (record { size = refl; values = λ x lt v may. may; gone = λ role is. is; unclean = λ is. is; reshaping = λ is. refl; carried = λ number is. refl }) stretch
@@ -189,8 +175,8 @@ module _ (given : Given) (tape : List Operation) (scope : Scope) (first : ℕ) (
     now-all : IsSafeOver later given (told_now later carried reshaping all) new (tape ++ ops)
     now-all = subst (λ (fit : Type 0). IsSafeNow fit scope given (told_now later carried reshaping all) new (disk given.start (tape ++ ops))) (sym (fit-grown world ops begun)) last
 
-  pub adding-leaves : IsLeftBehind given tape scope first entries all new carried reshaping (tape ++ ops)
-  adding-leaves = record {
+  pub changing-leaves : IsLeftBehind given tape scope first entries all new carried reshaping (tape ++ ops)
+  changing-leaves = record {
     right = behind.right;
     fills = behind.fills;
     levelled = behind.level_all;
@@ -203,3 +189,74 @@ module _ (given : Given) (tape : List Operation) (scope : Scope) (first : ℕ) (
     safe = safe-all;
     now_safe = now-all;
   }
+
+-- ---- with losses before it
+
+-- What is asked of a call, from this tape to that one with its end there.
+pub record ChangesList (given : Given) (tape : List Operation) (scope : Scope) (first : ℕ) (entries : List Entry) (old new : Members) (carried : ℕ → Bool) (reshaping : Bool)
+    (who : Who) (roles spares : ℕ) (event : Event) (tape' : List Operation) (end : ℕ) : Type 0 where
+  pub rise : IsRisen ⊤ old new tape tape'
+  pub keeps : (told : Ledger) → IsReliable (world_in given tape' scope first) (entries ++ entries_of who end (losses_of roles spares ++ event ∷ []))
+      → AreToldGone (world_in given tape' scope first) (entries ++ entries_of who end (losses_of roles spares ++ event ∷ [])) new → IsFilledRight (world_in given tape scope first) entries
+      → IsMoreTold (told_now (world_in given tape scope first) carried reshaping entries) told
+      → ((x : ℕ) → x < list_length old.newest → IsIn (told.values x) (now (opening_list (world_in given tape scope first)) (entries ++ entries_of who end (losses_of roles spares ++ event ∷ [])) x))
+      → HasRoomLeft old tape tape' → AreGoneTold told new → IsUncleanTold told old → (unsettles event ≡ true → told.unclean ≡ true)
+      → IsSafeOver (world_in given tape scope first) given told old tape → KeepsSafe (world_in given tape scope first) given told new tape tape'
+  pub legal : IsReliable (world_in given tape scope first) entries
+      → AreToldGone (world_in given tape' scope first) (entries ++ entries_of who end (losses_of roles spares)) new
+      → level_at (world_in given tape' scope first) (entries ++ entries_of who end (losses_of roles spares)) ≡ level_at (world_in given tape scope first) entries
+      → IsLegalEvent (world_in given tape' scope first) (entries ++ entries_of who end (losses_of roles spares)) (entry_of who end event) [] event
+
+-- what its event leaves unsettled
+pub unsettled-behind : (who : Who) (end roles spares : ℕ) (event : Event) → unsettles event ≡ true → list_any (λ e. unsettles e.event) (entries_of who end (losses_of roles spares ++ event ∷ [])) ≡ true
+unsettled-behind who end roles spares event is =
+    ap (λ (l : List Entry). list_any (λ e. unsettles e.event) l) (entries-both who end (losses_of roles spares) (event ∷ []))
+    ∙ list_any-append (λ e. unsettles e.event) (entries_of who end (losses_of roles spares)) (entries_of who end (event ∷ []))
+    ∙ last-true (list_any (λ e. unsettles e.event) (entries_of who end (losses_of roles spares))) (unsettles event) is
+  where
+    last-true : (a b : Bool) → b ≡ true → (a || (b || false)) ≡ true
+    last-true true b e = refl
+    last-true false true e = refl
+    last-true false false e = absurd (cc)
+
+module _ (given : Given) (tape : List Operation) (scope : Scope) (first : ℕ) (entries : List Entry) (old new : Members) (carried : ℕ → Bool) (reshaping : Bool)
+    (who : Who) (roles spares : ℕ) (event : Event) (ops : List Operation)
+    (goes : IsCallGoing entries who) (caller : IsFalse (who.caller == 254)) (adding : IsAdding event) (few : role_count new.newest ≤ 16)
+    (missing : AreLostOrMissing old new (IsAmong roles))
+    (sized : list_length new.newest ≡ list_length old.newest) (clean : is_clean new.newest ≡ false → (is_clean old.newest ≡ false) ⊎ (unsettles event ≡ true)) (sizes_are : scope.sizes ≡ sizes given)
+    (gone : IsReliable (world_in given tape scope first) entries → AreToldGone (world_in given tape scope first) entries old)
+    (unclean : is_clean old.newest ≡ false → (is_unsynced (world_in given tape scope first) entries || is_unsettled entries) ≡ true)
+    (recorded : IsHistoryKept (IsReliable (world_in given tape scope first) entries) (world_in given tape scope first) (list_length old.newest) entries)
+    (safe : IsFilledRight (world_in given tape scope first) entries → HasRoomForEvents (world_in given tape scope first) → OpensAlike (world_in given tape scope first)
+    → IsSafeHistory ⊤ (world_in given tape scope first) given old carried reshaping entries)
+    (now_safe : IsFilledRight (world_in given tape scope first) entries → HasRoomForEvents (world_in given tape scope first) → OpensAlike (world_in given tape scope first)
+    → IsSafeOver (world_in given tape scope first) given (told_now (world_in given tape scope first) carried reshaping entries) old tape)
+    (call : ChangesList given tape scope first entries old new carried reshaping who roles spares event (tape ++ ops) (length (tape ++ ops))) where
+  abbrev events : List Event
+  events = losses_of roles spares ++ event ∷ []
+
+  first-losses : AreFirst (losses_of roles spares) (IsAmong roles)
+  first-losses = first-of (early-losses roles spares)
+
+  adds-losses : AreAdding (entries_of who (length (tape ++ ops)) events)
+  adds-losses = first-losses.adds who (length (tape ++ ops)) (event ∷ []) (and-true (adds_only event) true adding.adds refl)
+
+  newest : (x : ℕ) → x < list_length old.newest
+      → IsIn (values_of (opening_list (world_in given tape scope first)) (entries ++ entries_of who (length (tape ++ ops)) events) x) (now (opening_list (world_in given tape scope first)) (entries ++ entries_of who (length (tape ++ ops)) events) x)
+  newest x lt = newest-in (opening_list (world_in given tape scope first)) (entries ++ entries_of who (length (tape ++ ops)) events) x
+      (let size = length-adding (length (opening_list (world_in given tape scope first))) entries (entries_of who (length (tape ++ ops)) events) adds-losses ∙ recorded.sized in omega (arith, lt, size))
+
+  pub adding-leaves : IsLeftBehind given tape scope first entries (entries ++ entries_of who (length (tape ++ ops)) (losses_of roles spares ++ event ∷ [])) new carried reshaping (tape ++ ops)
+  adding-leaves = changing-leaves given tape scope first entries old new carried reshaping who (losses_of roles spares) (IsAmong roles) event ops first-losses goes caller adding few missing sized
+      (λ dirty. elim (clean dirty) [
+        | inl before ↦ inl before
+        | inr wrote ↦ inr (unsettled-behind who (length (tape ++ ops)) roles spares event wrote)
+      ]) sizes_are gone unclean recorded safe now_safe
+      (record {
+        rise = call.rise;
+        keeps = λ told all all_gone fills more allowed room told_gone told_unclean unsettled before.
+            call.keeps told all all_gone fills more (λ x lt. allowed x (now (opening_list (world_in given tape scope first)) (entries ++ entries_of who (length (tape ++ ops)) (losses_of roles spares ++ event ∷ [])) x) lt (newest x lt)) room told_gone told_unclean
+            (λ is. unsettled (unsettled-behind who (length (tape ++ ops)) roles spares event is)) before;
+        legal = λ fills told_gone level.
+            legal-losses (world_in given (tape ++ ops) scope first) entries who (length (tape ++ ops)) (losses_of roles spares) (event ∷ []) (losses-are roles spares) (call.legal fills told_gone level, tt, tt);
+      })

@@ -83,8 +83,15 @@ and-true false b e f = absurd (cc)
 
 -- ---- what stands before the event
 
--- What stands before the event of a call only adds to what is told, and tells these roles lost; it leaves the list and the level, gives no role and ends no
--- reshape.
+-- What stands before the event of a call only adds to what is told, and tells these roles lost; it leaves the level, gives no role and ends no reshape.
+pub record AreFirst (early : List Event) (IsTaken : ℕ → Type 0) : Type 0 where
+  pub adds : (who : Who) (end : ℕ) (tail : List Event) → AreAdding (entries_of who end tail) → AreAdding (entries_of who end (early ++ tail))
+  pub gives : (who : Who) (end : ℕ) (tail : List Event) → list_any (λ e. gives_some e.event) (entries_of who end tail) ≡ false → list_any (λ e. gives_some e.event) (entries_of who end (early ++ tail)) ≡ false
+  pub lost : (who : Who) (end : ℕ) (tail : List Event) (role : ℕ) → role < 16 → IsTaken role → is_lost (entries_of who end (early ++ tail)) role ≡ true
+  pub ends : (tail : List Event) → list_any ends_reshape tail ≡ false → list_any ends_reshape (early ++ tail) ≡ false
+  pub level : (who : Who) (end : ℕ) (tail : List Event) (n : ℕ) → fold (λ level e. level_after level e.event) n (entries_of who end (early ++ tail)) ≡ fold (λ level e. level_after level e.event) n (entries_of who end tail)
+
+-- The same, and it leaves the list.
 pub record AreEarly (early : List Event) (IsTaken : ℕ → Type 0) : Type 0 where
   pub adds : (who : Who) (end : ℕ) (tail : List Event) → AreAdding (entries_of who end tail) → AreAdding (entries_of who end (early ++ tail))
   pub gives : (who : Who) (end : ℕ) (tail : List Event) → list_any (λ e. gives_some e.event) (entries_of who end tail) ≡ false → list_any (λ e. gives_some e.event) (entries_of who end (early ++ tail)) ≡ false
@@ -93,6 +100,9 @@ pub record AreEarly (early : List Event) (IsTaken : ℕ → Type 0) : Type 0 whe
   pub level : (who : Who) (end : ℕ) (tail : List Event) (n : ℕ) → fold (λ level e. level_after level e.event) n (entries_of who end (early ++ tail)) ≡ fold (λ level e. level_after level e.event) n (entries_of who end tail)
   pub values : (who : Who) (end : ℕ) (tail : List Event) (x : ℕ) (values : List Sector)
       → fold (λ values e. values_after x values e.event) values (entries_of who end (early ++ tail)) ≡ fold (λ values e. values_after x values e.event) values (entries_of who end tail)
+
+pub first-of : {early : List Event} {IsTaken : ℕ → Type 0} → AreEarly early IsTaken → AreFirst early IsTaken
+first-of are = record { adds = are.adds; gives = are.gives; lost = are.lost; ends = are.ends; level = are.level }
 
 -- one of these roles
 abbrev pub IsAmong : ℕ → ℕ → Type 0
@@ -114,26 +124,26 @@ early-losses roles spares = record {
 abbrev pub AreLostOrMissing : Members → Members → (ℕ → Type 0) → Type 0
 AreLostOrMissing old new IsTaken = (role : ℕ) → role < role_count new.newest → is_missing (reading_of new) role ≡ true → ((role < role_count old.newest) × (is_missing (reading_of old) role ≡ true)) ⊎ IsTaken role
 
--- Of the entries of such a call: those before the event only add, and no entry gives a role; what is missing is gone by them, and behind the event too; the
+-- Of the entries of such a call: those before its last only add, and no entry gives a role; what is missing is gone by them, and behind the last too; the
 -- level stays; what was filled in before was right, if it is right behind it; and the opening's list is what it was.
-pub record IsBehind (world later : World) (entries : List Entry) (new : Members) (who : Who) (end : ℕ) (early : List Event) (event : Event) : Type 0 where
+pub record IsBehind (world later : World) (entries : List Entry) (new : Members) (who : Who) (end : ℕ) (early tail : List Event) : Type 0 where
   pub adds_more : AreAdding (entries_of who end early)
   pub gives_more : list_any (λ e. gives_some e.event) (entries_of who end early) ≡ false
-  pub gives_all : list_any (λ e. gives_some e.event) (entries_of who end (early ++ event ∷ [])) ≡ false
-  pub counts_more : IsReliable later (entries ++ entries_of who end (early ++ event ∷ [])) → (role : ℕ) → role < role_count new.newest → is_missing (reading_of new) role ≡ true → (is_gone_after later entries role || list_any (loses later role) (entries_of who end early)) ≡ true
-  pub counts_all : IsReliable later (entries ++ entries_of who end (early ++ event ∷ [])) → (role : ℕ) → role < role_count new.newest → is_missing (reading_of new) role ≡ true
-      → (is_gone_after later entries role || list_any (loses later role) (entries_of who end (early ++ event ∷ []))) ≡ true
-  pub gone_more : IsReliable later (entries ++ entries_of who end (early ++ event ∷ [])) → AreToldGone later (entries ++ entries_of who end early) new
-  pub gone_all : IsReliable later (entries ++ entries_of who end (early ++ event ∷ [])) → AreToldGone later (entries ++ entries_of who end (early ++ event ∷ [])) new
+  pub gives_all : list_any (λ e. gives_some e.event) (entries_of who end (early ++ tail)) ≡ false
+  pub counts_more : IsReliable later (entries ++ entries_of who end (early ++ tail)) → (role : ℕ) → role < role_count new.newest → is_missing (reading_of new) role ≡ true → (is_gone_after later entries role || list_any (loses later role) (entries_of who end early)) ≡ true
+  pub counts_all : IsReliable later (entries ++ entries_of who end (early ++ tail)) → (role : ℕ) → role < role_count new.newest → is_missing (reading_of new) role ≡ true
+      → (is_gone_after later entries role || list_any (loses later role) (entries_of who end (early ++ tail))) ≡ true
+  pub gone_more : IsReliable later (entries ++ entries_of who end (early ++ tail)) → AreToldGone later (entries ++ entries_of who end early) new
+  pub gone_all : IsReliable later (entries ++ entries_of who end (early ++ tail)) → AreToldGone later (entries ++ entries_of who end (early ++ tail)) new
   pub level_more : level_at later (entries ++ entries_of who end early) ≡ level_at world entries
-  pub level_all : level_at later (entries ++ entries_of who end (early ++ event ∷ [])) ≡ level_at world entries
-  pub fills : IsFilledRight later (entries ++ entries_of who end (early ++ event ∷ [])) → IsFilledRight world entries
-  pub right : IsReliable later (entries ++ entries_of who end (early ++ event ∷ [])) → IsReliable world entries
-  pub ends : list_any ends_reshape (early ++ event ∷ []) ≡ false
+  pub level_all : level_at later (entries ++ entries_of who end (early ++ tail)) ≡ level_at world entries
+  pub fills : IsFilledRight later (entries ++ entries_of who end (early ++ tail)) → IsFilledRight world entries
+  pub right : IsReliable later (entries ++ entries_of who end (early ++ tail)) → IsReliable world entries
   pub opened : opening_list later ≡ opening_list world
 
-module _ (given : Given) (tape : List Operation) (scope : Scope) (first : ℕ) (entries : List Entry) (old new : Members) (who : Who) (early : List Event) (IsTaken : ℕ → Type 0) (event : Event) (ops : List Operation)
-    (are : AreEarly early IsTaken) (gives : gives_some event ≡ false) (ends : ends_reshape event ≡ false) (level : (n : ℕ) → level_after n event ≡ n) (few : role_count new.newest ≤ 16) (missing : AreLostOrMissing old new IsTaken)
+module _ (given : Given) (tape : List Operation) (scope : Scope) (first : ℕ) (entries : List Entry) (old new : Members) (who : Who) (early : List Event) (IsTaken : ℕ → Type 0) (tail : List Event) (ops : List Operation)
+    (are : AreFirst early IsTaken) (gives : list_any (λ e. gives_some e.event) (entries_of who (length (tape ++ ops)) tail) ≡ false)
+    (level : (n : ℕ) → fold (λ level e. level_after level e.event) n (entries_of who (length (tape ++ ops)) tail) ≡ n) (few : role_count new.newest ≤ 16) (missing : AreLostOrMissing old new IsTaken)
     (gone : IsReliable (world_in given tape scope first) entries → AreToldGone (world_in given tape scope first) entries old)
     (recorded : IsHistoryKept (IsReliable (world_in given tape scope first) entries) (world_in given tape scope first) (list_length old.newest) entries) where
   abbrev world : World
@@ -149,7 +159,7 @@ module _ (given : Given) (tape : List Operation) (scope : Scope) (first : ℕ) (
   more = entries_of who (length (tape ++ ops)) (early)
 
   abbrev added : List Entry
-  added = entries_of who (length (tape ++ ops)) (early ++ event ∷ [])
+  added = entries_of who (length (tape ++ ops)) (early ++ tail)
 
   all-but : (P : List Event → Type 0) → P (early ++ []) → P early
   all-but P holds = subst P (append-nil early) holds
@@ -158,7 +168,7 @@ module _ (given : Given) (tape : List Operation) (scope : Scope) (first : ℕ) (
   gives-more = all-but (λ (l : List Event). list_any (λ e. gives_some e.event) (entries_of who end l) ≡ false) (are.gives who end [] refl)
 
   gives-all : list_any (λ e. gives_some e.event) added ≡ false
-  gives-all = are.gives who end (event ∷ []) (or-false (gives_some event) false gives refl)
+  gives-all = are.gives who end tail gives
 
   fills-before : IsFilledRight later (entries ++ added) → IsFilledRight world entries
   fills-before (inl none) = inl (λ role. sym (takes-grown world ops entries role recorded.ends) ∙ none-before (loses later role) entries added (none role))
@@ -178,7 +188,7 @@ module _ (given : Given) (tape : List Operation) (scope : Scope) (first : ℕ) (
   counts-more fills = gone-counts (right-before fills) more (λ role lt has. all-but (λ (l : List Event). is_lost (entries_of who end l) role ≡ true) (are.lost who end [] role lt has))
 
   counts-all : IsReliable later (entries ++ added) → (role : ℕ) → role < role_count new.newest → is_missing (reading_of new) role ≡ true → (is_gone_after later entries role || list_any (loses later role) added) ≡ true
-  counts-all fills = gone-counts (right-before fills) added (λ role lt has. are.lost who end (event ∷ []) role lt has)
+  counts-all fills = gone-counts (right-before fills) added (λ role lt has. are.lost who end tail role lt has)
 
   level-from : (xs : List Event) → fold (λ level e. level_after level e.event) (level_at world entries) (entries_of who end xs) ≡ level_at world entries
       → level_at later (entries ++ entries_of who end xs) ≡ level_at world entries
@@ -187,7 +197,7 @@ module _ (given : Given) (tape : List Operation) (scope : Scope) (first : ℕ) (
       ∙ fold-append (λ level e. level_after level e.event) (option_map_or (λ r. r.newest.level) (reading_at world world.first) 5) entries (entries_of who end xs)
       ∙ same
 
-  pub is-behind : IsBehind (world_in given tape scope first) (world_in given (tape ++ ops) scope first) entries new who (length (tape ++ ops)) early event
+  pub is-behind : IsBehind (world_in given tape scope first) (world_in given (tape ++ ops) scope first) entries new who (length (tape ++ ops)) early tail
   is-behind = record {
     adds_more = all-but (λ (l : List Event). AreAdding (entries_of who end l)) (are.adds who end [] refl);
     gives_more = gives-more;
@@ -197,9 +207,8 @@ module _ (given : Given) (tape : List Operation) (scope : Scope) (first : ℕ) (
     gone_more = λ fills role lt miss. any-gone later role entries more (regains-none later role more gives-more) (counts-more fills role lt miss);
     gone_all = λ fills role lt miss. any-gone later role entries added (regains-none later role added gives-all) (counts-all fills role lt miss);
     level_more = level-from early (all-but (λ (l : List Event). fold (λ level e. level_after level e.event) (level_at world entries) (entries_of who end l) ≡ level_at world entries) (are.level who end [] (level_at world entries)));
-    level_all = level-from (early ++ event ∷ []) (are.level who end (event ∷ []) (level_at world entries) ∙ level (level_at world entries));
+    level_all = level-from (early ++ tail) (are.level who end tail (level_at world entries) ∙ level (level_at world entries));
     fills = fills-before;
     right = right-before;
-    ends = are.ends (event ∷ []) (or-false (ends_reshape event) false ends refl);
     opened = opening-grown world ops recorded.begun;
   }

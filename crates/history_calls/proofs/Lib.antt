@@ -2,3 +2,4 @@ pub mod Behind
 pub mod Quiet
 pub mod Adding
 pub mod Settling
+pub mod Failed

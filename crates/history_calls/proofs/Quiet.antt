@@ -1,6 +1,7 @@
 -- A call that leaves the list as it is, and enters losses and one event behind them.
 use Rattle.std.proofs.Common.{◌≡◌, inr, ℕ, ◌≤◌, ◌==◌, ◌||◌, Bool, true, false, List, [], ◌∷◌, ◌++◌, length, refl, sym, ◌∙◌, ap, subst, arith, append_assoc}
-use Rattle.std.specs.Prelude.{IsFalse, slice_index_or, ⊤}
+use Rattle.std.specs.Prelude.{IsFalse, fold, slice_index_or, ⊤}
+use Rattle.std.specs.List.{list_any}
 use Rattle.md_base.specs.Sectors.{Sector}
 use Rattle.md_base.specs.declared.answers.Who.{Who}
 use Rattle.bank.specs.declared.bank.Operation.{Operation}
@@ -13,6 +14,7 @@ use Rattle.flat_history.specs.declared.events.Event.{Event}
 use Rattle.flat_history.specs.Epochs.{HasRoomForEvents, OpensAlike}
 use Rattle.flat_history.specs.Flat.{now, values_of, values_after}
 use Rattle.flat_history.specs.Legal.{level_at, level_after}
+use Rattle.flat_history.specs.Transfers.{last_end_from}
 use Rattle.flat_history.specs.Losses.{is_unsynced}
 use Rattle.flat_history.specs.OneShape.{is_unsettled}
 use Rattle.flat_history.specs.Plain.{entries_of}
@@ -35,7 +37,7 @@ use Rattle.kept_history.proofs.KeptCalls.{kept-call}
 use Rattle.kept_history.proofs.Entered.{adds_only, AreAdding, told-adding, told-added, values-more, length-adding}
 use Rattle.kept_history.proofs.Reshapes.{call-ends_none}
 use Rattle.history_calls.specs.Reliable.{IsReliable, AreToldGone}
-use Rattle.history_calls.proofs.Behind.{AreEarly, AreLostOrMissing, IsBehind, is-behind, or-false, and-true}
+use Rattle.history_calls.proofs.Behind.{AreEarly, first-of, AreLostOrMissing, IsBehind, is-behind, or-false, and-true}
 
 -- An event that leaves the list and the level, settles nothing and neither ends a reshape nor gives a role.
 pub record IsQuiet (event : Event) : Type 0 where
@@ -45,18 +47,41 @@ pub record IsQuiet (event : Event) : Type 0 where
   pub still : (x : ℕ) (values : List Sector) → values_after x values event ≡ values
   pub level : (n : ℕ) → level_after n event ≡ n
 
+-- The same of the last events of a call, none or one.
+pub record AreQuietLast (who : Who) (end : ℕ) (tail : List Event) : Type 0 where
+  pub adds : AreAdding (entries_of who end tail)
+  pub gives : list_any (λ e. gives_some e.event) (entries_of who end tail) ≡ false
+  pub ends : list_any ends_reshape tail ≡ false
+  pub still : (x : ℕ) (values : List Sector) → fold (λ values e. values_after x values e.event) values (entries_of who end tail) ≡ values
+  pub level : (n : ℕ) → fold (λ level e. level_after level e.event) n (entries_of who end tail) ≡ n
+
+pub quiet-last : (who : Who) (end : ℕ) (event : Event) → IsQuiet event → AreQuietLast who end (event ∷ [])
+quiet-last who end event quiet = record {
+  adds = and-true (adds_only event) true quiet.adds refl;
+  gives = or-false (gives_some event) false quiet.gives refl;
+  ends = or-false (ends_reshape event) false quiet.ends refl;
+  still = quiet.still;
+  level = quiet.level;
+}
+
+pub quiet-none : (who : Who) (end : ℕ) → AreQuietLast who end []
+quiet-none who end = record { adds = refl; gives = refl; ends = refl; still = λ x values. refl; level = λ n. refl }
+
 -- ---- the call
 
--- What is asked of a call, from this tape to that one with its end there, that enters these events before its last one.
-pub record LeavesList (given : Given) (tape : List Operation) (scope : Scope) (first : ℕ) (entries : List Entry) (old new : Members) (carried : ℕ → Bool) (reshaping : Bool)
-    (who : Who) (early : List Event) (event : Event) (tape' : List Operation) (end : ℕ) : Type 0 where
+-- What is asked of a call, from this tape to that one with its end there, that enters these events before its last ones. It may make more device numbers known: its
+-- marks are judged with them, from what was told without.
+pub record LeavesNumbers (given : Given) (tape : List Operation) (scope : Scope) (first : ℕ) (entries : List Entry) (old new : Members) (carried carried' : ℕ → Bool) (reshaping : Bool)
+    (who : Who) (early tail : List Event) (tape' : List Operation) (end : ℕ) : Type 0 where
   pub rise : IsRisen ⊤ old new tape tape'
-  pub keeps : (told : Ledger) → IsFilledRight (world_in given tape scope first) entries → IsMoreTold (told_now (world_in given tape scope first) carried reshaping entries) told
-      → HasRoomLeft old tape tape' → AreGoneTold told new → IsUncleanTold told old
-      → IsSafeOver (world_in given tape scope first) given told old tape → KeepsSafe (world_in given tape scope first) given told new tape tape'
-  pub legal : IsReliable (world_in given tape scope first) entries → AreToldGone (world_in given tape' scope first) (entries ++ entries_of who end early) new
+  pub keeps : (was told : Ledger) → IsReliable (world_in given tape scope first) entries → IsMoreTold (told_now (world_in given tape scope first) carried reshaping entries) was → IsMoreTold was told
+      → ((number : ℕ) → was.carried number ≡ carried number) → ((number : ℕ) → told.carried number ≡ carried' number)
+      → HasRoomLeft old tape tape' → AreGoneTold was new → IsUncleanTold was old
+      → IsSafeOver (world_in given tape scope first) given was old tape → KeepsSafe (world_in given tape scope first) given told new tape tape'
+  pub legal : IsReliable (world_in given tape' scope first) (entries ++ entries_of who end (early ++ tail)) → IsReliable (world_in given tape scope first) entries
+      → AreToldGone (world_in given tape' scope first) (entries ++ entries_of who end early) new
       → level_at (world_in given tape' scope first) (entries ++ entries_of who end early) ≡ level_at (world_in given tape scope first) entries
-      → IsLegalCall (world_in given tape' scope first) entries who end (early ++ event ∷ [])
+      → IsLegalCall (world_in given tape' scope first) entries who end (early ++ tail)
 
 -- What it leaves, of what is kept over a bank that tells its contents.
 pub record IsLeftBehind (given : Given) (tape : List Operation) (scope : Scope) (first : ℕ) (entries all : List Entry) (new : Members) (carried : ℕ → Bool) (reshaping : Bool) (tape' : List Operation) : Type 0 where
@@ -80,9 +105,10 @@ pub fit-later : {given : Given} {tape tape' : List Operation} {scope : Scope} {f
 fit-later {given = given} {tape = tape} {scope = scope} {first = first} left =
     ap (λ (l : List Operation). OpensFit (world_in given l scope first)) left.grown.1 ∙ fit-grown (world_in given tape scope first) left.grown.0 left.begun
 
-module _ (given : Given) (tape : List Operation) (scope : Scope) (first : ℕ) (entries : List Entry) (old new : Members) (carried : ℕ → Bool) (reshaping : Bool)
-    (who : Who) (early : List Event) (IsTaken : ℕ → Type 0) (event : Event) (ops : List Operation) (are : AreEarly early IsTaken)
-    (goes : IsCallGoing entries who) (caller : IsFalse (who.caller == 254)) (quiet : IsQuiet event) (few : role_count new.newest ≤ 16)
+module _ (given : Given) (tape : List Operation) (scope : Scope) (first : ℕ) (entries : List Entry) (old new : Members) (carried carried' : ℕ → Bool) (reshaping : Bool)
+    (who : Who) (early : List Event) (IsTaken : ℕ → Type 0) (tail : List Event) (ops : List Operation) (are : AreEarly early IsTaken) (carries : (number : ℕ) → carried number ≡ true → carried' number ≡ true)
+    (goes : IsCallGoing entries who) (caller : IsFalse (who.caller == 254)) (quiet : AreQuietLast who (length (tape ++ ops)) tail)
+    (ended : last_end_from first (entries ++ entries_of who (length (tape ++ ops)) (early ++ tail)) ≡ length (tape ++ ops)) (few : role_count new.newest ≤ 16)
     (missing : AreLostOrMissing old new IsTaken)
     (sized : list_length new.newest ≡ list_length old.newest) (clean : is_clean new.newest ≡ is_clean old.newest) (sizes_are : scope.sizes ≡ sizes given)
     (gone : IsReliable (world_in given tape scope first) entries → AreToldGone (world_in given tape scope first) entries old)
@@ -92,7 +118,7 @@ module _ (given : Given) (tape : List Operation) (scope : Scope) (first : ℕ) (
     → IsSafeHistory ⊤ (world_in given tape scope first) given old carried reshaping entries)
     (now_safe : IsFilledRight (world_in given tape scope first) entries → HasRoomForEvents (world_in given tape scope first) → OpensAlike (world_in given tape scope first)
     → IsSafeOver (world_in given tape scope first) given (told_now (world_in given tape scope first) carried reshaping entries) old tape)
-    (call : LeavesList given tape scope first entries old new carried reshaping who early event (tape ++ ops) (length (tape ++ ops))) where
+    (call : LeavesNumbers given tape scope first entries old new carried carried' reshaping who early tail (tape ++ ops) (length (tape ++ ops))) where
   abbrev world : World
   world = world_in given tape scope first
 
@@ -106,50 +132,54 @@ module _ (given : Given) (tape : List Operation) (scope : Scope) (first : ℕ) (
   more = entries_of who (length (tape ++ ops)) (early)
 
   abbrev added : List Entry
-  added = entries_of who (length (tape ++ ops)) (early ++ event ∷ [])
+  added = entries_of who (length (tape ++ ops)) (early ++ tail)
 
   abbrev all : List Entry
-  all = entries ++ entries_of who (length (tape ++ ops)) (early ++ event ∷ [])
+  all = entries ++ entries_of who (length (tape ++ ops)) (early ++ tail)
 
-  behind : IsBehind (world_in given tape scope first) (world_in given (tape ++ ops) scope first) entries new who (length (tape ++ ops)) early event
-  behind = is-behind given tape scope first entries old new who early IsTaken event ops are quiet.gives quiet.ends quiet.level few missing gone recorded
-
-  adds-last : AreAdding (entries_of who end (event ∷ []))
-  adds-last = and-true (adds_only event) true quiet.adds refl
+  behind : IsBehind (world_in given tape scope first) (world_in given (tape ++ ops) scope first) entries new who (length (tape ++ ops)) early tail
+  behind = is-behind given tape scope first entries old new who early IsTaken tail ops (first-of are) quiet.gives quiet.level few missing gone recorded
 
   adds-all : AreAdding added
-  adds-all = are.adds who end (event ∷ []) adds-last
+  adds-all = are.adds who end tail quiet.adds
 
   -- ---- what is told
 
   begun : first ≤ length tape
   begun = recorded.begun
 
-  abbrev told : Ledger
-  told = told_by later carried reshaping entries more
+  -- without the new numbers, and with them
+  abbrev before : Ledger
+  before = told_by later carried reshaping entries more
 
-  told-first : IsMoreTold (told_now world carried reshaping entries) told
-  told-first = subst (λ (l : Ledger). IsMoreTold l told) (now-grown world ops begun carried reshaping entries recorded.ends)
+  abbrev told : Ledger
+  told = told_by later carried' reshaping entries more
+
+  told-more : IsMoreTold before told
+  told-more = record { size = refl; values = λ x lt v may. may; gone = λ role is. is; unclean = λ is. is; reshaping = λ is. is; carried = carries }
+
+  told-first : IsMoreTold (told_now world carried reshaping entries) before
+  told-first = subst (λ (l : Ledger). IsMoreTold l before) (now-grown world ops begun carried reshaping entries recorded.ends)
       (told-adding later carried carried reshaping reshaping entries more behind.adds_more (λ number is. is) (λ is. is))
 
-  told-last : IsMoreTold told (told_now later carried reshaping all)
-  told-last = subst (λ (l : List Entry). IsMoreTold told (told_now later carried reshaping l)) (append_assoc entries more (entries_of who end (event ∷ [])) ∙ ap (λ (l : List Entry). entries ++ l) (sym (entries-both who end early (event ∷ []))))
-      (more-then told (told_now later carried reshaping (entries ++ more)) (told_now later carried reshaping ((entries ++ more) ++ entries_of who end (event ∷ [])))
-      (told-added later carried reshaping entries more behind.adds_more behind.gives_more)
-      (more-then (told_now later carried reshaping (entries ++ more)) (told_by later carried reshaping (entries ++ more) (entries_of who end (event ∷ []))) (told_now later carried reshaping ((entries ++ more) ++ entries_of who end (event ∷ [])))
-      (told-adding later carried carried reshaping reshaping (entries ++ more) (entries_of who end (event ∷ [])) adds-last (λ number is. is) (λ is. is))
-      (told-added later carried reshaping (entries ++ more) (entries_of who end (event ∷ [])) adds-last (or-false (gives_some event) false quiet.gives refl))))
+  told-last : IsMoreTold told (told_now later carried' reshaping all)
+  told-last = subst (λ (l : List Entry). IsMoreTold told (told_now later carried' reshaping l)) (append_assoc entries more (entries_of who end tail) ∙ ap (λ (l : List Entry). entries ++ l) (sym (entries-both who end early tail)))
+      (more-then told (told_now later carried' reshaping (entries ++ more)) (told_now later carried' reshaping ((entries ++ more) ++ entries_of who end tail))
+      (told-added later carried' reshaping entries more behind.adds_more behind.gives_more)
+      (more-then (told_now later carried' reshaping (entries ++ more)) (told_by later carried' reshaping (entries ++ more) (entries_of who end tail)) (told_now later carried' reshaping ((entries ++ more) ++ entries_of who end tail))
+      (told-adding later carried' carried' reshaping reshaping (entries ++ more) (entries_of who end tail) quiet.adds (λ number is. is) (λ is. is))
+      (told-added later carried' reshaping (entries ++ more) (entries_of who end tail) quiet.adds quiet.gives)))
 
   unclean-all : is_clean new.newest ≡ false → (is_unsynced later all || is_unsettled all) ≡ true
-  unclean-all dirty = told-last.unclean (told-first.unclean (unclean (sym clean ∙ dirty)))
+  unclean-all dirty = told-last.unclean (told-more.unclean (told-first.unclean (unclean (sym clean ∙ dirty))))
 
   -- ---- the history
 
   recorded-all : IsHistoryKept (IsReliable later all) later (list_length new.newest) all
-  recorded-all = kept-call (IsReliable world entries) (IsReliable later all) world ops (list_length old.newest) (list_length new.newest) entries who (early ++ event ∷ []) goes recorded behind.right caller
+  recorded-all = kept-call (IsReliable world entries) (IsReliable later all) world ops (list_length old.newest) (list_length new.newest) entries who (early ++ tail) goes recorded behind.right caller
       (λ fills. inr behind.gives_all) (length-adding (length (opening_list world)) entries added adds-all ∙ recorded.sized ∙ sym sized)
-      (last_end-behind first entries who end early event) (λ fills. call.legal (behind.right fills) (behind.gone_more fills) behind.level_more)
-      (λ fills. call-ends_none later entries who end (early ++ event ∷ []) behind.ends)
+      ended (λ fills. call.legal fills (behind.right fills) (behind.gone_more fills) behind.level_more)
+      (λ fills. call-ends_none later entries who end (early ++ tail) (are.ends tail quiet.ends))
 
   -- ---- each mark
 
@@ -158,23 +188,23 @@ module _ (given : Given) (tape : List Operation) (scope : Scope) (first : ℕ) (
     was = safe (behind.fills fills) (room-before world ops begun room) (alike-before world ops begun alike)
 
     stretch : KeepsSafe world given told new tape (tape ++ ops)
-    stretch = call.keeps told (behind.fills fills) told-first (room-now world ops begun old was.counted room)
+    stretch = call.keeps before told (behind.right (record { fills = fills; room = room; alike = alike })) told-first told-more (λ number. refl) (λ number. refl) (room-now world ops begun old was.counted room)
         (λ role lt miss. behind.counts_more (record { fills = fills; room = room; alike = alike }) role lt miss)
         (λ dirty. told-first.unclean (unclean dirty))
-        (now-more (OpensFit world) scope given (told_now world carried reshaping entries) told old (disk given.start tape) told-first (now_safe (behind.fills fills) (room-before world ops begun room) (alike-before world ops begun alike)))
+        (now-more (OpensFit world) scope given (told_now world carried reshaping entries) before old (disk given.start tape) told-first (now_safe (behind.fills fills) (room-before world ops begun room) (alike-before world ops begun alike)))
 
-    last : IsSafeOver world given (told_now later carried reshaping all) new (tape ++ ops)
-    last = now-more (OpensFit world) scope given told (told_now later carried reshaping all) new (disk given.start (tape ++ ops)) told-last stretch.next
+    last : IsSafeOver world given (told_now later carried' reshaping all) new (tape ++ ops)
+    last = now-more (OpensFit world) scope given told (told_now later carried' reshaping all) new (disk given.start (tape ++ ops)) told-last stretch.next
 
-    safe-all : IsSafeHistory ⊤ later given new carried reshaping all
-    safe-all = safe-called ⊤ given tape scope first entries old new carried carried reshaping reshaping who early (event ∷ []) told ops (tape ++ ops) end refl refl sizes_are begun recorded.ends was
+    safe-all : IsSafeHistory ⊤ later given new carried' reshaping all
+    safe-all = safe-called ⊤ given tape scope first entries old new carried carried' reshaping reshaping who early tail told ops (tape ++ ops) end refl refl sizes_are begun recorded.ends was
         fills call.rise (λ claimed opened mark low high. throughout-kept world given told new ops refl begun stretch (was.sound tt) opened mark (omega (arith, begun, low)) high) (record { size = refl; values = λ x lt v may. may; gone = λ role is. is; unclean = λ is. is; reshaping = λ is. refl; carried = λ number is. refl }) stretch last
 
-    now-all : IsSafeOver later given (told_now later carried reshaping all) new (tape ++ ops)
-    now-all = subst (λ (fit : Type 0). IsSafeNow fit scope given (told_now later carried reshaping all) new (disk given.start (tape ++ ops))) (sym (fit-grown world ops begun)) last
+    now-all : IsSafeOver later given (told_now later carried' reshaping all) new (tape ++ ops)
+    now-all = subst (λ (fit : Type 0). IsSafeNow fit scope given (told_now later carried' reshaping all) new (disk given.start (tape ++ ops))) (sym (fit-grown world ops begun)) last
 
-  pub quiet-leaves : IsLeftBehind given tape scope first entries all new carried reshaping (tape ++ ops)
-  quiet-leaves = record {
+  pub numbers-leaves : IsLeftBehind given tape scope first entries all new carried' reshaping (tape ++ ops)
+  numbers-leaves = record {
     right = behind.right;
     fills = behind.fills;
     levelled = behind.level_all;
@@ -188,8 +218,56 @@ module _ (given : Given) (tape : List Operation) (scope : Scope) (first : ℕ) (
     now_safe = now-all;
   }
 
+-- ---- one that makes no number known
+
+-- What is asked of a call, from this tape to that one with its end there, that enters these events before its last one.
+pub record LeavesList (given : Given) (tape : List Operation) (scope : Scope) (first : ℕ) (entries : List Entry) (old new : Members) (carried : ℕ → Bool) (reshaping : Bool)
+    (who : Who) (early : List Event) (event : Event) (tape' : List Operation) (end : ℕ) : Type 0 where
+  pub rise : IsRisen ⊤ old new tape tape'
+  pub keeps : (told : Ledger) → IsFilledRight (world_in given tape scope first) entries → IsMoreTold (told_now (world_in given tape scope first) carried reshaping entries) told
+      → HasRoomLeft old tape tape' → AreGoneTold told new → IsUncleanTold told old
+      → IsSafeOver (world_in given tape scope first) given told old tape → KeepsSafe (world_in given tape scope first) given told new tape tape'
+  pub legal : IsReliable (world_in given tape' scope first) (entries ++ entries_of who end (early ++ event ∷ [])) → IsReliable (world_in given tape scope first) entries
+      → AreToldGone (world_in given tape' scope first) (entries ++ entries_of who end early) new
+      → level_at (world_in given tape' scope first) (entries ++ entries_of who end early) ≡ level_at (world_in given tape scope first) entries
+      → IsLegalCall (world_in given tape' scope first) entries who end (early ++ event ∷ [])
+
+-- it is such a call
+pub numbers-of : (given : Given) (tape : List Operation) (scope : Scope) (first : ℕ) (entries : List Entry) (old new : Members) (carried : ℕ → Bool) (reshaping : Bool)
+    (who : Who) (early : List Event) (event : Event) (tape' : List Operation) (at : ℕ)
+    → LeavesList given tape scope first entries old new carried reshaping who early event tape' at → LeavesNumbers given tape scope first entries old new carried carried reshaping who early (event ∷ []) tape' at
+numbers-of given tape scope first entries old new carried reshaping who early event tape' at call = record {
+  rise = call.rise;
+  keeps = λ was told right more less same know room told_gone told_unclean before. call.keeps told right.fills
+      (more-then (told_now (world_in given tape scope first) carried reshaping entries) was told more less) room (λ role lt miss. less.gone role (told_gone role lt miss)) (λ dirty. less.unclean (told_unclean dirty))
+      (now-more (OpensFit (world_in given tape scope first)) scope given was told old (disk given.start tape) less before);
+  legal = call.legal;
+}
+
+module _ (given : Given) (tape : List Operation) (scope : Scope) (first : ℕ) (entries : List Entry) (old new : Members) (carried : ℕ → Bool) (reshaping : Bool)
+    (who : Who) (early : List Event) (IsTaken : ℕ → Type 0) (event : Event) (ops : List Operation) (are : AreEarly early IsTaken)
+    (goes : IsCallGoing entries who) (caller : IsFalse (who.caller == 254)) (quiet : IsQuiet event) (few : role_count new.newest ≤ 16)
+    (missing : AreLostOrMissing old new IsTaken)
+    (sized : list_length new.newest ≡ list_length old.newest) (clean : is_clean new.newest ≡ is_clean old.newest) (sizes_are : scope.sizes ≡ sizes given)
+    (gone : IsReliable (world_in given tape scope first) entries → AreToldGone (world_in given tape scope first) entries old)
+    (unclean : is_clean old.newest ≡ false → (is_unsynced (world_in given tape scope first) entries || is_unsettled entries) ≡ true)
+    (recorded : IsHistoryKept (IsReliable (world_in given tape scope first) entries) (world_in given tape scope first) (list_length old.newest) entries)
+    (safe : IsFilledRight (world_in given tape scope first) entries → HasRoomForEvents (world_in given tape scope first) → OpensAlike (world_in given tape scope first)
+    → IsSafeHistory ⊤ (world_in given tape scope first) given old carried reshaping entries)
+    (now_safe : IsFilledRight (world_in given tape scope first) entries → HasRoomForEvents (world_in given tape scope first) → OpensAlike (world_in given tape scope first)
+    → IsSafeOver (world_in given tape scope first) given (told_now (world_in given tape scope first) carried reshaping entries) old tape)
+    (call : LeavesList given tape scope first entries old new carried reshaping who early event (tape ++ ops) (length (tape ++ ops))) where
+  pub quiet-leaves : IsLeftBehind given tape scope first entries (entries ++ entries_of who (length (tape ++ ops)) (early ++ event ∷ [])) new carried reshaping (tape ++ ops)
+  quiet-leaves = numbers-leaves given tape scope first entries old new carried carried reshaping who early IsTaken (event ∷ []) ops are (λ number is. is) goes caller
+      (quiet-last who (length (tape ++ ops)) event quiet) (last_end-behind first entries who (length (tape ++ ops)) early event) few missing sized clean sizes_are gone unclean recorded safe now_safe
+      (numbers-of given tape scope first entries old new carried reshaping who early event (tape ++ ops) (length (tape ++ ops)) call)
+
 -- the newest value of each sector is what it was
+pub last-now : (list : List Sector) (entries : List Entry) (who : Who) (end : ℕ) (early : List Event) (IsTaken : ℕ → Type 0) (tail : List Event) → AreEarly early IsTaken → AreQuietLast who end tail
+    → (x : ℕ) → now list (entries ++ entries_of who end (early ++ tail)) x ≡ now list entries x
+last-now list entries who end early IsTaken tail are quiet x = ap (λ (l : List Sector). slice_index_or l 0 [])
+    (values-more list entries (entries_of who end (early ++ tail)) x ∙ are.values who end tail x (values_of list entries x) ∙ quiet.still x (values_of list entries x))
+
 pub quiet-now : (list : List Sector) (entries : List Entry) (who : Who) (end : ℕ) (early : List Event) (IsTaken : ℕ → Type 0) (event : Event) → AreEarly early IsTaken → IsQuiet event
     → (x : ℕ) → now list (entries ++ entries_of who end (early ++ event ∷ [])) x ≡ now list entries x
-quiet-now list entries who end early IsTaken event are quiet x = ap (λ (l : List Sector). slice_index_or l 0 [])
-    (values-more list entries (entries_of who end (early ++ event ∷ [])) x ∙ are.values who end (event ∷ []) x (values_of list entries x) ∙ quiet.still x (values_of list entries x))
+quiet-now list entries who end early IsTaken event are quiet = last-now list entries who end early IsTaken (event ∷ []) are (quiet-last who end event quiet)

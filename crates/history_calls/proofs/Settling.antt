@@ -1,4 +1,4 @@
--- A call that enters losses, and behind them an event that settles what was written: a flush or a stop.
+-- A call that enters losses, and behind them an event that settles what was written: a flush, a stop, or the end of a resync.
 use Rattle.std.proofs.Common.{◌≡◌, inl, inr, ℕ, ◌<◌, ◌≤◌, ◌==◌, ◌&&◌, ◌||◌, Bool, true, false, not, List, [], ◌∷◌, ◌++◌, length, refl, sym, ◌∙◌, ap, subst, arith}
 use Rattle.std.specs.Prelude.{IsFalse, slice_index_or, take, ⊤}
 use Rattle.std.specs.List.{list_any}
@@ -29,7 +29,7 @@ use Rattle.views.proofs.SoundViews.{throughout-kept}
 use Rattle.call_entries.specs.Losing.{losses_of}
 use Rattle.call_entries.proofs.CallLaws.{AreLossEvents, losses-are, last_end-behind, length-losses, values-losses}
 use Rattle.call_entries.proofs.LosingLaws.{entries-both}
-use Rattle.kept_history.specs.Recorded.{IsHistoryKept, IsLegalCall, IsCallGoing, entry_of, ends_reshape, gives_some}
+use Rattle.kept_history.specs.Recorded.{IsHistoryKept, IsLegalCall, IsReshapedCall, IsCallGoing, entry_of, ends_reshape, gives_some}
 use Rattle.kept_history.specs.Safe.{world_in, IsFilledRight, IsSafeHistory}
 use Rattle.kept_history.specs.Told.{told_now, told_by}
 use Rattle.kept_history.proofs.Growing.{fit-grown, unsynced-grown, now-grown, alike-before, room-before, room-now}
@@ -41,18 +41,18 @@ use Rattle.kept_history.proofs.KeptCalls.{kept-call}
 use Rattle.kept_history.proofs.Entered.{told-adding, values-more, length-more, length-adding, all-stay, settled-now}
 use Rattle.kept_history.proofs.Reshapes.{call-ends_none}
 use Rattle.history_calls.specs.Reliable.{IsReliable, AreToldGone}
-use Rattle.history_calls.proofs.Behind.{AreLostOrMissing, IsAmong, IsBehind, early-losses, is-behind, legal-losses}
+use Rattle.history_calls.proofs.Behind.{first-of, AreLostOrMissing, IsAmong, IsBehind, early-losses, is-behind, legal-losses, or-false}
 use Rattle.history_calls.proofs.Quiet.{IsLeftBehind}
 
 -- ---- the event
 
--- An event that leaves each sector its newest value alone, and changes nothing else but that it may end a resync.
+-- An event that leaves each sector its newest value, alone or not, and changes nothing else but that it may end a resync.
 pub record IsSettlement (event : Event) : Type 0 where
   pub gives : gives_some event ≡ false
-  pub ends : ends_reshape event ≡ false
   pub level : (n : ℕ) → level_after n event ≡ n
   pub length : (n : ℕ) → length_after n event ≡ n
-  pub newest : (x : ℕ) (values : List Sector) → values_after x values event ≡ take 1 values
+  pub newest : (x : ℕ) (values : List Sector) → IsIn values (slice_index_or values 0 []) → IsIn (values_after x values event) (slice_index_or values 0 [])
+  pub same : (x : ℕ) (values : List Sector) → slice_index_or (values_after x values event) 0 [] ≡ slice_index_or values 0 []
 
 -- the newest value is among those that stay, and is the newest of them
 first-in : (values : List Sector) (v : Sector) → IsIn values v → IsIn (take 1 values) (slice_index_or values 0 [])
@@ -62,6 +62,22 @@ first-in (w ∷ values) v has = inl refl
 first-stays : (values : List Sector) → slice_index_or (take 1 values) 0 [] ≡ slice_index_or values 0 []
 first-stays [] = refl
 first-stays (w ∷ values) = refl
+
+-- so it is of one that leaves it alone: a flush or a stop
+pub takes-newest : (event : Event) → gives_some event ≡ false → ((n : ℕ) → level_after n event ≡ n) → ((n : ℕ) → length_after n event ≡ n)
+    → ((x : ℕ) (values : List Sector) → values_after x values event ≡ take 1 values) → IsSettlement event
+takes-newest event gives level length takes = record {
+  gives = gives;
+  level = level;
+  length = length;
+  newest = λ x values has. subst (λ (l : List Sector). IsIn l (slice_index_or values 0 [])) (sym (takes x values)) (first-in values (slice_index_or values 0 []) has);
+  same = λ x values. ap (λ (l : List Sector). slice_index_or l 0 []) (takes x values) ∙ first-stays values;
+}
+
+-- where it ends no reshape, and leaves steps, the call does so
+pub settling-ends : (world : World) (entries : List Entry) (who : Who) (end roles spares : ℕ) (event : Event) → ends_reshape event ≡ false → IsReshapedCall world entries who end (losses_of roles spares ++ event ∷ [])
+settling-ends world entries who end roles spares event none =
+    call-ends_none world entries who end (losses_of roles spares ++ event ∷ []) ((early-losses roles spares).ends (event ∷ []) (or-false (ends_reshape event) false none refl))
 
 -- losses end no resync
 ended-losses : (who : Who) (end : ℕ) (xs tail : List Event) → AreLossEvents xs → list_any (λ e. is_resync_end e.event) (entries_of who end (xs ++ tail)) ≡ list_any (λ e. is_resync_end e.event) (entries_of who end tail)
@@ -114,6 +130,7 @@ pub record SettlesList (given : Given) (tape : List Operation) (scope : Scope) (
       → AreToldGone (world_in given tape' scope first) (entries ++ entries_of who end (losses_of roles spares)) new
       → level_at (world_in given tape' scope first) (entries ++ entries_of who end (losses_of roles spares)) ≡ level_at (world_in given tape scope first) entries
       → IsLegalEvent (world_in given tape' scope first) (entries ++ entries_of who end (losses_of roles spares)) (entry_of who end event) [] event
+  pub reshaped : IsReshapedCall (world_in given tape' scope first) entries who end (losses_of roles spares ++ event ∷ [])
 
 module _ (given : Given) (tape : List Operation) (scope : Scope) (first : ℕ) (entries : List Entry) (old new : Members) (carried : ℕ → Bool) (reshaping : Bool) (unsynced : Bool)
     (who : Who) (roles spares : ℕ) (event : Event) (ops : List Operation)
@@ -156,8 +173,8 @@ module _ (given : Given) (tape : List Operation) (scope : Scope) (first : ℕ) (
   both : added ≡ more ++ rest
   both = entries-both who end losses (event ∷ [])
 
-  behind : IsBehind (world_in given tape scope first) (world_in given (tape ++ ops) scope first) entries new who (length (tape ++ ops)) (losses_of roles spares) event
-  behind = is-behind given tape scope first entries old new who (losses_of roles spares) (IsAmong roles) event ops (early-losses roles spares) settling.gives settling.ends settling.level few missing gone recorded
+  behind : IsBehind (world_in given tape scope first) (world_in given (tape ++ ops) scope first) entries new who (length (tape ++ ops)) (losses_of roles spares) (event ∷ [])
+  behind = is-behind given tape scope first entries old new who (losses_of roles spares) (IsAmong roles) (event ∷ []) ops (first-of (early-losses roles spares)) (or-false (gives_some event) false settling.gives refl) settling.level few missing gone recorded
 
   -- ---- what is told
 
@@ -184,16 +201,15 @@ module _ (given : Given) (tape : List Operation) (scope : Scope) (first : ℕ) (
       ∙ length-losses who end losses (event ∷ []) (losses-are roles spares) (length_of (length (opening_list later)) entries)
       ∙ settling.length (length_of (length (opening_list later)) entries) ∙ length-opened
 
-  -- each sector has its newest value alone then
-  values-all : (x : ℕ) → values_of (opening_list later) all x ≡ take 1 (values_of (opening_list later) entries x)
+  values-all : (x : ℕ) → values_of (opening_list later) all x ≡ values_after x (values_of (opening_list later) entries x) event
   values-all x =
       values-more (opening_list later) entries added x
       ∙ values-losses who end losses (event ∷ []) (losses-are roles spares) x (values_of (opening_list later) entries x)
-      ∙ settling.newest x (values_of (opening_list later) entries x)
 
+  -- each sector may have its newest value then
   newest-all : (x : ℕ) → x < list_length old.newest → IsIn (values_of (opening_list later) all x) (now (opening_list later) entries x)
   newest-all x lt = subst (λ (l : List Sector). IsIn l (now (opening_list later) entries x)) (sym (values-all x))
-      (first-in (values_of (opening_list later) entries x) (now (opening_list later) entries x) (newest-in (opening_list later) entries x (let n = length-opened in omega (arith, lt, n))))
+      (settling.newest x (values_of (opening_list later) entries x) (newest-in (opening_list later) entries x (let n = length-opened in omega (arith, lt, n))))
 
   allowed : AreWritesAllowed old told.values (now (opening_list world) entries)
   allowed x lt = subst (λ (l : List Sector). IsIn (told.values x) (now l entries x)) behind.opened
@@ -225,7 +241,7 @@ module _ (given : Given) (tape : List Operation) (scope : Scope) (first : ℕ) (
   recorded-all = kept-call (IsReliable world entries) (IsReliable later all) world ops (list_length old.newest) (list_length new.newest) entries who (losses ++ event ∷ []) goes recorded behind.right caller
       (λ fills. inr behind.gives_all) (ap (λ (l : List Sector). length_of (length l) all) (sym behind.opened) ∙ length-all ∙ sym sized)
       (last_end-behind first entries who end losses event) legal-call
-      (λ fills. call-ends_none later entries who end (losses ++ event ∷ []) behind.ends)
+      (λ fills. call.reshaped)
 
   -- ---- each mark
 
@@ -287,6 +303,5 @@ pub settled-same : (list : List Sector) (entries : List Entry) (who : Who) (end 
 settled-same list entries who end roles spares event settling x =
     ap (λ (l : List Sector). slice_index_or l 0 [])
     (values-more list entries (entries_of who end (losses_of roles spares ++ event ∷ [])) x
-    ∙ values-losses who end (losses_of roles spares) (event ∷ []) (losses-are roles spares) x (values_of list entries x)
-    ∙ settling.newest x (values_of list entries x))
-    ∙ first-stays (values_of list entries x)
+    ∙ values-losses who end (losses_of roles spares) (event ∷ []) (losses-are roles spares) x (values_of list entries x))
+    ∙ settling.same x (values_of list entries x)

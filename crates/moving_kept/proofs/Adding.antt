@@ -91,5 +91,5 @@ adding-moves tells given tape tape' scope first entries old new carried course c
         subst (λ (l : List Operation). Then l end) (sym g.1)
         (subst (Then (tape ++ g.0)) (sym (at_end t ∙ ap (λ (l : List Operation). length l) g.1))
         (λ call_to. adding-leaves given tape scope first entries old new carried true who roles spares event g.0 goes caller adding few missing sized clean was.sizes_are
-        (was.gone t) (was.unclean t) (was.recorded t) (was.safe t) (was.now_safe t) (record { rise = call_to.rise; keeps = call_to.keeps; legal = call_to.legal })))
+        (was.gone t) (was.unclean t) (was.recorded t) (was.safe t) (was.now_safe t) (record { rise = call_to.rise; keeps = λ told all gone. call_to.keeps told; legal = call_to.legal })))
         (call t)

@@ -134,7 +134,7 @@ early-moves tells given tape tape' scope first entries old new carried course co
         subst (λ (l : List Operation). Then l end) (sym g.1)
         (subst (Then (tape ++ g.0)) (sym (at_end t ∙ ap (λ (l : List Operation). length l) g.1))
         (λ call_to. quiet-leaves given tape scope first entries old new carried true who early IsTaken event g.0 are goes caller quiet few missing sized clean was.sizes_are
-        (was.gone t) (was.unclean t) (was.recorded t) (was.safe t) (was.now_safe t) (record { rise = call_to.rise; keeps = call_to.keeps; legal = call_to.legal })))
+        (was.gone t) (was.unclean t) (was.recorded t) (was.safe t) (was.now_safe t) (record { rise = call_to.rise; keeps = call_to.keeps; legal = λ all. call_to.legal })))
         (call t)
 
 -- And so does a call that enters losses before its event.

@@ -33,7 +33,7 @@ use Rattle.course_kept.specs.declared.course.Course.{Course}
 use Rattle.course_kept.specs.Course.{IsCourseOf, IsStored}
 use Rattle.history_calls.proofs.Behind.{AreLostOrMissing, IsAmong}
 use Rattle.history_calls.proofs.Quiet.{IsLeftBehind}
-use Rattle.history_calls.proofs.Settling.{IsSettlement, IsSettledBy, settling-leaves, settled-same}
+use Rattle.history_calls.proofs.Settling.{IsSettlement, IsSettledBy, takes-newest, settling-ends, settling-leaves, settled-same}
 use Rattle.moving_kept.specs.Moving.{AreReshaping, HasListInCourse, IsMoving}
 use Rattle.moving_kept.proofs.Quiet.{listed-later}
 
@@ -58,7 +58,7 @@ stop-is = record { gives = refl; ends = refl; resync = refl; level = λ n. refl;
 
 -- so the events settle
 settlement : (event : Event) → IsSettling event → IsSettlement event
-settlement event is = record { gives = is.gives; ends = is.ends; level = is.level; length = is.length; newest = is.newest }
+settlement event is = takes-newest event is.gives is.level is.length is.newest
 
 not-ended : (unsynced ends : Bool) → ends ≡ false → (unsynced && not ends) ≡ unsynced
 not-ended true false is = refl
@@ -128,5 +128,6 @@ settling-moves tells given tape tape' scope first entries old new carried unsync
           keeps = call_to.keeps;
           settled = call_to.settled;
           legal = λ fills gone level. settling.legal (world_in given (tape ++ g.0) scope first) (entries ++ entries_of who (length (tape ++ g.0)) (losses_of roles spares)) (entry_of who (length (tape ++ g.0)) event);
+          reshaped = settling-ends (world_in given (tape ++ g.0) scope first) entries who (length (tape ++ g.0)) roles spares event settling.ends;
         })))
         (call t)

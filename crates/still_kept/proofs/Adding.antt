@@ -1,0 +1,74 @@
+-- A call behind which the list may have changed: a write, or one that is refused once it was begun.
+use Rattle.std.proofs.Common.{◌≡◌, ◌⊎◌, ℕ, ◌==◌, true, false, List, [], ◌∷◌, ◌++◌, length, refl, sym, ◌∙◌, ap, subst}
+use Rattle.std.specs.Prelude.{IsFalse, IfSome, IsSome}
+use Rattle.std.specs.List.{list_any}
+use Rattle.md_base.specs.declared.answers.Who.{Who}
+use Rattle.md_base.specs.declared.places.Shape.{Shape}
+use Rattle.bank.specs.declared.bank.Operation.{Operation}
+use Rattle.bank.specs.Given.{Given}
+use Rattle.superblocks.specs.declared.members.Members.{Members}
+use Rattle.superblocks.specs.Reading.{Scope, is_clean}
+use Rattle.superblocks.proofs.ValidFields.{few-roles}
+use Rattle.row_io.specs.Rows.{present}
+use Rattle.flat_history.specs.declared.events.Entry.{Entry}
+use Rattle.flat_history.specs.declared.events.Event.{Event}
+use Rattle.flat_history.specs.Flat.{now}
+use Rattle.flat_history.specs.Legal.{told_left}
+use Rattle.flat_history.specs.Losses.{is_resync_end, unsettles}
+use Rattle.flat_history.specs.Plain.{entries_of}
+use Rattle.flat_history.specs.Sound.{OpensFit}
+use Rattle.flat_history.specs.World.{opening_list}
+use Rattle.shape_views.specs.Regions.{DoWithout}
+use Rattle.shape_changes.specs.Safety.{HasLiveSlot}
+use Rattle.views.specs.declared.work.Work.{Work}
+use Rattle.views.specs.Moving.{Grows, IsMoved}
+use Rattle.views.specs.Numbers.{is_carried}
+use Rattle.views.proofs.Fit.{list-alike}
+use Rattle.kept_history.specs.Recorded.{IsCallGoing}
+use Rattle.kept_history.specs.Safe.{world_in, IsFilledRight}
+use Rattle.kept_history.proofs.Entered.{adds_only, settle-none}
+use Rattle.kept_history.proofs.Ledgers.{unsynced-still, none-ends}
+use Rattle.history_calls.proofs.Behind.{AreFirst, AreLostOrMissing, and-true}
+use Rattle.history_calls.proofs.Quiet.{IsLeftBehind}
+use Rattle.history_calls.proofs.Adding.{IsAdding, ChangesEarly, changing-leaves}
+use Rattle.still_kept.specs.Still.{HasListStood, IsStill}
+use Rattle.still_kept.proofs.Leaving.{safe-now, rest-moved, leaves-stands}
+use Rattle.still_kept.proofs.Staying.{progress-same}
+
+pub changing-stands : (tells : Type 0) (given : Given) (tape tape' : List Operation) (scope : Scope) (first : ℕ) (entries : List Entry) (old new : Members) (work : Work) (left left' : ℕ)
+    (who : Who) (end : ℕ) (early : List Event) (IsTaken : ℕ → Type 0) (event : Event)
+    → IsStill tells given tape scope first entries old work left → HasLiveSlot old → IsCallGoing entries who → IsFalse (who.caller == 254) → (tells → end ≡ length tape') → Grows tells tape tape' → IsAdding event
+    → IsMoved given old new → AreFirst early IsTaken → AreLostOrMissing old new IsTaken
+    → (is_clean new.newest ≡ false → (is_clean old.newest ≡ false) ⊎ (list_any (λ e. unsettles e.event) (entries_of who end (early ++ event ∷ [])) ≡ true))
+    → (DoWithout new → IsSome work.resync → is_clean new.newest ≡ false)
+    → IfSome (told_left (entries ++ entries_of who end (early ++ event ∷ []))) (λ n. n ≡ left')
+    → (tells → DoWithout new → IsFilledRight (world_in given tape scope first) entries
+    → HasListStood (OpensFit (world_in given tape scope first)) work new (present given tape') (now (opening_list (world_in given tape scope first)) (entries ++ entries_of who end (early ++ event ∷ []))))
+    → (tells → ChangesEarly given tape scope first entries old new (is_carried work) false who early event tape' end)
+    → IsStill tells given tape' scope first (entries ++ entries_of who end (early ++ event ∷ [])) new work left'
+changing-stands tells given tape tape' scope first entries old new work left left' who end early IsTaken event was live goes caller at_end grows adding moved are missing clean dirty told listed call =
+    leaves-stands tells given tape tape' scope first entries (entries ++ added) old new work work left left' was grows (rest-moved given old new moved was.members_are) (ap (λ (s : Shape). s.level) moved.shape) told
+    (progress-same moved work.resync was.progress)
+    (λ t. unsynced-still (world_in given tape scope first) entries added ends ∙ was.pending t)
+    dirty listed leaves
+  where
+    added : List Entry
+    added = entries_of who end (early ++ event ∷ [])
+
+    ends : list_any (λ e. is_resync_end e.event) (entries_of who end (early ++ event ∷ [])) ≡ false
+    ends = none-ends (entries_of who end (early ++ event ∷ [])) (settle-none (entries_of who end (early ++ event ∷ [])) (are.adds who end (event ∷ []) (and-true (adds_only event) true adding.adds refl)))
+
+    Then : List Operation → ℕ → Type 0
+    Then l e = ChangesEarly given tape scope first entries old new (is_carried work) false who early event l e
+        → (is_clean new.newest ≡ false → (is_clean old.newest ≡ false) ⊎ (list_any (λ e. unsettles e.event) (entries_of who e (early ++ event ∷ [])) ≡ true))
+        → IsLeftBehind given tape scope first entries (entries ++ entries_of who e (early ++ event ∷ [])) new (is_carried work) false l
+
+    leaves : tells → IsLeftBehind given tape scope first entries (entries ++ entries_of who end (early ++ event ∷ [])) new (is_carried work) false tape'
+    leaves t =
+        let g = grows.more t in
+        subst (λ (l : List Operation). Then l end) (sym g.1)
+        (subst (Then (tape ++ g.0)) (sym (at_end t ∙ ap (λ (l : List Operation). length l) g.1))
+        (λ call_to marked. changing-leaves given tape scope first entries old new (is_carried work) false who early IsTaken event g.0 are goes caller adding (few-roles new.newest moved.placed.fit.valid) missing
+        (list-alike old.newest new.newest moved.reshape moved.shape moved.size) marked was.sizes_are
+        (was.gone t) (was.unclean t) (was.recorded t) (was.safe t) (safe-now was live t) call_to))
+        (call t) clean

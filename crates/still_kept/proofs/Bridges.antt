@@ -1,0 +1,123 @@
+-- Without a resync and without a role that is recovered, the record is what a reshape begins in, and what its end leaves.
+use Rattle.std.proofs.Common.{◌≡◌, ℕ, ◌<◌, ◌≤◌, nat_lt, Bool, true, false, cond, Option, None, List, length, refl, sym, ◌∙◌, ap, subst, arith}
+use Rattle.std.specs.Prelude.{IfSome, is_some, ⊤}
+use Rattle.std.proofs.lemmas.Bool.Decides.{nat_tests}
+use Rattle.md_base.specs.Sectors.{Sector, zero_sector}
+use Rattle.bank.specs.declared.bank.Operation.{Operation}
+use Rattle.bank.specs.Given.{Given}
+use Rattle.parity.specs.Rows.{IsSector}
+use Rattle.superblocks.specs.declared.members.Members.{Members}
+use Rattle.superblocks.specs.Reading.{Scope, shape_of, list_length}
+use Rattle.row_io.specs.Rows.{present}
+use Rattle.flat_history.specs.declared.events.Entry.{Entry}
+use Rattle.flat_history.specs.Epochs.{HasRoomForEvents, OpensAlike}
+use Rattle.flat_history.specs.Flat.{now}
+use Rattle.flat_history.specs.Legal.{told_left}
+use Rattle.flat_history.specs.Losses.{is_unsynced}
+use Rattle.flat_history.specs.Sound.{OpensFit}
+use Rattle.flat_history.specs.World.{opening_list}
+use Rattle.shape_views.specs.Regions.{DoWithout}
+use Rattle.shape_changes.specs.Steady.{AreUnlost}
+use Rattle.shape_ends.specs.Plans.{HasNoneRecovering}
+use Rattle.shape_ends.proofs.GrownLaws.{row-list}
+use Rattle.views.specs.declared.work.Work.{Work}
+use Rattle.views.specs.Lacking.{mended_rows}
+use Rattle.views.specs.Numbers.{is_carried}
+use Rattle.views.specs.Rebuilding.{AreSparesFree}
+use Rattle.views.specs.Status.{stripes_of}
+use Rattle.views.proofs.Fit.{valid}
+use Rattle.kept_history.specs.Safe.{world_in, IsFilledRight, IsSafeHistory}
+use Rattle.moving_kept.specs.Moving.{HasListStill, IsStillKept}
+use Rattle.still_kept.specs.Still.{AreAtRest, HasListStood, IsStill}
+use Rattle.still_kept.proofs.Stood.{list-shown, shown-list, rows-shown, shown-rows, sector-inside}
+
+-- ---- once no resync is pending
+
+module _ (tells : Type 0) (given : Given) (tape : List Operation) (scope : Scope) (first : ℕ) (entries : List Entry) (m : Members) (work : Work) (left : ℕ)
+    (was : IsStill tells given tape scope first entries m work left) (synced : work.resync ≡ None) where
+  abbrev current : ℕ → Sector
+  current = now (opening_list (world_in given tape scope first)) entries
+
+  -- the list, with zeros behind its end
+  abbrev list : ℕ → Sector
+  list = λ x. cond (nat_lt x (list_length m.newest)) (now (opening_list (world_in given tape scope first)) entries x) zero_sector
+
+  list-is : (x : ℕ) → x < list_length m.newest → list x ≡ current x
+  list-is x lt = ap (λ (b : Bool). cond b (current x) zero_sector) (is-below (list_length m.newest) lt)
+    where
+      is-below : (n : ℕ) → x < n → nat_lt x n ≡ true
+      is-below n lt = grind (arith, nat_tests, lt)
+
+  list-past : (x : ℕ) → list_length m.newest ≤ x → list x ≡ zero_sector
+  list-past x past = ap (λ (b : Bool). cond b (current x) zero_sector) (not-below (list_length m.newest) past)
+    where
+      not-below : (n : ℕ) → n ≤ x → nat_lt x n ≡ false
+      not-below n past = grind (arith, nat_tests, past)
+
+  listed : tells → DoWithout m → IsFilledRight (world_in given tape scope first) entries → HasListStill (OpensFit (world_in given tape scope first)) m (present given tape) (now (opening_list (world_in given tape scope first)) entries)
+  listed t does fills =
+      let l = was.listed t does fills in
+      record {
+        list = list;
+        is = list-is;
+        zeros = list-past;
+        stands = λ x slot shown held. list-shown given m was.members_are (present given tape) current l.stands x slot shown held ∙ sym (list-is x shown.within);
+        rows = λ fit. rows-shown given m was.members_are (present given tape) list (λ row lt.
+            row-list m (present given tape) (shape_of m.newest) current list row (valid given m was.members_are.placed) (λ y at. list-is y (sector-inside given m was.members_are y (omega (arith, at, lt))))
+            (l.rows fit row (subst (λ (o : Option ℕ). row < mended_rows o m) (sym synced) lt) lt));
+      }
+
+  pub stands-kept : IsStillKept tells given tape scope first entries m (is_carried work)
+  stands-kept = record {
+    slots = was.slots;
+    placed = was.members_are.placed;
+    still = was.members_are.still;
+    sizes_are = was.sizes_are;
+    levelled = was.levelled;
+    gone = was.gone;
+    unclean = was.unclean;
+    recorded = was.recorded;
+    listed = listed;
+    safe = was.safe;
+  }
+
+-- ---- and the other way
+
+pub kept-again : (tells : Type 0) (given : Given) (tape : List Operation) (scope : Scope) (first : ℕ) (entries : List Entry) (m : Members) (carried : ℕ → Bool) (work : Work) (left : ℕ)
+    → IsStillKept tells given tape scope first entries m carried → AreUnlost m → AreSparesFree given m → length m.spares ≤ 32 → HasNoneRecovering m → work.resync ≡ None → is_carried work ≡ carried
+    → IfSome (told_left entries) (λ n. n ≡ left) → (tells → is_unsynced (world_in given tape scope first) entries ≡ false)
+    → IsStill tells given tape scope first entries m work left
+kept-again tells given tape scope first entries m carried work left was unlost free spares whole none carries told synced = record {
+  slots = was.slots;
+  members_are = rest;
+  sizes_are = was.sizes_are;
+  left_told = told;
+  progress = subst (λ (o : Option ℕ). IfSome o (λ mended. mended ≤ stripes_of m)) (sym none) tt;
+  pending = λ t. synced t ∙ sym (ap (λ (o : Option ℕ). is_some o) none);
+  dirty = λ does pending. absurd (let no = sym (ap (λ (o : Option ℕ). is_some o) none) ∙ pending in cc);
+  levelled = was.levelled;
+  gone = was.gone;
+  unclean = was.unclean;
+  recorded = was.recorded;
+  listed = listed;
+  safe = subst (λ (c : ℕ → Bool). tells → IsFilledRight (world_in given tape scope first) entries → HasRoomForEvents (world_in given tape scope first) → OpensAlike (world_in given tape scope first)
+      → IsSafeHistory ⊤ (world_in given tape scope first) given m c false entries) (sym carries) was.safe;
+}
+  where
+    rest : AreAtRest given m
+    rest = record { placed = was.placed; still = was.still; unlost = unlost; free = free; spares = spares }
+
+    current : ℕ → Sector
+    current = now (opening_list (world_in given tape scope first)) entries
+
+    listed : tells → DoWithout m → IsFilledRight (world_in given tape scope first) entries → HasListStood (OpensFit (world_in given tape scope first)) work m (present given tape) (now (opening_list (world_in given tape scope first)) entries)
+    listed t does fills =
+        let l = was.listed t does fills in
+        record {
+          stands = shown-list given m rest (present given tape) (now (opening_list (world_in given tape scope first)) entries) (λ x slot shown held. l.stands x slot shown held ∙ l.is x shown.within);
+          whole = λ fit x lt. subst IsSector (l.is x lt) ((l.rows fit x (record { within = lt; outside = refl })).whole x refl);
+          rows = λ fit row high low.
+              row-list m (present given tape) (shape_of m.newest) l.list (now (opening_list (world_in given tape scope first)) entries) row (valid given m was.placed) (λ y at. sym (l.is y (sector-inside given m rest y (omega (arith, at, low)))))
+              (shown-rows given m rest (present given tape) l.list (l.rows fit) row low);
+          rebuilt = λ fit role slot row lt is. absurd (whole role slot is);
+        }

@@ -1,0 +1,247 @@
+-- A flush, a stop, or the end of a resync, from what `settle` leaves; and a flush or a stop that is refused since too many are missing.
+use Rattle.std.proofs.Common.{◌≡◌, inl, inr, ℕ, ◌<◌, ◌≤◌, ◌==◌, ◌&&◌, ◌||◌, Bool, true, false, not, Option, Some, None, List, [], ◌∷◌, ◌++◌, length, refl, sym, ◌∙◌, ap, subst, arith}
+use Rattle.std.specs.Prelude.{IsFalse, IfSome, IsSome, is_some, ⊤}
+use Rattle.std.specs.List.{list_any}
+use Rattle.std.proofs.lemmas.List.Folds.{list_any-append}
+use Rattle.md_base.specs.Sectors.{Sector}
+use Rattle.md_base.specs.Shapes.{tolerance, tolerance_of}
+use Rattle.md_base.specs.declared.answers.Refusal.{Refusal}
+use Rattle.md_base.specs.declared.answers.Who.{Who}
+use Rattle.md_base.specs.declared.places.Shape.{Shape}
+use Rattle.bank.specs.declared.bank.Operation.{Operation}
+use Rattle.bank.specs.Given.{Given}
+use Rattle.bank.specs.Tape.{Contents, IsIn, disk}
+use Rattle.superblocks.specs.declared.members.Members.{Members}
+use Rattle.superblocks.specs.Reading.{Scope, is_clean, list_length}
+use Rattle.superblocks.proofs.ValidFields.{few-roles}
+use Rattle.row_io.specs.Rows.{present}
+use Rattle.flat_history.specs.declared.events.Entry.{Entry}
+use Rattle.flat_history.specs.declared.events.Event.{Event}
+use Rattle.flat_history.specs.declared.events.Event.TheVariants.{Flushed, Stopped, Refused}
+use Rattle.flat_history.specs.Flat.{now, values_of}
+use Rattle.flat_history.specs.Legal.{told_left, IsLegalEvent}
+use Rattle.flat_history.specs.Losses.{was_dirty, is_resync_end, is_unsynced, unsettles}
+use Rattle.flat_history.specs.Plain.{entries_of}
+use Rattle.flat_history.specs.Sound.{OpensFit}
+use Rattle.flat_history.specs.World.{World, opening_list}
+use Rattle.shape_views.specs.Regions.{DoWithout}
+use Rattle.shape_views.specs.Views.{Ledger}
+use Rattle.shape_changes.specs.Marking.{AreOthersPresent}
+use Rattle.shape_changes.specs.Safety.{HasLiveSlot, HasRoomLeft, IsRisen}
+use Rattle.shape_changes.specs.Steady.{IsSafeOver, KeepsSafe, AreGoneTold, IsUncleanTold, AreWritesAllowed, settled_ledger}
+use Rattle.views.specs.declared.work.Work.{Work}
+use Rattle.views.specs.Lacking.{AreLostSince, AreTooMany, mended_rows}
+use Rattle.views.specs.Moving.{Grows, IsMoved}
+use Rattle.views.specs.Numbers.{is_carried}
+use Rattle.views.specs.Status.{stripes_of}
+use Rattle.views.specs.Under.{StandsUnder, RowsStandUnder}
+use Rattle.views.proofs.Fit.{list-alike}
+use Rattle.views.proofs.HeldRows.{without-before}
+use Rattle.views.proofs.LackingLaws.{never-both}
+use Rattle.call_entries.specs.Losing.{losses_of}
+use Rattle.call_entries.proofs.CallLaws.{losses-are, ends-losses, values-losses}
+use Rattle.call_entries.proofs.LeftLaws.{TellLeft}
+use Rattle.array_kept.proofs.KeptLaws.{left-lost}
+use Rattle.safe_updates.proofs.Under.{still-under, still-rows-under}
+use Rattle.kept_history.specs.Recorded.{IsCallGoing, entry_of, ends_reshape}
+use Rattle.kept_history.specs.Safe.{world_in, IsFilledRight}
+use Rattle.kept_history.proofs.Entered.{values-more}
+use Rattle.kept_history.proofs.Lists.{newest-in}
+use Rattle.history_calls.proofs.Behind.{IsAmong, first-of, early-losses, legal-losses}
+use Rattle.history_calls.proofs.Quiet.{IsLeftBehind}
+use Rattle.history_calls.proofs.Adding.{unsettled-behind}
+use Rattle.history_calls.proofs.Settling.{IsSettlement, SettlesList, takes-newest, settling-leaves, settled-same}
+use Rattle.still_kept.specs.Still.{HasListStood, IsStill}
+use Rattle.still_kept.proofs.Adding.{changing-stands}
+use Rattle.still_kept.proofs.Ends.{EndsNothing, reshaped-behind}
+use Rattle.still_kept.proofs.Leaving.{safe-now, rest-moved, leaves-stands}
+use Rattle.still_kept.proofs.Refusals.{too-many-refused, refused-right, unsynced-behind}
+use Rattle.still_kept.proofs.Staying.{missing-since, progress-same}
+use Rattle.still_kept.proofs.Stood.{stood-moved}
+
+-- What `settle` leaves, in an array that is unsynced behind it or not: none but superblocks is written, and each mark is safe.
+pub record IsFlushedStill (tells : Type 0) (given : Given) (tape tape' : List Operation) (old new : Members) (roles spares : ℕ) (before after : ℕ → ℕ) (unsynced : Bool) : Type 0 where
+  pub moved : IsMoved given old new
+  pub since : AreLostSince old new roles spares before after
+  pub grows : Grows tells tape tape'
+  pub rise : tells → IsRisen ⊤ old new tape tape'
+  pub others : tells → AreOthersPresent (present given tape) (present given tape')
+  pub safe : tells → (world : World) → (told : Ledger) → HasRoomLeft old tape tape' → AreGoneTold told new → IsUncleanTold told old → (list : ℕ → Sector)
+      → (DoWithout old → StandsUnder world.scope old (present given tape) (disk given.start tape) list)
+      → (unsynced ≡ false → DoWithout old → OpensFit world → RowsStandUnder world.scope old (present given tape) (disk given.start tape) list)
+      → AreWritesAllowed old told.values list → IsSafeOver world given told old tape → KeepsSafe world given told new tape tape'
+
+-- what it leaves where it is done
+pub record IsSettledStill (tells : Type 0) (given : Given) (tape tape' : List Operation) (old new : Members) (unsynced : Bool) : Type 0 where
+  pub clean : unsynced ≡ false → is_clean new.newest ≡ true
+  pub stays : unsynced ≡ true → is_clean new.newest ≡ is_clean old.newest
+  pub settled : tells → (world : World) → (told : Ledger) → HasRoomLeft old tape tape' → AreGoneTold told new → IsUncleanTold told old → (DoWithout old → unsynced ≡ true → is_clean old.newest ≡ false) → (list : ℕ → Sector)
+      → (DoWithout old → StandsUnder world.scope old (present given tape) (disk given.start tape) list)
+      → (unsynced ≡ false → DoWithout old → OpensFit world → RowsStandUnder world.scope old (present given tape) (disk given.start tape) list)
+      → AreWritesAllowed old told.values list → IsSafeOver world given told old tape → IsSafeOver world given (settled_ledger unsynced list told) new tape'
+
+-- a flush and a stop settle
+pub flush-is : IsSettlement Flushed
+flush-is = takes-newest Flushed refl (λ n. refl) (λ n. refl) (λ x values. refl)
+
+pub stop-is : IsSettlement Stopped
+stop-is = takes-newest Stopped refl (λ n. refl) (λ n. refl) (λ x values. refl)
+
+-- a resync is pending behind losses and an event, as long as that doesn't end it
+unsynced-then : (world : World) (entries : List Entry) (who : Who) (end roles spares : ℕ) (event : Event)
+    → is_unsynced world (entries ++ entries_of who end (losses_of roles spares ++ event ∷ [])) ≡ (is_unsynced world entries && not (is_resync_end event))
+unsynced-then world entries who end roles spares event =
+    ap (λ (b : Bool). was_dirty world && not b)
+    (list_any-append (λ e. is_resync_end e.event) entries (entries_of who end (losses_of roles spares ++ event ∷ []))
+    ∙ ap (λ (b : Bool). list_any (λ e. is_resync_end e.event) entries || b) (ends-losses who end (losses_of roles spares) (event ∷ []) (losses-are roles spares)))
+    ∙ neither (was_dirty world) (list_any (λ e. is_resync_end e.event) entries) (is_resync_end event)
+  where
+    neither : (dirty a b : Bool) → (dirty && not (a || (b || false))) ≡ ((dirty && not a) && not b)
+    neither false a b = refl
+    neither true true b = refl
+    neither true false true = refl
+    neither true false false = refl
+
+-- where no resync is pending, all rows are mended
+pub all-mended : (m : Members) (resync : Option ℕ) (unsynced : Bool) → unsynced ≡ is_some resync → unsynced ≡ false → m.newest.size ≤ mended_rows resync m
+all-mended m None unsynced same synced = omega arith
+all-mended m (Some mended) unsynced same synced = absurd (let no = sym same ∙ synced in cc)
+
+module _ (tells : Type 0) (given : Given) (tape tape' : List Operation) (scope : Scope) (first : ℕ) (entries : List Entry) (old new : Members) (work : Work) (left : ℕ)
+    (who : Who) (end roles spares : ℕ) (before after : ℕ → ℕ) (unsynced : Bool)
+    (was : IsStill tells given tape scope first entries old work left) (live : HasLiveSlot old) (goes : IsCallGoing entries who) (caller : IsFalse (who.caller == 254)) (at_end : tells → end ≡ length tape')
+    (all : unsynced ≡ false → old.newest.size ≤ mended_rows work.resync old)
+    (did : IsFlushedStill tells given tape tape' old new roles spares before after unsynced) where
+  abbrev world : World
+  world = world_in given tape scope first
+
+  abbrev current : ℕ → Sector
+  current = now (opening_list (world_in given tape scope first)) entries
+
+  -- the list stands whichever header a stop leaves
+  under : tells → IsFilledRight (world_in given tape scope first) entries → DoWithout old → StandsUnder scope old (present given tape) (disk given.start tape) (now (opening_list (world_in given tape scope first)) entries)
+  under t fills does = still-under scope given old (present given tape) (disk given.start tape) current was.members_are.placed was.members_are.still (was.listed t does fills).stands
+
+  rows-under : tells → IsFilledRight (world_in given tape scope first) entries → unsynced ≡ false → DoWithout old → OpensFit (world_in given tape scope first)
+      → RowsStandUnder scope old (present given tape) (disk given.start tape) (now (opening_list (world_in given tape scope first)) entries)
+  rows-under t fills synced does fit = still-rows-under scope given old (present given tape) (disk given.start tape) current was.members_are.placed was.members_are.still
+      (λ row low. (was.listed t does fills).rows fit row (let most = all synced in omega (arith, low, most)) low)
+
+  -- and does on the members that are left
+  still-listed : tells → DoWithout new → IsFilledRight (world_in given tape scope first) entries
+      → HasListStood (OpensFit (world_in given tape scope first)) work new (present given tape') (now (opening_list (world_in given tape scope first)) entries)
+  still-listed t does fills = stood-moved (OpensFit world) work given old new (present given tape) (present given tape') current did.moved was.members_are.placed (did.others t)
+      (was.listed t (without-before given old new did.moved does) fills)
+
+  -- ---- one that is done
+
+  -- it may end a resync: then another work is under way behind it, by which the list stands too
+  pub settled-stands : (work' : Work) (left' : ℕ) (event : Event) → IsSettledStill tells given tape tape' old new unsynced → IsSettlement event → EndsNothing entries event
+      → is_carried work' ≡ is_carried work → unsynced ≡ is_some work'.resync → (unsynced ≡ true → IsSome work.resync) → IfSome work'.resync (λ mended. mended ≤ stripes_of new)
+      → (tells → (is_unsynced (world_in given tape scope first) entries && not (is_resync_end event)) ≡ unsynced)
+      → IfSome (told_left (entries ++ entries_of who end (losses_of roles spares ++ event ∷ []))) (λ n. n ≡ left')
+      → ((sound : Type 0) (c : Contents) (list : ℕ → Sector) → HasListStood sound work new c list → HasListStood sound work' new c list)
+      → (tells → IsLegalEvent (world_in given tape' scope first) (entries ++ entries_of who end (losses_of roles spares)) (entry_of who end event) [] event)
+      → IsStill tells given tape' scope first (entries ++ entries_of who end (losses_of roles spares ++ event ∷ [])) new work' left'
+  settled-stands work' left' event done settling free carries pends waits progress unsynced_is told again legal =
+      leaves-stands tells given tape tape' scope first entries (entries ++ added) old new work work' left left' was did.grows (rest-moved given old new did.moved was.members_are) (ap (λ (s : Shape). s.level) did.moved.shape) told progress
+      (λ t. unsynced-then (world_in given tape scope first) entries who end roles spares event ∙ unsynced_is t ∙ pends)
+      (λ does is. done.stays (pends ∙ is) ∙ was.dirty (without-before given old new did.moved does) (waits (pends ∙ is)))
+      (λ t does fills. subst (λ (l : ℕ → Sector). HasListStood (OpensFit (world_in given tape scope first)) work' new (present given tape') l) (sym same)
+      (again (OpensFit (world_in given tape scope first)) (present given tape') current (still-listed t does fills)))
+      (λ t. subst (λ (c : ℕ → Bool). IsLeftBehind given tape scope first entries (entries ++ added) new c false tape') (sym carries) (leaves t))
+    where
+      added : List Entry
+      added = entries_of who end (losses_of roles spares ++ event ∷ [])
+
+      same : now (opening_list (world_in given tape scope first)) (entries ++ entries_of who end (losses_of roles spares ++ event ∷ [])) ≡ now (opening_list (world_in given tape scope first)) entries
+      same = λ i x. settled-same (opening_list (world_in given tape scope first)) entries who end roles spares event settling x i
+
+      Then : List Operation → ℕ → Type 0
+      Then l e = SettlesList given tape scope first entries old new (is_carried work) false unsynced who roles spares event l e
+          → IsLeftBehind given tape scope first entries (entries ++ entries_of who e (losses_of roles spares ++ event ∷ [])) new (is_carried work) false l
+
+      call : tells → SettlesList given tape scope first entries old new (is_carried work) false unsynced who roles spares event tape' end
+      call t = record {
+        rise = did.rise t;
+        keeps = λ told_so fills more allowed room gone unclean safe. did.safe t (world_in given tape scope first) told_so room gone unclean current (under t fills) (rows-under t fills) allowed safe;
+        settled = λ told_so fills more allowed room gone unclean safe. record {
+          list = current;
+          is = λ x lt. refl;
+          safe = done.settled t (world_in given tape scope first) told_so room gone unclean (λ does is. was.dirty does (waits is)) current (under t fills) (rows-under t fills) allowed safe;
+        };
+        legal = λ fills gone level. legal t;
+        reshaped = reshaped-behind (world_in given tape' scope first) entries who end roles spares event free;
+      }
+
+      leaves : tells → IsLeftBehind given tape scope first entries (entries ++ entries_of who end (losses_of roles spares ++ event ∷ [])) new (is_carried work) false tape'
+      leaves t =
+          let g = did.grows.more t in
+          subst (λ (l : List Operation). Then l end) (sym g.1)
+          (subst (Then (tape ++ g.0)) (sym (at_end t ∙ ap (λ (l : List Operation). length l) g.1))
+          (settling-leaves given tape scope first entries old new (is_carried work) false unsynced who roles spares event g.0 goes caller settling (few-roles new.newest did.moved.placed.fit.valid)
+          (missing-since did.moved did.since) (list-alike old.newest new.newest did.moved.reshape did.moved.shape did.moved.size) done.clean was.sizes_are (unsynced_is t)
+          (was.gone t) (was.unclean t) (was.recorded t) (was.safe t) (safe-now was live t)))
+          (call t)
+
+  -- an event that leaves what is under way
+  settled-alike : (left' : ℕ) (event : Event) → IsSettledStill tells given tape tape' old new unsynced → unsynced ≡ is_some work.resync → (losses_of roles spares ≡ [] → left' ≡ left)
+      → IsSettlement event → ends_reshape event ≡ false → is_resync_end event ≡ false → TellLeft left' who end (event ∷ []) → ((world : World) (before : List Entry) (e : Entry) → IsLegalEvent world before e [] event)
+      → IsStill tells given tape' scope first (entries ++ entries_of who end (losses_of roles spares ++ event ∷ [])) new work left'
+  settled-alike left' event done pends alike settling ends resync tell legal =
+      settled-stands work left' event done settling (inl ends) refl pends (λ is. sym pends ∙ is) (progress-same did.moved work.resync was.progress)
+      (λ t. not-ended (is_unsynced (world_in given tape scope first) entries) (is_resync_end event) resync ∙ was.pending t ∙ sym pends)
+      (left-lost left left' entries who end (losses_of roles spares) (event ∷ []) (losses-are roles spares) alike was.left_told tell)
+      (λ sound c list l. l)
+      (λ t. legal (world_in given tape' scope first) (entries ++ entries_of who end (losses_of roles spares)) (entry_of who end event))
+    where
+      not-ended : (waits ends : Bool) → ends ≡ false → (waits && not ends) ≡ waits
+      not-ended true false is = refl
+      not-ended false false is = refl
+      not-ended waits true is = absurd (cc)
+
+  -- a flush, and a stop
+  pub flushed-stands : (left' : ℕ) → IsSettledStill tells given tape tape' old new unsynced → unsynced ≡ is_some work.resync → (losses_of roles spares ≡ [] → left' ≡ left)
+      → IsStill tells given tape' scope first (entries ++ entries_of who end (losses_of roles spares ++ Flushed ∷ [])) new work left'
+  flushed-stands left' done pends alike = settled-alike left' Flushed done pends alike flush-is refl refl (λ told is. is) (λ world before e. tt)
+
+  pub stopped-stands : (left' : ℕ) → IsSettledStill tells given tape tape' old new unsynced → unsynced ≡ is_some work.resync → (losses_of roles spares ≡ [] → left' ≡ left)
+      → IsStill tells given tape' scope first (entries ++ entries_of who end (losses_of roles spares ++ Stopped ∷ [])) new work left'
+  stopped-stands left' done pends alike = settled-alike left' Stopped done pends alike stop-is refl refl (λ told is. is) (λ world before e. tt)
+
+  -- ---- one that is refused
+
+  pub unflushed-stands : (left' : ℕ) (refusal : Refusal) → AreTooMany new refusal → (losses_of roles spares ≡ [] → left' ≡ left)
+      → IsStill tells given tape' scope first (entries ++ entries_of who end (losses_of roles spares ++ Refused refusal ∷ [])) new work left'
+  unflushed-stands left' refusal many alike =
+      changing-stands tells given tape tape' scope first entries old new work left left' who end (losses_of roles spares) (IsAmong roles) (Refused refusal) was live goes caller at_end did.grows
+      (record { adds = refl; gives = refl; ends = refl; level = λ n. refl }) did.moved (first-of (early-losses roles spares)) (missing-since did.moved did.since)
+      (λ dirty. inr (unsettled-behind who end roles spares (Refused refusal) (unsettled refusal many)))
+      (λ does. absurd (never-both new refusal does many))
+      (left-lost left left' entries who end (losses_of roles spares) (Refused refusal ∷ []) (losses-are roles spares) alike was.left_told (λ told is. is))
+      (λ t does. absurd (never-both new refusal does many))
+      (λ t. record {
+        rise = did.rise t;
+        keeps = λ told_so reliable all_gone fills more allowed room gone unclean unsettles_so safe.
+            did.safe t (world_in given tape scope first) told_so room gone unclean current (under t fills) (rows-under t fills)
+            (λ x lt. allowed x (current x) lt (held t x lt)) safe;
+        legal = λ fills gone level. legal-losses (world_in given tape' scope first) entries who end (losses_of roles spares) (Refused refusal ∷ []) (losses-are roles spares) (
+          refused-right (world_in given tape' scope first) (entries ++ entries_of who end (losses_of roles spares)) given new did.moved.placed work.resync gone
+              (ap tolerance_of level ∙ was.levelled t fills ∙ ap tolerance (sym did.moved.shape))
+              (unsynced-behind tells given tape tape' scope first entries who end roles spares did.grows (λ u. (was.recorded u).begun) t ∙ was.pending t) refusal (too-many-refused work.resync new refusal many),
+          tt,
+          tt,
+        );
+      })
+    where
+      unsettled : (refusal : Refusal) → AreTooMany new refusal → unsettles (Refused refusal) ≡ true
+      unsettled refusal (inl many) = subst (λ (r : Refusal). unsettles (Refused r) ≡ true) (sym many.told) refl
+      unsettled refusal (inr many) = subst (λ (r : Refusal). unsettles (Refused r) ≡ true) (sym many.1.told) refl
+
+      -- each sector may have what it has
+      held : tells → (x : ℕ) → x < list_length old.newest
+          → IsIn (values_of (opening_list (world_in given tape scope first)) (entries ++ entries_of who end (losses_of roles spares ++ Refused refusal ∷ [])) x) (now (opening_list (world_in given tape scope first)) entries x)
+      held t x lt = subst (λ (l : List Sector). IsIn l (now (opening_list (world_in given tape scope first)) entries x))
+          (sym (values-more (opening_list (world_in given tape scope first)) entries (entries_of who end (losses_of roles spares ++ Refused refusal ∷ [])) x
+          ∙ values-losses who end (losses_of roles spares) (Refused refusal ∷ []) (losses-are roles spares) x (values_of (opening_list (world_in given tape scope first)) entries x)))
+          (newest-in (opening_list (world_in given tape scope first)) entries x (let size = (was.recorded t).sized in omega (arith, lt, size)))

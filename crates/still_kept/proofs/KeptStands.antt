@@ -1,0 +1,118 @@
+-- What an array of one shape keeps is what an array keeps without an active reshape.
+use Rattle.std.proofs.Common.{◌≡◌, inl, inr, ℕ, ◌<◌, ◌||◌, Bool, true, false, Option, List, [], ◌∷◌, length, refl, sym, ◌∙◌, ap, subst}
+use Rattle.std.specs.Prelude.{fold}
+use Rattle.std.specs.List.{list_any}
+use Rattle.std.proofs.lemmas.Bool.{and_parts}
+use Rattle.md_base.specs.Shapes.{tolerance_of}
+use Rattle.bank.specs.declared.bank.Operation.{Operation}
+use Rattle.bank.specs.Given.{Given}
+use Rattle.superblocks.specs.declared.members.Members.{Members}
+use Rattle.superblocks.specs.Reading.{Scope, Reading, list_length}
+use Rattle.row_io.specs.Rows.{present}
+use Rattle.flat_history.specs.declared.events.Entry.{Entry}
+use Rattle.flat_history.specs.declared.events.Event.{Event}
+use Rattle.flat_history.specs.declared.events.Event.TheVariants.{Lost, Step}
+use Rattle.flat_history.specs.declared.events.StepKind.TheVariants.{TakenOver}
+use Rattle.flat_history.specs.Flat.{now}
+use Rattle.flat_history.specs.Legal.{level_at, level_after}
+use Rattle.flat_history.specs.Losses.{takes, loses}
+use Rattle.flat_history.specs.OneShape.{opening_in, is_lost, is_unsettled, keeps_shape_event, KeepShape}
+use Rattle.flat_history.specs.Plain.{loses_role}
+use Rattle.flat_history.specs.Sound.{FillsRight, OpensFit}
+use Rattle.flat_history.specs.World.{World, reading_at, opening_list}
+use Rattle.flat_history.proofs.OneShapeGone.{after-gone}
+use Rattle.flat_history.proofs.OneShapeLegal.{entries-keep, found-in, one_shape-legal}
+use Rattle.shape_views.specs.Regions.{DoWithout}
+use Rattle.views.specs.declared.work.Work.{Work}
+use Rattle.views.specs.Status.{left_of}
+use Rattle.views.proofs.Still.{length-still}
+use Rattle.array_kept.specs.Kept.{AreRebuildsRight, IsKept}
+use Rattle.array_kept.proofs.ReadyLaws.{kept-legal}
+use Rattle.kept_history.specs.Recorded.{IsHistoryKept}
+use Rattle.kept_history.specs.Safe.{world_in, IsFilledRight}
+use Rattle.one_shape_history.proofs.Kept.{safe-alike, recorded-alike}
+use Rattle.history_calls.specs.Reliable.{IsReliable}
+use Rattle.still_kept.specs.Still.{HasListStood, IsStill}
+
+-- ---- entries
+
+-- what an entry tells lost, it takes
+one-lost : (found : Option Reading) (role : ℕ) (event : Event) → takes found role event ≡ false → loses_role role event ≡ false
+one-lost found role (Lost lost cause) none = none
+one-lost found role event none = refl
+
+neither : (a b : Bool) → (a || b) ≡ false → (a ≡ false) × (b ≡ false)
+neither true b is = absurd (cc)
+neither false b is = (refl, is)
+
+none-lost : (world : World) (role : ℕ) (xs : List Entry) → list_any (loses world role) xs ≡ false → is_lost xs role ≡ false
+none-lost world role [] none = refl
+none-lost world role (x ∷ xs) none =
+    let parts = neither (loses world role x) (list_any (loses world role) xs) none in
+    ap (λ (b : Bool). b || is_lost xs role) (one-lost (reading_at world x.end) role x.event parts.0) ∙ none-lost world role xs parts.1
+
+-- an event that keeps the shape keeps the level
+one-level : (event : Event) (n : ℕ) → keeps_shape_event event ≡ true → level_after n event ≡ n
+one-level (Step TakenOver left) n keeps = absurd (cc)
+one-level event n keeps = refl
+
+same-level : (n : ℕ) (xs : List Entry) → KeepShape xs → fold (λ level e. level_after level e.event) n xs ≡ n
+same-level n [] keep = refl
+same-level n (x ∷ xs) keep =
+    let parts = and_parts (keeps_shape_event x.event) _ keep in
+    ap (λ (m : ℕ). fold (λ level e. level_after level e.event) m xs) (one-level x.event n parts.0) ∙ same-level n xs parts.1
+
+-- ---- the array
+
+module _ {tells : Type 0} {given : Given} {tape : List Operation} {scope : Scope} {first : ℕ} {entries : List Entry} {members : Members} {work : Work}
+    (was : IsKept tells given tape scope first entries members work) where
+  abbrev world : World
+  world = world_in given tape scope first
+
+  fills : IsFilledRight world entries → FillsRight world entries
+  fills (inl none) = inl (λ role. none-lost world role entries (none role))
+  fills (inr fit) = inr fit
+
+  keep : tells → IsFilledRight world entries → KeepShape entries
+  keep t right = entries-keep (opening_in world) (length tape) [] entries (kept-legal was t (fills right))
+
+  recorded : tells → IsHistoryKept (IsReliable world entries) world (list_length members.newest) entries
+  recorded t =
+      let r = recorded-alike world (was.recorded t) was.sized in
+      record {
+        begun = r.begun;
+        sized = r.sized ∙ sym (length-still members was.still);
+        legal = λ right. (one_shape-legal world (opening_in world) entries (found-in world) (kept-legal was t (fills right.fills))).0;
+        reshaped = λ right. (one_shape-legal world (opening_in world) entries (found-in world) (kept-legal was t (fills right.fills))).1;
+        ends = r.ends;
+        ended = r.ended;
+      }
+
+  rebuilds : IsFilledRight world entries → AreRebuildsRight world entries
+  rebuilds (inl none) = inl (was.built (λ role. none-lost world role entries (none role)))
+  rebuilds (inr fit) = inr fit
+
+  listed : tells → DoWithout members → IsFilledRight world entries → HasListStood (OpensFit world) work members (present given tape) (now (opening_list world) entries)
+  listed t does right = record {
+    stands = was.holds t does (rebuilds right);
+    whole = λ fit x lt. was.whole t x (subst (λ (n : ℕ). x < n) (length-still members was.still) lt);
+    rows = was.good t does;
+    rebuilt = was.rebuilt t does;
+  }
+
+  pub kept-stands : IsStill tells given tape scope first entries members work (left_of work members)
+  kept-stands = record {
+    slots = was.slots;
+    members_are = record { placed = was.placed; still = was.still; unlost = was.unlost; free = was.free; spares = was.spares };
+    sizes_are = was.sizes_are;
+    left_told = was.left;
+    progress = was.progress;
+    pending = λ t. (was.recorded t).dirty;
+    dirty = was.dirty;
+    levelled = λ t right. ap tolerance_of (same-level (level_at world []) entries (keep t right.fills)) ∙ (was.recorded t).tolerated;
+    gone = λ t right role lt miss. after-gone world role entries (keep t right.fills) ∙ was.told role lt miss;
+    unclean = λ t dirty. ap (λ (b : Bool). b || is_unsettled entries) (was.recorded t).dirty ∙ was.unclean dirty;
+    recorded = recorded;
+    listed = listed;
+    safe = λ t right room alike. safe-alike world given members work entries (keep t right) (was.safe t (fills right) room alike);
+  }

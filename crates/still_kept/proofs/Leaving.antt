@@ -1,0 +1,100 @@
+-- What a call leaves of the record, from what it leaves of the history.
+use Rattle.std.proofs.Common.{◌≡◌, ℕ, ◌≤◌, List, length, sym, ◌∙◌, ap, subst}
+use Rattle.std.specs.Prelude.{IfSome, IsSome, is_some, false}
+use Rattle.md_base.specs.Sectors.{Sector}
+use Rattle.md_base.specs.Shapes.{tolerance_of}
+use Rattle.bank.specs.declared.bank.Operation.{Operation}
+use Rattle.bank.specs.Given.{Given}
+use Rattle.superblocks.specs.declared.members.Members.{Members}
+use Rattle.superblocks.specs.Reading.{Scope, is_clean, shape_of}
+use Rattle.row_io.specs.Rows.{present}
+use Rattle.flat_history.specs.declared.events.Entry.{Entry}
+use Rattle.flat_history.specs.Epochs.{HasRoomForEvents, OpensAlike}
+use Rattle.flat_history.specs.Flat.{now}
+use Rattle.flat_history.specs.Legal.{told_left}
+use Rattle.flat_history.specs.Losses.{is_unsynced}
+use Rattle.flat_history.specs.Sound.{OpensFit}
+use Rattle.flat_history.specs.World.{opening_list}
+use Rattle.flat_history.proofs.SoundLaws.{fit-before}
+use Rattle.shape_views.specs.Regions.{DoWithout}
+use Rattle.shape_changes.specs.Safety.{HasLiveSlot}
+use Rattle.shape_changes.specs.Steady.{IsSafeOver}
+use Rattle.views.specs.declared.work.Work.{Work}
+use Rattle.views.specs.Moving.{Grows, IsMoved}
+use Rattle.views.specs.Numbers.{is_carried}
+use Rattle.views.specs.Status.{stripes_of}
+use Rattle.kept_history.specs.Safe.{world_in, IsFilledRight}
+use Rattle.kept_history.specs.Told.{told_now}
+use Rattle.kept_history.proofs.Calls.{now-live}
+use Rattle.kept_history.proofs.Growing.{opening-grown, unsynced-grown}
+use Rattle.history_calls.proofs.Quiet.{IsLeftBehind, fit-later}
+use Rattle.still_kept.specs.Still.{AreAtRest, HasListStood, IsStill}
+
+-- ---- what a stop may leave now
+
+-- While a live slot is left, it is right by the whole history.
+pub safe-now : {tells : Type 0} {given : Given} {tape : List Operation} {scope : Scope} {first : ℕ} {entries : List Entry} {members : Members} {work : Work} {left : ℕ}
+    → IsStill tells given tape scope first entries members work left → HasLiveSlot members → tells
+    → IsFilledRight (world_in given tape scope first) entries → HasRoomForEvents (world_in given tape scope first) → OpensAlike (world_in given tape scope first)
+    → IsSafeOver (world_in given tape scope first) given (told_now (world_in given tape scope first) (is_carried work) false entries) members tape
+safe-now {given = given} {tape = tape} {scope = scope} {first = first} was live t fills room alike = now-live (world_in given tape scope first) live (was.safe t fills room alike).now
+
+-- ---- the opening, later
+
+pub list-later : {tells : Type 0} {tape tape' : List Operation} (given : Given) (scope : Scope) (first : ℕ) → Grows tells tape tape' → (tells → first ≤ length tape)
+    → tells → opening_list (world_in given tape' scope first) ≡ opening_list (world_in given tape scope first)
+list-later {tape = tape} given scope first grows begun t =
+    let g = grows.more t in
+    ap (λ (l : List Operation). opening_list (world_in given l scope first)) g.1 ∙ opening-grown (world_in given tape scope first) g.0 (begun t)
+
+pub unsynced-later : {tells : Type 0} {tape tape' : List Operation} (given : Given) (scope : Scope) (first : ℕ) (entries : List Entry) → Grows tells tape tape' → (tells → first ≤ length tape)
+    → tells → is_unsynced (world_in given tape' scope first) entries ≡ is_unsynced (world_in given tape scope first) entries
+unsynced-later {tape = tape} given scope first entries grows begun t =
+    let g = grows.more t in
+    ap (λ (l : List Operation). is_unsynced (world_in given l scope first) entries) g.1 ∙ unsynced-grown (world_in given tape scope first) g.0 (begun t) entries
+
+pub fit-earlier : {tells : Type 0} {tape tape' : List Operation} (given : Given) (scope : Scope) (first : ℕ) → Grows tells tape tape' → (tells → first ≤ length tape)
+    → tells → OpensFit (world_in given tape' scope first) → OpensFit (world_in given tape scope first)
+fit-earlier {tape = tape} given scope first grows begun t fit =
+    let g = grows.more t in
+    fit-before (world_in given tape scope first) g.0 (begun t) (subst (λ (l : List Operation). OpensFit (world_in given l scope first)) g.1 fit)
+
+-- ---- the members
+
+pub rest-moved : (given : Given) (old new : Members) → IsMoved given old new → AreAtRest given old → AreAtRest given new
+rest-moved given old new moved was = record {
+  placed = moved.placed;
+  still = moved.reshape.reshaping ∙ was.still;
+  unlost = moved.unlost;
+  free = moved.free was.free;
+  spares = moved.spares was.spares;
+}
+
+-- ---- the record
+
+pub leaves-stands : (tells : Type 0) (given : Given) (tape tape' : List Operation) (scope : Scope) (first : ℕ) (entries all : List Entry) (old new : Members) (work work' : Work) (left left' : ℕ)
+    → IsStill tells given tape scope first entries old work left → Grows tells tape tape' → AreAtRest given new → (shape_of new.newest).level ≡ (shape_of old.newest).level
+    → IfSome (told_left all) (λ n. n ≡ left') → IfSome work'.resync (λ mended. mended ≤ stripes_of new)
+    → (tells → is_unsynced (world_in given tape scope first) all ≡ is_some work'.resync) → (DoWithout new → IsSome work'.resync → is_clean new.newest ≡ false)
+    → (tells → DoWithout new → IsFilledRight (world_in given tape scope first) entries
+    → HasListStood (OpensFit (world_in given tape scope first)) work' new (present given tape') (now (opening_list (world_in given tape scope first)) all))
+    → (tells → IsLeftBehind given tape scope first entries all new (is_carried work') false tape')
+    → IsStill tells given tape' scope first all new work' left'
+leaves-stands tells given tape tape' scope first entries all old new work work' left left' was grows members level told progress pending dirty listed leaves = record {
+  slots = was.slots;
+  members_are = members;
+  sizes_are = was.sizes_are;
+  left_told = told;
+  progress = progress;
+  pending = λ t. unsynced-later given scope first all grows (λ u. (was.recorded u).begun) t ∙ pending t;
+  dirty = dirty;
+  levelled = λ t right. ap tolerance_of (leaves t).levelled ∙ was.levelled t ((leaves t).right right) ∙ sym (ap tolerance_of level);
+  gone = λ t. (leaves t).gone;
+  unclean = λ t. (leaves t).unclean;
+  recorded = λ t. (leaves t).recorded;
+  listed = λ t does fills.
+      subst (λ (sound : Type 0). HasListStood sound work' new (present given tape') (now (opening_list (world_in given tape' scope first)) all)) (sym (fit-later (leaves t)))
+      (subst (λ (l : List Sector). HasListStood (OpensFit (world_in given tape scope first)) work' new (present given tape') (now l all)) (sym (leaves t).opened)
+      (listed t does ((leaves t).fills fills)));
+  safe = λ t. (leaves t).safe;
+}

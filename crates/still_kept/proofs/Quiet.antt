@@ -1,0 +1,119 @@
+-- A call that leaves the list as it is, and enters losses, or more, and one event behind them.
+use Rattle.std.proofs.Common.{◌≡◌, ℕ, ◌*◌, ◌≤◌, ◌==◌, Bool, true, false, List, [], ◌∷◌, ◌++◌, length, sym, ◌∙◌, ap, subst}
+use Rattle.std.specs.Prelude.{IsFalse, IfSome, is_some}
+use Rattle.std.specs.List.{list_any}
+use Rattle.md_base.specs.Sectors.{Sector}
+use Rattle.md_base.specs.Shapes.{data_disks}
+use Rattle.md_base.specs.declared.answers.Who.{Who}
+use Rattle.md_base.specs.declared.places.Shape.{Shape}
+use Rattle.bank.specs.declared.bank.Operation.{Operation}
+use Rattle.bank.specs.Given.{Given}
+use Rattle.superblocks.specs.declared.members.Members.{Members}
+use Rattle.superblocks.specs.Reading.{Scope, is_clean, shape_of, list_length}
+use Rattle.superblocks.proofs.ValidFields.{few-roles}
+use Rattle.row_io.specs.Rows.{present}
+use Rattle.flat_history.specs.declared.events.Entry.{Entry}
+use Rattle.flat_history.specs.declared.events.Event.{Event}
+use Rattle.flat_history.specs.Flat.{now}
+use Rattle.flat_history.specs.Legal.{told_left}
+use Rattle.flat_history.specs.Transfers.{last_end_from}
+use Rattle.flat_history.specs.Losses.{is_resync_end}
+use Rattle.flat_history.specs.Plain.{entries_of}
+use Rattle.flat_history.specs.Sound.{OpensFit}
+use Rattle.flat_history.specs.World.{opening_list}
+use Rattle.shape_views.specs.Regions.{DoWithout}
+use Rattle.shape_views.proofs.Stands.{list-still}
+use Rattle.shape_changes.specs.Safety.{HasLiveSlot}
+use Rattle.views.specs.declared.work.Work.{Work}
+use Rattle.views.specs.Moving.{Grows, IsMoved}
+use Rattle.views.specs.Numbers.{is_carried}
+use Rattle.views.specs.Status.{stripes_of}
+use Rattle.views.proofs.HeldRows.{without-before}
+use Rattle.call_entries.proofs.CallLaws.{last_end-behind}
+use Rattle.kept_history.specs.Recorded.{IsCallGoing}
+use Rattle.kept_history.specs.Safe.{world_in, IsFilledRight}
+use Rattle.kept_history.proofs.Entered.{settle-none}
+use Rattle.kept_history.proofs.Ledgers.{unsynced-still, none-ends}
+use Rattle.history_calls.proofs.Behind.{AreEarly, AreLostOrMissing}
+use Rattle.history_calls.proofs.Quiet.{IsQuiet, AreQuietLast, quiet-last, LeavesNumbers, LeavesList, IsLeftBehind, numbers-leaves, numbers-of, last-now}
+use Rattle.still_kept.specs.Still.{AreAtRest, HasListStood, IsStill}
+use Rattle.still_kept.proofs.Leaving.{safe-now, rest-moved, leaves-stands}
+
+-- The call keeps the record, with no event behind those or one: its members are at rest, in the same shape, what is missing of them is told, and the list stands on them. What is under way then has a
+-- resync pending just so, and knows no fewer device numbers.
+pub tail-stands : (tells : Type 0) (given : Given) (tape tape' : List Operation) (scope : Scope) (first : ℕ) (entries : List Entry) (old new : Members) (work work' : Work) (left left' : ℕ)
+    (who : Who) (end : ℕ) (early : List Event) (IsTaken : ℕ → Type 0) (tail : List Event)
+    → IsStill tells given tape scope first entries old work left → HasLiveSlot old → IsCallGoing entries who → IsFalse (who.caller == 254) → (tells → end ≡ length tape') → Grows tells tape tape' → AreQuietLast who end tail
+    → AreAtRest given new → shape_of new.newest ≡ shape_of old.newest → new.newest.size ≡ old.newest.size → (DoWithout new → DoWithout old)
+    → AreEarly early IsTaken → AreLostOrMissing old new IsTaken → is_clean new.newest ≡ is_clean old.newest
+    → ((number : ℕ) → is_carried work number ≡ true → is_carried work' number ≡ true) → is_some work'.resync ≡ is_some work.resync → IfSome work'.resync (λ mended. mended ≤ stripes_of new)
+    → last_end_from first (entries ++ entries_of who end (early ++ tail)) ≡ end → IfSome (told_left (entries ++ entries_of who end (early ++ tail))) (λ n. n ≡ left')
+    → (tells → DoWithout new → IsFilledRight (world_in given tape scope first) entries
+    → HasListStood (OpensFit (world_in given tape scope first)) work' new (present given tape') (now (opening_list (world_in given tape scope first)) entries))
+    → (tells → LeavesNumbers given tape scope first entries old new (is_carried work) (is_carried work') false who early tail tape' end)
+    → IsStill tells given tape' scope first (entries ++ entries_of who end (early ++ tail)) new work' left'
+tail-stands tells given tape tape' scope first entries old new work work' left left' who end early IsTaken tail was live goes caller at_end grows quiet rest shape size before are missing clean carries pends progress ended told listed call =
+    leaves-stands tells given tape tape' scope first entries (entries ++ added) old new work work' left left' was grows rest (ap (λ (s : Shape). s.level) shape) told progress
+    (λ t. unsynced-still (world_in given tape scope first) entries added ends ∙ was.pending t ∙ sym pends)
+    (λ does pending. clean ∙ was.dirty (before does) (sym pends ∙ pending))
+    (λ t does fills. subst (λ (l : ℕ → Sector). HasListStood (OpensFit (world_in given tape scope first)) work' new (present given tape') l) (sym same) (listed t does fills))
+    leaves
+  where
+    added : List Entry
+    added = entries_of who end (early ++ tail)
+
+    ends : list_any (λ e. is_resync_end e.event) (entries_of who end (early ++ tail)) ≡ false
+    ends = none-ends (entries_of who end (early ++ tail)) (settle-none (entries_of who end (early ++ tail)) (are.adds who end tail quiet.adds))
+
+    same : now (opening_list (world_in given tape scope first)) (entries ++ entries_of who end (early ++ tail)) ≡ now (opening_list (world_in given tape scope first)) entries
+    same = λ i x. last-now (opening_list (world_in given tape scope first)) entries who end early IsTaken tail are quiet x i
+
+    sized : list_length new.newest ≡ list_length old.newest
+    sized = list-still new.newest rest.still ∙ (λ i. data_disks (shape i) * size i) ∙ sym (list-still old.newest was.members_are.still)
+
+    Then : List Operation → ℕ → Type 0
+    Then l e = AreQuietLast who e tail → last_end_from first (entries ++ entries_of who e (early ++ tail)) ≡ e
+        → LeavesNumbers given tape scope first entries old new (is_carried work) (is_carried work') false who early tail l e
+        → IsLeftBehind given tape scope first entries (entries ++ entries_of who e (early ++ tail)) new (is_carried work') false l
+
+    leaves : tells → IsLeftBehind given tape scope first entries (entries ++ entries_of who end (early ++ tail)) new (is_carried work') false tape'
+    leaves t =
+        let g = grows.more t in
+        subst (λ (l : List Operation). Then l end) (sym g.1)
+        (subst (Then (tape ++ g.0)) (sym (at_end t ∙ ap (λ (l : List Operation). length l) g.1))
+        (λ quiet_here ended_here. numbers-leaves given tape scope first entries old new (is_carried work) (is_carried work') false who early IsTaken tail g.0 are carries goes caller quiet_here ended_here (few-roles new.newest rest.placed.fit.valid) missing
+        sized clean was.sizes_are (was.gone t) (was.unclean t) (was.recorded t) (was.safe t) (safe-now was live t)))
+        quiet ended (call t)
+
+-- So it is with one event.
+pub placed-stands : (tells : Type 0) (given : Given) (tape tape' : List Operation) (scope : Scope) (first : ℕ) (entries : List Entry) (old new : Members) (work work' : Work) (left left' : ℕ)
+    (who : Who) (end : ℕ) (early : List Event) (IsTaken : ℕ → Type 0) (event : Event)
+    → IsStill tells given tape scope first entries old work left → HasLiveSlot old → IsCallGoing entries who → IsFalse (who.caller == 254) → (tells → end ≡ length tape') → Grows tells tape tape' → IsQuiet event
+    → AreAtRest given new → shape_of new.newest ≡ shape_of old.newest → new.newest.size ≡ old.newest.size → (DoWithout new → DoWithout old)
+    → AreEarly early IsTaken → AreLostOrMissing old new IsTaken → is_clean new.newest ≡ is_clean old.newest
+    → ((number : ℕ) → is_carried work number ≡ true → is_carried work' number ≡ true) → is_some work'.resync ≡ is_some work.resync → IfSome work'.resync (λ mended. mended ≤ stripes_of new)
+    → IfSome (told_left (entries ++ entries_of who end (early ++ event ∷ []))) (λ n. n ≡ left')
+    → (tells → DoWithout new → IsFilledRight (world_in given tape scope first) entries
+    → HasListStood (OpensFit (world_in given tape scope first)) work' new (present given tape') (now (opening_list (world_in given tape scope first)) entries))
+    → (tells → LeavesNumbers given tape scope first entries old new (is_carried work) (is_carried work') false who early (event ∷ []) tape' end)
+    → IsStill tells given tape' scope first (entries ++ entries_of who end (early ++ event ∷ [])) new work' left'
+placed-stands tells given tape tape' scope first entries old new work work' left left' who end early IsTaken event was live goes caller at_end grows quiet rest shape size before are missing clean carries pends progress =
+    tail-stands tells given tape tape' scope first entries old new work work' left left' who end early IsTaken (event ∷ []) was live goes caller at_end grows (quiet-last who end event quiet)
+    rest shape size before are missing clean carries pends progress (last_end-behind first entries who end early event)
+
+-- So it is where slots were lost, and no more numbers are known.
+pub early-stands : (tells : Type 0) (given : Given) (tape tape' : List Operation) (scope : Scope) (first : ℕ) (entries : List Entry) (old new : Members) (work work' : Work) (left left' : ℕ)
+    (who : Who) (end : ℕ) (early : List Event) (IsTaken : ℕ → Type 0) (event : Event)
+    → IsStill tells given tape scope first entries old work left → HasLiveSlot old → IsCallGoing entries who → IsFalse (who.caller == 254) → (tells → end ≡ length tape') → Grows tells tape tape' → IsQuiet event
+    → IsMoved given old new → AreEarly early IsTaken → AreLostOrMissing old new IsTaken → is_clean new.newest ≡ is_clean old.newest
+    → is_carried work' ≡ is_carried work → is_some work'.resync ≡ is_some work.resync → IfSome work'.resync (λ mended. mended ≤ stripes_of new)
+    → IfSome (told_left (entries ++ entries_of who end (early ++ event ∷ []))) (λ n. n ≡ left')
+    → (tells → DoWithout new → IsFilledRight (world_in given tape scope first) entries
+    → HasListStood (OpensFit (world_in given tape scope first)) work' new (present given tape') (now (opening_list (world_in given tape scope first)) entries))
+    → (tells → LeavesList given tape scope first entries old new (is_carried work) false who early event tape' end)
+    → IsStill tells given tape' scope first (entries ++ entries_of who end (early ++ event ∷ [])) new work' left'
+early-stands tells given tape tape' scope first entries old new work work' left left' who end early IsTaken event was live goes caller at_end grows quiet moved are missing clean carries pends progress told listed call =
+    placed-stands tells given tape tape' scope first entries old new work work' left left' who end early IsTaken event was live goes caller at_end grows quiet (rest-moved given old new moved was.members_are) moved.shape moved.size
+    (without-before given old new moved) are missing clean (λ number is. (λ i. carries i number) ∙ is) pends progress told listed
+    (λ t. subst (λ (c : ℕ → Bool). LeavesNumbers given tape scope first entries old new (is_carried work) c false who early (event ∷ []) tape' end) (sym carries)
+    (numbers-of given tape scope first entries old new (is_carried work) false who early event tape' end (call t)))

@@ -1,0 +1,243 @@
+-- Steps of a rebuild: a spare takes a role, from what `give_role` leaves; a stripe is rebuilt, or isn't, from what `fill` leaves.
+use Rattle.std.proofs.Common.{◌≡◌, ◌≢◌, inl, inr, ℕ, ◌+◌, ◌*◌, ◌/◌, ◌<◌, ◌≤◌, ◌==◌, true, false, not, Option, Some, None, List, [], ◌∷◌, ◌++◌, length, refl, sym, ◌∙◌, ap, subst, arith}
+use Rattle.std.specs.Prelude.{IsFalse, IfSome, ⊤}
+use Rattle.md_base.specs.Sectors.{Sector}
+use Rattle.md_base.specs.Shapes.{tolerance, tolerance_of}
+use Rattle.md_base.specs.declared.answers.Refusal.{Refusal}
+use Rattle.md_base.specs.declared.answers.Who.{Who}
+use Rattle.md_base.specs.declared.places.Shape.{Shape}
+use Rattle.md_base.specs.declared.status.Role.{Role}
+use Rattle.md_base.specs.declared.status.Role.TheVariants.{Recovering}
+use Rattle.bank.specs.declared.bank.Operation.{Operation}
+use Rattle.bank.specs.Given.{Given}
+use Rattle.superblocks.specs.declared.members.Members.{Members}
+use Rattle.superblocks.specs.Reading.{Scope, is_clean, is_whole, shape_of, role_count, role_state, rows_held}
+use Rattle.superblocks.specs.Reads.{has_spare}
+use Rattle.row_io.specs.Rows.{reading_of, present, is_missing}
+use Rattle.list_io.specs.Writing.{HasFull}
+use Rattle.flat_history.specs.declared.events.Entry.{Entry}
+use Rattle.flat_history.specs.declared.events.Event.TheVariants.{Step, Refused}
+use Rattle.flat_history.specs.declared.events.StepKind.TheVariants.{RebuildTaken, RebuildStripe}
+use Rattle.flat_history.specs.Flat.{now}
+use Rattle.flat_history.specs.Plain.{entries_of}
+use Rattle.flat_history.specs.Sound.{OpensFit}
+use Rattle.flat_history.specs.World.{World, opening_list}
+use Rattle.shape_views.specs.Regions.{DoWithout}
+use Rattle.shape_views.specs.Views.{Ledger}
+use Rattle.shape_changes.specs.Marking.{AreOthersPresent}
+use Rattle.shape_changes.specs.Safety.{HasRoomLeft, IsRisen}
+use Rattle.shape_changes.specs.Steady.{IsSafeOver, KeepsSafe, AreGoneTold, IsUncleanTold}
+use Rattle.views.specs.declared.work.Work.{Work}
+use Rattle.views.specs.Lacking.{AreLostSince, LacksTooMany, AreTooMany, RowsStandBelow, RowsStandAmong, DataStandsAmong, IsOfStripe, mended_rows}
+use Rattle.views.specs.Moving.{Grows, IsMoved}
+use Rattle.views.specs.Numbers.{is_carried}
+use Rattle.views.specs.Placed.{IsPlaced, is_vacant}
+use Rattle.views.specs.Rebuilding.{with_recovering, IsFilledAmong}
+use Rattle.views.specs.Status.{stripes_of, rebuilt_of}
+use Rattle.views.proofs.Fit.{list-alike}
+use Rattle.views.proofs.GivenMembers.{IsReceiver, state-here, placed-given}
+use Rattle.views.proofs.HeldRows.{missing-moved, vacant-missing}
+use Rattle.views.proofs.LackingLaws.{since-missing, never-both}
+use Rattle.views.proofs.LackingLists.{list-moved, among-moved}
+use Rattle.views.proofs.LiveLeft.{without-left}
+use Rattle.call_entries.specs.Losing.{losses_of}
+use Rattle.call_entries.proofs.CallLaws.{losses-are}
+use Rattle.array_kept.specs.Calls.{with_rebuilt}
+use Rattle.array_kept.proofs.DegradedLaws.{count-moved, rebuilt-moved}
+use Rattle.array_kept.proofs.KeptLaws.{left-lost}
+use Rattle.calls_kept.proofs.RebuildFilled.{rebuilt-here, rebuilt-other, good-filled, list-filled, rebuilt-filled}
+use Rattle.calls_kept.proofs.RebuildGiven.{receiver-spare, few-given, free-then, missing-given, list-given, among-given, rebuilt-given, none-recovered}
+use Rattle.calls_kept.proofs.TouchedLaws.{full-filled}
+use Rattle.kept_history.specs.Recorded.{IsCallGoing}
+use Rattle.kept_history.specs.Safe.{world_in, IsFilledRight}
+use Rattle.history_calls.proofs.Behind.{AreLostOrMissing, IsAmong, early-losses, legal-losses}
+use Rattle.history_calls.proofs.Quiet.{numbers-of}
+use Rattle.still_kept.specs.Still.{AreAtRest, HasListStood, IsStill}
+use Rattle.still_kept.proofs.Quiet.{placed-stands, early-stands}
+use Rattle.still_kept.proofs.Refusals.{quiet-refusal, too-many-refused, refused-right, unsynced-behind}
+use Rattle.still_kept.proofs.Resync.{not-zero, step-behind, told-step}
+use Rattle.still_kept.proofs.Staying.{missing-since, progress-same}
+use Rattle.still_kept.proofs.Stood.{mended-moved}
+
+-- ---- a spare takes a role
+
+-- What `give_role` leaves: the slot recovers the role from its first row on, and what is missing is named.
+pub record IsTaken (tells : Type 0) (given : Given) (tape tape' : List Operation) (old new : Members) (role slot roles spares : ℕ) (before after : ℕ → ℕ) : Type 0 where
+  pub below : role < (shape_of old.newest).disks
+  pub vacant : is_vacant (reading_of old) role ≡ true
+  pub spare : has_spare old.spares slot ≡ true
+  pub moved : IsMoved given (with_recovering role slot old) new
+  pub since : AreLostSince (with_recovering role slot old) new roles spares before after
+  pub grows : Grows tells tape tape'
+  pub clean : is_clean new.newest ≡ is_clean old.newest
+  pub rise : tells → IsRisen ⊤ old new tape tape'
+  pub others : tells → AreOthersPresent (present given tape) (present given tape')
+  pub safe : tells → (world : World) → (told : Ledger) → HasRoomLeft old tape tape' → AreGoneTold told new → told.gone role ≡ true → IsUncleanTold told old → IsSafeOver world given told old tape → KeepsSafe world given told new tape tape'
+
+module _ (tells : Type 0) (given : Given) (tape tape' : List Operation) (scope : Scope) (first : ℕ) (entries : List Entry) (old new : Members) (work : Work) (left left' : ℕ)
+    (who : Who) (end role slot roles spares : ℕ) (before after : ℕ → ℕ)
+    (was : IsStill tells given tape scope first entries old work left) (does : DoWithout old) (goes : IsCallGoing entries who) (caller : IsFalse (who.caller == 254)) (at_end : tells → end ≡ length tape')
+    (known : role < length work.rebuilt) (less : losses_of roles spares ≡ [] → left' + 1 ≡ left) (some : left' ≢ 0)
+    (did : IsTaken tells given tape tape' old new role slot roles spares before after) where
+  abbrev V : Members
+  V = with_recovering role slot old
+
+  abbrev next : Work
+  next = with_rebuilt role 0 work
+
+  abbrev current : ℕ → Sector
+  current = now (opening_list (world_in given tape scope first)) entries
+
+  placed : IsPlaced given old
+  placed = was.members_are.placed
+
+  to : IsReceiver given old role slot
+  to = receiver-spare given old placed was.members_are.free role slot did.below did.vacant did.spare
+
+  V-placed : IsPlaced given (with_recovering role slot old)
+  V-placed = placed-given given old placed (Some 0) role slot to
+
+  rest : AreAtRest given new
+  rest = record {
+    placed = did.moved.placed;
+    still = did.moved.reshape.reshaping ∙ was.members_are.still;
+    unlost = did.moved.unlost;
+    free = did.moved.free (free-then given old placed (Some 0) role slot to was.members_are.free);
+    spares = did.moved.spares (few-given given old placed (Some 0) role slot to);
+  }
+
+  gone-before : is_missing (reading_of old) role ≡ true
+  gone-before = vacant-missing (reading_of old) role did.vacant
+
+  missing : AreLostOrMissing old new (IsAmong roles)
+  missing r lt gone = elim (since-missing did.moved did.since r lt gone) [
+    | inl in_V ↦ inl (subst (λ (n : ℕ). r < n) (count-moved did.moved) lt, missing-given given old placed (Some 0) role slot to gone-before r in_V)
+    | inr has ↦ inr has
+  ]
+
+  -- the role itself is missing still
+  counted : role < role_count new.newest
+  counted = subst (λ (n : ℕ). role < n) (sym (count-moved did.moved)) (let n = placed.roles in let at = to.below in omega (arith, at, n))
+
+  still-missing : is_missing (reading_of new) role ≡ true
+  still-missing = missing-moved did.moved role (ap (λ (s : Role). not (is_whole s)) (state-here given old placed (Some 0) role slot to))
+
+  nothing-held : (s row : ℕ) → row < 0 * (shape_of old.newest).chunk → ⊥
+  nothing-held s row lt = omega (arith, lt)
+
+  listed : tells → DoWithout new → IsFilledRight (world_in given tape scope first) entries
+      → HasListStood (OpensFit (world_in given tape scope first)) (with_rebuilt role 0 work) new (present given tape') (now (opening_list (world_in given tape scope first)) entries)
+  listed t can fills =
+      let l = was.listed t does fills in
+      record {
+        stands = list-moved given V new (present given tape) (present given tape') current did.moved V-placed (did.others t)
+            (list-given given old placed (Some 0) role slot to (present given tape) current (λ s row lt held. absurd (none-recovered given old placed role slot to s row held)) l.stands);
+        whole = λ fit x lt. l.whole fit x (subst (λ (n : ℕ). x < n) (list-alike V.newest new.newest did.moved.reshape did.moved.shape did.moved.size) lt);
+        rows = λ fit. subst (λ (n : ℕ). RowsStandBelow n new (present given tape') current) (sym (mended-taken work.resync))
+            (subst (λ (s : Shape). RowsStandAmong s (λ row. row < mended_rows work.resync old) new (present given tape') current) (sym did.moved.shape)
+            (among-moved (shape_of old.newest) (λ row. row < mended_rows work.resync old) given V new (present given tape) (present given tape') current did.moved V-placed (did.others t)
+            (among-given given old placed (Some 0) role slot to (present given tape) current (λ s row lt held. absurd (none-recovered given old placed role slot to s row held))
+            (λ row. row < mended_rows work.resync old) (l.rows fit))));
+        rebuilt = λ fit. rebuilt-moved next given V new (present given tape) (present given tape') current did.moved V-placed (did.others t)
+            (rebuilt-given given old placed (Some 0) role slot to work next (present given tape) current (λ other apart. rebuilt-other work role 0 other apart)
+            (λ s row is under. nothing-held s row (subst (λ (n : ℕ). row < n * (shape_of old.newest).chunk) (rebuilt-here work role 0 known) under))
+            (l.rebuilt fit));
+      }
+    where
+      mended-taken : (o : Option ℕ) → mended_rows o new ≡ mended_rows o old
+      mended-taken None = did.moved.size
+      mended-taken (Some mended) = ap (λ (s : Shape). mended * s.chunk) did.moved.shape
+
+  pub taken-stands : IsStill tells given tape' scope first (entries ++ entries_of who end (losses_of roles spares ++ Step RebuildTaken left' ∷ [])) new (with_rebuilt role 0 work) left'
+  taken-stands =
+      placed-stands tells given tape tape' scope first entries old new work (with_rebuilt role 0 work) left left' who end (losses_of roles spares) (IsAmong roles) (Step RebuildTaken left') was
+      (without-left given old placed was.members_are.unlost does) goes caller at_end did.grows
+      (record { adds = refl; gives = refl; ends = not-zero left' some; still = λ x values. refl; level = λ n. refl }) rest did.moved.shape did.moved.size (λ can. does)
+      (early-losses roles spares) missing did.clean (λ number is. is) refl (progress work.resync was.progress) (told-step entries who end roles spares RebuildTaken left') listed
+      (λ t. numbers-of given tape scope first entries old new (is_carried work) false who (losses_of roles spares) (Step RebuildTaken left') tape' end
+      (record {
+        rise = did.rise t;
+        keeps = λ told fills more room gone unclean began. did.safe t (world_in given tape scope first) told room gone (gone role counted still-missing) unclean began;
+        legal = λ all fills gone level. legal-losses (world_in given tape' scope first) entries who end (losses_of roles spares) (Step RebuildTaken left' ∷ []) (losses-are roles spares)
+            (step-behind (world_in given tape' scope first) entries who end roles spares RebuildTaken left left' was.left_told less, tt, tt);
+      }))
+    where
+      progress : (o : Option ℕ) → IfSome o (λ mended. mended ≤ stripes_of old) → IfSome o (λ mended. mended ≤ stripes_of new)
+      progress None is = tt
+      progress (Some mended) is = subst (λ (n : ℕ). mended ≤ n) (λ i. sym did.moved.size i / (sym did.moved.shape i).chunk) is
+
+-- ---- a stripe is rebuilt
+
+-- What `fill` leaves of the role's next stripe, whether it was rebuilt or not: nothing but places of its rows was written, which no view has.
+pub record IsFillingStill (tells : Type 0) (given : Given) (tape tape' : List Operation) (old new : Members) (role slot roles spares : ℕ) (before after : ℕ → ℕ) (shape : Shape) (stripe : ℕ) : Type 0 where
+  pub recovers : role_state (reading_of old) role ≡ Recovering slot
+  pub moved : IsMoved given old new
+  pub since : AreLostSince old new roles spares before after
+  pub grows : Grows tells tape tape'
+  pub clean : is_clean new.newest ≡ is_clean old.newest
+  pub rise : tells → IsRisen ⊤ old new tape tape'
+  pub others : tells → IsFilledAmong old role slot (IsOfStripe shape stripe) (present given tape) (present given tape')
+  pub safe : tells → (world : World) → (told : Ledger) → HasRoomLeft old tape tape' → AreGoneTold told new → IsUncleanTold told old → IsSafeOver world given told old tape → KeepsSafe world given told new tape tape'
+
+module _ (tells : Type 0) (given : Given) (tape tape' : List Operation) (scope : Scope) (first : ℕ) (entries : List Entry) (old new : Members) (work : Work) (left left' : ℕ)
+    (who : Who) (end role slot roles spares : ℕ) (before after : ℕ → ℕ) (shape : Shape)
+    (was : IsStill tells given tape scope first entries old work left) (does : DoWithout old) (goes : IsCallGoing entries who) (caller : IsFalse (who.caller == 254)) (at_end : tells → end ≡ length tape')
+    (same_shape : shape ≡ shape_of old.newest) (did : IsFillingStill tells given tape tape' old new role slot roles spares before after shape (rebuilt_of work role)) where
+  abbrev held : ℕ → Sector
+  held = now (opening_list (world_in given tape scope first)) entries
+
+  -- where it was, no resync is pending, so that all rows stand
+  pub filled-stands : work.resync ≡ None → role < length work.rebuilt → (losses_of roles spares ≡ [] → left' + 1 ≡ left) → left' ≢ 0
+      → (role_state (reading_of new) role ≡ Recovering slot → tells → (list : ℕ → Sector) → DataStandsAmong shape (IsOfStripe shape (rebuilt_of work role)) old (present given tape) list
+      → RowsStandAmong shape (IsOfStripe shape (rebuilt_of work role)) old (present given tape) list
+      → (row : ℕ) → IsOfStripe shape (rebuilt_of work role) row → rows_held (reading_of old) (Recovering slot) ≤ row → HasFull (reading_of new) (present given tape') shape list row role slot)
+      → IsStill tells given tape' scope first (entries ++ entries_of who end (losses_of roles spares ++ Step RebuildStripe left' ∷ [])) new (with_rebuilt role (rebuilt_of work role + 1) work) left'
+  filled-stands synced few less some filled =
+      early-stands tells given tape tape' scope first entries old new work (with_rebuilt role (rebuilt_of work role + 1) work) left left' who end (losses_of roles spares) (IsAmong roles) (Step RebuildStripe left') was
+      (without-left given old was.members_are.placed was.members_are.unlost does) goes caller at_end did.grows
+      (record { adds = refl; gives = refl; ends = not-zero left' some; still = λ x values. refl; level = λ n. refl }) did.moved (early-losses roles spares) (missing-since did.moved did.since) did.clean
+      refl refl (progress-same did.moved work.resync was.progress) (told-step entries who end roles spares RebuildStripe left')
+      (λ t can fills. listed t (was.listed t does fills))
+      (λ t. record {
+        rise = did.rise t;
+        keeps = λ told fills more room gone unclean began. did.safe t (world_in given tape scope first) told room gone unclean began;
+        legal = λ all fills gone level. legal-losses (world_in given tape' scope first) entries who end (losses_of roles spares) (Step RebuildStripe left' ∷ []) (losses-are roles spares)
+            (step-behind (world_in given tape' scope first) entries who end roles spares RebuildStripe left left' was.left_told less, tt, tt);
+      })
+    where
+      listed : (t : tells) → HasListStood (OpensFit (world_in given tape scope first)) work old (present given tape) (now (opening_list (world_in given tape scope first)) entries)
+          → HasListStood (OpensFit (world_in given tape scope first)) (with_rebuilt role (rebuilt_of work role + 1) work) new (present given tape') (now (opening_list (world_in given tape scope first)) entries)
+      listed t l = record {
+        stands = list-filled work did.moved was.members_are.placed role slot did.recovers shape same_shape (present given tape) (present given tape') held (did.others t) l.stands;
+        whole = λ fit x lt. l.whole fit x (subst (λ (n : ℕ). x < n) (list-alike old.newest new.newest did.moved.reshape did.moved.shape did.moved.size) lt);
+        rows = λ fit. subst (λ (n : ℕ). RowsStandBelow n new (present given tape') held) (sym (mended-moved did.moved work.resync))
+            (good-filled work did.moved was.members_are.placed role slot did.recovers shape same_shape (present given tape) (present given tape') held (did.others t) (mended_rows work.resync old) (l.rows fit));
+        rebuilt = λ fit. rebuilt-filled work did.moved was.members_are.placed role slot did.recovers shape same_shape (present given tape) (present given tape') held (did.others t) few
+            (λ recovers. full-filled given old new did.moved was.members_are.placed shape same_shape (rebuilt_of work role) tape tape' role slot (filled recovers) t held l.stands
+            (λ row low. l.rows fit row (subst (λ (o : Option ℕ). row < mended_rows o old) (sym synced) low) low))
+            (l.rebuilt fit);
+      }
+
+  -- one that isn't, since too many are missing
+  pub unfilled-stands : (refusal : Refusal) → (losses_of roles spares ≡ [] → left' ≡ left) → LacksTooMany shape new refusal
+      → IsStill tells given tape' scope first (entries ++ entries_of who end (losses_of roles spares ++ Refused refusal ∷ [])) new work left'
+  unfilled-stands refusal alike lacks =
+      early-stands tells given tape tape' scope first entries old new work work left left' who end (losses_of roles spares) (IsAmong roles) (Refused refusal) was
+      (without-left given old was.members_are.placed was.members_are.unlost does) goes caller at_end did.grows (quiet-refusal refusal) did.moved (early-losses roles spares) (missing-since did.moved did.since) did.clean
+      refl refl (progress-same did.moved work.resync was.progress)
+      (left-lost left left' entries who end (losses_of roles spares) (Refused refusal ∷ []) (losses-are roles spares) alike was.left_told (λ told is. is))
+      (λ t can fills. absurd (never-both new refusal can many))
+      (λ t. record {
+        rise = did.rise t;
+        keeps = λ told fills more room gone unclean began. did.safe t (world_in given tape scope first) told room gone unclean began;
+        legal = λ all fills gone level. legal-losses (world_in given tape' scope first) entries who end (losses_of roles spares) (Refused refusal ∷ []) (losses-are roles spares) (
+          refused-right (world_in given tape' scope first) (entries ++ entries_of who end (losses_of roles spares)) given new did.moved.placed work.resync gone
+              (ap tolerance_of level ∙ was.levelled t fills ∙ ap tolerance (sym did.moved.shape))
+              (unsynced-behind tells given tape tape' scope first entries who end roles spares did.grows (λ u. (was.recorded u).begun) t ∙ was.pending t) refusal (too-many-refused work.resync new refusal many),
+          tt,
+          tt,
+        );
+      })
+    where
+      many : AreTooMany new refusal
+      many = inl (subst (λ (s : Shape). LacksTooMany s new refusal) (same_shape ∙ sym did.moved.shape) lacks)

@@ -1,0 +1,93 @@
+-- A refusal is right by the history, in an array without an active reshape.
+use Rattle.std.proofs.Common.{◌≡◌, inl, inr, ℕ, ◌<◌, ◌≤◌, true, false, Option, List, [], ◌++◌, length, refl, sym, ◌∙◌, ap, subst, arith, append-nil}
+use Rattle.std.specs.Prelude.{IsSome, is_some, ⊤}
+use Rattle.std.specs.List.{list_any}
+use Rattle.md_base.specs.declared.answers.Refusal.{Refusal}
+use Rattle.md_base.specs.declared.answers.Refusal.TheVariants.{TooManyMissing, PastEnd, NotResynced}
+use Rattle.md_base.specs.declared.answers.Who.{Who}
+use Rattle.md_base.specs.declared.places.Shape.{Shape}
+use Rattle.md_base.specs.Search.{count_below}
+use Rattle.md_base.specs.Shapes.{tolerance, tolerance_of}
+use Rattle.bank.specs.declared.bank.Operation.{Operation}
+use Rattle.bank.specs.Given.{Given}
+use Rattle.superblocks.specs.declared.members.Members.{Members}
+use Rattle.superblocks.specs.Reading.{Scope, shape_of, final_shape, role_count}
+use Rattle.superblocks.proofs.ValidFields.{few-roles}
+use Rattle.row_io.specs.Rows.{reading_of, is_missing}
+use Rattle.flat_history.specs.declared.events.Entry.{Entry}
+use Rattle.flat_history.specs.declared.events.Event.{Event}
+use Rattle.flat_history.specs.declared.events.Event.TheVariants.{Refused}
+use Rattle.flat_history.specs.Legal.{level_at, IsTooManyMissing, IsRefusedRight}
+use Rattle.flat_history.specs.Losses.{is_gone_after, is_resync_end, is_unsynced}
+use Rattle.flat_history.specs.Plain.{entries_of}
+use Rattle.flat_history.specs.World.{World}
+use Rattle.flat_history.proofs.GoneCounts.{few_missing}
+use Rattle.views.specs.Placed.{IsPlaced, IsInForce}
+use Rattle.views.specs.Lacking.{lacking, LacksTooMany, AreTooMany}
+use Rattle.views.specs.Moving.{Grows}
+use Rattle.views.proofs.Fit.{force-disks}
+use Rattle.call_entries.specs.Losing.{losses_of}
+use Rattle.call_entries.proofs.CallLaws.{losses-are, ends-losses}
+use Rattle.kept_history.specs.Safe.{world_in}
+use Rattle.kept_history.proofs.Ledgers.{unsynced-still}
+use Rattle.history_calls.specs.Reliable.{AreToldGone}
+use Rattle.history_calls.proofs.Quiet.{IsQuiet}
+use Rattle.still_kept.proofs.Leaving.{unsynced-later}
+
+-- a refusal is quiet
+pub quiet-refusal : (refusal : Refusal) → IsQuiet (Refused refusal)
+quiet-refusal refusal = record { adds = refl; gives = refl; ends = refl; still = λ x values. refl; level = λ n. refl }
+
+-- Why a call is refused, by the members that it leaves: too many roles are missing, or a role is while a resync is pending; other refusals tell nothing that
+-- was entered.
+abbrev pub IsRefusedStill : Option ℕ → Members → Refusal → Type 0
+IsRefusedStill resync m (PastEnd visible) = ⊥
+IsRefusedStill resync m (TooManyMissing count most) = AreTooMany m (TooManyMissing count most)
+IsRefusedStill resync m (NotResynced role) = IsSome resync × (role < role_count m.newest) × (is_missing (reading_of m) role ≡ true)
+IsRefusedStill resync m refusal = ⊤
+
+-- too many are missing
+pub too-many-refused : (resync : Option ℕ) (m : Members) (refusal : Refusal) → AreTooMany m refusal → IsRefusedStill resync m refusal
+too-many-refused resync m refusal (inl many) = subst (IsRefusedStill resync m) (sym many.told) (inl (record { above = many.above; told = refl }))
+too-many-refused resync m refusal (inr many) = subst (IsRefusedStill resync m) (sym many.1.told) (inr (many.0, record { above = many.1.above; told = refl }))
+
+-- what a refusal tells to be missing, and to be tolerated
+abbrev missing-told : Refusal → ℕ
+missing-told (TooManyMissing count most) = count
+missing-told refusal = 0
+
+abbrev tolerated-told : Refusal → ℕ
+tolerated-told (TooManyMissing count most) = most
+tolerated-told refusal = 0
+
+module _ (world : World) (before : List Entry) (given : Given) (m : Members) (placed : IsPlaced given m) (resync : Option ℕ) (gone : AreToldGone world before m)
+    (level : tolerance_of (level_at world before) ≡ tolerance (shape_of m.newest)) (pending : is_unsynced world before ≡ is_some resync) where
+  lacks-right : (shape : Shape) (count most : ℕ) → IsInForce m.newest shape → shape.level ≡ (shape_of m.newest).level → LacksTooMany shape m (TooManyMissing count most) → IsTooManyMissing world before count most
+  lacks-right shape count most force same lacks =
+      let is : count ≡ lacking shape m = ap missing-told lacks.told in
+      let t : most ≡ tolerance shape = ap tolerated-told lacks.told in
+      let above = lacks.above in
+      let few = few-roles m.newest placed.fit.valid in
+      let within = force-disks m.newest placed.fit shape force in
+      let pass : count_below shape.disks (is_missing (reading_of m)) ≤ count_below 32 (is_gone_after world before) =
+      few_missing (is_gone_after world before) shape.disks (is_missing (reading_of m)) (omega (arith, few, within)) (λ j lt miss. gone j (omega (arith, lt, within)) miss) in
+      record {
+        above = omega (arith, above, is, t);
+        gone = omega (arith, is, pass);
+        tolerated = t ∙ ap tolerance_of same ∙ sym level;
+      }
+
+  pub refused-right : (refusal : Refusal) → IsRefusedStill resync m refusal → IsRefusedRight world before refusal
+  refused-right (TooManyMissing count most) (inl old) = lacks-right (shape_of m.newest) count most (inl refl) refl old
+  refused-right (TooManyMissing count most) (inr new) = lacks-right (final_shape m.newest) count most (inr refl) placed.fit.level new.1
+  refused-right (PastEnd visible) why = absurd why
+  refused-right (NotResynced role) why = (gone role why.1 why.2, pending ∙ why.0)
+  refused-right refusal why = tt
+
+-- losses leave a resync pending, whatever is done with them
+pub unsynced-behind : (tells : Type 0) (given : Given) (tape tape' : List Operation) (scope : Scope) (first : ℕ) (entries : List Entry) (who : Who) (end roles spares : ℕ) → Grows tells tape tape' → (tells → first ≤ length tape)
+    → tells → is_unsynced (world_in given tape' scope first) (entries ++ entries_of who end (losses_of roles spares)) ≡ is_unsynced (world_in given tape scope first) entries
+unsynced-behind tells given tape tape' scope first entries who end roles spares grows begun t =
+    unsynced-later given scope first (entries ++ entries_of who end (losses_of roles spares)) grows begun t
+    ∙ unsynced-still (world_in given tape scope first) entries (entries_of who end (losses_of roles spares))
+    (subst (λ (l : List Event). list_any (λ e. is_resync_end e.event) (entries_of who end l) ≡ false) (append-nil (losses_of roles spares)) (ends-losses who end (losses_of roles spares) [] (losses-are roles spares)))

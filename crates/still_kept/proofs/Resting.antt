@@ -1,0 +1,148 @@
+-- A call that makes no device call, and enters one event: also where no live slot is left that had kept a change of length.
+use Rattle.std.proofs.Common.{◌≡◌, inl, inr, ℕ, ◌==◌, true, false, List, [], ◌∷◌, ◌++◌, length, refl, sym, ◌∙◌, ap, subst, append-nil}
+use Rattle.std.specs.Prelude.{IsFalse, IfSome, slice_index_or, ⊤}
+use Rattle.std.specs.List.{list_any}
+use Rattle.md_base.specs.Sectors.{Sector}
+use Rattle.md_base.specs.Shapes.{tolerance_of}
+use Rattle.md_base.specs.declared.answers.Who.{Who}
+use Rattle.bank.specs.declared.bank.Operation.{Operation}
+use Rattle.bank.specs.Given.{Given}
+use Rattle.superblocks.specs.declared.members.Members.{Members}
+use Rattle.superblocks.specs.Reading.{Scope, list_length}
+use Rattle.superblocks.proofs.ValidFields.{few-roles}
+use Rattle.row_io.specs.Rows.{present}
+use Rattle.flat_history.specs.declared.events.Entry.{Entry}
+use Rattle.flat_history.specs.declared.events.Event.{Event}
+use Rattle.flat_history.specs.Epochs.{HasRoomForEvents, OpensAlike}
+use Rattle.flat_history.specs.Flat.{now, values_of, values_after}
+use Rattle.flat_history.specs.Legal.{told_left, level_at, level_after, IsLegalEvent}
+use Rattle.flat_history.specs.Plain.{entries_of}
+use Rattle.flat_history.specs.Sound.{OpensFit}
+use Rattle.flat_history.specs.World.{World, opening_list}
+use Rattle.views.specs.declared.work.Work.{Work}
+use Rattle.views.specs.Numbers.{is_carried}
+use Rattle.call_entries.proofs.CallLaws.{last_end-behind}
+use Rattle.kept_history.specs.Recorded.{IsHistoryKept, IsCallGoing, entry_of, gives_some}
+use Rattle.kept_history.specs.Safe.{world_in, IsFilledRight, IsSafeHistory}
+use Rattle.kept_history.specs.Told.{told_now}
+use Rattle.kept_history.proofs.Entered.{adds_only, AreAdding, values-more, length-adding, settle-none}
+use Rattle.kept_history.proofs.Idle.{now-adding, idle-call}
+use Rattle.kept_history.proofs.KeptCalls.{kept-call}
+use Rattle.kept_history.proofs.Ledgers.{unsynced-still, none-ends}
+use Rattle.history_calls.specs.Reliable.{IsReliable, AreToldGone}
+use Rattle.history_calls.proofs.Behind.{AreEarly, first-of, IsBehind, is-behind, and-true, or-false}
+use Rattle.still_kept.specs.Still.{HasListStood, IsStill}
+use Rattle.still_kept.proofs.Ends.{EndsNothing, ends-right}
+
+-- nothing stands before its event
+early-none : AreEarly [] (λ role. ⊥)
+early-none = record {
+  adds = λ who end tail adds. adds;
+  gives = λ who end tail none. none;
+  lost = λ who end tail role lt which. absurd which;
+  ends = λ tail none. none;
+  level = λ who end tail n. refl;
+  values = λ who end tail x values. refl;
+}
+
+-- An event that leaves the list and the level, settles nothing and gives no role.
+pub record IsResting (event : Event) : Type 0 where
+  pub adds : adds_only event ≡ true
+  pub gives : gives_some event ≡ false
+  pub still : (x : ℕ) (values : List Sector) → values_after x values event ≡ values
+  pub level : (n : ℕ) → level_after n event ≡ n
+
+-- what it leaves of the history, over this tape
+record IsRested (given : Given) (tape : List Operation) (scope : Scope) (first : ℕ) (entries all : List Entry) (m : Members) (tape' : List Operation) : Type 0 where
+  pub right : IsReliable (world_in given tape' scope first) all → IsReliable (world_in given tape scope first) entries
+  pub fills : IsFilledRight (world_in given tape' scope first) all → IsFilledRight (world_in given tape scope first) entries
+  pub levelled : level_at (world_in given tape' scope first) all ≡ level_at (world_in given tape scope first) entries
+  pub gone : IsReliable (world_in given tape' scope first) all → AreToldGone (world_in given tape' scope first) all m
+  pub recorded : IsHistoryKept (IsReliable (world_in given tape' scope first) all) (world_in given tape' scope first) (list_length m.newest) all
+
+module _ (tells : Type 0) (given : Given) (tape : List Operation) (scope : Scope) (first : ℕ) (entries : List Entry) (m : Members) (work : Work) (left left' : ℕ) (who : Who) (end : ℕ) (event : Event)
+    (was : IsStill tells given tape scope first entries m work left) (goes : IsCallGoing entries who) (caller : IsFalse (who.caller == 254)) (at_end : tells → end ≡ length tape)
+    (rests : IsResting event) (free : EndsNothing entries event) (told : IfSome (told_left (entries ++ entries_of who end (event ∷ []))) (λ n. n ≡ left'))
+    (legal : tells → IsReliable (world_in given tape scope first) entries → IsLegalEvent (world_in given tape scope first) entries (entry_of who end event) [] event) where
+  abbrev world : World
+  world = world_in given tape scope first
+
+  abbrev added : List Entry
+  added = entries_of who end (event ∷ [])
+
+  adds : (n : ℕ) → AreAdding (entries_of who n (event ∷ []))
+  adds n = and-true (adds_only event) true rests.adds refl
+
+  none : (n : ℕ) → list_any (λ e. gives_some e.event) (entries_of who n (event ∷ [])) ≡ false
+  none n = or-false (gives_some event) false rests.gives refl
+
+  -- ---- the history
+
+  Then : List Operation → ℕ → Type 0
+  Then l e = (IsReliable (world_in given tape scope first) entries → IsLegalEvent (world_in given l scope first) entries (entry_of who e event) [] event)
+      → IsRested given tape scope first entries (entries ++ entries_of who e (event ∷ [])) m l
+
+  rested-here : tells → Then (tape ++ []) (length (tape ++ []))
+  unfolding Then
+  rested-here t right =
+      let behind : IsBehind (world_in given tape scope first) (world_in given (tape ++ []) scope first) entries m who (length (tape ++ [])) [] (event ∷ []) =
+      is-behind given tape scope first entries m m who [] (λ role. ⊥) (event ∷ []) [] (first-of early-none) (none (length (tape ++ []))) rests.level (few-roles m.newest was.members_are.placed.fit.valid) (λ role lt miss. inl (lt, miss))
+      (was.gone t) (was.recorded t) in
+      record {
+        right = behind.right;
+        fills = behind.fills;
+        levelled = behind.level_all;
+        gone = behind.gone_all;
+        recorded = kept-call (IsReliable (world_in given tape scope first) entries)
+            (IsReliable (world_in given (tape ++ []) scope first) (entries ++ entries_of who (length (tape ++ [])) (event ∷ [])))
+            (world_in given tape scope first) [] (list_length m.newest) (list_length m.newest) entries who (event ∷ []) goes (was.recorded t) behind.right caller
+            (λ all. inr behind.gives_all)
+            (length-adding (length (opening_list (world_in given tape scope first))) entries (entries_of who (length (tape ++ [])) (event ∷ [])) (adds (length (tape ++ []))) ∙ (was.recorded t).sized)
+            (last_end-behind first entries who (length (tape ++ [])) [] event) (λ all. (right (behind.right all), tt, tt))
+            (λ all. (ends-right (world_in given (tape ++ []) scope first) entries (entry_of who (length (tape ++ [])) event) free, tt));
+      }
+
+  rested : tells → IsRested given tape scope first entries (entries ++ entries_of who end (event ∷ [])) m tape
+  unfolding Then
+  rested t =
+      subst (λ (l : List Operation). Then l end) (append-nil tape)
+      (subst (Then (tape ++ [])) (ap (λ (l : List Operation). length l) (append-nil tape) ∙ sym (at_end t)) (rested-here t)) (legal t)
+
+  -- ---- what is told, and what a stop may leave
+
+  unclean : tells → (is_told : (told_now (world_in given tape scope first) (is_carried work) false entries).unclean ≡ true)
+      → (told_now (world_in given tape scope first) (is_carried work) false (entries ++ entries_of who end (event ∷ []))).unclean ≡ true
+  unclean t is_told = (now-adding (world_in given tape scope first) (is_carried work) false entries (entries_of who end (event ∷ [])) (adds end) (none end)).unclean is_told
+
+  safe : tells → IsFilledRight world (entries ++ added) → HasRoomForEvents world → OpensAlike world → IsSafeHistory ⊤ world given m (is_carried work) false (entries ++ added)
+  safe t fills room alike =
+      subst (λ (n : ℕ). IsFilledRight (world_in given tape scope first) (entries ++ entries_of who n (event ∷ [])) → IsSafeHistory ⊤ (world_in given tape scope first) given m (is_carried work) false (entries ++ entries_of who n (event ∷ []))) (sym (at_end t))
+      (λ right. idle-call ⊤ given tape scope first entries m (is_carried work) false who (event ∷ []) was.sizes_are (was.recorded t).begun (was.recorded t).ends right
+      (was.safe t ((rested t).fills fills) room alike) (adds (length tape)) (none (length tape)))
+      fills
+
+  -- ---- the record
+
+  -- each sector holds what it held
+  same : (x : ℕ) → now (opening_list (world_in given tape scope first)) (entries ++ entries_of who end (event ∷ [])) x ≡ now (opening_list (world_in given tape scope first)) entries x
+  same x = ap (λ (l : List Sector). slice_index_or l 0 [])
+      (values-more (opening_list (world_in given tape scope first)) entries (entries_of who end (event ∷ [])) x ∙ rests.still x (values_of (opening_list (world_in given tape scope first)) entries x))
+
+  pub resting-stands : IsStill tells given tape scope first (entries ++ entries_of who end (event ∷ [])) m work left'
+  resting-stands = record {
+    slots = was.slots;
+    members_are = was.members_are;
+    sizes_are = was.sizes_are;
+    left_told = told;
+    progress = was.progress;
+    pending = λ t. unsynced-still (world_in given tape scope first) entries added (none-ends added (settle-none added (adds end))) ∙ was.pending t;
+    dirty = was.dirty;
+    levelled = λ t right. ap tolerance_of (rested t).levelled ∙ was.levelled t ((rested t).right right);
+    gone = λ t. (rested t).gone;
+    unclean = λ t dirty. unclean t (was.unclean t dirty);
+    recorded = λ t. (rested t).recorded;
+    listed = λ t does fills. subst (λ (l : ℕ → Sector). HasListStood (OpensFit (world_in given tape scope first)) work m (present given tape) l)
+        (λ i x. sym (same x) i)
+        (was.listed t does ((rested t).fills fills));
+    safe = safe;
+  }

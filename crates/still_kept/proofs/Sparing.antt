@@ -1,0 +1,197 @@
+-- A slot that is made a spare: it may be one now, or was lost in this.
+use Rattle.std.proofs.Common.{◌≡◌, inl, inr, ℕ, ◌/◌, ◌<◌, ◌≤◌, ◌==◌, ◌||◌, Bool, true, false, Option, Some, None, get_or, List, [], ◌∷◌, ◌++◌, length, slice_set, refl, sym, ◌∙◌, subst, arith}
+use Rattle.std.specs.Prelude.{IsFalse, IfSome, ⊤}
+use Rattle.std.proofs.lemmas.Bool.{cases_lt}
+use Rattle.std.proofs.lemmas.Bool.Decides.{nat_tests}
+use Rattle.std.proofs.lemmas.List.{get_or-set_same, get_or_past, length-set}
+use Rattle.md_base.specs.Sectors.{Sector}
+use Rattle.md_base.specs.declared.answers.Refusal.TheVariants.{SlotFault}
+use Rattle.md_base.specs.declared.answers.Who.{Who}
+use Rattle.bank.specs.declared.bank.Operation.{Operation}
+use Rattle.bank.specs.Given.{Given}
+use Rattle.bank.specs.Tape.{Contents, IsIn, disk}
+use Rattle.bank.proofs.Marks.{each_mark-map}
+use Rattle.sb1.specs.declared.sb.Sb.{Sb}
+use Rattle.superblocks.specs.declared.members.Members.{Members}
+use Rattle.superblocks.specs.Held.{IsSecondHalf}
+use Rattle.superblocks.specs.Reading.{Scope, shape_of, role_state, holder}
+use Rattle.row_io.specs.Rows.{reading_of, present}
+use Rattle.flat_history.specs.declared.events.Entry.{Entry}
+use Rattle.flat_history.specs.declared.events.Event.{Event}
+use Rattle.flat_history.specs.declared.events.Event.TheVariants.{Added, Refused}
+use Rattle.flat_history.specs.Flat.{now}
+use Rattle.flat_history.specs.Legal.{told_left, IsLegalEvent}
+use Rattle.flat_history.specs.Plain.{entries_of}
+use Rattle.flat_history.specs.Sound.{OpensFit}
+use Rattle.flat_history.specs.World.{opening_list}
+use Rattle.shape_views.specs.Regions.{DoWithout}
+use Rattle.shape_views.specs.Views.{Ledger}
+use Rattle.shape_changes.specs.Marking.{AreOthersPresent}
+use Rattle.shape_changes.specs.Safety.{HasLiveSlot, HasRoomLeft, IsRisen}
+use Rattle.shape_changes.specs.Steady.{AreViewsRight, IsMoreTold, IsSafeStretch, IsSafeOver, KeepsSafe, AreGoneTold, IsUncleanTold, with_number}
+use Rattle.shape_changes.proofs.Steady.{views-told}
+use Rattle.views.specs.declared.work.Work.{Work}
+use Rattle.views.specs.Flushing.{OnlyFlushesAdded}
+use Rattle.views.specs.Lacking.{AreLostSince, RowsStandBelow, mended_rows}
+use Rattle.views.specs.Moving.{Grows}
+use Rattle.views.specs.Numbers.{is_carried, IsOfScope}
+use Rattle.views.specs.Rebuilding.{with_spare}
+use Rattle.views.specs.Status.{stripes_of}
+use Rattle.views.proofs.AddedRows.{list-with, among-with, rebuilt-with}
+use Rattle.views.proofs.Flushed.{contents-added}
+use Rattle.views.proofs.HeldRows.{missing-before, vacant-missing}
+use Rattle.views.proofs.MarkedSafe.{added-longer, flushed-safe}
+use Rattle.views.proofs.MovedLaws.{grows-then}
+use Rattle.views.proofs.SafeStretch.{safe-then}
+use Rattle.call_entries.specs.Losing.{losses_of}
+use Rattle.call_entries.proofs.CallLaws.{losses-are}
+use Rattle.array_kept.proofs.DegradedLaws.{count-moved}
+use Rattle.array_kept.proofs.KeptLaws.{left-lost}
+use Rattle.calls_kept.proofs.AddedKept.{with_carried, carries-number, AddsSafe}
+use Rattle.calls_kept.proofs.AddedLosses.{IsAddDone, with-placed, stays-added, does-added, left-added}
+use Rattle.kept_history.specs.Recorded.{IsCallGoing, entry_of}
+use Rattle.kept_history.specs.Safe.{world_in, IsFilledRight}
+use Rattle.kept_history.proofs.Seen.{now-more}
+use Rattle.history_calls.proofs.Behind.{AreLostOrMissing, IsAmong, early-losses, legal-losses}
+use Rattle.history_calls.proofs.Quiet.{IsQuiet, LeavesNumbers}
+use Rattle.still_kept.specs.Still.{AreAtRest, HasListStood, IsStill}
+use Rattle.still_kept.proofs.Quiet.{placed-stands}
+use Rattle.still_kept.proofs.Stood.{stood-moved}
+
+-- ---- the number
+
+set-there : (l : List Bool) (k : ℕ) → get_or (slice_set l k true) k true ≡ true
+set-there l k = elim (cases_lt k (length l)) [
+  | inl within ↦ get_or-set_same l k true true within
+  | inr past ↦ get_or_past (slice_set l k true) k true (let long = length-set l k true in omega (arith, past, long))
+]
+
+-- with the number no more is told than is by the work that knows it
+with-told : (number : ℕ) (work : Work) (was told : Ledger) → IsMoreTold was told → ((n : ℕ) → told.carried n ≡ is_carried (with_carried number work) n) → IsMoreTold (with_number number was) told
+with-told number work was told less knows = record {
+  size = less.size;
+  values = less.values;
+  gone = less.gone;
+  unclean = less.unclean;
+  reshaping = less.reshaping;
+  carried = λ n is. by n (was.carried n) (n == number) refl refl is;
+}
+  where
+    same-as : (a b : ℕ) → (a == b) ≡ true → a ≡ b
+    same-as a b e = grind (arith, nat_tests, e)
+
+    by : (n : ℕ) (a b : Bool) → was.carried n ≡ a → (n == number) ≡ b → (a || b) ≡ true → told.carried n ≡ true
+    by n true b before here is = less.carried n before
+    by n false true before here is = knows n ∙ subst (λ (k : ℕ). get_or (slice_set work.carried number true) k true ≡ true) (sym (same-as n number here)) (set-there work.carried number)
+    by n false false before here is = absurd (cc)
+
+-- more is told of a stretch
+stretch-told : (sound : Type 0) (scope : Scope) (given : Given) (told more : Ledger) (members : Members) (before after : List Operation) → IsMoreTold told more
+    → IsSafeStretch sound scope given told members before after → IsSafeStretch sound scope given more members before after
+stretch-told sound scope given told more members before after is stretch = record {
+  marks = each_mark-map (AreViewsRight sound scope given more) (λ t d. views-told sound given told more is scope d) stretch.marks;
+  next = now-more sound scope given told more members (disk given.start after) is stretch.next;
+}
+
+-- ---- the list
+
+-- as many rows are mended
+mended-with : (m : Members) (slot : ℕ) (sb : Sb) (resync : Option ℕ) → mended_rows resync (with_spare slot sb m) ≡ mended_rows resync m
+mended-with m slot sb None = refl
+mended-with m slot sb (Some mended) = refl
+
+stood-with : (sound : Type 0) (work : Work) (m : Members) (slot : ℕ) (sb : Sb) (c : Contents) (list : ℕ → Sector) → ((role : ℕ) → holder (role_state (reading_of m) role) ≡ Some slot → ⊥)
+    → HasListStood sound work m c list → HasListStood sound work (with_spare slot sb m) c list
+stood-with sound work m slot sb c list unheld l = record {
+  stands = list-with m slot sb unheld c list l.stands;
+  whole = l.whole;
+  rows = λ so. subst (λ (n : ℕ). RowsStandBelow n (with_spare slot sb m) c list) (sym (mended-with m slot sb work.resync))
+      (among-with m slot sb unheld (shape_of m.newest) (λ row. row < mended_rows work.resync m) c list (l.rows so));
+  rebuilt = λ so. rebuilt-with m slot sb unheld work c list (l.rebuilt so);
+}
+
+-- ---- the call
+
+module _ (tells : Type 0) (given : Given) (tape mid_tape tape' : List Operation) (scope : Scope) (first : ℕ) (entries : List Entry) (old new : Members) (work : Work) (left left' : ℕ)
+    (slot : ℕ) (sb : Sb) (lost : ℕ) (before after : ℕ → ℕ) (who : Who) (end roles spares : ℕ)
+    (was : IsStill tells given tape scope first entries old work left) (live : HasLiveSlot old) (goes : IsCallGoing entries who) (caller : IsFalse (who.caller == 254)) (at_end : tells → end ≡ length tape')
+    (looked : tells → OnlyFlushesAdded tape mid_tape) (did : IsAddDone tells given slot sb old new lost mid_tape tape' before after) (since : AreLostSince old new roles spares before after)
+    (of_scope : IsOfScope scope given slot sb) (unknown : is_carried work sb.dev_number ≡ false)
+    (second : tells → (sector : Sector) → IsIn (disk given.start mid_tape slot 9) sector → IsSecondHalf sb sector) (safe : AddsSafe tells given slot sb old new mid_tape tape') where
+  abbrev work' : Work
+  work' = with_carried sb.dev_number work
+
+  grows : Grows tells tape tape'
+  grows = grows-then (record { more = λ t. ((looked t).0, (looked t).2) }) did.grows
+
+  others : tells → AreOthersPresent (present given tape) (present given tape')
+  others t s k apart = did.others t s k apart ∙ (λ i. contents-added given.start tape mid_tape (looked t) i s k)
+
+  rest : AreAtRest given new
+  rest =
+      let stays = stays-added did in
+      record { placed = stays.placed; still = stays.still; unlost = stays.unlost; free = stays.free; spares = stays.spares }
+
+  missing : AreLostOrMissing old new (IsAmong roles)
+  missing role lt gone = elim (missing-before did.moved role gone) [
+    | inl was_gone ↦ inl (subst (λ (n : ℕ). role < n) (count-moved did.moved) lt, was_gone)
+    | inr vacant ↦ elim (since.vacant role lt vacant) [
+      | inl was_vacant ↦ inl (subst (λ (n : ℕ). role < n) (count-moved did.moved) lt, vacant-missing (reading_of old) role was_vacant)
+      | inr has ↦ inr has
+    ]
+  ]
+
+  -- each mark is safe, with the number
+  keeps : (t : tells) (before_told told : Ledger) → IsMoreTold before_told told → ((n : ℕ) → before_told.carried n ≡ is_carried work n) → ((n : ℕ) → told.carried n ≡ is_carried (with_carried sb.dev_number work) n)
+      → HasRoomLeft old tape tape' → AreGoneTold before_told new → IsUncleanTold before_told old
+      → IsSafeOver (world_in given tape scope first) given before_told old tape → KeepsSafe (world_in given tape scope first) given told new tape tape'
+  keeps t before_told told less knew knows room gone unclean began =
+      let world = world_in given tape scope first in
+      let flushed = flushed-safe (OpensFit world) scope given before_told old tape mid_tape (looked t) began in
+      let longer = added-longer tape mid_tape (looked t) in
+      let done = safe t world before_told (λ some. let r = room some in omega (arith, r, longer)) gone unclean of_scope (knew sb.dev_number ∙ unknown) (second t) live flushed.next in
+      safe-then (OpensFit world) scope given told old new tape mid_tape tape'
+      (stretch-told (OpensFit world) scope given before_told told old tape mid_tape less flushed)
+      (stretch-told (OpensFit world) scope given (with_number sb.dev_number before_told) told new mid_tape tape' (with-told sb.dev_number work before_told told less knows) done)
+
+  rise : tells → IsRisen ⊤ old new tape tape'
+  rise t = record {
+    left = λ more. live;
+    events = λ u more. let risen = did.rise.events t more in let longer = added-longer tape mid_tape (looked t) in omega (arith, risen, longer);
+  }
+
+  listed : tells → DoWithout new → IsFilledRight (world_in given tape scope first) entries
+      → HasListStood (OpensFit (world_in given tape scope first)) (with_carried sb.dev_number work) new (present given tape') (now (opening_list (world_in given tape scope first)) entries)
+  listed t can fills =
+      let l = stood-moved (OpensFit (world_in given tape scope first)) work given (with_spare slot sb old) new (present given tape) (present given tape') (now (opening_list (world_in given tape scope first)) entries) did.moved (with-placed did) (others t)
+      (stood-with (OpensFit (world_in given tape scope first)) work old slot sb (present given tape) (now (opening_list (world_in given tape scope first)) entries) (λ role held. did.untaken role (inl held)) (was.listed t (does-added did can) fills)) in
+      record { stands = l.stands; whole = l.whole; rows = l.rows; rebuilt = l.rebuilt }
+
+  -- an event behind its losses that is legal wherever it stands
+  spared : (event : Event) → IsQuiet event → IfSome (told_left (entries ++ entries_of who end (losses_of roles spares ++ event ∷ []))) (λ n. n ≡ left')
+      → (tells → IsLegalEvent (world_in given tape' scope first) (entries ++ entries_of who end (losses_of roles spares)) (entry_of who end event) [] event)
+      → IsStill tells given tape' scope first (entries ++ entries_of who end (losses_of roles spares ++ event ∷ [])) new (with_carried sb.dev_number work) left'
+  spared event quiet told legal =
+      placed-stands tells given tape tape' scope first entries old new work (with_carried sb.dev_number work) left left' who end (losses_of roles spares) (IsAmong roles) event was live goes caller at_end grows quiet rest
+      (stays-added did).shape (stays-added did).size (does-added did) (early-losses roles spares) missing did.clean (carries-number sb.dev_number work) refl (progress work.resync was.progress) told listed call
+    where
+      progress : (o : Option ℕ) → IfSome o (λ mended. mended ≤ stripes_of old) → IfSome o (λ mended. mended ≤ stripes_of new)
+      progress None is = tt
+      progress (Some mended) is = subst (λ (n : ℕ). mended ≤ n) (λ i. sym ((stays-added did).size) i / (sym ((stays-added did).shape) i).chunk) is
+
+      call : tells → LeavesNumbers given tape scope first entries old new (is_carried work) (is_carried (with_carried sb.dev_number work)) false who (losses_of roles spares) (event ∷ []) tape' end
+      call t = record {
+        rise = rise t;
+        keeps = λ before_told told_so fills more less knew knows room gone unclean began. keeps t before_told told_so less knew knows room gone unclean began;
+        legal = λ all fills gone level. legal-losses (world_in given tape' scope first) entries who end (losses_of roles spares) (event ∷ []) (losses-are roles spares) (legal t, tt, tt);
+      }
+
+  -- a new spare: any number of steps may be left then
+  pub added-stands : IsStill tells given tape' scope first (entries ++ entries_of who end (losses_of roles spares ++ Added slot ∷ [])) new (with_carried sb.dev_number work) left'
+  added-stands = spared (Added slot) (record { adds = refl; gives = refl; ends = refl; still = λ x values. refl; level = λ n. refl }) (left-added left' entries who end slot (losses_of roles spares) (losses-are roles spares)) (λ t. tt)
+
+  -- one that was lost in this
+  pub lost-stands : (losses_of roles spares ≡ [] → left' ≡ left)
+      → IsStill tells given tape' scope first (entries ++ entries_of who end (losses_of roles spares ++ Refused (SlotFault slot) ∷ [])) new (with_carried sb.dev_number work) left'
+  lost-stands alike = spared (Refused (SlotFault slot)) (record { adds = refl; gives = refl; ends = refl; still = λ x values. refl; level = λ n. refl })
+      (left-lost left left' entries who end (losses_of roles spares) (Refused (SlotFault slot) ∷ []) (losses-are roles spares) alike was.left_told (λ told is. is)) (λ t. tt)

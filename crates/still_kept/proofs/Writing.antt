@@ -1,0 +1,365 @@
+-- A write of the list, from what `put_list` leaves: it was done, or refused before its first row was written, or behind it.
+use Rattle.std.proofs.Common.{◌≡◌, ◌⊎◌, inl, inr, ℕ, ◌+◌, ◌-◌, ◌*◌, ◌/◌, ◌<◌, ◌≤◌, ◌==◌, ◌||◌, Bool, true, false, Option, None, List, [], ◌∷◌, ◌++◌, length, fold, refl, sym, ◌∙◌, ap, subst, arith, append_assoc}
+use Rattle.std.specs.Prelude.{IsFalse, IfSome, IsSome, is_some, slice_index_or, ⊤}
+use Rattle.std.specs.List.{list_any}
+use Rattle.std.proofs.lemmas.List.Folds.{list_any-append}
+use Rattle.md_base.specs.Sectors.{Sector, IsWhole, sectors_of}
+use Rattle.md_base.specs.Shapes.{tolerance, tolerance_of}
+use Rattle.md_base.specs.declared.answers.Refusal.{Refusal}
+use Rattle.md_base.specs.declared.answers.Who.{Who}
+use Rattle.md_base.specs.declared.places.Shape.{Shape}
+use Rattle.md_base.specs.declared.places.Span.{Span}
+use Rattle.md_base.specs.declared.status.Role.TheVariants.{Recovering as IsRecovering}
+use Rattle.md_base.proofs.SectorLaws.{length-sectors_of}
+use Rattle.bank.specs.declared.bank.Operation.{Operation}
+use Rattle.bank.specs.Given.{Given}
+use Rattle.bank.specs.Tape.{IsIn}
+use Rattle.layout.specs.Layout.{place}
+use Rattle.superblocks.specs.declared.members.Members.{Members}
+use Rattle.superblocks.specs.Reading.{Scope, is_reshaping, is_clean, shape_of, list_length, role_state}
+use Rattle.row_io.specs.Rows.{reading_of, present}
+use Rattle.list_io.specs.Writing.{IsWritten, HasFull}
+use Rattle.flat_history.specs.declared.events.Entry.{Entry}
+use Rattle.flat_history.specs.declared.events.Event.{Event}
+use Rattle.flat_history.specs.declared.events.Event.TheVariants.{Wrote, Torn, Refused}
+use Rattle.flat_history.specs.Flat.{now, visible_of, sector_at, values_of, values_after}
+use Rattle.flat_history.specs.Legal.{told_left, visible_at, level_at, level_after, IsRefusedRight, IsLegalEvent}
+use Rattle.flat_history.specs.Losses.{is_unsynced, unsettles}
+use Rattle.flat_history.specs.OneShape.{is_lost}
+use Rattle.flat_history.specs.Plain.{entries_of}
+use Rattle.flat_history.specs.Sound.{OpensFit}
+use Rattle.flat_history.specs.Transfers.{IsTooMany}
+use Rattle.flat_history.specs.World.{World, opening_list}
+use Rattle.shape_views.specs.Regions.{DoWithout}
+use Rattle.shape_views.specs.Views.{Ledger, IsTail}
+use Rattle.shape_views.specs.Windows.{IsShown, ListStands as ListIsShown}
+use Rattle.shape_views.proofs.Stands.{for-still}
+use Rattle.shape_changes.specs.Marking.{AreOthersPresent}
+use Rattle.shape_changes.specs.Safety.{HasRoomLeft, IsRisen}
+use Rattle.shape_changes.specs.Steady.{IsSafeOver, KeepsSafe, AreGoneTold, AreWritesAllowed}
+use Rattle.views.specs.declared.work.Work.{Work}
+use Rattle.views.specs.Lacking.{AreLostSince, AreTooMany, LacksTooMany, DoesWithout, IsNotResynced, AreBytes}
+use Rattle.views.specs.Moving.{Grows, IsMoved}
+use Rattle.views.specs.Placed.{AreWhole}
+use Rattle.views.specs.Status.{rebuilt_of}
+use Rattle.views.proofs.Fit.{list-alike}
+use Rattle.views.proofs.HeldRows.{without-before}
+use Rattle.views.proofs.LackingLaws.{never-both}
+use Rattle.views.proofs.LackingLists.{sectors-whole, row-sector}
+use Rattle.views.proofs.LackingWrites.{list-with, list-with-is, recovering-before}
+use Rattle.views.proofs.LiveLeft.{without-left}
+use Rattle.views.proofs.Still.{untailed, without-still}
+use Rattle.call_entries.specs.Losing.{losses_of}
+use Rattle.call_entries.proofs.CallLaws.{losses-are, values-losses, ends-losses}
+use Rattle.call_entries.proofs.LosingLaws.{entries-both}
+use Rattle.array_kept.proofs.DegradedLaws.{written-whole, rows-same}
+use Rattle.array_kept.proofs.KeptLaws.{left-lost}
+use Rattle.array_kept.proofs.LedgerLaws.{torn-adds, written-allowed, torn-in}
+use Rattle.array_kept.proofs.NowLaws.{wrote-is}
+use Rattle.region_rows.specs.Stretches.{relied_rows, RowsStandTo}
+use Rattle.region_writes.specs.Runs.{MayBeHidden, IsListUnwritten}
+use Rattle.kept_history.specs.Recorded.{IsCallGoing, IsLegalCall, entry_of, ends_reshape, gives_some}
+use Rattle.kept_history.specs.Safe.{world_in, IsFilledRight}
+use Rattle.kept_history.proofs.Entered.{AreAdding, values-more, length-adding}
+use Rattle.kept_history.proofs.Ledgers.{unsynced-still}
+use Rattle.kept_history.proofs.Lists.{newest-in}
+use Rattle.history_calls.specs.Reliable.{IsReliable, AreToldGone}
+use Rattle.history_calls.proofs.Behind.{AreFirst, IsAmong, first-of, early-losses, legal-losses, inner-of}
+use Rattle.history_calls.proofs.Adding.{unsettled-behind}
+use Rattle.still_kept.specs.Still.{AreAtRest, relied_list, HasListStood, IsStill}
+use Rattle.still_kept.proofs.Adding.{changing-stands}
+use Rattle.still_kept.proofs.Leaving.{list-later, unsynced-later, fit-earlier, rest-moved}
+use Rattle.still_kept.proofs.Reading.{visible-behind, pending-of, relied-moved}
+use Rattle.still_kept.proofs.Refusals.{IsRefusedStill, too-many-refused, refused-right, unsynced-behind}
+use Rattle.still_kept.proofs.Staying.{missing-since}
+use Rattle.still_kept.proofs.Stood.{stood-moved, list-shown, shown-list, rows-relied, relied-rows, within-count}
+use Rattle.still_kept.proofs.Whole.{whole-told}
+
+-- ---- what the call leaves
+
+-- whether it was done or not: where rows were written, the sectors of the write are allowed
+pub record IsPutStill (tells : Type 0) (given : Given) (tape tape' : List Operation) (old new : Members) (roles spares : ℕ) (before after : ℕ → ℕ) (relied at : ℕ) (from : List ℕ) (begun : Bool) : Type 0 where
+  pub moved : IsMoved given old new
+  pub since : AreLostSince old new roles spares before after
+  pub grows : Grows tells tape tape'
+  pub stays : is_clean old.newest ≡ false → is_clean new.newest ≡ false
+  pub rise : tells → IsRisen ⊤ old new tape tape'
+  pub safe : tells → (world : World) → (told : Ledger) → HasRoomLeft old tape tape' → AreGoneTold told new → told.unclean ≡ true
+      → (hidden : Option Span) → MayBeHidden old.newest hidden → (list list' : ℕ → Sector) → IsWritten list list' at from
+      → ((x : ℕ) → at ≤ x → x < at + length from / 512 → IsShown hidden old.newest x)
+      → ListIsShown hidden old (present given tape) list
+      → AreWhole new ⊎ RowsStandTo hidden relied old (present given tape) list
+      → (begun ≡ true → AreWritesAllowed old told.values list') → (OpensFit world → (x : ℕ) → IsTail old.newest x → ⊥)
+      → IsSafeOver world given told old tape → KeepsSafe world given told new tape tape'
+
+-- what it leaves where it was done
+pub record IsWrittenStill (tells : Type 0) (given : Given) (tape tape' : List Operation) (old new : Members) (relied at : ℕ) (from : List ℕ) : Type 0 where
+  pub dirty : is_clean new.newest ≡ false
+  pub put : tells → (hidden : Option Span) → (list list' : ℕ → Sector) → IsWritten list list' at from → ListIsShown hidden old (present given tape) list → ListIsShown hidden new (present given tape') list'
+  pub good : tells → (hidden : Option Span) → (list list' : ℕ → Sector) → IsWritten list list' at from → AreBytes from → ((x : ℕ) → at ≤ x → x < at + length from / 512 → IsShown hidden old.newest x)
+      → RowsStandTo hidden relied old (present given tape) list → RowsStandTo hidden relied new (present given tape') list'
+  pub rebuilt : tells → is_reshaping old.newest ≡ false → (list list' : ℕ → Sector) → IsWritten list list' at from → ListIsShown None old (present given tape) list
+      → AreWhole new ⊎ RowsStandTo None relied old (present given tape) list → (role slot row : ℕ) → role < (shape_of old.newest).disks → role_state (reading_of new) role ≡ IsRecovering slot → row < old.newest.size
+      → HasFull (reading_of old) (present given tape) (shape_of old.newest) list row role slot → HasFull (reading_of new) (present given tape') (shape_of old.newest) list' row role slot
+
+-- ---- why it wasn't done
+
+-- one of its sectors can't be written, by the members that it leaves: and a resync is pending, or the refusal leaves the array unsettled
+pub unwritten-refused : (given : Given) (m : Members) (rest : AreAtRest given m) (resync : Option ℕ) (from to : ℕ) (refusal : Refusal) → to ≤ list_length m.newest
+    → IsListUnwritten (relied_list resync m) from to m refusal → IsRefusedStill resync m refusal × ((IsSome resync × DoWithout m) ⊎ (unsettles (Refused refusal) ≡ true))
+unwritten-refused given m rest resync from to refusal within (inl (x, low, high, many)) =
+    let here = subst (λ (s : Shape). LacksTooMany s m refusal) (for-still m.newest rest.still x) many in
+    (too-many-refused resync m refusal (inl here), inr (subst (λ (r : Refusal). unsettles (Refused r) ≡ true) (sym here.told) refl))
+unwritten-refused given m rest resync from to refusal within (inr (few, (x, low, high, beyond, cause))) =
+    let inside : x < list_length m.newest = omega (arith, high, within) in
+    let shape = shape_of m.newest in
+    let row : relied_rows m.newest (relied_list resync m) shape ≤ (place shape x).row =
+    subst (λ (s : Shape). relied_rows m.newest (relied_list resync m) s ≤ (place s x).row) (for-still m.newest rest.still x) beyond in
+    let not = subst (λ (s : Shape). IsNotResynced s false m refusal) (for-still m.newest rest.still x) cause in
+    let pending = pending-of given m rest resync x inside row in
+    let can = without-still m rest.still (subst (λ (s : Shape). DoesWithout s m) (for-still m.newest rest.still x) (few x low high)) in
+    (subst (IsRefusedStill resync m) (sym not.1) (pending, within-count given m rest.placed not.0 not.4.0, not.3), inl (pending, can))
+
+-- ---- a torn write stands before its refusal
+
+torn-first : (roles spares at : ℕ) (body : List Sector) → AreFirst (losses_of roles spares ++ Torn at body ∷ []) (IsAmong roles)
+torn-first roles spares at body = record {
+  adds = λ who end tail adds. subst (λ (l : List Event). AreAdding (entries_of who end l)) (again tail) (losses.adds who end (Torn at body ∷ tail) adds);
+  gives = λ who end tail none. subst (λ (l : List Event). list_any (λ e. gives_some e.event) (entries_of who end l) ≡ false) (again tail) (losses.gives who end (Torn at body ∷ tail) none);
+  lost = λ who end tail role lt has. subst (λ (l : List Event). is_lost (entries_of who end l) role ≡ true) (again tail) (losses.lost who end (Torn at body ∷ tail) role lt has);
+  ends = λ tail none. subst (λ (l : List Event). list_any ends_reshape l ≡ false) (again tail) (losses.ends (Torn at body ∷ tail) none);
+  level = λ who end tail n. ap (λ (l : List Event). fold (λ level e. level_after level e.event) n (entries_of who end l)) (sym (again tail)) ∙ losses.level who end (Torn at body ∷ tail) n;
+}
+  where
+    losses : AreFirst (losses_of roles spares) (IsAmong roles)
+    losses = first-of (early-losses roles spares)
+
+    again : (tail : List Event) → losses_of roles spares ++ Torn at body ∷ tail ≡ (losses_of roles spares ++ Torn at body ∷ []) ++ tail
+    again tail = sym (append_assoc (losses_of roles spares) (Torn at body ∷ []) tail)
+
+module _ (tells : Type 0) (given : Given) (tape tape' : List Operation) (scope : Scope) (first : ℕ) (entries : List Entry) (old new : Members) (work : Work) (left left' : ℕ)
+    (who : Who) (end roles spares : ℕ) (before after : ℕ → ℕ) (at : ℕ) (from : List ℕ) (begun : Bool)
+    (was : IsStill tells given tape scope first entries old work left) (does : DoWithout old) (goes : IsCallGoing entries who) (caller : IsFalse (who.caller == 254)) (at_end : tells → end ≡ length tape')
+    (alike : losses_of roles spares ≡ [] → left' ≡ left) (inside : at + length from / 512 ≤ list_length old.newest)
+    (seen : tells → at + length from / 512 ≤ visible_at (world_in given tape scope first) entries)
+    (did : IsPutStill tells given tape tape' old new roles spares before after (relied_list work.resync old) at from begun) where
+  abbrev world : World
+  world = world_in given tape scope first
+
+  abbrev later : World
+  later = world_in given tape' scope first
+
+  abbrev current : ℕ → Sector
+  current = now (opening_list (world_in given tape scope first)) entries
+
+  abbrev all_of : List Event → List Entry
+  all_of l = entries ++ entries_of who end l
+
+  begins : tells → first ≤ length tape
+  begins t = (was.recorded t).begun
+
+  shown : (x : ℕ) → at ≤ x → x < at + length from / 512 → IsShown None old.newest x
+  shown x low high = record { within = omega (arith, high, inside); outside = refl }
+
+  stood : (t : tells) → IsFilledRight (world_in given tape scope first) entries → HasListStood (OpensFit (world_in given tape scope first)) work old (present given tape) (now (opening_list (world_in given tape scope first)) entries)
+  stood t fills = was.listed t does fills
+
+  -- what it fills in is right, where that is so by all of its entries
+  filled : (t : tells) (all : List Entry) → IsReliable (world_in given tape' scope first) all → AreToldGone (world_in given tape' scope first) all new
+      → HasListStood (OpensFit (world_in given tape scope first)) work old (present given tape) (now (opening_list (world_in given tape scope first)) entries)
+      → AreWhole new ⊎ RowsStandTo None (relied_list work.resync old) old (present given tape) (now (opening_list (world_in given tape scope first)) entries)
+  filled t all right gone l = elim right.fills [
+    | inl none ↦ inl (whole-told (world_in given tape' scope first) all new none gone)
+    | inr fit ↦ inr (rows-relied given old was.members_are work.resync (present given tape) current (l.rows (fit-earlier given scope first did.grows begins t fit)))
+  ]
+
+  -- each sector may have what it has
+  held : tells → (x : ℕ) → x < list_length old.newest → IsIn (values_of (opening_list (world_in given tape scope first)) entries x) (now (opening_list (world_in given tape scope first)) entries x)
+  held t x lt = newest-in (opening_list (world_in given tape scope first)) entries x (let size = (was.recorded t).sized in omega (arith, lt, size))
+
+  -- the call keeps the array safe, where its entries tell the sectors that may have been written
+  keeps : (t : tells) (events : List Event) (list' : ℕ → Sector) → IsWritten (now (opening_list (world_in given tape scope first)) entries) list' at from → (told : Ledger)
+      → IsReliable (world_in given tape' scope first) (entries ++ entries_of who end events) → AreToldGone (world_in given tape' scope first) (entries ++ entries_of who end events) new
+      → IsFilledRight (world_in given tape scope first) entries → (begun ≡ true → AreWritesAllowed old told.values list') → HasRoomLeft old tape tape' → AreGoneTold told new → told.unclean ≡ true
+      → IsSafeOver (world_in given tape scope first) given told old tape → KeepsSafe (world_in given tape scope first) given told new tape tape'
+  keeps t events list' written told right all_gone fills allowed room gone unclean safe =
+      let l = stood t fills in
+      did.safe t (world_in given tape scope first) told room gone unclean None (λ span is. absurd (cc)) current list' written shown
+      (list-shown given old was.members_are (present given tape) current l.stands)
+      (filled t (entries ++ entries_of who end events) right all_gone l) allowed (λ fit x tail. untailed old.newest was.members_are.still x tail) safe
+
+  -- as much is visible behind its losses
+  within : tells → (more : ℕ) → more ≡ length from / 512 → at + more ≤ visible_at (world_in given tape' scope first) (entries ++ entries_of who end (losses_of roles spares))
+  within t more is =
+      let same : visible_at (world_in given tape' scope first) (entries ++ entries_of who end (losses_of roles spares)) ≡ visible_at (world_in given tape scope first) entries =
+      visible-behind entries who end roles spares (length (opening_list (world_in given tape' scope first)))
+      ∙ ap (λ (o : List Sector). visible_of (length o) entries) (list-later given scope first did.grows begins t) in
+      let all_seen = seen t in
+      omega (arith, all_seen, same, is)
+
+  -- ---- one that was done
+
+  module _ (done : IsWrittenStill tells given tape tape' old new (relied_list work.resync old) at from) (whole : IsWhole from) (bytes : AreBytes from) where
+    abbrev wrote : List Event
+    wrote = losses_of roles spares ++ Wrote at (sectors_of from) ∷ []
+
+    -- the list with its sectors
+    abbrev list' : ℕ → Sector
+    list' = now (opening_list (world_in given tape scope first)) (entries ++ entries_of who end (losses_of roles spares ++ Wrote at (sectors_of from) ∷ []))
+
+    written : IsWritten (now (opening_list (world_in given tape scope first)) entries) (now (opening_list (world_in given tape scope first)) (entries ++ entries_of who end (losses_of roles spares ++ Wrote at (sectors_of from) ∷ []))) at from
+    written =
+        let w = wrote-is (opening_list (world_in given tape scope first)) entries who end (losses_of roles spares) at from (losses-are roles spares) in
+        record { here = λ x low high. w.here x low high ∙ sym (row-sector from (x - at)); other = w.other }
+
+    listed : tells → DoWithout new → IsFilledRight (world_in given tape scope first) entries
+        → HasListStood (OpensFit (world_in given tape scope first)) work new (present given tape') (now (opening_list (world_in given tape scope first)) (entries ++ entries_of who end (losses_of roles spares ++ Wrote at (sectors_of from) ∷ [])))
+    listed t still fills =
+        let l = stood t fills in
+        let rest = rest-moved given old new did.moved was.members_are in
+        let stands = list-shown given old was.members_are (present given tape) current l.stands in
+        record {
+          stands = shown-list given new rest (present given tape') list' (done.put t None current list' written stands);
+          whole = λ fit x lt. written-whole at from current list' (list_length old.newest) written (sectors-whole from whole bytes) (l.whole fit) x
+              (subst (λ (n : ℕ). x < n) (list-alike old.newest new.newest did.moved.reshape did.moved.shape did.moved.size) lt);
+          rows = λ fit. relied-rows given new rest work.resync (present given tape') list'
+              (subst (λ (n : ℕ). RowsStandTo None n new (present given tape') list') (sym (relied-moved did.moved work.resync))
+              (done.good t None current list' written bytes shown (rows-relied given old was.members_are work.resync (present given tape) current (l.rows fit))));
+          rebuilt = λ fit role slot row lt is beyond below low.
+              let size : row < old.newest.size = subst (λ (n : ℕ). row < n) did.moved.size low in
+              let disks : role < (shape_of old.newest).disks = subst (λ (s : Shape). role < s.disks) did.moved.shape lt in
+              let full = l.rebuilt fit role slot row disks (recovering-before did.moved role slot is) (subst (λ (n : ℕ). n ≤ row) (rows-same did.moved role slot is) beyond)
+              (subst (λ (s : Shape). row < rebuilt_of work role * s.chunk) did.moved.shape below) size in
+              subst (λ (s : Shape). HasFull (reading_of new) (present given tape') s list' row role slot) (sym did.moved.shape)
+              (done.rebuilt t was.members_are.still current list' written stands (inr (rows-relied given old was.members_are work.resync (present given tape) current (l.rows fit))) role slot row disks is size full);
+        }
+
+    pub wrote-stands : IsStill tells given tape' scope first (entries ++ entries_of who end (losses_of roles spares ++ Wrote at (sectors_of from) ∷ [])) new work left'
+    wrote-stands =
+        changing-stands tells given tape tape' scope first entries old new work left left' who end (losses_of roles spares) (IsAmong roles) (Wrote at (sectors_of from)) was
+        (without-left given old was.members_are.placed was.members_are.unlost does) goes caller at_end did.grows (record { adds = refl; gives = refl; ends = refl; level = λ n. refl }) did.moved
+        (first-of (early-losses roles spares)) (missing-since did.moved did.since) (λ dirty. inr (unsettled-behind who end roles spares (Wrote at (sectors_of from)) refl)) (λ can pending. done.dirty)
+        (left-lost left left' entries who end (losses_of roles spares) (Wrote at (sectors_of from) ∷ []) (losses-are roles spares) alike was.left_told (λ told is. is)) listed
+        (λ t. record {
+          rise = did.rise t;
+          keeps = λ told right all_gone fills more allowed room gone unclean unsettled safe.
+              keeps t wrote list' written told right all_gone fills
+              (λ is x lt. allowed x (list' x) lt (newest-in (opening_list (world_in given tape scope first)) (all_of wrote) x
+              (let size = length-adding (length (opening_list (world_in given tape scope first))) entries (entries_of who end wrote) ((first-of (early-losses roles spares)).adds who end (Wrote at (sectors_of from) ∷ []) refl) ∙ (was.recorded t).sized in
+              omega (arith, lt, size)))) room gone
+              (unsettled (unsettled-behind who end roles spares (Wrote at (sectors_of from)) refl)) safe;
+          legal = λ fills gone level. legal-losses (world_in given tape' scope first) entries who end (losses_of roles spares) (Wrote at (sectors_of from) ∷ []) (losses-are roles spares)
+              (within t (length (sectors_of from)) (length-sectors_of from), tt, tt);
+        })
+
+  -- ---- one that was refused
+
+  -- before a row was written
+  pub unwritten-stands : (refusal : Refusal) → begun ≡ false → IsRefusedStill work.resync new refusal → (is_clean old.newest ≡ false) ⊎ (unsettles (Refused refusal) ≡ true)
+      → (tells → AreOthersPresent (present given tape) (present given tape'))
+      → IsStill tells given tape' scope first (entries ++ entries_of who end (losses_of roles spares ++ Refused refusal ∷ [])) new work left'
+  unwritten-stands refusal not_begun why dirty others =
+      changing-stands tells given tape tape' scope first entries old new work left left' who end (losses_of roles spares) (IsAmong roles) (Refused refusal) was
+      (without-left given old was.members_are.placed was.members_are.unlost does) goes caller at_end did.grows (record { adds = refl; gives = refl; ends = refl; level = λ n. refl }) did.moved
+      (first-of (early-losses roles spares)) (missing-since did.moved did.since) (λ marked. elim dirty [
+        | inl former ↦ inl former
+        | inr is ↦ inr (unsettled-behind who end roles spares (Refused refusal) is)
+      ]) (λ can pending. did.stays (was.dirty (without-before given old new did.moved can) pending))
+      (left-lost left left' entries who end (losses_of roles spares) (Refused refusal ∷ []) (losses-are roles spares) alike was.left_told (λ told is. is))
+      (λ t can fills. subst (λ (l : ℕ → Sector). HasListStood (OpensFit (world_in given tape scope first)) work new (present given tape') l) (λ i x. sym (same x) i)
+      (stood-moved (OpensFit (world_in given tape scope first)) work given old new (present given tape) (present given tape') current did.moved was.members_are.placed (others t) (stood t fills)))
+      (λ t. record {
+        rise = did.rise t;
+        keeps = λ told right all_gone fills more allowed room gone unclean unsettled safe.
+            keeps t (losses_of roles spares ++ Refused refusal ∷ []) (list-with current at from) (list-with-is current at from) told right all_gone fills
+            (λ is. absurd (let no = sym not_begun ∙ is in cc)) room gone
+            (elim dirty [
+              | inl former ↦ unclean former
+              | inr is ↦ unsettled (unsettled-behind who end roles spares (Refused refusal) is)
+            ]) safe;
+        legal = λ fills gone level. legal-losses (world_in given tape' scope first) entries who end (losses_of roles spares) (Refused refusal ∷ []) (losses-are roles spares) (
+          refused-right (world_in given tape' scope first) (entries ++ entries_of who end (losses_of roles spares)) given new did.moved.placed work.resync gone
+              (ap tolerance_of level ∙ was.levelled t fills ∙ ap tolerance (sym did.moved.shape))
+              (unsynced-behind tells given tape tape' scope first entries who end roles spares did.grows begins t ∙ was.pending t) refusal why,
+          tt,
+          tt,
+        );
+      })
+    where
+      same : (x : ℕ) → now (opening_list (world_in given tape scope first)) (entries ++ entries_of who end (losses_of roles spares ++ Refused refusal ∷ [])) x ≡ now (opening_list (world_in given tape scope first)) entries x
+      same x = ap (λ (l : List Sector). slice_index_or l 0 [])
+          (values-more (opening_list (world_in given tape scope first)) entries (entries_of who end (losses_of roles spares ++ Refused refusal ∷ [])) x
+          ∙ values-losses who end (losses_of roles spares) (Refused refusal ∷ []) (losses-are roles spares) x (values_of (opening_list (world_in given tape scope first)) entries x))
+
+  -- behind it: the sectors of the write may stand in the list, in place of what it has
+  pub torn-stands : (refusal : Refusal) → AreTooMany new refusal
+      → IsStill tells given tape' scope first (entries ++ entries_of who end ((losses_of roles spares ++ Torn at (sectors_of from) ∷ []) ++ Refused refusal ∷ [])) new work left'
+  torn-stands refusal many =
+      changing-stands tells given tape tape' scope first entries old new work left left' who end (losses_of roles spares ++ Torn at (sectors_of from) ∷ []) (IsAmong roles) (Refused refusal) was
+      (without-left given old was.members_are.placed was.members_are.unlost does) goes caller at_end did.grows (record { adds = refl; gives = refl; ends = refl; level = λ n. refl }) did.moved
+      (torn-first roles spares at (sectors_of from)) (missing-since did.moved did.since) (λ dirty. inr unsettled) (λ can. absurd (never-both new refusal can many))
+      (subst (λ (l : List Event). IfSome (told_left (entries ++ entries_of who end l)) (λ n. n ≡ left')) again
+      (left-lost left left' entries who end (losses_of roles spares) (Torn at (sectors_of from) ∷ Refused refusal ∷ []) (losses-are roles spares) alike was.left_told (λ told is. is)))
+      (λ t can. absurd (never-both new refusal can many))
+      (λ t. record {
+        rise = did.rise t;
+        keeps = λ told right all_gone fills more allowed room gone unclean unsettles_so safe.
+            keeps t ((losses_of roles spares ++ Torn at (sectors_of from) ∷ []) ++ Refused refusal ∷ []) (list-with current at from) (list-with-is current at from) told right all_gone fills
+            (λ is. written-allowed (list_length old.newest) at from current (list-with current at from) told.values (list-with-is current at from)
+            (λ x lt. allowed x (current x) lt (subst (λ (l : List Sector). IsIn l (current x)) (sym (values-torn x)) (torn-adds at (sectors_of from) x (values_of (opening_list (world_in given tape scope first)) entries x) (current x) (held t x lt))))
+            (λ x lt covered. allowed x (sector_at at (sectors_of from) x) lt
+            (subst (λ (l : List Sector). IsIn l (sector_at at (sectors_of from) x)) (sym (values-torn x))
+            (torn-in at (sectors_of from) x (values_of (opening_list (world_in given tape scope first)) entries x) (held t x lt) covered))))
+            room gone (unsettles_so unsettled) safe;
+        legal = λ fills gone level. subst (λ (l : List Event). IsLegalCall (world_in given tape' scope first) entries who end l) again
+            (legal-losses (world_in given tape' scope first) entries who end (losses_of roles spares) (Torn at (sectors_of from) ∷ Refused refusal ∷ []) (losses-are roles spares) (
+              record { within = within t (length (sectors_of from)) (length-sectors_of from); refused = too-many refusal many },
+              inner-of who end (Torn at (sectors_of from)) tt (Refused refusal ∷ []),
+              (refused-behind t fills gone level, tt, tt),
+            ));
+      })
+    where
+      again : losses_of roles spares ++ Torn at (sectors_of from) ∷ Refused refusal ∷ [] ≡ (losses_of roles spares ++ Torn at (sectors_of from) ∷ []) ++ Refused refusal ∷ []
+      again = sym (append_assoc (losses_of roles spares) (Torn at (sectors_of from) ∷ []) (Refused refusal ∷ []))
+
+      too-many : (refusal : Refusal) → AreTooMany new refusal → IsTooMany (Refused refusal)
+      too-many refusal (inl is) = subst (λ (r : Refusal). IsTooMany (Refused r)) (sym is.told) tt
+      too-many refusal (inr is) = subst (λ (r : Refusal). IsTooMany (Refused r)) (sym is.1.told) tt
+
+      unsettled-more : (a b : Bool) → a ≡ true → (a || b) ≡ true
+      unsettled-more true b is = refl
+      unsettled-more false b is = absurd (cc)
+
+      -- a torn write leaves the array unsettled
+      unsettled : list_any (λ e. unsettles e.event) (entries_of who end ((losses_of roles spares ++ Torn at (sectors_of from) ∷ []) ++ Refused refusal ∷ [])) ≡ true
+      unsettled =
+          ap (λ (l : List Entry). list_any (λ e. unsettles e.event) l) (entries-both who end (losses_of roles spares ++ Torn at (sectors_of from) ∷ []) (Refused refusal ∷ []))
+          ∙ list_any-append (λ e. unsettles e.event) (entries_of who end (losses_of roles spares ++ Torn at (sectors_of from) ∷ [])) (entries_of who end (Refused refusal ∷ []))
+          ∙ unsettled-more (list_any (λ e. unsettles e.event) (entries_of who end (losses_of roles spares ++ Torn at (sectors_of from) ∷ []))) (list_any (λ e. unsettles e.event) (entries_of who end (Refused refusal ∷ [])))
+          (unsettled-behind who end roles spares (Torn at (sectors_of from)) refl)
+
+      -- what each sector may have behind it
+      values-torn : (x : ℕ) → values_of (opening_list (world_in given tape scope first)) (entries ++ entries_of who end ((losses_of roles spares ++ Torn at (sectors_of from) ∷ []) ++ Refused refusal ∷ [])) x
+          ≡ values_after x (values_of (opening_list (world_in given tape scope first)) entries x) (Torn at (sectors_of from))
+      values-torn x =
+          ap (λ (l : List Event). values_of (opening_list (world_in given tape scope first)) (entries ++ entries_of who end l) x) (sym again)
+          ∙ values-more (opening_list (world_in given tape scope first)) entries (entries_of who end (losses_of roles spares ++ Torn at (sectors_of from) ∷ Refused refusal ∷ [])) x
+          ∙ values-losses who end (losses_of roles spares) (Torn at (sectors_of from) ∷ Refused refusal ∷ []) (losses-are roles spares) x (values_of (opening_list (world_in given tape scope first)) entries x)
+
+      -- the entries before its refusal
+      before-refusal : entries ++ entries_of who end (losses_of roles spares ++ Torn at (sectors_of from) ∷ []) ≡ (entries ++ entries_of who end (losses_of roles spares)) ++ entry_of who end (Torn at (sectors_of from)) ∷ []
+      before-refusal = ap (λ (l : List Entry). entries ++ l) (entries-both who end (losses_of roles spares) (Torn at (sectors_of from) ∷ []))
+          ∙ sym (append_assoc entries (entries_of who end (losses_of roles spares)) (entry_of who end (Torn at (sectors_of from)) ∷ []))
+
+      refused-behind : (t : tells) → IsReliable (world_in given tape scope first) entries → AreToldGone (world_in given tape' scope first) (entries ++ entries_of who end (losses_of roles spares ++ Torn at (sectors_of from) ∷ [])) new
+          → level_at (world_in given tape' scope first) (entries ++ entries_of who end (losses_of roles spares ++ Torn at (sectors_of from) ∷ [])) ≡ level_at (world_in given tape scope first) entries
+          → IsLegalEvent (world_in given tape' scope first) ((entries ++ entries_of who end (losses_of roles spares)) ++ entry_of who end (Torn at (sectors_of from)) ∷ []) (entry_of who end (Refused refusal)) [] (Refused refusal)
+      refused-behind t fills gone level =
+          subst (λ (l : List Entry). IsRefusedRight (world_in given tape' scope first) l refusal) before-refusal
+          (refused-right (world_in given tape' scope first) (entries ++ entries_of who end (losses_of roles spares ++ Torn at (sectors_of from) ∷ [])) given new did.moved.placed work.resync gone
+          (ap tolerance_of level ∙ was.levelled t fills ∙ ap tolerance (sym did.moved.shape)) (pending t) refusal (too-many-refused work.resync new refusal many))
+        where
+          pending : tells → is_unsynced (world_in given tape' scope first) (entries ++ entries_of who end (losses_of roles spares ++ Torn at (sectors_of from) ∷ [])) ≡ is_some work.resync
+          pending t = unsynced-later given scope first (entries ++ entries_of who end (losses_of roles spares ++ Torn at (sectors_of from) ∷ [])) did.grows begins t
+              ∙ unsynced-still (world_in given tape scope first) entries (entries_of who end (losses_of roles spares ++ Torn at (sectors_of from) ∷ []))
+              (ends-losses who end (losses_of roles spares) (Torn at (sectors_of from) ∷ []) (losses-are roles spares)) ∙ was.pending t

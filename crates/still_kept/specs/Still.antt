@@ -1,0 +1,70 @@
+-- What an array keeps without an active reshape, also behind one that ended, over plain data.
+use Rattle.std.specs.Prelude.{◌≡◌, ℕ, ◌*◌, ◌≤◌, ◌||◌, true, false, List, length, Option, IfSome, IsSome, is_some, ⊤}
+use Rattle.md_base.specs.Sectors.{Sector}
+use Rattle.md_base.specs.Shapes.{data_disks, tolerance, tolerance_of}
+use Rattle.bank.specs.declared.bank.Operation.{Operation}
+use Rattle.bank.specs.Given.{Given, sizes}
+use Rattle.bank.specs.Tape.{Contents}
+use Rattle.superblocks.specs.declared.members.Members.{Members}
+use Rattle.superblocks.specs.Reading.{Scope, is_reshaping, is_clean, shape_of, list_length}
+use Rattle.row_io.specs.Rows.{present}
+use Rattle.flat_history.specs.declared.events.Entry.{Entry}
+use Rattle.flat_history.specs.Epochs.{HasRoomForEvents, OpensAlike}
+use Rattle.flat_history.specs.Flat.{now}
+use Rattle.flat_history.specs.Legal.{told_left, level_at}
+use Rattle.flat_history.specs.Losses.{is_unsynced}
+use Rattle.flat_history.specs.OneShape.{is_unsettled}
+use Rattle.flat_history.specs.Sound.{OpensFit}
+use Rattle.flat_history.specs.World.{opening_list}
+use Rattle.shape_views.specs.Regions.{DoWithout}
+use Rattle.shape_changes.specs.Steady.{AreUnlost}
+use Rattle.views.specs.declared.work.Work.{Work}
+use Rattle.views.specs.Lacking.{ListStands, RowsStandBelow, mended_rows}
+use Rattle.views.specs.Numbers.{is_carried}
+use Rattle.views.specs.Placed.{IsPlaced}
+use Rattle.views.specs.Rebuilding.{AreSparesFree, AreRebuilt}
+use Rattle.views.specs.Status.{stripes_of}
+use Rattle.array_kept.specs.Kept.{AreSectorsWhole}
+use Rattle.kept_history.specs.Recorded.{IsHistoryKept}
+use Rattle.kept_history.specs.Safe.{world_in, IsFilledRight, IsSafeHistory}
+use Rattle.history_calls.specs.Reliable.{IsReliable, AreToldGone}
+
+-- The members of an array without an active reshape: each has its place, no slot that holds a role was lost, and each spare is free.
+pub record AreAtRest (given : Given) (members : Members) : Type 0 where
+  pub placed : IsPlaced given members
+  pub still : is_reshaping members.newest ≡ false
+  pub unlost : AreUnlost members
+  pub free : AreSparesFree given members
+  pub spares : length members.spares ≤ 32
+
+-- The list stands on the members. Where the epoch opened sound its sectors are whole, its rows stand, where a resync is pending those that it has mended, and what
+-- was rebuilt on recovering slots is the list's.
+pub record HasListStood (sound : Type 0) (work : Work) (members : Members) (c : Contents) (list : ℕ → Sector) : Type 0 where
+  pub stands : ListStands members c list
+  pub whole : sound → AreSectorsWhole (list_length members.newest) list
+  pub rows : sound → RowsStandBelow (mended_rows work.resync members) members c list
+  pub rebuilt : sound → AreRebuilt work members c list
+
+-- the sectors of the list whose parity is to be relied on: those of the stripes that a pending resync has mended, or else all
+abbrev pub relied_list : Option ℕ → Members → ℕ
+relied_list resync members = data_disks (shape_of members.newest) * mended_rows resync members
+
+-- No reshape is active in the array, whether some were before or not; this is under way in it, and so many steps are left. What is missing was told so, and a
+-- dirty mark, and a pending resync; over a bank that tells its contents the history is legal and reaches to the tape's end, the list stands where what is filled
+-- in is right, as long as the members suffice, and each mark so far is safe.
+pub record IsStill (tells : Type 0) (given : Given) (tape : List Operation) (scope : Scope) (first : ℕ) (entries : List Entry) (members : Members) (work : Work) (left : ℕ) : Type 0 where
+  pub slots : given.slots ≤ 32
+  pub members_are : AreAtRest given members
+  pub sizes_are : scope.sizes ≡ sizes given
+  pub left_told : IfSome (told_left entries) (λ n. n ≡ left)
+  pub progress : IfSome work.resync (λ mended. mended ≤ stripes_of members)
+  pub pending : tells → is_unsynced (world_in given tape scope first) entries ≡ is_some work.resync
+  pub dirty : DoWithout members → IsSome work.resync → is_clean members.newest ≡ false
+  pub levelled : tells → IsReliable (world_in given tape scope first) entries → tolerance_of (level_at (world_in given tape scope first) entries) ≡ tolerance (shape_of members.newest)
+  pub gone : tells → IsReliable (world_in given tape scope first) entries → AreToldGone (world_in given tape scope first) entries members
+  pub unclean : tells → is_clean members.newest ≡ false → (is_unsynced (world_in given tape scope first) entries || is_unsettled entries) ≡ true
+  pub recorded : tells → IsHistoryKept (IsReliable (world_in given tape scope first) entries) (world_in given tape scope first) (list_length members.newest) entries
+  pub listed : tells → DoWithout members → IsFilledRight (world_in given tape scope first) entries
+      → HasListStood (OpensFit (world_in given tape scope first)) work members (present given tape) (now (opening_list (world_in given tape scope first)) entries)
+  pub safe : tells → IsFilledRight (world_in given tape scope first) entries → HasRoomForEvents (world_in given tape scope first) → OpensAlike (world_in given tape scope first)
+      → IsSafeHistory ⊤ (world_in given tape scope first) given members (is_carried work) false entries

@@ -1,0 +1,2 @@
+//! What an array keeps from call to call that has no active reshape, whatever its history: definitions, and laws of its record.
+#![tactic(auto)]
