@@ -25,7 +25,7 @@ use Rattle.list_io.specs.Full.{RowStands}
 use Rattle.backup.specs.Section.{names_span, has_section}
 use Rattle.flat_history.specs.ActiveSection.{section_for}
 use Rattle.region_laws.specs.Regions.{IsDirected}
-use Rattle.shape_views.specs.Regions.{backup_of, open_by, place_by}
+use Rattle.shape_views.specs.Regions.{open_by, place_by}
 use Rattle.shape_views.specs.Windows.{IsShown, ListStands, RowsStand, moved_past}
 use Rattle.shape_views.proofs.Headers.{backup-is, names-one, span-same}
 use Rattle.shape_views.proofs.Tails.{no-tail, some-listed, row-within, moved-tails}
@@ -338,17 +338,20 @@ pub stored-moves : StoredMove
 stored-moves scope given old new window buffer d e moved kept was = record {
   section = of window was.section;
   sectors = has window kept.section was.sectors;
-  headers = λ backup header here may. header-alike old.newest new.newest moved.reshape moved.shape moved.size scope header (was.headers backup header here (kept.headers backup header may));
+  headers = λ backup header here may. header-alike old.newest new.newest moved.reshape moved.shape moved.size scope header (was.headers backup header here (former backup here header may));
 }
   where
+    former : (backup : ℕ) → scope.backup ≡ Some backup → (header : Sector) → IsIn (e backup 0) header → IsIn (d backup 0) header
+    former backup here header = subst (λ (s : ℕ). IsIn (e s 0) header → IsIn (d s 0) header) (backup-is scope backup here) (kept.headers header)
+
     alike : (header : Sector) → open_by scope new.newest header ≡ open_by scope old.newest header
     alike header = open-alike old.newest new.newest moved.reshape moved.shape moved.size scope header
 
     of : (window : Window) → IsStoredAs scope old window d → IsStoredAs scope new window e
-    of Closed is = λ header may. alike header ∙ is header (kept.headers (backup_of scope) header may)
-    of (Entered span copied true) is = λ header may. alike header ∙ is header (kept.headers (backup_of scope) header may)
-    of (Entered span copied false) is = λ header may. alike header ∙ is header (kept.headers (backup_of scope) header may)
-    of (Unsure span) is = λ header may. elim (is header (kept.headers (backup_of scope) header may)) [
+    of Closed is = λ header may. alike header ∙ is header (kept.headers header may)
+    of (Entered span copied true) is = λ header may. alike header ∙ is header (kept.headers header may)
+    of (Entered span copied false) is = λ header may. alike header ∙ is header (kept.headers header may)
+    of (Unsure span) is = λ header may. elim (is header (kept.headers header may)) [
       | inl none ↦ inl (alike header ∙ none)
       | inr some ↦ inr (alike header ∙ some)
     ]

@@ -18,7 +18,6 @@ use Rattle.shape_views.specs.Windows.{HasNoSection, ListStands, RowsStand, AreTa
 use Rattle.shape_views.specs.Backups.{IsOpenUnderAll, IsOpenOrNot}
 use Rattle.shape_ends.specs.Grown.{IsZeroPast}
 use Rattle.window_rows.specs.Copies.{HasWindow, IsRoomFor}
-use Rattle.window_steps.specs.Copying.{AreHeadersKept}
 use Rattle.window_steps.specs.Zeroing.{IsThrough}
 use Rattle.course_kept.specs.declared.course.Course.{Course}
 use Rattle.grow_asked.specs.declared.window.Window.{Window}
@@ -75,9 +74,9 @@ IsSectionKept scope (Entered span copied true) d e = (k : ℕ) (v : Sector) → 
 IsSectionKept scope (Entered span copied false) d e = ⊤
 IsSectionKept scope (Unsure span) d e = (k : ℕ) (v : Sector) → IsIn (e (backup_of scope) k) v → IsIn (d (backup_of scope) k) v
 
--- nor of headers
+-- nor of its header
 pub record IsBackupKept (scope : Scope) (window : Window) (d e : Disk) : Type 0 where
-  pub headers : AreHeadersKept d e
+  pub headers : (v : Sector) → IsIn (e (backup_of scope) 0) v → IsIn (d (backup_of scope) 0) v
   pub section : IsSectionKept scope window d e
 
 -- ---- rows

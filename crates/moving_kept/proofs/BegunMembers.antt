@@ -24,23 +24,25 @@ use Rattle.flat_history.specs.declared.events.Event.TheVariants.{Step}
 use Rattle.flat_history.specs.declared.events.StepKind.TheVariants.{Begun}
 use Rattle.flat_history.specs.Legal.{told_left}
 use Rattle.flat_history.specs.Plain.{entries_of}
-use Rattle.shape_views.specs.Regions.{ArePlaced}
+use Rattle.shape_views.specs.Regions.{backup_of, ArePlaced}
 use Rattle.shape_ends.specs.Ends.{IsCleared}
 use Rattle.shape_ends.specs.Plans.{HasNoneRecovering}
 use Rattle.views.specs.Lacking.{AreOtherRowsKept}
 use Rattle.views.specs.Moving.{Grows}
 use Rattle.views.specs.Rebuilding.{AreSparesFree}
 use Rattle.views.proofs.Fit.{roles-still}
+use Rattle.safe_updates.proofs.Unused.{unused-moved}
 use Rattle.call_entries.specs.Losing.{losses_of}
 use Rattle.reshape_updates.specs.Beginning.{beginning}
 use Rattle.reshape_updates.proofs.BegunPlan.{is-begun}
 use Rattle.reshape_updates.proofs.NewRoles.{new-or}
 use Rattle.reshape_ends.specs.Begun.{begun_plan}
-use Rattle.reshape_ends.proofs.BeginLaws.{begun-placed}
+use Rattle.reshape_ends.proofs.BeginLaws.{gives-live, begun-placed}
 use Rattle.kept_history.specs.Recorded.{IsCallGoing, IsOpenBehind}
 use Rattle.kept_history.specs.Safe.{world_in}
 use Rattle.course_kept.specs.Laws.{closed}
 use Rattle.moving_kept.specs.Moving.{IsStillKept, IsMoving}
+use Rattle.moving_kept.proofs.BackupKept.{begun-aside}
 use Rattle.moving_kept.proofs.Beginning.{IsBeginningCall}
 use Rattle.moving_kept.proofs.Begun.{AreBegun, begun-moves}
 use Rattle.moving_kept.proofs.BegunCall.{IsBegunBy, begun-call}
@@ -83,6 +85,8 @@ module _ (tells : Type 0) (given : Given) (tape tape' : List Operation) (scope :
     members_are = record {
       placed = did.moved.placed;
       backed = backed-moved scope given (begun_plan old to) new did.moved plan-placed;
+      aside = unused-moved given (begun_plan old to) new did.moved (backup_of scope)
+          (begun-aside scope given backup uuid to old (gives-live given old to was.still same_roles did.in_force did.level was.placed free) did.backed did.placed);
       active = did.newest.active;
       whole = λ role slot is. begun-whole old to whole role slot (sym (did.moved.states role slot (ap holder is)) ∙ is);
       unlost = did.moved.unlost;

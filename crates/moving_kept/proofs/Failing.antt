@@ -20,6 +20,7 @@ use Rattle.shape_changes.specs.Marking.{AreOthersPresent}
 use Rattle.shape_changes.specs.Safety.{HasRoomLeft, IsRisen}
 use Rattle.shape_changes.specs.Steady.{IsSafeOver, KeepsSafe, AreGoneTold, IsUncleanTold}
 use Rattle.views.specs.Moving.{Grows, IsMoved}
+use Rattle.safe_updates.specs.Unused.{IsUnusedKept}
 use Rattle.views.proofs.Fit.{list-alike, count-alike}
 use Rattle.views.proofs.HeldRows.{without-before}
 use Rattle.call_entries.specs.Losing.{losses_of}
@@ -28,37 +29,37 @@ use Rattle.call_entries.proofs.LeftLaws.{left-behind, left-more}
 use Rattle.kept_history.specs.Recorded.{IsCallGoing}
 use Rattle.kept_history.specs.Safe.{world_in}
 use Rattle.course_kept.specs.declared.course.Course.{Course}
-use Rattle.course_kept.specs.Course.{IsBackupKept}
-use Rattle.course_kept.proofs.Courses.{courses-move, stored-moves}
+use Rattle.course_kept.proofs.Courses.{courses-move}
 use Rattle.moving_kept.specs.Moving.{IsMoving}
-use Rattle.history_calls.proofs.Behind.{AreLostOrMissing}
+use Rattle.history_calls.proofs.Behind.{AreLostOrMissing, AreEarly, IsAmong, early-losses, inner-of, legal-losses}
 use Rattle.history_calls.proofs.Failed.{IsFailedOrAmong, early-failed, legal-failed}
+use Rattle.moving_kept.proofs.BackupKept.{stored-kept}
 use Rattle.moving_kept.proofs.MembersMove.{reshaping-moved}
 use Rattle.moving_kept.proofs.Quiet.{early-moves}
 use Rattle.moving_kept.proofs.Staying.{course-moved}
 
 -- What the call leaves: its slot is taken out, and what is missing is named.
-pub record IsTakenOut (tells : Type 0) (given : Given) (tape tape' : List Operation) (scope : Scope) (old new : Members) (course : Course) (role roles : ℕ) : Type 0 where
+pub record IsTakenOut (tells : Type 0) (given : Given) (tape tape' : List Operation) (old new : Members) (role roles : ℕ) : Type 0 where
   pub moved : IsMoved given old new
   pub few : role_count new.newest ≤ 16
   pub since : (other : ℕ) → other < role_count new.newest → is_missing (reading_of new) other ≡ true → (is_missing (reading_of old) other ≡ true) ⊎ IsFailedOrAmong role roles other
   pub clean : is_clean new.newest ≡ is_clean old.newest
   pub rise : tells → IsRisen ⊤ old new tape tape'
   pub others : tells → AreOthersPresent (present given tape) (present given tape')
-  pub backup : tells → IsBackupKept scope course.window (disk given.start tape) (disk given.start tape')
+  pub unused : tells → IsUnusedKept old (disk given.start tape) (disk given.start tape')
   pub safe : tells → (world : World) → (told : Ledger) → HasRoomLeft old tape tape' → AreGoneTold told new → IsUncleanTold told old → IsSafeOver world given told old tape → KeepsSafe world given told new tape tape'
 
 pub failed-moves : (tells : Type 0) (given : Given) (tape tape' : List Operation) (scope : Scope) (first : ℕ) (entries : List Entry) (old new : Members) (carried : ℕ → Bool)
     (course : Course) (buffer : List ℕ) (left : ℕ) (who : Who) (end role roles spares : ℕ)
     → IsMoving tells given tape scope first entries old carried course buffer left → IsCallGoing entries who → IsFalse (who.caller == 254) → (tells → end ≡ length tape') → Grows tells tape tape'
-    → IsTakenOut tells given tape tape' scope old new course role roles
+    → IsTakenOut tells given tape tape' old new role roles
     → IsMoving tells given tape' scope first (entries ++ entries_of who end ((Lost role Command ∷ losses_of roles spares) ++ Failed role ∷ [])) new carried course buffer left
 failed-moves tells given tape tape' scope first entries old new carried course buffer left who end role roles spares was goes caller at_end grows did =
     early-moves tells given tape tape' scope first entries old new carried course course buffer buffer left left who end (Lost role Command ∷ losses_of roles spares) (IsFailedOrAmong role roles) (Failed role)
     was goes caller at_end grows (record { adds = refl; gives = refl; ends = refl; still = λ x values. refl; level = λ n. refl })
     (reshaping-moved scope given old new did.moved was.members_are) did.few (early-failed role roles spares) missing list-same (ap (λ (s : Shape). s.level) did.moved.shape) did.clean
     (course-moved given old new course did.moved was.course_is)
-    (λ t. stored-moves scope given old new course.window buffer (disk given.start tape) (disk given.start tape') did.moved (did.backup t) (was.stored t))
+    (λ t. stored-kept scope given old new course.window buffer (disk given.start tape) (disk given.start tape') was.members_are did.moved (did.unused t) (was.stored t))
     (left-more left entries who end ((Lost role Command ∷ losses_of roles spares) ++ Failed role ∷ []) was.left_told
     (λ told is. left-behind left who end (losses_of roles spares) (Failed role ∷ []) (losses-are roles spares) (λ told is. is) None tt))
     (λ t. record {

@@ -29,6 +29,7 @@ use Rattle.shape_changes.specs.Steady.{IsSafeOver, KeepsSafe, AreGoneTold, IsUnc
 use Rattle.views.specs.Lacking.{AreTooMany}
 use Rattle.views.specs.Moving.{Grows, IsMoved}
 use Rattle.views.specs.Under.{StandsUnder, RowsStandUnder}
+use Rattle.safe_updates.specs.Unused.{IsUnusedKept}
 use Rattle.views.proofs.Fit.{list-alike}
 use Rattle.views.proofs.HeldRows.{without-before}
 use Rattle.views.proofs.LackingLaws.{never-both}
@@ -39,11 +40,11 @@ use Rattle.kept_history.specs.Recorded.{IsCallGoing}
 use Rattle.kept_history.specs.Safe.{world_in, IsFilledRight}
 use Rattle.kept_history.proofs.Entered.{values-more}
 use Rattle.course_kept.specs.declared.course.Course.{Course}
-use Rattle.course_kept.specs.Course.{IsBackupKept}
-use Rattle.course_kept.proofs.Courses.{courses-move, stored-moves}
+use Rattle.course_kept.proofs.Courses.{courses-move}
 use Rattle.course_kept.proofs.Under.{courses-stand-under}
 use Rattle.moving_kept.specs.Moving.{HasListInCourse, IsMoving}
 use Rattle.moving_kept.proofs.Adding.{adding-moves}
+use Rattle.moving_kept.proofs.BackupKept.{stored-kept}
 use Rattle.moving_kept.proofs.MembersMove.{reshaping-moved}
 use Rattle.moving_kept.proofs.Refusals.{refused-right}
 use Rattle.moving_kept.proofs.Settling.{IsSettling, settling-moves}
@@ -62,14 +63,14 @@ without-or m = elim (cases_lt (tolerance (shape_of m.newest)) (missing_count (re
 
 -- What a flush of the members leaves, in an array whose resync is pending or not: none but superblocks is written, and each mark is safe as long as the list
 -- stands whichever header a stop leaves.
-pub record AreFlushed (tells : Type 0) (given : Given) (tape tape' : List Operation) (scope : Scope) (first : ℕ) (entries : List Entry) (old new : Members) (course : Course) (buffer : List ℕ)
+pub record AreFlushed (tells : Type 0) (given : Given) (tape tape' : List Operation) (scope : Scope) (first : ℕ) (entries : List Entry) (old new : Members)
     (roles : ℕ) (unsynced : Bool) : Type 0 where
   pub moved : IsMoved given old new
   pub few : role_count new.newest ≤ 16
   pub since : AreMissingSince old new roles
   pub rise : tells → IsRisen ⊤ old new tape tape'
   pub others : tells → AreOthersPresent (present given tape) (present given tape')
-  pub backup : tells → IsBackupKept scope course.window (disk given.start tape) (disk given.start tape')
+  pub unused : tells → IsUnusedKept old (disk given.start tape) (disk given.start tape')
   pub pending : tells → is_unsynced (world_in given tape scope first) entries ≡ unsynced
   pub dirty : tells → DoWithout old → unsynced ≡ true → is_clean old.newest ≡ false
   pub safe : tells → (world : World) → (told : Ledger) → HasRoomLeft old tape tape' → AreGoneTold told new → IsUncleanTold told old → (list : ℕ → Sector)
@@ -96,7 +97,7 @@ module _ (tells : Type 0) (given : Given) (tape tape' : List Operation) (scope :
     (course : Course) (buffer : List ℕ) (left : ℕ) (who : Who) (end roles spares : ℕ) (unsynced : Bool)
     (was : IsMoving tells given tape scope first entries old carried course buffer left) (goes : IsCallGoing entries who) (caller : IsFalse (who.caller == 254))
     (at_end : tells → end ≡ length tape') (grows : Grows tells tape tape')
-    (did : AreFlushed tells given tape tape' scope first entries old new course buffer roles unsynced) where
+    (did : AreFlushed tells given tape tape' scope first entries old new roles unsynced) where
   flushable : tells → IsFilledRight (world_in given tape scope first) entries → IsFlushable given tape scope first entries old
   flushable t fills = elim (without-or old) [
     | inl does ↦
@@ -147,7 +148,7 @@ module _ (tells : Type 0) (given : Given) (tape tape' : List Operation) (scope :
       settling-moves tells given tape tape' scope first entries old new carried unsynced course course buffer buffer left left who end roles spares event was goes caller at_end grows settling
       (reshaping-moved scope given old new did.moved was.members_are) did.few (missing-moved roles did.moved did.since) list-same level-same done.clean did.pending
       (course-moved given old new course did.moved was.course_is)
-      (λ t. stored-moves scope given old new course.window buffer (disk given.start tape) (disk given.start tape') did.moved (did.backup t) (was.stored t))
+      (λ t. stored-kept scope given old new course.window buffer (disk given.start tape) (disk given.start tape') was.members_are did.moved (did.unused t) (was.stored t))
       (left-more left entries who end (losses_of roles spares ++ event ∷ []) was.left_told (left-behind left who end (losses_of roles spares) (event ∷ []) (losses-are roles spares) (settling.tells left who end)))
       (λ t. record {
         rise = did.rise t;
@@ -171,7 +172,7 @@ module _ (tells : Type 0) (given : Given) (tape tape' : List Operation) (scope :
       (record { adds = refl; gives = refl; ends = refl; level = λ n. refl })
       (reshaping-moved scope given old new did.moved was.members_are) did.few (missing-moved roles did.moved did.since) list-same level-same (λ dirty. inr (unsettled refusal many))
       (course-moved given old new course did.moved was.course_is)
-      (λ t. stored-moves scope given old new course.window buffer (disk given.start tape) (disk given.start tape') did.moved (did.backup t) (was.stored t))
+      (λ t. stored-kept scope given old new course.window buffer (disk given.start tape) (disk given.start tape') was.members_are did.moved (did.unused t) (was.stored t))
       (left-more left entries who end (losses_of roles spares ++ Refused refusal ∷ []) was.left_told (left-behind left who end (losses_of roles spares) (Refused refusal ∷ []) (losses-are roles spares) (λ told is. is)))
       (λ t. record {
         rise = did.rise t;

@@ -1,4 +1,5 @@
 pub mod MembersMove
+pub mod BackupKept
 pub mod Quiet
 pub mod Refusals
 pub mod Steps

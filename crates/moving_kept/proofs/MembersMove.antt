@@ -1,5 +1,5 @@
 -- Members of an array in a reshape stay so, where slots are lost or the position moves.
-use Rattle.std.proofs.Common.{◌≡◌, ◌||◌, not, cond, Some, None, sym, ◌∙◌, ap}
+use Rattle.std.proofs.Common.{◌≡◌, ◌||◌, false, not, cond, Some, None, sym, ◌∙◌, ap}
 use Rattle.std.specs.Prelude.{min}
 use Rattle.md_base.specs.declared.places.Span.{Span}
 use Rattle.bank.specs.Given.{Given}
@@ -8,12 +8,14 @@ use Rattle.superblocks.specs.Reading.{Scope, shape_of, next_window, holder}
 use Rattle.md_base.specs.declared.answers.Refusal.TheVariants.{BackupAbsent}
 use Rattle.geometry.specs.Geometry.{unit}
 use Rattle.flat_history.specs.Stands.{backup_absent, has_room}
-use Rattle.shape_views.specs.Regions.{ArePlaced}
+use Rattle.shape_views.specs.Regions.{backup_of, ArePlaced}
 use Rattle.shape_views.specs.Windows.{moved_past}
 use Rattle.shape_views.proofs.Stands.{moved-is-placed}
+use Rattle.shape_changes.proofs.Without.{live-is}
 use Rattle.views.specs.Placed.{HaveSameReshape}
 use Rattle.views.specs.Moving.{IsMoved}
 use Rattle.views.proofs.Fit.{list-alike}
+use Rattle.safe_updates.proofs.Unused.{unused-moved}
 use Rattle.window_steps.proofs.PastLaws.{free-moved}
 use Rattle.moving_kept.specs.Moving.{AreReshaping}
 
@@ -39,6 +41,7 @@ module _ (scope : Scope) (given : Given) (old new : Members) (moved : IsMoved gi
   reshaping-moved was = record {
     placed = moved.placed;
     backed = backed-moved was.backed;
+    aside = unused-moved given old new moved (backup_of scope) was.aside;
     active = moved.reshape.reshaping ∙ was.active;
     whole = λ role slot is. was.whole role slot (sym (moved.states role slot (ap holder is)) ∙ is);
     unlost = moved.unlost;
@@ -50,6 +53,7 @@ pub reshaping-past : (scope : Scope) (given : Given) (old new : Members) (span :
 reshaping-past scope given old new span next moved was = record {
   placed = moved.placed;
   backed = backed-moved scope given (moved_past span old) new moved (moved-is-placed scope given old span was.backed next);
+  aside = unused-moved given (moved_past span old) new moved (backup_of scope) (live-is (moved_past span old) false (backup_of scope) ∙ sym (live-is old false (backup_of scope)) ∙ was.aside);
   active = moved.reshape.reshaping ∙ was.active;
   whole = λ role slot is. was.whole role slot (sym (moved.states role slot (ap holder is)) ∙ is);
   unlost = moved.unlost;

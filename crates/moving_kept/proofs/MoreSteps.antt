@@ -33,7 +33,7 @@ use Rattle.views.proofs.HeldRows.{without-before}
 use Rattle.call_entries.specs.Losing.{losses_of}
 use Rattle.call_entries.proofs.CallLaws.{losses-are}
 use Rattle.window_rows.specs.Copies.{tail_of, IsZeroIn}
-use Rattle.window_steps.specs.Copying.{AreHeadersKept}
+use Rattle.safe_updates.specs.Unused.{IsUnusedKept}
 use Rattle.window_steps.specs.Recording.{IsCopiedWindow}
 use Rattle.window_steps.specs.Zeroing.{IsThrough}
 use Rattle.window_steps.proofs.ZeroLaws.{through-moved}
@@ -44,8 +44,9 @@ use Rattle.kept_history.proofs.Lists.{newest-in}
 use Rattle.grow_asked.specs.declared.window.Window.TheVariants.{Closed}
 use Rattle.course_kept.specs.Course.{IsCourseOf, past_stripe}
 use Rattle.course_kept.specs.Laws.{closed, entered, IsWindowCopied}
-use Rattle.course_kept.proofs.Courses.{zeroes-go-on, stored-moves, windows-copied, records-close}
+use Rattle.course_kept.proofs.Courses.{zeroes-go-on, windows-copied, records-close}
 use Rattle.moving_kept.specs.Moving.{HasListInCourse, IsMoving}
+use Rattle.moving_kept.proofs.BackupKept.{stored-kept}
 use Rattle.moving_kept.proofs.MembersMove.{reshaping-moved, reshaping-past}
 use Rattle.moving_kept.proofs.Quiet.{quiet-moves}
 use Rattle.moving_kept.proofs.Steps.{AreMissingSince, quiet-step, missing-moved, step-is, told-behind, told-step}
@@ -57,18 +58,18 @@ pub zeroed-moves : (tells : Type 0) (given : Given) (tape tape' : List Operation
     → IsMoving tells given tape scope first entries old carried (closed zeroed) buffer (left + 1) → IsCallGoing entries who → IsFalse (who.caller == 254) → (tells → end ≡ length tape') → Grows tells tape tape'
     → IsThrough old.newest → zeroed < zeroed_stripes (shape_of old.newest) (final_shape old.newest) old.newest.size (is_backward old.newest) → left ≢ 0
     → IsMoved given old new → role_count new.newest ≤ 16 → AreMissingSince old new roles → is_clean new.newest ≡ is_clean old.newest
-    → (tells → IsRisen ⊤ old new tape tape') → (tells → AreHeadersKept (disk given.start tape) (disk given.start tape'))
+    → (tells → IsRisen ⊤ old new tape tape') → (tells → IsUnusedKept old (disk given.start tape) (disk given.start tape'))
     → (tells → AreOtherRowsKept (IsOfStripe (final_shape old.newest) (past_stripe old.newest + zeroed)) (reading_of new) (present given tape) (present given tape'))
     → (tells → (list : ℕ → Sector) → IsZeroIn (tail_of old.newest) list → (row : ℕ) → IsOfStripe (final_shape old.newest) (past_stripe old.newest + zeroed) row
     → RowStands (reading_of new) (present given tape') (final_shape old.newest) list row)
     → (tells → (world : World) → (told : Ledger) → HasRoomLeft old tape tape' → AreGoneTold told new → IsUncleanTold told old
     → IsSafeOver world given told old tape → KeepsSafe world given told new tape tape')
     → IsMoving tells given tape' scope first (entries ++ entries_of who end (losses_of roles spares ++ Step ZeroesStripe left ∷ [])) new carried (closed (zeroed + 1)) buffer left
-zeroed-moves tells given tape tape' scope first entries old new carried zeroed buffer left who end roles spares was goes caller at_end grows through more some moved few since clean rise headers others stands safe =
+zeroed-moves tells given tape tape' scope first entries old new carried zeroed buffer left who end roles spares was goes caller at_end grows through more some moved few since clean rise unused others stands safe =
     quiet-moves tells given tape tape' scope first entries old new carried (closed zeroed) (closed (zeroed + 1)) buffer buffer (left + 1) left who end roles spares (Step ZeroesStripe left)
     was goes caller at_end grows (quiet-step ZeroesStripe left tt some) (reshaping-moved scope given old new moved was.members_are) few (missing-moved roles moved since)
     (list-alike old.newest new.newest moved.reshape moved.shape moved.size) (ap (λ (s : Shape). s.level) moved.shape) clean course_is
-    (λ t. stored-moves scope given old new Closed buffer (disk given.start tape) (disk given.start tape') moved (record { headers = headers t; section = tt }) (was.stored t))
+    (λ t. stored-kept scope given old new Closed buffer (disk given.start tape) (disk given.start tape') was.members_are moved (unused t) (was.stored t))
     (told-step entries who end (losses_of roles spares) ZeroesStripe left (losses-are roles spares))
     (λ t. record {
       rise = rise t;

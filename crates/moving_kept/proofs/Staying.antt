@@ -27,6 +27,7 @@ use Rattle.shape_changes.specs.Steady.{IsMoreTold, IsSafeOver, KeepsSafe, AreGon
 use Rattle.views.specs.Placed.{HaveSameReshape}
 use Rattle.views.specs.Moving.{Grows, IsMoved}
 use Rattle.views.specs.Lacking.{AreTooMany}
+use Rattle.safe_updates.specs.Unused.{IsUnusedKept}
 use Rattle.views.proofs.Fit.{list-alike}
 use Rattle.views.proofs.HeldRows.{without-before}
 use Rattle.call_entries.specs.Losing.{losses_of}
@@ -44,6 +45,7 @@ use Rattle.course_kept.specs.Course.{IsBackupKept, IsWindowOf, IsCourseOf, Stand
 use Rattle.course_kept.proofs.Courses.{stored-moves}
 use Rattle.history_calls.specs.Reliable.{IsReliable, AreToldGone}
 use Rattle.moving_kept.specs.Moving.{IsMoving}
+use Rattle.moving_kept.proofs.BackupKept.{stored-kept}
 use Rattle.moving_kept.proofs.MembersMove.{reshaping-moved}
 use Rattle.history_calls.proofs.Quiet.{IsQuiet}
 use Rattle.moving_kept.proofs.Quiet.{quiet-moves}
@@ -74,7 +76,7 @@ pub stays-moves : (tells : Type 0) (given : Given) (tape tape' : List Operation)
     (course : Course) (buffer : List ℕ) (left : ℕ) (who : Who) (end roles spares : ℕ) (event : Event)
     → IsMoving tells given tape scope first entries old carried course buffer left → IsCallGoing entries who → IsFalse (who.caller == 254) → (tells → end ≡ length tape') → Grows tells tape tape'
     → IsQuiet event → TellLeft left who end (event ∷ []) → IsMoved given old new → role_count new.newest ≤ 16 → AreMissingSince old new roles → is_clean new.newest ≡ is_clean old.newest
-    → (tells → IsRisen ⊤ old new tape tape') → (tells → IsBackupKept scope course.window (disk given.start tape) (disk given.start tape'))
+    → (tells → IsRisen ⊤ old new tape tape') → (tells → IsUnusedKept old (disk given.start tape) (disk given.start tape'))
     → (tells → (sound : Type 0) (list : ℕ → Sector) → StandsInCourse sound old course buffer (present given tape) list → StandsInCourse sound new course buffer (present given tape') list)
     → (tells → (told : Ledger) → IsFilledRight (world_in given tape scope first) entries → IsMoreTold (told_now (world_in given tape scope first) carried true entries) told
     → HasRoomLeft old tape tape' → AreGoneTold told new → IsUncleanTold told old → IsSafeOver (world_in given tape scope first) given told old tape → KeepsSafe (world_in given tape scope first) given told new tape tape')
@@ -83,11 +85,11 @@ pub stays-moves : (tells : Type 0) (given : Given) (tape tape' : List Operation)
     → level_at (world_in given tape' scope first) (entries ++ entries_of who end (losses_of roles spares)) ≡ level_at (world_in given tape scope first) entries
     → IsLegalEvent (world_in given tape' scope first) (entries ++ entries_of who end (losses_of roles spares)) (entry_of who end event) [] event)
     → IsMoving tells given tape' scope first (entries ++ entries_of who end (losses_of roles spares ++ event ∷ [])) new carried course buffer left
-stays-moves tells given tape tape' scope first entries old new carried course buffer left who end roles spares event was goes caller at_end grows quiet tell moved few since clean rise headers stands keeps legal =
+stays-moves tells given tape tape' scope first entries old new carried course buffer left who end roles spares event was goes caller at_end grows quiet tell moved few since clean rise unused stands keeps legal =
     quiet-moves tells given tape tape' scope first entries old new carried course course buffer buffer left left who end roles spares event
     was goes caller at_end grows quiet (reshaping-moved scope given old new moved was.members_are) few (missing-moved roles moved since)
     (list-alike old.newest new.newest moved.reshape moved.shape moved.size) (ap (λ (s : Shape). s.level) moved.shape) clean (course-moved given old new course moved was.course_is)
-    (λ t. stored-moves scope given old new course.window buffer (disk given.start tape) (disk given.start tape') moved (headers t) (was.stored t))
+    (λ t. stored-kept scope given old new course.window buffer (disk given.start tape) (disk given.start tape') was.members_are moved (unused t) (was.stored t))
     (left-more left entries who end (losses_of roles spares ++ event ∷ []) was.left_told (left-behind left who end (losses_of roles spares) (event ∷ []) (losses-are roles spares) tell))
     (λ t. record {
       rise = rise t;
@@ -108,13 +110,13 @@ pub refused-moves : (tells : Type 0) (given : Given) (tape tape' : List Operatio
     (course : Course) (buffer : List ℕ) (left : ℕ) (who : Who) (end roles spares : ℕ) (refusal : Refusal)
     → IsMoving tells given tape scope first entries old carried course buffer left → IsCallGoing entries who → IsFalse (who.caller == 254) → (tells → end ≡ length tape') → Grows tells tape tape'
     → IsMoved given old new → role_count new.newest ≤ 16 → AreMissingSince old new roles → is_clean new.newest ≡ is_clean old.newest → (refusal ≡ BackupFault) ⊎ AreTooMany new refusal
-    → (tells → IsRisen ⊤ old new tape tape') → (tells → IsBackupKept scope course.window (disk given.start tape) (disk given.start tape'))
+    → (tells → IsRisen ⊤ old new tape tape') → (tells → IsUnusedKept old (disk given.start tape) (disk given.start tape'))
     → (tells → (sound : Type 0) (list : ℕ → Sector) → StandsInCourse sound old course buffer (present given tape) list → StandsInCourse sound new course buffer (present given tape') list)
     → (tells → (told : Ledger) → IsFilledRight (world_in given tape scope first) entries → IsMoreTold (told_now (world_in given tape scope first) carried true entries) told
     → HasRoomLeft old tape tape' → AreGoneTold told new → IsUncleanTold told old → IsSafeOver (world_in given tape scope first) given told old tape → KeepsSafe (world_in given tape scope first) given told new tape tape')
     → IsMoving tells given tape' scope first (entries ++ entries_of who end (losses_of roles spares ++ Refused refusal ∷ [])) new carried course buffer left
-refused-moves tells given tape tape' scope first entries old new carried course buffer left who end roles spares refusal was goes caller at_end grows moved few since clean why rise headers stands keeps =
-    stays-moves tells given tape tape' scope first entries old new carried course buffer left who end roles spares (Refused refusal) was goes caller at_end grows (quiet-refusal refusal) (λ told is. is) moved few since clean rise headers stands keeps
+refused-moves tells given tape tape' scope first entries old new carried course buffer left who end roles spares refusal was goes caller at_end grows moved few since clean why rise unused stands keeps =
+    stays-moves tells given tape tape' scope first entries old new carried course buffer left who end roles spares (Refused refusal) was goes caller at_end grows (quiet-refusal refusal) (λ told is. is) moved few since clean rise unused stands keeps
     (λ t fills gone level. right t fills gone level why)
   where
     right : tells → IsReliable (world_in given tape scope first) entries → AreToldGone (world_in given tape' scope first) (entries ++ entries_of who end (losses_of roles spares)) new

@@ -34,6 +34,7 @@ use Rattle.shape_changes.specs.Safety.{HasRoomLeft, IsRisen}
 use Rattle.shape_changes.specs.Steady.{IsSafeOver, KeepsSafe, AreGoneTold, IsUncleanTold}
 use Rattle.views.specs.Moving.{Grows, IsMoved}
 use Rattle.views.specs.Lacking.{IsOfStripe, AreOtherRowsKept}
+use Rattle.safe_updates.specs.Unused.{IsUnusedKept}
 use Rattle.views.proofs.Fit.{list-alike, count-alike}
 use Rattle.views.proofs.HeldRows.{without-before}
 use Rattle.call_entries.specs.Losing.{losses_of}
@@ -44,10 +45,11 @@ use Rattle.kept_history.specs.Recorded.{IsCallGoing, entry_of}
 use Rattle.kept_history.specs.Safe.{world_in}
 use Rattle.window_steps.proofs.CopyLaws.{window-alike, critical-alike}
 use Rattle.grow_asked.specs.declared.window.Window.TheVariants.{Entered}
-use Rattle.course_kept.specs.Course.{IsBackupKept, IsWindowOf, IsCourseOf, IsStoredAs, IsStored}
+use Rattle.course_kept.specs.Course.{IsWindowOf, IsCourseOf, IsStoredAs, IsStored}
 use Rattle.course_kept.specs.Laws.{entered, next_stripe}
-use Rattle.course_kept.proofs.Courses.{copies-go-on, courses-copied, stored-moves}
+use Rattle.course_kept.proofs.Courses.{copies-go-on, courses-copied}
 use Rattle.moving_kept.specs.Moving.{HasListInCourse, IsMoving}
+use Rattle.moving_kept.proofs.BackupKept.{stored-kept}
 use Rattle.moving_kept.proofs.MembersMove.{reshaping-moved}
 use Rattle.history_calls.proofs.Quiet.{IsQuiet}
 use Rattle.moving_kept.proofs.Quiet.{quiet-moves}
@@ -142,17 +144,17 @@ pub copied-moves : (tells : Type 0) (given : Given) (tape tape' : List Operation
     (span : Span) (copied : ℕ) (sectioned : Bool) (buffer : List ℕ) (left : ℕ) (who : Who) (end roles spares : ℕ)
     → IsMoving tells given tape scope first entries old carried (entered span copied sectioned) buffer (left + 1) → IsCallGoing entries who → IsFalse (who.caller == 254) → (tells → end ≡ length tape') → Grows tells tape tape'
     → copied < stripes (final_shape old.newest) span.lo span.hi → left ≢ 0 → IsMoved given old new → role_count new.newest ≤ 16 → AreMissingSince old new roles → is_clean new.newest ≡ is_clean old.newest
-    → (tells → IsRisen ⊤ old new tape tape') → (tells → IsBackupKept scope (Entered span copied sectioned) (disk given.start tape) (disk given.start tape'))
+    → (tells → IsRisen ⊤ old new tape tape') → (tells → IsUnusedKept old (disk given.start tape) (disk given.start tape'))
     → (tells → AreOtherRowsKept (IsOfStripe (final_shape old.newest) (next_stripe old span copied)) (reading_of new) (present given tape) (present given tape'))
     → (tells → (list : ℕ → Sector) → IsCopied span buffer (tail_of old.newest) list → (row : ℕ) → IsOfStripe (final_shape old.newest) (next_stripe old span copied) row
     → RowStands (reading_of new) (present given tape') (final_shape old.newest) list row)
     → (tells → (world : World) → (told : Ledger) → HasRoomLeft old tape tape' → AreGoneTold told new → IsUncleanTold told old → IsCopyable world.scope old span (disk given.start tape)
     → IsSafeOver world given told old tape → KeepsSafe world given told new tape tape')
     → IsMoving tells given tape' scope first (entries ++ entries_of who end (losses_of roles spares ++ Step CopiesStripe left ∷ [])) new carried (entered span (copied + 1) sectioned) buffer left
-copied-moves tells given tape tape' scope first entries old new carried span copied sectioned buffer left who end roles spares was goes caller at_end grows more some moved few since clean rise headers others stands safe =
+copied-moves tells given tape tape' scope first entries old new carried span copied sectioned buffer left who end roles spares was goes caller at_end grows more some moved few since clean rise unused others stands safe =
     quiet-moves tells given tape tape' scope first entries old new carried (entered span copied sectioned) (entered span (copied + 1) sectioned) buffer buffer (left + 1) left who end roles spares (Step CopiesStripe left)
     was goes caller at_end grows (quiet-step CopiesStripe left tt some) (reshaping-moved scope given old new moved was.members_are) few (missing-moved roles moved since)
-    (list-alike old.newest new.newest moved.reshape moved.shape moved.size) (ap (λ (s : Shape). s.level) moved.shape) clean course_is (λ t. stored (was.stored t) (headers t)) (told-step entries who end (losses_of roles spares) CopiesStripe left (losses-are roles spares))
+    (list-alike old.newest new.newest moved.reshape moved.shape moved.size) (ap (λ (s : Shape). s.level) moved.shape) clean course_is (λ t. stored (was.stored t) (unused t)) (told-step entries who end (losses_of roles spares) CopiesStripe left (losses-are roles spares))
     (λ t. record {
       rise = rise t;
       keeps = λ told fills more_told room gone unclean now. safe t (world_in given tape scope first) told room gone unclean
@@ -173,8 +175,8 @@ copied-moves tells given tape tape' scope first entries old new carried span cop
       few = omega arith;
     }
 
-    stored : IsStored scope old (Entered span copied sectioned) buffer (disk given.start tape) → IsBackupKept scope (Entered span copied sectioned) (disk given.start tape) (disk given.start tape') → IsStored scope new (Entered span (copied + 1) sectioned) buffer (disk given.start tape')
-    stored before kept = more_copied sectioned (stored-moves scope given old new (Entered span copied sectioned) buffer (disk given.start tape) (disk given.start tape') moved kept before)
+    stored : IsStored scope old (Entered span copied sectioned) buffer (disk given.start tape) → IsUnusedKept old (disk given.start tape) (disk given.start tape') → IsStored scope new (Entered span (copied + 1) sectioned) buffer (disk given.start tape')
+    stored before kept = more_copied sectioned (stored-kept scope given old new (Entered span copied sectioned) buffer (disk given.start tape) (disk given.start tape') was.members_are moved kept before)
       where
         more_copied : (which : Bool) → IsStored scope new (Entered span copied which) buffer (disk given.start tape') → IsStored scope new (Entered span (copied + 1) which) buffer (disk given.start tape')
         more_copied true is = record { section = is.section; sectors = is.sectors; headers = is.headers }

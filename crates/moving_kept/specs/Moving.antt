@@ -15,14 +15,15 @@ use Rattle.flat_history.specs.Legal.{told_left, level_at}
 use Rattle.flat_history.specs.Losses.{is_unsynced}
 use Rattle.flat_history.specs.OneShape.{is_unsettled}
 use Rattle.flat_history.specs.Sound.{OpensFit}
-use Rattle.flat_history.specs.World.{opening_list}
-use Rattle.shape_views.specs.Regions.{ArePlaced, DoWithout}
+use Rattle.flat_history.specs.World.{opening_list, World}
+use Rattle.shape_views.specs.Regions.{ArePlaced, DoWithout, backup_of}
 use Rattle.shape_views.specs.Windows.{ListStands, RowsStand}
 use Rattle.shape_changes.specs.Steady.{AreUnlost, IsSafeOver}
 use Rattle.shape_ends.specs.Grown.{IsZeroPast}
 use Rattle.shape_ends.specs.Plans.{HasNoneRecovering}
 use Rattle.views.specs.Placed.{IsPlaced}
 use Rattle.views.specs.Rebuilding.{AreSparesFree}
+use Rattle.safe_updates.specs.Unused.{IsUnused}
 use Rattle.kept_history.specs.Recorded.{IsHistoryKept}
 use Rattle.kept_history.specs.Safe.{world_in, IsFilledRight, IsSafeHistory}
 use Rattle.kept_history.specs.Told.{told_now}
@@ -30,10 +31,11 @@ use Rattle.history_calls.specs.Reliable.{IsReliable, AreToldGone}
 use Rattle.course_kept.specs.declared.course.Course.{Course}
 use Rattle.course_kept.specs.Course.{IsCourseOf, IsStored, StandsInCourse}
 
--- The members of an array in a reshape: each has its place, the backup is none of them and has room for the sections, and no slot recovers a role.
+-- The members of an array in a reshape: each has its place, the backup has room for the sections, holds no role and is no spare, and no slot recovers a role.
 pub record AreReshaping (scope : Scope) (given : Given) (members : Members) : Type 0 where
   pub placed : IsPlaced given members
   pub backed : ArePlaced scope given members
+  pub aside : IsUnused members (backup_of scope)
   pub active : is_reshaping members.newest ≡ true
   pub whole : HasNoneRecovering members
   pub unlost : AreUnlost members

@@ -1,3 +1,4 @@
 pub mod StretchLaws
 pub mod UnreadLaws
 pub mod StretchReads
+pub mod UnusedReads

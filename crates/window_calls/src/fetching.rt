@@ -2,6 +2,7 @@
 
 ghost use Rattle.std.specs.Prelude.{◌≡◌, ◌⊎◌, ◌+◌, ◌-◌, ◌*◌, ◌/◌, ◌<◌, ◌≤◌, ℕ, false, length, None, Some, MatchOption, IfSome, ⊤};
 ghost use Rattle.bank.specs.Given.{NeverFalls};
+ghost use Rattle.bank.specs.Tape.{disk};
 ghost use Rattle.md_base.specs.Sectors.{Sector, IsWhole};
 ghost use Rattle.parity.specs.Rows.{sector_of};
 ghost use Rattle.superblocks.specs.Reading.{is_clean, list_length};
@@ -13,6 +14,7 @@ ghost use Rattle.shape_views.specs.Windows.{ListStands};
 ghost use Rattle.shape_changes.specs.Steady.{AreUnlost, IsSafeOver, KeepsSafe, AreGoneTold, IsUncleanTold};
 ghost use Rattle.shape_changes.specs.Marking.{AreOthersPresent};
 ghost use Rattle.shape_changes.specs.Safety.{HasRoomLeft, IsRisen};
+ghost use Rattle.safe_updates.specs.Unused.{IsUnusedKept};
 ghost use Rattle.views.specs.Placed.{AreWhole, IsPlaced};
 ghost use Rattle.views.specs.Rebuilding.{AreSparesFree};
 ghost use Rattle.views.specs.Moving.{Grows, IsMoved};
@@ -134,6 +136,7 @@ fn fetch_around<B: Bank>(
     ensures refused { MatchOption result.refusal ⊤ (IsUnreadBeside (Some span.now) relied first (first + length into.old / 512) members.new) }
     ensures grows { Grows B.tells (B.tape bank.old) (B.tape bank.new) }
     ensures others { B.tells → AreOthersPresent (present (B.given bank.old) (B.tape bank.old)) (present (B.given bank.old) (B.tape bank.new)) }
+    ensures unused { B.tells → IsUnusedKept members.old (disk (B.given bank.old).start (B.tape bank.old)) (disk (B.given bank.old).start (B.tape bank.new)) }
     ensures holds { result.refusal ≡ None → B.tells → (list : ℕ → Sector) → ListStands (Some span.now) members.old (present (B.given bank.old) (B.tape bank.old)) list
         → HasWindow span.now buffer.now list
         → AreWhole members.new ⊎ RowsStandTo (Some span.now) relied members.old (present (B.given bank.old) (B.tape bank.old)) list
@@ -185,6 +188,7 @@ pub fn fetch_beside<B: Bank>(
     ensures refused { MatchOption result.refusal ⊤ (IsUnreadBeside hidden relied first (first + length into.old / 512) members.new) }
     ensures grows { Grows B.tells (B.tape bank.old) (B.tape bank.new) }
     ensures others { B.tells → AreOthersPresent (present (B.given bank.old) (B.tape bank.old)) (present (B.given bank.old) (B.tape bank.new)) }
+    ensures unused { B.tells → IsUnusedKept members.old (disk (B.given bank.old).start (B.tape bank.old)) (disk (B.given bank.old).start (B.tape bank.new)) }
     ensures holds { result.refusal ≡ None → B.tells → (list : ℕ → Sector) → ListStands hidden members.old (present (B.given bank.old) (B.tape bank.old)) list
         → IfSome hidden (λ span. HasWindow span buffer.now list)
         → AreWhole members.new ⊎ RowsStandTo hidden relied members.old (present (B.given bank.old) (B.tape bank.old)) list

@@ -15,6 +15,7 @@ ghost use Rattle.shape_views.specs.Windows.{IsCopyable, HasNoSection, ListStands
 ghost use Rattle.shape_changes.specs.Safety.{HasLiveSlot, HasRoomLeft, IsRisen};
 ghost use Rattle.shape_changes.specs.Steady.{AreUnlost, IsSafeOver, KeepsSafe, AreGoneTold, IsUncleanTold};
 ghost use Rattle.safe_updates.specs.Named.{AreNamedMissing};
+ghost use Rattle.safe_updates.specs.Unused.{IsUnusedKept};
 ghost use Rattle.views.specs.Placed.{IsPlaced};
 ghost use Rattle.views.specs.Moving.{Grows, IsMoved};
 ghost use Rattle.views.specs.Rebuilding.{AreSparesFree};
@@ -80,6 +81,7 @@ fn copy_rest<B: Bank>(
     ensures copyable { B.tells → (world : World) → IsCopyable world.scope members.old span.now (disk (B.given bank.old).start (B.tape bank.old))
         → IsCopyable world.scope members.new span.now (disk (B.given bank.old).start (B.tape bank.new)) }
     ensures headers { B.tells → AreHeadersKept (disk (B.given bank.old).start (B.tape bank.old)) (disk (B.given bank.old).start (B.tape bank.new)) }
+    ensures unused { B.tells → IsUnusedKept members.old (disk (B.given bank.old).start (B.tape bank.old)) (disk (B.given bank.old).start (B.tape bank.new)) }
     ensures given { B.given bank.new ≡ B.given bank.old }
     ensures counts { NeverFalls (B.faults_of bank.old) (B.faults_of bank.new) }
 {
@@ -144,6 +146,7 @@ pub fn finish_window<B: Bank>(
         (present (B.given bank.old) (B.tape bank.old)) (present (B.given bank.old) (B.tape bank.new)) }
     ensures flushed { result.refusal ≡ None → B.tells → AreHoldersFlushed (reading_of members.new) (B.given bank.old) (B.tape bank.new) }
     ensures named { HasLiveSlot members.new → AreNamedMissing members.new }
+    ensures unused { B.tells → IsUnusedKept members.old (disk (B.given bank.old).start (B.tape bank.old)) (disk (B.given bank.old).start (B.tape bank.new)) }
     ensures plain { result.refusal ≡ None → B.tells → (scope : Scope) → ArePlaced scope (B.given bank.old) members.old
         → AreHeadersFit scope members.old (disk (B.given bank.old).start (B.tape bank.old)) → let e = disk (B.given bank.old).start (B.tape bank.new) in
         HasNoSection scope members.new e × AreHeadersFit scope members.new e }

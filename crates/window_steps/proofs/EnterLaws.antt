@@ -11,8 +11,7 @@ use Rattle.bank.specs.Given.{Given, NeverFalls}
 use Rattle.bank.specs.Tape.{Contents, IsIn, EachMark, disk}
 use Rattle.bank.proofs.Causes.{faulted_longer}
 use Rattle.bank.proofs.Marks.{each_mark-along}
-use Rattle.geometry.specs.Geometry.{window, is_critical}
-use Rattle.geometry.specs.Geometry as geometry
+use Rattle.geometry.specs.Geometry.{is_critical}
 use Rattle.parity.specs.Rows.{sector_of}
 use Rattle.sb1.specs.declared.sb.Sb.{Sb}
 use Rattle.superblocks.specs.declared.members.Members.{Members}

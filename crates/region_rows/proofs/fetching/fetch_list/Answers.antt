@@ -13,6 +13,7 @@ use Rattle.views.proofs.MovedLaws.{moved-then, moved-from, grows-none}
 use Rattle.views.proofs.LackingLaws.{since-then, in-second}
 use Rattle.views.proofs.SafeStretch.{safe-then, safe-lost, over-at, keeps-from}
 use Rattle.views.proofs.LackingLists.{none-of}
+use Rattle.region_rows.proofs.UnusedReads.{read-unused, named-unused}
 use Rattle.region_rows.proofs.fetching.fetch_list.Goals as goal
 
 -- the reads make no operation
@@ -49,6 +50,10 @@ returns-then-is_some-clause-safe g c =
     let tape1 = g.B.Bank.tape c.read_regions-refusal.new.bank in
     let did = c.read_regions-refusal.ensures in
     λ tell world told room gone unclean now. safe-lost (OpensFit world) world.scope given told m n did.lost.0 tape0 tape1 did.lost.1 (did.tape tell) now
+
+pub returns-then-is_some-clause-unused : goal.returns-then-is_some-clause-unused
+returns-then-is_some-clause-unused g c = λ told.
+    read-unused c.args.members.now (g.B.Bank.given c.args.bank.now).start (g.B.Bank.tape c.args.bank.now) (g.B.Bank.tape c.read_regions-refusal.new.bank) (c.read_regions-refusal.ensures.tape told)
 
 pub name_missing-spares-requires-clause-free : goal.name_missing-spares-requires-clause-free
 name_missing-spares-requires-clause-free g c =
@@ -102,6 +107,12 @@ returns-clause-others g c =
     let tape2 = g.B.Bank.tape c.name_missing-spares.new.bank in
     λ told. subst (λ (l : List Operation). AreOthersPresent (present given l) (present given tape2)) (did.tape told)
     (subst (λ (b : Given). AreOthersPresent (present b tape1) (present b tape2)) did.given (named.others told))
+
+pub returns-clause-unused : goal.returns-clause-unused
+returns-clause-unused g c = λ told.
+    let did = c.read_regions-refusal.ensures in
+    named-unused (g.B.Bank.given c.args.bank.now) (g.B.Bank.given c.read_regions-refusal.new.bank) c.args.members.now c.read_regions-refusal.new.members
+    (g.B.Bank.tape c.args.bank.now) (g.B.Bank.tape c.read_regions-refusal.new.bank) (g.B.Bank.tape c.name_missing-spares.new.bank) (did.tape told) did.given did.moved (c.name_missing-spares.ensures.rest told)
 
 pub returns-clause-holds : goal.returns-clause-holds
 returns-clause-holds g c =

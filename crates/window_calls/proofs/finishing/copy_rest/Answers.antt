@@ -19,6 +19,8 @@ use Rattle.views.proofs.LackingLaws.{since-same, since-then, in-either}
 use Rattle.views.proofs.LackingLists.{none-of}
 use Rattle.views.proofs.SafeStretch.{safe-none}
 use Rattle.views.proofs.MendedParts.{safe-part}
+use Rattle.safe_updates.specs.Unused.{IsUnusedKept}
+use Rattle.safe_updates.proofs.Unused.{unused-then}
 use Rattle.window_steps.specs.Copying.{AreHeadersKept}
 use Rattle.window_steps.proofs.CopyLaws.{window-alike, tail-alike}
 use Rattle.window_calls.specs.Finishing.{AreStripesCopied}
@@ -54,6 +56,7 @@ loop-at-init g c =
       safe = λ told world ledger room gone unclean able safe. safe-none (OpensFit world) world.scope given ledger m tape0 safe;
       copyable = λ told world able. able;
       headers = λ told s v may. may;
+      unused = λ told s k v idle may. may;
       given = refl;
       counts = λ s. omega arith;
     }
@@ -322,6 +325,16 @@ returns-then-is_some-clause-headers g c =
     λ told s v may. was.headers told s v
     (subst (λ (b : Given). AreHeadersKept (disk b.start tape1) (disk b.start tape2)) was.given (did.headers told) s v may)
 
+pub returns-then-is_some-clause-unused : goal.returns-then-is_some-clause-unused
+returns-then-is_some-clause-unused g c = λ told.
+    let was = c.loop-at.invariant in
+    let given = g.B.Bank.given c.args.bank.now in
+    let n = c.loop-at.members in
+    let tape1 = g.B.Bank.tape c.loop-at.bank in
+    let tape2 = g.B.Bank.tape c.copy-part.new.bank in
+    unused-then given c.args.members.now n (disk given.start (g.B.Bank.tape c.args.bank.now)) (disk given.start tape1) (disk given.start tape2) was.moved (was.unused told)
+    (subst (λ (b : Given). IsUnusedKept n (disk b.start tape1) (disk b.start tape2)) was.given (c.copy-part.ensures.unused told))
+
 pub returns-then-is_some-clause-counts : goal.returns-then-is_some-clause-counts
 returns-then-is_some-clause-counts g c =
     let was = c.loop-at.invariant in
@@ -441,6 +454,8 @@ loop-at-preserved g c =
           subst (λ (b : Given). IsCopyable world.scope n span (disk b.start tape1) → IsCopyable world.scope new span (disk b.start tape2)) was.given (did.copyable told world) (was.copyable told world able);
       headers = λ told s v may. was.headers told s v
           (subst (λ (b : Given). AreHeadersKept (disk b.start tape1) (disk b.start tape2)) was.given (did.headers told) s v may);
+      unused = λ told. unused-then given m n (disk given.start tape0) (disk given.start tape1) (disk given.start tape2) was.moved (was.unused told)
+          (subst (λ (b : Given). IsUnusedKept n (disk b.start tape1) (disk b.start tape2)) was.given (did.unused told));
       given = did.given ∙ was.given;
       counts = λ s. let one = was.counts s in let two = did.counts s in omega (arith, one, two);
     }

@@ -13,6 +13,7 @@ use Rattle.shape_changes.specs.Steady.{IsSafeOver, KeepsSafe, AreGoneTold, IsUnc
 use Rattle.views.specs.Moving.{Grows, IsMoved}
 use Rattle.views.specs.Lacking.{HaveFailedSince, AreOtherRowsKept}
 use Rattle.window_rows.specs.Copies.{tail_of, IsCopied}
+use Rattle.safe_updates.specs.Unused.{IsUnusedKept}
 use Rattle.window_steps.specs.Copying.{AreHeadersKept}
 use Rattle.window_calls.specs.Finishing.{IsOfRest, AreStripesCopied}
 use Rattle.window_calls.proofs.finishing.copy_rest.Given as goal
@@ -40,6 +41,7 @@ invariant-loop-at g l = record {
   copyable : g.B.Bank.tells → (world : World) → IsCopyable world.scope l.fn.members l.span (disk (g.B.Bank.given l.fn.bank).start (g.B.Bank.tape l.fn.bank))
       → IsCopyable world.scope l.members l.span (disk (g.B.Bank.given l.fn.bank).start (g.B.Bank.tape l.bank));
   headers : g.B.Bank.tells → AreHeadersKept (disk (g.B.Bank.given l.fn.bank).start (g.B.Bank.tape l.fn.bank)) (disk (g.B.Bank.given l.fn.bank).start (g.B.Bank.tape l.bank));
+  unused : g.B.Bank.tells → IsUnusedKept l.fn.members (disk (g.B.Bank.given l.fn.bank).start (g.B.Bank.tape l.fn.bank)) (disk (g.B.Bank.given l.fn.bank).start (g.B.Bank.tape l.bank));
   given : g.B.Bank.given l.bank ≡ g.B.Bank.given l.fn.bank;
   counts : NeverFalls (g.B.Bank.faults_of l.fn.bank) (g.B.Bank.faults_of l.bank);
 }

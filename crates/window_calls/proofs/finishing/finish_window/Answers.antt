@@ -26,6 +26,8 @@ use Rattle.views.proofs.LackingLaws.{since-then, in-either, holders-at}
 use Rattle.views.proofs.LackingLists.{none-of}
 use Rattle.views.proofs.MovedLaws.{moved-then, grows-then}
 use Rattle.views.proofs.SafeStretch.{safe-then, over-at, keeps-from, grows-longer}
+use Rattle.safe_updates.specs.Unused.{IsUnusedKept}
+use Rattle.safe_updates.proofs.Unused.{unused-then}
 use Rattle.window_steps.specs.Recording.{AreOthersFewer, IsCopiedWindow, IsRecorded}
 use Rattle.window_steps.proofs.PastLaws.{past-moved, next-moved}
 use Rattle.window_calls.specs.Finishing.{IsOfRest, AreStripesCopied, IsOpenWindow}
@@ -220,6 +222,14 @@ returns-clause-others g c = λ told.
 
 pub returns-clause-flushed : goal.returns-clause-flushed
 returns-clause-flushed g c = λ none told. holders-at (reading_of (new g c)) (given1 g c) (given g c) (tape2 g c) (sym c.copy_rest-copied.ensures.given) (c.record-recorded.ensures.flushed told)
+
+pub returns-clause-unused : goal.returns-clause-unused
+returns-clause-unused g c = λ told.
+    let did = c.copy_rest-copied.ensures in
+    let start = (given g c).start in
+    let put : IsUnusedKept (n g c) (disk start (tape1 g c)) (disk start (tape2 g c)) =
+    subst (λ (b : Given). IsUnusedKept (n g c) (disk b.start (tape1 g c)) (disk b.start (tape2 g c))) did.given (c.record-recorded.ensures.unused told) in
+    unused-then (given g c) (m g c) (n g c) (disk start (tape0 g c)) (disk start (tape1 g c)) (disk start (tape2 g c)) did.moved (did.unused told) put
 
 pub returns-clause-plain : goal.returns-clause-plain
 returns-clause-plain g c = λ none told scope placed headers.

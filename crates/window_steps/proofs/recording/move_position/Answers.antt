@@ -8,10 +8,12 @@ use Rattle.shape_views.specs.Windows.{moved_past}
 use Rattle.shape_changes.specs.Marking.{AreOthersPresent}
 use Rattle.shape_changes.proofs.Risen.{risen-then}
 use Rattle.views.specs.Rebuilding.{AreSparesFree}
+use Rattle.views.specs.Under.{IsRestKept}
 use Rattle.views.proofs.LackingLaws.{since-then, in-either, holders-fewer, holders-at}
 use Rattle.views.proofs.MendedParts.{safe-part}
 use Rattle.views.proofs.MovedLaws.{moved-then, moved-from, grows-then}
 use Rattle.safe_updates.specs.Named.{AreDataKept}
+use Rattle.safe_updates.proofs.Unused.{rest-unused, unused-then}
 use Rattle.window_steps.proofs.PastLaws.{free-moved}
 use Rattle.window_steps.proofs.recording.move_position.Goals as goal
 
@@ -69,6 +71,18 @@ returns-clause-fewer g c = λ told s k v other may.
     let did = c.put_position-put.ensures in
     let kept = subst (λ (b : Given). EachMark g.B.Bank.tells b.start tape1 tape2 (AreDataKept (disk b.start tape1))) did.given c.name_missing-named.ensures.«data» in
     did.fewer told s k v other (kept_in (disk given.start tape1 s k) (disk given.start tape2 s k) v (marks_last kept told s k other) may)
+
+pub returns-clause-unused : goal.returns-clause-unused
+returns-clause-unused g c = λ told.
+    let given = g.B.Bank.given c.args.bank.now in
+    let n = c.put_position-put.new.members in
+    let tape1 = g.B.Bank.tape c.put_position-put.new.bank in
+    let tape2 = g.B.Bank.tape c.name_missing-named.new.bank in
+    let did = c.put_position-put.ensures in
+    let named : IsRestKept n (disk given.start tape1) (disk given.start tape2) =
+    subst (λ (b : Given). IsRestKept n (disk b.start tape1) (disk b.start tape2)) did.given (c.name_missing-named.ensures.rest told) in
+    unused-then given (moved_past c.args.span.now c.args.members.now) n (disk given.start (g.B.Bank.tape c.args.bank.now)) (disk given.start tape1) (disk given.start tape2) did.moved (did.unused told)
+    (rest-unused n (disk given.start tape1) (disk given.start tape2) named)
 
 pub returns-clause-clean : goal.returns-clause-clean
 returns-clause-clean g c = c.name_missing-named.ensures.clean ∙ c.put_position-put.ensures.clean

@@ -1,8 +1,9 @@
 use Rattle.std.proofs.Common.{◌≡◌, ℕ, ◌<◌, ◌≤◌, Bool, true, false, not, ◌&&◌, List, length, inl, inr, refl, subst, sym, ◌∙◌, arith}
 use Rattle.std.proofs.lemmas.Bool.{cases_lt}
 use Rattle.md_base.specs.Shapes.{has_slot}
+use Rattle.md_base.specs.Sectors.{Sector}
 use Rattle.bank.specs.Given.{Given}
-use Rattle.bank.specs.Tape.{disk}
+use Rattle.bank.specs.Tape.{IsIn, disk}
 use Rattle.bank.proofs.Laws.{kept_in}
 use Rattle.superblocks.specs.declared.members.Members.{Members}
 use Rattle.superblocks.specs.Outcome.{live_set, is_left}
@@ -112,6 +113,11 @@ returns-clause-fewer g c = λ told s k v other may.
     let start = (g.B.Bank.given c.args.bank.now).start in
     kept_in (disk start (g.B.Bank.tape c.args.bank.now) s k) (disk start (g.B.Bank.tape c.record_position-lost.new.bank) s k) v
     ((c.record_position-lost.ensures.recorded.update.end told).touched.elsewhere s k other) may
+
+-- a slot that isn't live in the update isn't written
+pub returns-clause-unused : goal.returns-clause-unused
+returns-clause-unused g c = λ told s k v unused may.
+    subst (λ (l : List Sector). IsIn l v) ((c.record_position-lost.ensures.recorded.update.end told).touched.others s k unused) may
 
 pub returns-clause-clean : goal.returns-clause-clean
 returns-clause-clean g c =

@@ -18,6 +18,8 @@ use Rattle.views.proofs.LackingLaws.{since-then, in-either, holders-at}
 use Rattle.views.proofs.LackingLists.{none-of}
 use Rattle.views.proofs.MovedLaws.{moved-then, grows-then}
 use Rattle.views.proofs.SafeStretch.{safe-then, over-at, keeps-from, grows-longer}
+use Rattle.safe_updates.specs.Unused.{IsUnusedKept}
+use Rattle.safe_updates.proofs.Unused.{rest-unused, unused-then}
 use Rattle.window_steps.specs.Recording.{AreOthersFewer}
 use Rattle.window_steps.proofs.CopyLaws.{refused-of}
 use Rattle.window_steps.proofs.PastLaws.{past-moved, past-plain, past-headers, plain-moved, headers-moved, past-right, next-moved, gone-past}
@@ -52,6 +54,11 @@ returns-then-is_some-clause-refused g c = refused-of c.flush_naming-flushed.new.
 
 pub returns-then-is_some-clause-fewer : goal.returns-then-is_some-clause-fewer
 returns-then-is_some-clause-fewer g c = λ told s k v other may. c.flush_naming-flushed.ensures.rest told s k v (inl other) may
+
+pub returns-then-is_some-clause-unused : goal.returns-then-is_some-clause-unused
+returns-then-is_some-clause-unused g c = λ told.
+    let start = (g.B.Bank.given c.args.bank.now).start in
+    rest-unused c.args.members.now (disk start (g.B.Bank.tape c.args.bank.now)) (disk start (g.B.Bank.tape c.flush_naming-flushed.new.bank)) (c.flush_naming-flushed.ensures.rest told)
 
 pub returns-then-is_some-clause-plain : goal.returns-then-is_some-clause-plain
 returns-then-is_some-clause-plain g c = λ none. absurd (some c.too_many-refusal.result (sym c.is_some.ensures ∙ c.if-is_some.true) none)
@@ -142,6 +149,17 @@ module _ (g : Over) (c : After-move_position-moved g) (told : g.B.Bank.tells) wh
 
 pub returns-clause-fewer : goal.returns-clause-fewer
 returns-clause-fewer g c = λ told. fewer g c told
+
+pub returns-clause-unused : goal.returns-clause-unused
+returns-clause-unused g c = λ told.
+    let n = c.flush_naming-flushed.new.members in
+    let tape1 = g.B.Bank.tape c.flush_naming-flushed.new.bank in
+    let tape2 = g.B.Bank.tape c.move_position-moved.new.bank in
+    let did = c.flush_naming-flushed.ensures in
+    let moved : IsUnusedKept n (mid g c told) (last g c told) =
+    subst (λ (b : Given). IsUnusedKept n (disk b.start tape1) (disk b.start tape2)) did.given (c.move_position-moved.ensures.unused told) in
+    unused-then (given g c told) c.args.members.now n (first g c told) (mid g c told) (last g c told) did.moved
+    (rest-unused c.args.members.now (first g c told) (mid g c told) (did.rest told)) moved
 
 pub returns-clause-clean : goal.returns-clause-clean
 returns-clause-clean g c = c.move_position-moved.ensures.clean ∙ c.flush_naming-flushed.ensures.clean

@@ -15,6 +15,8 @@ use Rattle.views.proofs.LackingLaws.{since-same, since-then, in-either}
 use Rattle.views.proofs.LackingLists.{none-of}
 use Rattle.views.proofs.SafeStretch.{safe-none}
 use Rattle.views.proofs.MendedParts.{safe-part}
+use Rattle.safe_updates.specs.Unused.{IsUnusedKept}
+use Rattle.safe_updates.proofs.Unused.{unused-then}
 use Rattle.window_steps.specs.Copying.{IsOfStripeFrom, AreHeadersKept}
 use Rattle.window_steps.proofs.CopyLaws.{row-later, refused-of, others-join}
 use Rattle.window_steps.proofs.ZeroLaws.{through-moved, past-stripe-moved, zero-moved}
@@ -36,6 +38,7 @@ loop-done-init g c =
       stands = λ told list zeros row at. absurd (let low = at.0 in let high = at.1 in omega (arith, low, high));
       others = λ told row out role slot held. refl;
       headers = λ told s v may. may;
+      unused = λ told s k v idle may. may;
       rise = risen-none m tape0 tape0 (λ told. omega arith);
       safe = λ told world ledger room gone unclean safe. safe-none (OpensFit world) world.scope given ledger m tape0 safe;
       given = refl;
@@ -152,6 +155,8 @@ loop-done-preserved g c =
       ];
       others = λ told. others-join given c.args.shape.now c.args.stripe 0 c.loop-done.done c.zero_part-part.result.done (omega arith) did.reached n new (present given tape0) (present given tape1) (present given tape2) moved (was.others told) (kept told);
       headers = λ told s v may. was.headers told s v (subst (λ (b : Given). AreHeadersKept (disk b.start tape1) (disk b.start tape2)) was.given (did.headers told) s v may);
+      unused = λ told. unused-then given m n (disk given.start tape0) (disk given.start tape1) (disk given.start tape2) was.moved (was.unused told)
+          (subst (λ (b : Given). IsUnusedKept n (disk b.start tape1) (disk b.start tape2)) was.given (did.unused told));
       rise = risen-then was.rise did.rise;
       safe = λ told world ledger room gone unclean safe.
           safe-part world given given1 ledger m n new tape0 tape1 tape2 told was.given was.moved.placed moved did.grows was.rise room gone
@@ -190,3 +195,13 @@ returns-then-is_some-clause-headers g c = λ told s v may.
     let tape1 = g.B.Bank.tape c.loop-done.bank in
     let tape2 = g.B.Bank.tape c.zero_part-part.new.bank in
     was.headers told s v (subst (λ (b : Given). AreHeadersKept (disk b.start tape1) (disk b.start tape2)) was.given (c.zero_part-part.ensures.headers told) s v may)
+
+pub returns-then-is_some-clause-unused : goal.returns-then-is_some-clause-unused
+returns-then-is_some-clause-unused g c = λ told.
+    let was = c.loop-done.invariant in
+    let given = g.B.Bank.given c.args.bank.now in
+    let n = c.loop-done.members in
+    let tape1 = g.B.Bank.tape c.loop-done.bank in
+    let tape2 = g.B.Bank.tape c.zero_part-part.new.bank in
+    unused-then given c.args.members.now n (disk given.start (g.B.Bank.tape c.args.bank.now)) (disk given.start tape1) (disk given.start tape2) was.moved (was.unused told)
+    (subst (λ (b : Given). IsUnusedKept n (disk b.start tape1) (disk b.start tape2)) was.given (c.zero_part-part.ensures.unused told))

@@ -12,6 +12,7 @@ use Rattle.shape_changes.specs.Steady.{IsSafeOver, KeepsSafe, AreGoneTold, IsUnc
 use Rattle.views.specs.Moving.{Grows, IsMoved}
 use Rattle.views.specs.Lacking.{HaveFailedSince, AreOtherRowsKept}
 use Rattle.window_rows.specs.Copies.{tail_of, IsZeroIn}
+use Rattle.safe_updates.specs.Unused.{IsUnusedKept}
 use Rattle.window_steps.specs.Copying.{IsOfStripeFrom, AreHeadersKept}
 use Rattle.bank.specs.Tape.{disk}
 use Rattle.window_steps.proofs.zeroing.zero.Given as goal
@@ -31,6 +32,7 @@ invariant-loop-done g l = record {
       → RowStands (reading_of l.members) (present (g.B.Bank.given l.fn.bank) (g.B.Bank.tape l.bank)) l.shape list row;
   others : g.B.Bank.tells → AreOtherRowsKept (IsOfStripeFrom l.shape l.stripe 0 l.done) (reading_of l.members) (present (g.B.Bank.given l.fn.bank) (g.B.Bank.tape l.fn.bank)) (present (g.B.Bank.given l.fn.bank) (g.B.Bank.tape l.bank));
   headers : g.B.Bank.tells → AreHeadersKept (disk (g.B.Bank.given l.fn.bank).start (g.B.Bank.tape l.fn.bank)) (disk (g.B.Bank.given l.fn.bank).start (g.B.Bank.tape l.bank));
+  unused : g.B.Bank.tells → IsUnusedKept l.fn.members (disk (g.B.Bank.given l.fn.bank).start (g.B.Bank.tape l.fn.bank)) (disk (g.B.Bank.given l.fn.bank).start (g.B.Bank.tape l.bank));
   rise : IsRisen g.B.Bank.tells l.fn.members l.members (g.B.Bank.tape l.fn.bank) (g.B.Bank.tape l.bank);
   safe : g.B.Bank.tells → (world : World) → (told : Ledger) → HasRoomLeft l.fn.members (g.B.Bank.tape l.fn.bank) (g.B.Bank.tape l.bank)
       → AreGoneTold told l.members → IsUncleanTold told l.fn.members

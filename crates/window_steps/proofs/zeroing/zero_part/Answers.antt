@@ -11,6 +11,7 @@ use Rattle.shape_changes.specs.Marking.{AreOthersPresent}
 use Rattle.shape_changes.proofs.Risen.{risen-then, room-then}
 use Rattle.views.specs.Moving.{IsMoved}
 use Rattle.views.specs.Rebuilding.{AreSparesFree}
+use Rattle.views.specs.Under.{IsRestKept}
 use Rattle.views.specs.Lacking.{DoesWithout, AreTooMany}
 use Rattle.views.proofs.HeldRows.{shape-without-before}
 use Rattle.window_steps.specs.Copying.{IsOfStripeFrom, AreHeadersKept}
@@ -20,6 +21,7 @@ use Rattle.views.proofs.LackingWrites.{others-then, others-same}
 use Rattle.views.proofs.SafeStretch.{safe-then, over-at, keeps-from}
 use Rattle.window_steps.proofs.CopyLaws.{row-later}
 use Rattle.bank.specs.Tape.{disk}
+use Rattle.safe_updates.proofs.Unused.{rest-unused, unused-then}
 use Rattle.window_steps.proofs.zeroing.zero_part.Goals as goal
 
 pub name_missing-spares-requires-clause-free : goal.name_missing-spares-requires-clause-free
@@ -119,3 +121,15 @@ returns-clause-headers g c = λ told s v may.
     let named : AreHeadersKept (disk (g.B.Bank.given c.args.bank.now).start tape1) (disk (g.B.Bank.given c.args.bank.now).start tape2) =
     subst (λ (b : Given). AreHeadersKept (disk b.start tape1) (disk b.start tape2)) did.given (λ s1 v1 may1. c.name_missing-spares.ensures.rest told s1 0 v1 (inl (λ e. absurd (cc))) may1) in
     did.headers told s v (named s v may)
+
+pub returns-clause-unused : goal.returns-clause-unused
+returns-clause-unused g c = λ told.
+    let given = g.B.Bank.given c.args.bank.now in
+    let did = c.zero_stretch-done.ensures in
+    let n = c.zero_stretch-done.new.members in
+    let tape1 = g.B.Bank.tape c.zero_stretch-done.new.bank in
+    let tape2 = g.B.Bank.tape c.name_missing-spares.new.bank in
+    let named : IsRestKept n (disk given.start tape1) (disk given.start tape2) =
+    subst (λ (b : Given). IsRestKept n (disk b.start tape1) (disk b.start tape2)) did.given (c.name_missing-spares.ensures.rest told) in
+    unused-then given c.args.members.now n (disk given.start (g.B.Bank.tape c.args.bank.now)) (disk given.start tape1) (disk given.start tape2) did.moved (did.unused told)
+    (rest-unused n (disk given.start tape1) (disk given.start tape2) named)

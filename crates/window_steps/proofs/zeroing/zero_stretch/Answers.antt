@@ -1,4 +1,4 @@
-use Rattle.std.proofs.Common.{◌≡◌, inr, ℕ, ◌+◌, ◌-◌, ◌*◌, subst, arith, List}
+use Rattle.std.proofs.Common.{◌≡◌, inl, inr, ℕ, ◌+◌, ◌-◌, ◌*◌, subst, arith, List}
 use Rattle.superblocks.specs.Reading.{data_offset_of}
 use Rattle.list_io.specs.Full.{RowStands}
 use Rattle.bank.specs.Given.{Given}
@@ -16,6 +16,7 @@ use Rattle.window_steps.proofs.ZeroLaws.{safe-zeroed}
 use Rattle.md_base.specs.Sectors.{Sector}
 use Rattle.bank.specs.Tape.{IsIn}
 use Rattle.row_io.proofs.Turns.{marks_last}
+use Rattle.safe_updates.proofs.Unused.{unused-role}
 use Rattle.window_steps.proofs.zeroing.zero_stretch.Goals as goal
 
 pub zero_stripe-zeroed-requires-clause-rows : goal.zero_stripe-zeroed-requires-clause-rows
@@ -84,3 +85,13 @@ returns-clause-others g c = λ told row out role slot held.
 
 pub returns-clause-headers : goal.returns-clause-headers
 returns-clause-headers g c = λ told s v may. let kept = marks_last c.zero_stripe-zeroed.ensures.each_mark told in subst (λ (l : List Sector). IsIn l v) (kept.1 s 0 (omega arith)) may
+
+pub returns-clause-unused : goal.returns-clause-unused
+returns-clause-unused g c = λ told s k v unused may.
+    let given = g.B.Bank.given c.args.bank.now in
+    let m = c.args.members.now in
+    let kept = marks_last c.zero_stripe-zeroed.ensures.each_mark told in
+    elim (kept.0 s k) [
+      | inl same ↦ same v may
+      | inr at ↦ absurd (unused-role given m c.requires.placed s unused at.role at.held)
+    ]
