@@ -5,6 +5,8 @@ pub mod Refusals
 pub mod Steps
 pub mod MoreSteps
 pub mod Staying
+pub mod Going
+pub mod Finishing
 pub mod Entering
 pub mod Adding
 pub mod Settling
