@@ -7,6 +7,7 @@ pub mod MoreSteps
 pub mod Staying
 pub mod Going
 pub mod Finishing
+pub mod FinishedCall
 pub mod Entering
 pub mod Adding
 pub mod Settling
