@@ -1,5 +1,5 @@
 -- The course of a reshape, through its steps.
-use Rattle.std.proofs.Common.{◌≡◌, ◌⊎◌, inl, inr, ℕ, ◌+◌, ◌-◌, ◌*◌, ◌/◌, ◌<◌, ◌≤◌, ◌&&◌, ◌^◌, nat_le, nat_lt, Bool, true, false, cond, Option, Some, None, refl, sym, ◌∙◌, ap, subst, arith}
+use Rattle.std.proofs.Common.{◌≡◌, ◌⊎◌, inl, inr, ℕ, ◌+◌, ◌-◌, ◌*◌, ◌/◌, ◌<◌, ◌≤◌, ◌&&◌, ◌^◌, nat_le, nat_lt, Bool, true, false, cond, Option, Some, None, List, refl, sym, ◌∙◌, ap, subst, arith}
 use Rattle.std.specs.Prelude.{min}
 use Rattle.std.proofs.lemmas.Bool.{and_parts, eqb-true, cases_lt}
 use Rattle.std.proofs.lemmas.Bool.Decides.{nat_tests}
@@ -12,7 +12,7 @@ use Rattle.md_base.specs.declared.status.Role.TheVariants.{Whole, Recovering, Mi
 use Rattle.md_base.specs.Sectors.{Sector, zero_sector}
 use Rattle.md_base.specs.Shapes.{stripe_sectors, data_disks, is_multiple, has_slot}
 use Rattle.bank.specs.Given.{Given}
-use Rattle.bank.specs.Tape.{IsIn}
+use Rattle.bank.specs.Tape.{Contents, IsIn}
 use Rattle.sb1.specs.declared.sb.Sb.{Sb}
 use Rattle.layout.specs.Layout.{place}
 use Rattle.geometry.specs.Geometry.{ceiling, stripes, rows, zeroed_stripes, is_critical}
@@ -61,7 +61,7 @@ courses-move sound given old new course buffer c e list placed moved others was 
 -- ---- it begins
 
 -- no row is of no stripes
-none-of-none : (shape : Shape) (first row : ℕ) → IsOfStripes shape first 0 row → ⊥
+pub none-of-none : (shape : Shape) (first row : ℕ) → IsOfStripes shape first 0 row → ⊥
 none-of-none shape first row at = absurd (let low = at.0 in let high = at.1 in let same : (first + 0) * shape.chunk ≡ first * shape.chunk = ap (λ (n : ℕ). n * shape.chunk) (zero-right first) in omega (arith, low, high, same))
   where
     zero-right : (n : ℕ) → n + 0 ≡ n
@@ -158,23 +158,28 @@ held-below m active row role slot held = of (role_state (reading_of m) role) hel
 
 -- ---- a stripe is copied
 
+-- no sector that is shown stands in a row that the window writes
 module _ (given : Given) (old : Members) (span : Span) (copied : ℕ) (sectioned : Bool) (placed : IsPlaced given old) (next : next_window old.newest ≡ Some span)
-    (left : copied < stripes (final_shape old.newest) span.lo span.hi)
     (plain : sectioned ≡ false → is_critical (shape_of old.newest) (final_shape old.newest) old.newest.size (is_backward old.newest) span ≡ false) where
   apart : (x row : ℕ) (which : Bool) → sectioned ≡ which → IsShown (hidden_in (Entered span copied which)) old.newest x → geometry.IsIn row (rows (final_shape old.newest) span.lo span.hi)
       → (place_by old.newest x).row ≡ row → ⊥
   apart x row true is shown written same = row-apart old.newest placed.fit span next row written x shown.within shown.outside same
   apart x row false is shown written same = row-apart-uncritical old.newest placed.fit span next row written (plain is) x shown.within same
 
-  shown-apart : (x : ℕ) → IsShown (hidden_in (Entered span copied sectioned)) old.newest x → IsOfStripe (final_shape old.newest) (next_stripe old span copied) (place_by old.newest x).row → ⊥
-  shown-apart x shown at = apart x (place_by old.newest x).row sectioned refl shown (of-window (final_shape old.newest) span copied (place_by old.newest x).row left at) refl
+  pub shown-apart : (x : ℕ) → IsShown (hidden_in (Entered span copied sectioned)) old.newest x → geometry.IsIn (place_by old.newest x).row (rows (final_shape old.newest) span.lo span.hi) → ⊥
+  shown-apart x shown written = apart x (place_by old.newest x).row sectioned refl shown written refl
+
+-- however many stripes are copied, as much is hidden
+pub hidden-same : (span : Span) (a b : ℕ) (sectioned : Bool) → hidden_in (Entered span a sectioned) ≡ hidden_in (Entered span b sectioned)
+hidden-same span a b true = refl
+hidden-same span a b false = refl
 
 pub copies-go-on : (sound : Type 0) → CopiesGoOn sound
 copies-go-on sound given old new span copied sectioned buffer c e list placed moved next left plain kept was = (on, more)
   where
     on : StandsInCourse sound new (entered span copied sectioned) buffer e list
     on = stands-on sound given old new moved (entered span copied sectioned) buffer c e list (IsOfStripe (final_shape old.newest) (next_stripe old span copied)) kept was (record {
-      shown = λ x shown at. shown-apart given old span copied sectioned placed next left plain x shown at;
+      shown = λ x shown at. shown-apart given old span copied sectioned placed next plain x shown (of-window (final_shape old.newest) span copied (place_by old.newest x).row left at);
       tail = λ x tail at. no-tail old.newest span x next tail;
       copied = λ row of at. of-before (final_shape old.newest) (span.lo / stripe_sectors (final_shape old.newest)) copied row of at;
       zeroed = λ row of at. none-of-none (final_shape old.newest) (past_stripe old.newest) row of;
@@ -183,7 +188,7 @@ copies-go-on sound given old new span copied sectioned buffer c e list placed mo
     more : ((row : ℕ) → IsOfStripe (final_shape old.newest) (next_stripe old span copied) row → RowStands (reading_of new) e (final_shape old.newest) list row)
         → StandsInCourse sound new (entered span (copied + 1) sectioned) buffer e list
     more done = record {
-      stands = hidden-on sectioned on.stands;
+      stands = subst (λ (hidden : Option Span). ListStands hidden new e list) (hidden-same span copied (copied + 1) sectioned) on.stands;
       window = on.window;
       zeros = on.zeros;
       copied = λ row at. elim (of-more (final_shape new.newest) (span.lo / stripe_sectors (final_shape new.newest)) copied row at) [
@@ -193,16 +198,8 @@ copies-go-on sound given old new span copied sectioned buffer c e list placed mo
       ];
       tail = on.tail;
       zeroed = on.zeroed;
-      rows = λ so. rows-hidden sectioned (on.rows so);
+      rows = λ so. subst (λ (hidden : Option Span). RowsStand hidden new e list) (hidden-same span copied (copied + 1) sectioned) (on.rows so);
     }
-      where
-        rows-hidden : (which : Bool) → RowsStand (hidden_in (Entered span copied which)) new e list → RowsStand (hidden_in (Entered span (copied + 1) which)) new e list
-        rows-hidden true rows = rows
-        rows-hidden false rows = rows
-
-        hidden-on : (which : Bool) → ListStands (hidden_in (Entered span copied which)) new e list → ListStands (hidden_in (Entered span (copied + 1) which)) new e list
-        hidden-on true stands = stands
-        hidden-on false stands = stands
 
 pub courses-copied : (sound : Type 0) → CoursesAreCopied sound
 courses-copied sound scope given m span copied sectioned buffer c list placed next was = record {
@@ -223,6 +220,22 @@ courses-copied sound scope given m span copied sectioned buffer c list placed ne
 
 -- ---- the window is recorded
 
+-- what an entered window shows is beside it
+module _ (sound : Type 0) (m : Members) (span : Span) (copied : ℕ) (sectioned : Bool) (buffer : List ℕ) (c : Contents) (list : ℕ → Sector) (was : StandsInCourse sound m (entered span copied sectioned) buffer c list) where
+  pub list-beside : ListStands (Some span) m c list
+  list-beside = hide sectioned was.stands
+    where
+      hide : (which : Bool) → ListStands (hidden_in (Entered span copied which)) m c list → ListStands (Some span) m c list
+      hide true stands = stands
+      hide false stands = λ x slot shown held. stands x slot (record { within = shown.within; outside = refl }) held
+
+  pub rows-beside : sound → RowsStand (Some span) m c list
+  rows-beside so = hide sectioned (was.rows so)
+    where
+      hide : (which : Bool) → RowsStand (hidden_in (Entered span copied which)) m c list → RowsStand (Some span) m c list
+      hide true rows = rows
+      hide false rows = λ x shown. rows x (record { within = shown.within; outside = refl })
+
 pub windows-copied : (sound : Type 0) → WindowsAreCopied sound
 windows-copied sound m span sectioned buffer c list was = record {
   window = λ row at. was.copied row (
@@ -231,20 +244,9 @@ windows-copied sound m span sectioned buffer c list was = record {
         let le : ceiling span.hi (stripe_sectors (final_shape m.newest)) * (final_shape m.newest).chunk ≤ (span.lo / stripe_sectors (final_shape m.newest) + stripes (final_shape m.newest) span.lo span.hi) * (final_shape m.newest).chunk =
         mul-le-mul_right (final_shape m.newest).chunk (omega arith) in omega (arith, high, le),
   );
-  stands = hide sectioned was.stands;
-  rows_are = λ so. hide-rows sectioned (was.rows so);
+  stands = list-beside sound m span (stripes (final_shape m.newest) span.lo span.hi) sectioned buffer c list was;
+  rows_are = rows-beside sound m span (stripes (final_shape m.newest) span.lo span.hi) sectioned buffer c list was;
 }
-  where
-    all : ℕ
-    all = stripes (final_shape m.newest) span.lo span.hi
-
-    hide : (which : Bool) → ListStands (hidden_in (Entered span all which)) m c list → ListStands (Some span) m c list
-    hide true stands = stands
-    hide false stands = λ x slot shown held. stands x slot (record { within = shown.within; outside = refl }) held
-
-    hide-rows : (which : Bool) → RowsStand (hidden_in (Entered span all which)) m c list → RowsStand (Some span) m c list
-    hide-rows true rows = rows
-    hide-rows false rows = λ x shown. rows x (record { within = shown.within; outside = refl })
 
 pub records-close : (sound : Type 0) → RecordsClose sound
 records-close sound scope given old new span sectioned buffer c e list placed was_placed next moved others was =

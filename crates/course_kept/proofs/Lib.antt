@@ -1,3 +1,4 @@
 pub mod Frames
 pub mod Courses
+pub mod Finishes
 pub mod Under

@@ -1,5 +1,5 @@
 -- What a step makes of the course of a reshape, by what its call leaves: on members that lost slots, with a stripe copied, recorded or zeroed.
-use Rattle.std.specs.Prelude.{◌≡◌, ℕ, ◌+◌, ◌/◌, ◌<◌, Bool, true, false, List, Some, None}
+use Rattle.std.specs.Prelude.{◌≡◌, ℕ, ◌+◌, ◌*◌, ◌/◌, ◌<◌, ◌≤◌, Bool, true, false, List, Some, None}
 use Rattle.md_base.specs.declared.places.Span.{Span}
 use Rattle.md_base.specs.Sectors.{Sector, zero_sector}
 use Rattle.md_base.specs.Shapes.{stripe_sectors}
@@ -28,7 +28,7 @@ use Rattle.window_steps.specs.Zeroing.{IsThrough}
 use Rattle.course_kept.specs.declared.course.Course.{Course}
 use Rattle.grow_asked.specs.declared.window.Window.{Window}
 use Rattle.grow_asked.specs.declared.window.Window.TheVariants.{Closed, Entered, Unsure}
-use Rattle.course_kept.specs.Course.{IsStored, IsBackupKept, StandsInCourse, past_stripe}
+use Rattle.course_kept.specs.Course.{IsStored, IsBackupKept, IsOfStripes, StandsInCourse, past_stripe}
 
 -- ---- what stands
 
@@ -94,6 +94,33 @@ abbrev pub RecordsClose : (sound : Type 0) → Type 0
 RecordsClose sound = (scope : Scope) (given : Given) (old new : Members) (span : Span) (sectioned : Bool) (buffer : List ℕ) (c e : Contents) (list : ℕ → Sector)
     → ArePlaced scope given old → IsPlaced given old → next_window old.newest ≡ Some span → IsMoved given (moved_past span old) new → AreOthersPresent c e
     → StandsInCourse sound old (entered span (stripes (final_shape old.newest) span.lo span.hi) sectioned) buffer c list → StandsInCourse sound new (closed 0) buffer e list
+
+-- a row of the stripes of the window that are left to copy
+abbrev pub IsLeftRow : Members → Span → ℕ → ℕ → Type 0
+IsLeftRow m span copied row = (next_stripe m span copied * (final_shape m.newest).chunk ≤ row) × (row < (rows (final_shape m.newest) span.lo span.hi).hi)
+
+-- each of its stripes stands by the new shape, as the list
+abbrev pub AreStripesStanding : Members → Members → Span → Contents → (ℕ → Sector) → Type 0
+AreStripesStanding old new span e list = (row : ℕ) → IsOfStripes (final_shape old.newest) (span.lo / stripe_sectors (final_shape old.newest)) (stripes (final_shape old.newest) span.lo span.hi) row
+    → RowStands (reading_of new) e (final_shape old.newest) list row
+
+-- Where rows of the stripes that are left are written and no others, all stands on as before; and where all stripes stand by the new shape, with all of them copied.
+abbrev pub RestsGoOn : (sound : Type 0) → Type 0
+RestsGoOn sound = (given : Given) (old new : Members) (span : Span) (copied : ℕ) (sectioned : Bool) (buffer : List ℕ) (c e : Contents) (list : ℕ → Sector)
+    → IsPlaced given old → IsMoved given old new → next_window old.newest ≡ Some span
+    → (sectioned ≡ false → is_critical (shape_of old.newest) (final_shape old.newest) old.newest.size (is_backward old.newest) span ≡ false)
+    → AreOtherRowsKept (IsLeftRow old span copied) (reading_of new) c e
+    → StandsInCourse sound old (entered span copied sectioned) buffer c list
+    → StandsInCourse sound new (entered span copied sectioned) buffer e list
+    × (AreStripesStanding old new span e list → StandsInCourse sound new (entered span (stripes (final_shape new.newest) span.lo span.hi) sectioned) buffer e list)
+
+-- The stripes that are left are copied and the position moves, in one call: the list stands behind both, and no window is open.
+abbrev pub FinishesClose : (sound : Type 0) → Type 0
+FinishesClose sound = (given : Given) (old new : Members) (span : Span) (copied : ℕ) (sectioned : Bool) (buffer : List ℕ) (c e : Contents) (list : ℕ → Sector)
+    → IsPlaced given old → IsMoved given (moved_past span old) new → next_window old.newest ≡ Some span
+    → (sectioned ≡ false → is_critical (shape_of old.newest) (final_shape old.newest) old.newest.size (is_backward old.newest) span ≡ false)
+    → AreOtherRowsKept (IsLeftRow old span copied) (reading_of new) c e → AreStripesStanding old new span e list
+    → StandsInCourse sound old (entered span copied sectioned) buffer c list → StandsInCourse sound new (closed 0) buffer e list
 
 -- Where rows of the next stripe behind the list are written and no others, all stands on; and where they stand as zeros, with that stripe zeroed.
 abbrev pub ZeroesGoOn : (sound : Type 0) → Type 0

@@ -1,7 +1,7 @@
 //! Laws of the course of a reshape. Each function's contract is the law.
 
 ghost use Rattle.std.specs.Prelude.{⊤};
-ghost use Rattle.course_kept.specs.Laws.{BeginsStand, EntersStand, CoursesMove, CopiesGoOn, CoursesAreCopied, WindowsAreCopied, RecordsClose, ZeroesGoOn, ZeroesAreAll, CoursesStandUnder, StoredMove, OpenHeadersFit};
+ghost use Rattle.course_kept.specs.Laws.{BeginsStand, EntersStand, CoursesMove, CopiesGoOn, CoursesAreCopied, WindowsAreCopied, RecordsClose, RestsGoOn, FinishesClose, ZeroesGoOn, ZeroesAreAll, CoursesStandUnder, StoredMove, OpenHeadersFit};
 
 /// A reshape begins.
 pub fn a_begun_reshape_stands()
@@ -36,6 +36,16 @@ pub fn a_window_is_copied()
 /// The window is recorded.
 pub fn a_record_closes()
     ensures { RecordsClose ⊤ }
+{}
+
+/// The stripes that are left of a window are copied.
+pub fn a_rest_goes_on()
+    ensures { RestsGoOn ⊤ }
+{}
+
+/// They are copied, and the window is recorded.
+pub fn a_finish_closes()
+    ensures { FinishesClose ⊤ }
 {}
 
 /// A stripe behind the list is zeroed.

@@ -6,6 +6,9 @@ pub mod Steps
 pub mod MoreSteps
 pub mod Resting
 pub mod Staying
+pub mod Going
+pub mod Finishing
+pub mod FinishedCall
 pub mod Entering
 pub mod Adding
 pub mod Settling

@@ -22,7 +22,7 @@ use Rattle.flat_history.specs.declared.events.Event.{Event}
 use Rattle.flat_history.specs.declared.events.Event.TheVariants.{Lost, SpareLost, Step}
 use Rattle.flat_history.specs.declared.events.LostCause.TheVariants.{Fault}
 use Rattle.flat_history.specs.declared.events.StepKind.{StepKind}
-use Rattle.flat_history.specs.declared.events.StepKind.TheVariants.{Entered as EntersWindow, Copied as CopiesStripe, Checkpointed as RecordsWindow, Zeroed as ZeroesStripe}
+use Rattle.flat_history.specs.declared.events.StepKind.TheVariants.{Entered as EntersWindow, Copied as CopiesStripe, Checkpointed as RecordsWindow, Zeroed as ZeroesStripe, WindowFinished as FinishesWindow}
 use Rattle.flat_history.specs.Flat.{now}
 use Rattle.flat_history.specs.Legal.{told_left, known_left, call_before, disturbs, left_after, is_free_step, IsStep}
 use Rattle.flat_history.specs.Plain.{entries_of}
@@ -62,6 +62,7 @@ IsStepBetween EntersWindow = ⊤
 IsStepBetween CopiesStripe = ⊤
 IsStepBetween RecordsWindow = ⊤
 IsStepBetween ZeroesStripe = ⊤
+IsStepBetween FinishesWindow = ⊤
 IsStepBetween kind = ⊥
 
 not-zero : (n : ℕ) → n ≢ 0 → (n == 0) ≡ false
@@ -72,6 +73,7 @@ quiet-step EntersWindow left is some = record { adds = refl; gives = refl; ends 
 quiet-step CopiesStripe left is some = record { adds = refl; gives = refl; ends = not-zero left some; still = λ x values. refl; level = λ n. refl }
 quiet-step RecordsWindow left is some = record { adds = refl; gives = refl; ends = not-zero left some; still = λ x values. refl; level = λ n. refl }
 quiet-step ZeroesStripe left is some = record { adds = refl; gives = refl; ends = not-zero left some; still = λ x values. refl; level = λ n. refl }
+quiet-step FinishesWindow left is some = record { adds = refl; gives = refl; ends = not-zero left some; still = λ x values. refl; level = λ n. refl }
 quiet-step kind left is some = absurd is
 
 -- ---- the steps that are left
@@ -132,7 +134,7 @@ able-kept scope given m span copied false d window stored = record { next = wind
     plain false is = refl
     plain true is = absurd (let must = window.2 is in cc)
 
-plain-of : (newest : Sb) (span : Span) (copied : ℕ) (sectioned : Bool) → IsWindowOf newest (Entered span copied sectioned) → sectioned ≡ false
+pub plain-of : (newest : Sb) (span : Span) (copied : ℕ) (sectioned : Bool) → IsWindowOf newest (Entered span copied sectioned) → sectioned ≡ false
     → is_critical (shape_of newest) (final_shape newest) newest.size (is_backward newest) span ≡ false
 plain-of newest span copied sectioned window none = by (is_critical (shape_of newest) (final_shape newest) newest.size (is_backward newest) span) refl
   where

@@ -1,0 +1,172 @@
+-- What is left of a window is copied, and its position moves, in one call: the members of the end, with the position where it was, stand for those on which the copies ended.
+use Rattle.std.proofs.Common.{◌≡◌, ℕ, ◌+◌, ◌*◌, ◌/◌, ◌<◌, ◌≤◌, ◌==◌, ◌||◌, nat_lt, if◌then◌else◌, not, cond, Option, Some, None, refl, sym, ◌∙◌, ap, subst, arith}
+use Rattle.std.proofs.Math.Nat.{mul-le-mul_right}
+use Rattle.md_base.specs.declared.answers.Refusal.TheVariants.{PositionNotOnUnit}
+use Rattle.md_base.specs.declared.places.Shape.{Shape}
+use Rattle.md_base.specs.declared.places.Span.{Span}
+use Rattle.md_base.specs.declared.status.Role.{Role}
+use Rattle.md_base.specs.declared.status.Role.TheVariants.{Whole, Recovering, Missing}
+use Rattle.md_base.specs.Sectors.{Sector}
+use Rattle.md_base.specs.Shapes.{stripe_sectors, is_multiple}
+use Rattle.bank.specs.Given.{Given}
+use Rattle.bank.specs.Tape.{Contents}
+use Rattle.geometry.specs.Geometry.{stripes, rows, unit, beyond}
+use Rattle.geometry.specs.Geometry as geometry
+use Rattle.superblocks.specs.declared.members.Members.{Members}
+use Rattle.superblocks.specs.Reading.{is_backward, final_shape, list_length, next_window, role_state, rows_held, holder}
+use Rattle.superblocks.specs.Verdict.{off_unit}
+use Rattle.row_io.specs.Rows.{reading_of, held_slot}
+use Rattle.list_io.specs.Full.{RowStands}
+use Rattle.shape_views.specs.Regions.{AreShapesFit, place_by}
+use Rattle.shape_views.specs.Windows.{ListStands, RowsStand, moved_past}
+use Rattle.shape_views.proofs.Tails.{no-tail}
+use Rattle.views.specs.Placed.{IsPlaced}
+use Rattle.views.specs.Moving.{IsMoved}
+use Rattle.views.proofs.Fit.{list-alike}
+use Rattle.views.proofs.MovedLaws.{moved-same}
+use Rattle.window_steps.proofs.PastLaws.{roomy, placed-roomy, past-rows, next-moved, free-moved}
+use Rattle.course_kept.specs.Course.{IsOfStripes, StandsInCourse, past_stripe}
+use Rattle.course_kept.specs.Laws.{RestsGoOn, FinishesClose, IsLeftRow, AreStripesStanding, entered, next_stripe}
+use Rattle.course_kept.proofs.Frames.{stands-on}
+use Rattle.course_kept.proofs.Courses.{none-of-none, hidden-same, shown-apart, records-close}
+
+-- ---- the stripes that are left
+
+-- each of their rows is one that the window writes
+left-in : (m : Members) (span : Span) (copied row : ℕ) → IsLeftRow m span copied row → geometry.IsIn row (rows (final_shape m.newest) span.lo span.hi)
+left-in m span copied row at =
+    let first : ℕ = span.lo / stripe_sectors (final_shape m.newest) in
+    let wide : first * (final_shape m.newest).chunk ≤ (first + copied) * (final_shape m.newest).chunk = mul-le-mul_right (final_shape m.newest).chunk (omega arith) in
+    let low = at.0 in
+    (omega (arith, wide, low), at.1)
+
+-- no row is before a bound and behind it
+not-both : (bound row : ℕ) → row < bound → bound ≤ row → ⊥
+not-both bound row below behind = absurd (omega (arith, below, behind))
+
+pub rests-go-on : (sound : Type 0) → RestsGoOn sound
+rests-go-on sound given old new span copied sectioned buffer c e list placed moved next plain kept was = (on, all)
+  where
+    on : StandsInCourse sound new (entered span copied sectioned) buffer e list
+    on = stands-on sound given old new moved (entered span copied sectioned) buffer c e list (IsLeftRow old span copied) kept was (record {
+      shown = λ x shown at. shown-apart given old span copied sectioned placed next plain x shown (left-in old span copied (place_by old.newest x).row at);
+      tail = λ x tail at. no-tail old.newest span x next tail;
+      copied = λ row of at. not-both (next_stripe old span copied * (final_shape old.newest).chunk) row of.1 at.0;
+      zeroed = λ row of at. none-of-none (final_shape old.newest) (past_stripe old.newest) row of;
+    })
+
+    all : AreStripesStanding old new span e list → StandsInCourse sound new (entered span (stripes (final_shape new.newest) span.lo span.hi) sectioned) buffer e list
+    all done = record {
+      stands = subst (λ (hidden : Option Span). ListStands hidden new e list) (hidden-same span copied (stripes (final_shape new.newest) span.lo span.hi) sectioned) on.stands;
+      window = on.window;
+      zeros = on.zeros;
+      copied = λ row at. subst (λ (s : Shape). RowStands (reading_of new) e s list row) (sym moved.reshape.final)
+          (done row (subst (λ (s : Shape). IsOfStripes s (span.lo / stripe_sectors s) (stripes s span.lo span.hi) row) moved.reshape.final at));
+      tail = on.tail;
+      zeroed = on.zeroed;
+      rows = λ so. subst (λ (hidden : Option Span). RowsStand hidden new e list) (hidden-same span copied (stripes (final_shape new.newest) span.lo span.hi) sectioned) (on.rows so);
+    }
+
+-- ---- the members between
+
+module _ (given : Given) (old new : Members) (span : Span) (placed : IsPlaced given old) (next : next_window old.newest ≡ Some span) (moved : IsMoved given (moved_past span old) new) where
+  -- those of the end, with the position where it was
+  abbrev mid : Members
+  mid = record new { newest = record new.newest { reshape_position = old.newest.reshape_position } }
+
+  mid-rows : (state : Role) → rows_held (reading_of mid) state ≡ rows_held (reading_of new) state
+  mid-rows (Whole slot) = refl
+  mid-rows (Recovering slot) = refl
+  mid-rows Missing = refl
+
+  list-same : list_length new.newest ≡ list_length old.newest
+  list-same = list-alike (moved_past span old).newest new.newest moved.reshape moved.shape moved.size
+
+  unit-same : off_unit mid.newest ≡ off_unit old.newest
+  unit-same i = cond (not (moved.reshape.reshaping i) || is_multiple old.newest.reshape_position (unit (moved.shape i) (moved.reshape.final i)) || (old.newest.reshape_position == list-same i)) None
+      (Some (PositionNotOnUnit old.newest.reshape_position (unit (moved.shape i) (moved.reshape.final i))))
+
+  mid-fits : AreShapesFit mid.newest
+  mid-fits =
+      let fit = moved.placed.fit in
+      record {
+        valid = record { old = fit.valid.old; final = fit.valid.final };
+        size = fit.size;
+        final_size = fit.final_size;
+        level = fit.level;
+        unit = unit-same ∙ placed.fit.unit;
+        position = λ active. subst (λ (n : ℕ). old.newest.reshape_position ≤ n) (sym list-same) (placed.fit.position (sym moved.reshape.reshaping ∙ active));
+        delta = fit.delta;
+        delta_back = fit.delta_back;
+      }
+
+  mid-placed : IsPlaced given mid
+  mid-placed =
+      let end = moved.placed in
+      record {
+        fit = mid-fits;
+        roles = end.roles;
+        holders = λ role slot held. let h = end.holders role slot held in record { small = h.small; known = h.known; short = h.short; within = h.within };
+        behind = end.behind;
+        apart = end.apart;
+        live = end.live;
+      }
+
+  mid-moved : IsMoved given old mid
+  mid-moved = record {
+    placed = mid-placed;
+    unlost = moved.unlost;
+    held = moved.held;
+    states = moved.states;
+    rows = λ role. mid-rows (role_state (reading_of new) role) ∙ moved.rows role ∙ past-rows old span (role_state (reading_of new) role);
+    spares = moved.spares;
+    fewer = moved.fewer;
+    free = λ all slot has.
+        let f = free-moved given old new span moved all slot has in
+        let room = f.room in
+        record { room = record { small = room.small; known = room.known; short = room.short; within = room.within }; behind = f.behind; none = f.none; unlost = f.unlost };
+    reshape = record { reshaping = moved.reshape.reshaping; final = moved.reshape.final; position = refl; backward = moved.reshape.backward };
+    shape = moved.shape;
+    size = moved.size;
+    offsets = moved.offsets;
+    whole = moved.whole;
+    same = moved.same;
+  }
+
+  -- behind the window they are those of the end
+  past-mid : moved_past span mid ≡ new
+  past-mid i = record new { newest = record new.newest { reshape_position = at i } }
+    where
+      at : beyond (is_backward new.newest) span ≡ new.newest.reshape_position
+      at = (λ i. beyond (moved.reshape.backward i) span) ∙ sym moved.reshape.position
+
+  moved-on : IsMoved given (moved_past span mid) new
+  moved-on = subst (λ (m : Members). IsMoved given m new) (sym past-mid) (moved-same given given new new refl refl moved.placed moved.unlost)
+
+  -- what stands at the end stands on them
+  mid-held : (role row slot : ℕ) → held_slot (reading_of mid) role row ≡ Some slot → held_slot (reading_of new) role row ≡ Some slot
+  mid-held role row slot held =
+      ap (λ (n : ℕ). if nat_lt row n then holder (role_state (reading_of new) role) else None) (sym (mid-rows (role_state (reading_of new) role))) ∙ held
+
+  mid-row : (shape : Shape) (list : ℕ → Sector) (row : ℕ) (e : Contents) → RowStands (reading_of new) e shape list row → RowStands (reading_of mid) e shape list row
+  mid-row shape list row e stands = record {
+    whole = stands.whole;
+    sectors = λ role slot lt here held. stands.sectors role slot lt here (mid-held role row slot held);
+    parity = λ role slot lt here held. stands.parity role slot lt here (mid-held role row slot held);
+  }
+
+  mid-next : next_window mid.newest ≡ Some span
+  mid-next = next-moved given old mid span mid-moved next
+
+pub finishes-close : (sound : Type 0) → FinishesClose sound
+finishes-close sound given old new span copied sectioned buffer c e list placed moved next plain kept done was =
+    records-close sound (roomy between.newest) given between new span sectioned buffer e e list (placed-roomy given between here.placed) here.placed
+    (mid-next given old new span placed next moved) (moved-on given old new span placed next moved) (λ s k other. refl)
+    ((rests-go-on sound given old between span copied sectioned buffer c e list placed here next plain kept was).1
+    (λ row at. mid-row given old new span placed next moved (final_shape old.newest) list row e (done row at)))
+  where
+    between : Members
+    between = mid given old new span placed next moved
+
+    here : IsMoved given old between
+    here = mid-moved given old new span placed next moved

@@ -1,0 +1,115 @@
+-- What `finish_window` answers makes what an array in a reshape keeps, whether the window is finished or the call is refused.
+use Rattle.std.proofs.Common.{◌≡◌, ◌≢◌, ℕ, ◌==◌, Bool, List, [], ◌∷◌, ◌++◌, length, Option, Some, None, refl, sym, subst}
+use Rattle.std.specs.Prelude.{IsFalse, MatchOption, ⊤}
+use Rattle.md_base.specs.Sectors.{Sector}
+use Rattle.md_base.specs.declared.answers.Refusal.{Refusal}
+use Rattle.md_base.specs.declared.answers.Who.{Who}
+use Rattle.md_base.specs.declared.places.Shape.{Shape}
+use Rattle.md_base.specs.declared.places.Span.{Span}
+use Rattle.bank.specs.declared.bank.Operation.{Operation}
+use Rattle.bank.specs.Given.{Given}
+use Rattle.bank.specs.Tape.{disk}
+use Rattle.geometry.specs.Geometry.{stripes}
+use Rattle.superblocks.specs.declared.members.Members.{Members}
+use Rattle.superblocks.specs.Reading.{Scope, is_clean, final_shape}
+use Rattle.superblocks.proofs.ValidFields.{few-roles}
+use Rattle.row_io.specs.Rows.{reading_of, present}
+use Rattle.flat_history.specs.declared.events.Entry.{Entry}
+use Rattle.flat_history.specs.declared.events.Event.{Event}
+use Rattle.flat_history.specs.declared.events.Event.TheVariants.{Refused, Step}
+use Rattle.flat_history.specs.declared.events.StepKind.TheVariants.{WindowFinished as FinishesWindow}
+use Rattle.flat_history.specs.Plain.{entries_of}
+use Rattle.flat_history.specs.Sound.{OpensFit}
+use Rattle.flat_history.specs.World.{World}
+use Rattle.shape_views.specs.Regions.{DoWithout, ArePlaced}
+use Rattle.shape_views.specs.Views.{AreHeadersFit, Ledger}
+use Rattle.shape_views.specs.Windows.{HasNoSection, moved_past}
+use Rattle.shape_changes.specs.Safety.{HasRoomLeft, IsRisen}
+use Rattle.shape_changes.specs.Steady.{IsSafeOver, KeepsSafe, AreGoneTold, IsUncleanTold}
+use Rattle.views.specs.Placed.{IsPlaced}
+use Rattle.views.specs.Moving.{Grows, IsMoved}
+use Rattle.views.specs.Lacking.{AreTooMany, AreOtherRowsKept}
+use Rattle.window_rows.specs.Copies.{tail_of, IsCopied}
+use Rattle.window_calls.specs.Finishing.{IsOfRest, AreStripesCopied, IsOpenWindow}
+use Rattle.call_entries.specs.Losing.{losses_of}
+use Rattle.kept_history.specs.Recorded.{IsCallGoing, MayGoOn}
+use Rattle.grow_asked.specs.declared.window.Window.TheVariants.{Entered}
+use Rattle.course_kept.specs.declared.course.Course.{Course}
+use Rattle.course_kept.specs.Course.{IsBackupKept}
+use Rattle.course_kept.specs.Laws.{closed, entered}
+use Rattle.moving_kept.specs.Moving.{IsMoving}
+use Rattle.moving_kept.proofs.Steps.{AreMissingSince}
+use Rattle.moving_kept.proofs.Going.{going-on}
+use Rattle.moving_kept.proofs.Finishing.{IsRestWritten, finished-moves, unfinished-moves}
+
+-- ---- by the answer
+
+-- the event behind the losses
+abbrev pub finish_event : Option Refusal → ℕ → Event
+finish_event None left = Step FinishesWindow left
+finish_event (Some refusal) left = Refused refusal
+
+-- how far the reshape has come then, where the window had so many of its stripes copied
+abbrev pub finish_course : Option Refusal → Span → ℕ → Bool → Course
+finish_course None span copied sectioned = closed 0
+finish_course (Some refusal) span copied sectioned = entered span copied sectioned
+
+-- the steps that are left
+abbrev pub finish_left : Option Refusal → ℕ → ℕ → ℕ
+finish_left None former left = left
+finish_left (Some refusal) former left = former
+
+-- ---- the call
+
+-- What the call leaves by its contract; what is missing since is of these roles.
+pub record IsFinishedBy (tells : Type 0) (given : Given) (tape tape' : List Operation) (old new : Members) (shape : Shape) (span : Span) (copied done : ℕ) (buffer : List ℕ) (roles : ℕ) (refusal : Option Refusal) : Type 0 where
+  pub final : shape ≡ final_shape old.newest
+  pub moved : MatchOption refusal (IsMoved given (moved_past span old) new) (λ refusal. IsMoved given old new)
+  pub refused : MatchOption refusal ⊤ (AreTooMany new)
+  pub clean : is_clean new.newest ≡ is_clean old.newest
+  pub all : refusal ≡ None → done ≡ stripes shape span.lo span.hi
+  pub stands : tells → (list : ℕ → Sector) → IsCopied span buffer (tail_of old.newest) list → AreStripesCopied shape span copied old (present given tape) list → AreStripesCopied shape span done new (present given tape') list
+  pub others : tells → AreOtherRowsKept (IsOfRest shape span copied) (reading_of new) (present given tape) (present given tape')
+  pub plain : refusal ≡ None → tells → (scope : Scope) → ArePlaced scope given old → AreHeadersFit scope old (disk given.start tape)
+      → HasNoSection scope new (disk given.start tape') × AreHeadersFit scope new (disk given.start tape')
+  pub rise : IsRisen tells old new tape tape'
+  pub since : AreMissingSince old new roles
+  pub safe : tells → (world : World) → (told : Ledger) → HasRoomLeft old tape tape' → AreGoneTold told new → IsUncleanTold told old → (list : ℕ → Sector)
+      → IsOpenWindow (OpensFit world) world.scope told old span buffer copied list (present given tape) (disk given.start tape)
+      → IsSafeOver world given told old tape → KeepsSafe world given told new tape tape'
+
+module _ (tells : Type 0) (given : Given) (tape tape' : List Operation) (scope : Scope) (first : ℕ) (entries : List Entry) (old new : Members) (carried : ℕ → Bool)
+    (shape : Shape) (span : Span) (copied done : ℕ) (sectioned : Bool) (buffer : List ℕ) (who : Who) (end roles spares : ℕ)
+    (goes : IsCallGoing entries who) (caller : IsFalse (who.caller == 254)) (at_end : tells → end ≡ length tape') (grows : Grows tells tape tape') (enough : DoWithout old) where
+  rest : (refusal : Option Refusal) → IsPlaced given new → IsFinishedBy tells given tape tape' old new shape span copied done buffer roles refusal → IsRestWritten tells given tape tape' old new span copied buffer roles
+  rest refusal placed did = record {
+    few = few-roles new.newest placed.fit.valid;
+    since = did.since;
+    enough = enough;
+    clean = did.clean;
+    rise = λ t. record { left = did.rise.left; events = λ one live. did.rise.events t live };
+    others = λ t. subst (λ (s : Shape). AreOtherRowsKept (IsOfRest s span copied) (reading_of new) (present given tape) (present given tape')) did.final (did.others t);
+    safe = did.safe;
+  }
+
+  -- The call keeps the record, where the shapes in force did without what was missing before it.
+  pub finish-moves : (refusal : Option Refusal) (former left : ℕ) → IsMoving tells given tape scope first entries old carried (entered span copied sectioned) buffer former → left ≢ 0
+      → IsFinishedBy tells given tape tape' old new shape span copied done buffer roles refusal
+      → (tells → MatchOption refusal ⊤ (λ refusal. IsBackupKept scope (Entered span copied sectioned) (disk given.start tape) (disk given.start tape')))
+      → IsMoving tells given tape' scope first (entries ++ entries_of who end (losses_of roles spares ++ finish_event refusal left ∷ [])) new carried (finish_course refusal span copied sectioned) buffer (finish_left refusal former left)
+  finish-moves None former left was some did backup =
+      finished-moves tells given tape tape' scope first entries old new carried span copied sectioned buffer who end roles spares goes caller at_end grows (rest None did.moved.placed did) former left was some did.moved
+      (λ t list buffered written. subst (λ (s : Shape). AreStripesCopied s span (stripes s span.lo span.hi) new (present given tape') list) did.final
+      (subst (λ (n : ℕ). AreStripesCopied shape span n new (present given tape') list) (did.all refl)
+      (did.stands t list buffered (subst (λ (s : Shape). AreStripesCopied s span copied old (present given tape) list) (sym did.final) written))))
+      (λ t headers. did.plain refl t scope was.members_are.backed headers)
+  finish-moves (Some refusal) former left was some did backup =
+      unfinished-moves tells given tape tape' scope first entries old new carried span copied sectioned buffer who end roles spares goes caller at_end grows (rest (Some refusal) did.moved.placed did) former refusal was did.moved did.refused backup
+
+  -- And it goes on behind these entries.
+  pub finish-goes : (refusal : Option Refusal) (left : ℕ) → IsCallGoing (entries ++ entries_of who end (losses_of roles spares ++ finish_event refusal left ∷ [])) who
+  finish-goes refusal left = going-on entries who end roles spares (finish_event refusal left) goes (may refusal)
+    where
+      may : (refusal : Option Refusal) → MayGoOn (finish_event refusal left)
+      may None = tt
+      may (Some refusal) = tt

@@ -1,0 +1,135 @@
+-- A call that meets the open window finishes it first: what is left is copied, and the position behind it is recorded; or it is refused, and the window stays open.
+use Rattle.std.proofs.Common.{◌≡◌, ◌≢◌, inr, ℕ, ◌<◌, ◌≤◌, ◌==◌, Bool, true, List, [], ◌∷◌, ◌++◌, length, sym, ap, subst, arith}
+use Rattle.std.specs.Prelude.{IsFalse, ⊤}
+use Rattle.md_base.specs.Sectors.{Sector}
+use Rattle.md_base.specs.declared.answers.Refusal.{Refusal}
+use Rattle.md_base.specs.declared.answers.Who.{Who}
+use Rattle.md_base.specs.declared.places.Shape.{Shape}
+use Rattle.md_base.specs.declared.places.Span.{Span}
+use Rattle.bank.specs.declared.bank.Operation.{Operation}
+use Rattle.bank.specs.Given.{Given}
+use Rattle.bank.specs.Tape.{IsIn, disk}
+use Rattle.geometry.specs.Geometry.{stripes}
+use Rattle.superblocks.specs.declared.members.Members.{Members}
+use Rattle.superblocks.specs.Reading.{Scope, is_clean, final_shape, list_length, role_count}
+use Rattle.row_io.specs.Rows.{reading_of, present}
+use Rattle.flat_history.specs.declared.events.Entry.{Entry}
+use Rattle.flat_history.specs.declared.events.Event.TheVariants.{Refused, Step}
+use Rattle.flat_history.specs.declared.events.StepKind.TheVariants.{WindowFinished as FinishesWindow}
+use Rattle.flat_history.specs.Flat.{now, length_of, values_of}
+use Rattle.flat_history.specs.Plain.{entries_of}
+use Rattle.flat_history.specs.Sound.{OpensFit}
+use Rattle.flat_history.specs.World.{World, opening_list}
+use Rattle.shape_views.specs.Regions.{DoWithout}
+use Rattle.shape_views.specs.Views.{AreHeadersFit, Ledger}
+use Rattle.shape_views.specs.Windows.{HasNoSection, moved_past}
+use Rattle.shape_changes.specs.Safety.{HasRoomLeft, IsRisen}
+use Rattle.shape_changes.specs.Steady.{IsMoreTold, IsSafeOver, KeepsSafe, AreGoneTold, IsUncleanTold}
+use Rattle.views.specs.Moving.{Grows, IsMoved}
+use Rattle.views.specs.Lacking.{AreTooMany, AreOtherRowsKept}
+use Rattle.views.proofs.Fit.{list-alike}
+use Rattle.window_rows.specs.Copies.{tail_of, IsCopied}
+use Rattle.window_calls.specs.Finishing.{IsOfRest, AreStripesCopied, IsOpenWindow}
+use Rattle.call_entries.specs.Losing.{losses_of}
+use Rattle.call_entries.proofs.CallLaws.{losses-are}
+use Rattle.kept_history.specs.Recorded.{IsCallGoing}
+use Rattle.kept_history.specs.Safe.{world_in}
+use Rattle.kept_history.specs.Told.{told_now}
+use Rattle.kept_history.proofs.Lists.{newest-in}
+use Rattle.grow_asked.specs.declared.window.Window.TheVariants.{Entered}
+use Rattle.course_kept.specs.Course.{IsBackupKept}
+use Rattle.course_kept.specs.Laws.{closed, entered}
+use Rattle.course_kept.proofs.Courses.{courses-copied, list-beside, rows-beside}
+use Rattle.course_kept.proofs.Finishes.{rests-go-on, finishes-close}
+use Rattle.moving_kept.specs.Moving.{HasListInCourse, IsMoving}
+use Rattle.moving_kept.proofs.MembersMove.{reshaping-past}
+use Rattle.moving_kept.proofs.Quiet.{quiet-moves}
+use Rattle.moving_kept.proofs.Staying.{refused-moves}
+use Rattle.moving_kept.proofs.Steps.{AreMissingSince, quiet-step, missing-moved, told-step, able-kept, plain-of}
+
+-- ---- the open window
+
+-- What is kept of it is what the call asks, by whatever tells more than the history does.
+pub window-open : (tells : Type 0) (given : Given) (tape : List Operation) (scope : Scope) (first : ℕ) (entries : List Entry) (old : Members) (carried : ℕ → Bool)
+    (span : Span) (copied : ℕ) (sectioned : Bool) (buffer : List ℕ) (left : ℕ) → IsMoving tells given tape scope first entries old carried (entered span copied sectioned) buffer left → tells
+    → (told : Ledger) → IsMoreTold (told_now (world_in given tape scope first) carried true entries) told
+    → (l : HasListInCourse (OpensFit (world_in given tape scope first)) old (entered span copied sectioned) buffer (present given tape) (now (opening_list (world_in given tape scope first)) entries))
+    → IsOpenWindow (OpensFit (world_in given tape scope first)) scope told old span buffer copied l.list (present given tape) (disk given.start tape)
+window-open tells given tape scope first entries old carried span copied sectioned buffer left was t told more l = record {
+  able = able-kept scope given old span copied sectioned (disk given.start tape) was.course_is.window (was.stored t).section;
+  written = λ row at. l.stands.copied row at;
+  buffered = courses-copied (OpensFit (world_in given tape scope first)) scope given old span copied sectioned buffer (present given tape) l.list was.members_are.backed was.course_is.window.0 l.stands;
+  allowed = λ x lt. more.values x (within x lt) (l.list x) (subst (λ (v : Sector). IsIn (values_of (opening_list (world_in given tape scope first)) entries x) v) (sym (l.is x lt))
+      (newest-in (opening_list (world_in given tape scope first)) entries x (within x lt)));
+  stands = list-beside (OpensFit (world_in given tape scope first)) old span copied sectioned buffer (present given tape) l.list l.stands;
+  rows_are = λ is enough so. rows-beside (OpensFit (world_in given tape scope first)) old span copied sectioned buffer (present given tape) l.list l.stands so;
+  headers = (was.stored t).headers;
+  zeros = λ so x tail. l.stands.zeros tail.forth x tail.past;
+}
+  where
+    within : (x : ℕ) → x < list_length old.newest → x < length_of (length (opening_list (world_in given tape scope first))) entries
+    within x lt = let size = (was.recorded t).sized in omega (arith, lt, size)
+
+-- ---- the call
+
+-- What it leaves, whether it is done or refused: of the rows those of the stripes left to copy are written and no others, and it is safe from an open window. No
+-- more roles are missing before it than the shapes in force tolerate: that is judged first.
+pub record IsRestWritten (tells : Type 0) (given : Given) (tape tape' : List Operation) (old new : Members) (span : Span) (copied : ℕ) (buffer : List ℕ) (roles : ℕ) : Type 0 where
+  pub few : role_count new.newest ≤ 16
+  pub since : AreMissingSince old new roles
+  pub enough : DoWithout old
+  pub clean : is_clean new.newest ≡ is_clean old.newest
+  pub rise : tells → IsRisen ⊤ old new tape tape'
+  pub others : tells → AreOtherRowsKept (IsOfRest (final_shape old.newest) span copied) (reading_of new) (present given tape) (present given tape')
+  pub safe : tells → (world : World) → (told : Ledger) → HasRoomLeft old tape tape' → AreGoneTold told new → IsUncleanTold told old → (list : ℕ → Sector)
+      → IsOpenWindow (OpensFit world) world.scope told old span buffer copied list (present given tape) (disk given.start tape)
+      → IsSafeOver world given told old tape → KeepsSafe world given told new tape tape'
+
+module _ (tells : Type 0) (given : Given) (tape tape' : List Operation) (scope : Scope) (first : ℕ) (entries : List Entry) (old new : Members) (carried : ℕ → Bool)
+    (span : Span) (copied : ℕ) (sectioned : Bool) (buffer : List ℕ) (who : Who) (end roles spares : ℕ)
+    (goes : IsCallGoing entries who) (caller : IsFalse (who.caller == 254)) (at_end : tells → end ≡ length tape') (grows : Grows tells tape tape')
+    (did : IsRestWritten tells given tape tape' old new span copied buffer roles) where
+  -- The window is finished, and none is open: so many steps are left as it tells.
+  pub finished-moves : (former left : ℕ) → IsMoving tells given tape scope first entries old carried (entered span copied sectioned) buffer former → left ≢ 0 → IsMoved given (moved_past span old) new
+      → (tells → (list : ℕ → Sector) → IsCopied span buffer (tail_of old.newest) list → AreStripesCopied (final_shape old.newest) span copied old (present given tape) list
+      → AreStripesCopied (final_shape old.newest) span (stripes (final_shape old.newest) span.lo span.hi) new (present given tape') list)
+      → (tells → AreHeadersFit scope old (disk given.start tape) → HasNoSection scope new (disk given.start tape') × AreHeadersFit scope new (disk given.start tape'))
+      → IsMoving tells given tape' scope first (entries ++ entries_of who end (losses_of roles spares ++ Step FinishesWindow left ∷ [])) new carried (closed 0) buffer left
+  finished-moves former left was some moved stands plain =
+      quiet-moves tells given tape tape' scope first entries old new carried (entered span copied sectioned) (closed 0) buffer buffer former left who end roles spares (Step FinishesWindow left)
+      was goes caller at_end grows (quiet-step FinishesWindow left tt some) (reshaping-past scope given old new span was.course_is.window.0 moved was.members_are) did.few (missing-moved roles moved did.since)
+      (list-alike (moved_past span old).newest new.newest moved.reshape moved.shape moved.size) (ap (λ (s : Shape). s.level) moved.shape) did.clean
+      (record { window = tt; through = λ some. absurd (omega (arith, some)); few = omega arith })
+      (λ t. let now = plain t (was.stored t).headers in record { section = now.0; sectors = tt; headers = now.1 })
+      (told-step entries who end (losses_of roles spares) FinishesWindow left (losses-are roles spares))
+      (λ t. record {
+        rise = did.rise t;
+        keeps = λ told fills more room gone unclean here.
+            let l = was.listed t did.enough fills in
+            did.safe t (world_in given tape scope first) told room gone unclean l.list (window-open tells given tape scope first entries old carried span copied sectioned buffer former was t told more l) here;
+        listed = λ enough fills. on t (was.listed t did.enough fills);
+        legal = λ fills gone level. tt;
+      })
+    where
+      on : tells → HasListInCourse (OpensFit (world_in given tape scope first)) old (entered span copied sectioned) buffer (present given tape) (now (opening_list (world_in given tape scope first)) entries)
+          → HasListInCourse (OpensFit (world_in given tape scope first)) new (closed 0) buffer (present given tape') (now (opening_list (world_in given tape scope first)) entries)
+      on t l = record {
+        list = l.list;
+        is = λ x lt. l.is x (subst (λ (n : ℕ). x < n) (list-alike (moved_past span old).newest new.newest moved.reshape moved.shape moved.size) lt);
+        stands = finishes-close (OpensFit (world_in given tape scope first)) given old new span copied sectioned buffer (present given tape) (present given tape') l.list was.members_are.placed moved
+            was.course_is.window.0 (plain-of old.newest span copied sectioned was.course_is.window) (did.others t)
+            (stands t l.list (courses-copied (OpensFit (world_in given tape scope first)) scope given old span copied sectioned buffer (present given tape) l.list was.members_are.backed was.course_is.window.0 l.stands)
+            (λ row at. l.stands.copied row at)) l.stands;
+      }
+
+  -- It is refused: the window is open as before, and what was copied of it in the call is copied again.
+  pub unfinished-moves : (left : ℕ) (refusal : Refusal) → IsMoving tells given tape scope first entries old carried (entered span copied sectioned) buffer left → IsMoved given old new → AreTooMany new refusal
+      → (tells → IsBackupKept scope (Entered span copied sectioned) (disk given.start tape) (disk given.start tape'))
+      → IsMoving tells given tape' scope first (entries ++ entries_of who end (losses_of roles spares ++ Refused refusal ∷ [])) new carried (entered span copied sectioned) buffer left
+  unfinished-moves left refusal was moved many backup =
+      refused-moves tells given tape tape' scope first entries old new carried (entered span copied sectioned) buffer left who end roles spares refusal was goes caller at_end grows moved did.few did.since did.clean (inr many) did.rise backup
+      (λ t sound list stands. (rests-go-on sound given old new span copied sectioned buffer (present given tape) (present given tape') list was.members_are.placed moved was.course_is.window.0
+      (plain-of old.newest span copied sectioned was.course_is.window) (did.others t) stands).0)
+      (λ t told fills more room gone unclean here.
+      let l = was.listed t did.enough fills in
+      did.safe t (world_in given tape scope first) told room gone unclean l.list (window-open tells given tape scope first entries old carried span copied sectioned buffer left was t told more l) here)

@@ -1,0 +1,28 @@
+-- A call goes on behind entries that may stand before others.
+use Rattle.std.proofs.Common.{ℕ, List, [], ◌∷◌, ◌++◌, refl}
+use Rattle.std.specs.List.{All}
+use Rattle.std.proofs.lemmas.List.Elements.{All-nil, All-cons}
+use Rattle.md_base.specs.declared.answers.Who.{Who}
+use Rattle.flat_history.specs.declared.events.Entry.{Entry}
+use Rattle.flat_history.specs.declared.events.Event.{Event}
+use Rattle.flat_history.specs.declared.events.Event.TheVariants.{Lost, SpareLost}
+use Rattle.flat_history.specs.declared.events.LostCause.TheVariants.{Fault}
+use Rattle.flat_history.specs.OneShape.{IsOfCall}
+use Rattle.flat_history.specs.Plain.{entries_of}
+use Rattle.call_entries.specs.Losing.{losses_of}
+use Rattle.call_entries.proofs.CallLaws.{AreLossEvents, losses-are}
+use Rattle.kept_history.specs.Recorded.{IsCallGoing, MayGoOn, entry_of}
+use Rattle.kept_history.proofs.Records.{going-more}
+
+-- losses and such an event behind them may stand before others
+go-on : (who : Who) (end : ℕ) (xs : List Event) (event : Event) → AreLossEvents xs → MayGoOn event → All (λ e. IsOfCall who e × MayGoOn e.event) (entries_of who end (xs ++ event ∷ []))
+go-on who end [] event are may = All-cons (λ e. IsOfCall who e × MayGoOn e.event) (entry_of who end event) [] ((refl, refl), may) (All-nil (λ e. IsOfCall who e × MayGoOn e.event))
+go-on who end (Lost role Fault ∷ xs) event are may =
+    All-cons (λ e. IsOfCall who e × MayGoOn e.event) (entry_of who end (Lost role Fault)) (entries_of who end (xs ++ event ∷ [])) ((refl, refl), tt) (go-on who end xs event are may)
+go-on who end (SpareLost slot ∷ xs) event are may =
+    All-cons (λ e. IsOfCall who e × MayGoOn e.event) (entry_of who end (SpareLost slot)) (entries_of who end (xs ++ event ∷ [])) ((refl, refl), tt) (go-on who end xs event are may)
+go-on who end (x ∷ xs) event are may = absurd are
+
+-- behind them the call goes on
+pub going-on : (entries : List Entry) (who : Who) (end roles spares : ℕ) (event : Event) → IsCallGoing entries who → MayGoOn event → IsCallGoing (entries ++ entries_of who end (losses_of roles spares ++ event ∷ [])) who
+going-on entries who end roles spares event goes may = going-more entries (entries_of who end (losses_of roles spares ++ event ∷ [])) who goes (go-on who end (losses_of roles spares) event (losses-are roles spares) may)
