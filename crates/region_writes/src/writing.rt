@@ -12,8 +12,8 @@ ghost use Rattle.list_io.specs.Writing.{IsWritten, AreDataFrom, HasFull};
 ghost use Rattle.flat_history.specs.Sound.{OpensFit};
 ghost use Rattle.flat_history.specs.Stands.{shape_for};
 ghost use Rattle.flat_history.specs.World.{World};
-ghost use Rattle.shape_views.specs.Views.{IsTail, IsTailZero, Ledger};
-ghost use Rattle.shape_views.specs.Windows.{IsOfRegion, IsShown, ListStands};
+ghost use Rattle.shape_views.specs.Views.{IsTailZero, Ledger};
+ghost use Rattle.shape_views.specs.Windows.{IsOfRegion, IsShown, ListStands, AreTailsStanding};
 ghost use Rattle.shape_changes.specs.Steady.{AreUnlost, IsSafeOver, KeepsSafe, AreGoneTold, AreWritesAllowed};
 ghost use Rattle.shape_changes.specs.Marking.{AreOthersPresent};
 ghost use Rattle.shape_changes.specs.Safety.{HasRoomLeft, IsRisen};
@@ -275,10 +275,12 @@ pub fn put_list<B: Bank>(
     ensures grows { Grows B.tells (B.tape bank.old) (B.tape bank.new) }
     ensures put { result.refusal ≡ None → B.tells → (hidden : Option Span) → (list list' : ℕ → Sector) → IsWritten list list' first from.now
         → ListStands hidden members.old (present (B.given bank.old) (B.tape bank.old)) list → ListStands hidden members.new (present (B.given bank.old) (B.tape bank.new)) list' }
+    ensures tail { result.refusal ≡ None → B.tells → (list list' : ℕ → Sector) → IsWritten list list' first from.now
+        → AreTailsStanding members.old (present (B.given bank.old) (B.tape bank.old)) list → AreTailsStanding members.new (present (B.given bank.old) (B.tape bank.new)) list' }
     ensures others { B.tells → AreOtherRowsKept (IsListTouched members.old.newest first (first + length from.now / 512)) (reading_of members.new) (present (B.given bank.old) (B.tape bank.old)) (present (B.given bank.old) (B.tape bank.new)) }
     ensures good { result.refusal ≡ None → B.tells → (hidden : Option Span) → (list list' : ℕ → Sector) → IsWritten list list' first from.now → AreBytes from.now
-        → ((x : ℕ) → first ≤ x → x < first + length from.now / 512 → IsShown hidden members.old.newest x)
-        → RowsStandTo hidden relied members.old (present (B.given bank.old) (B.tape bank.old)) list → RowsStandTo hidden relied members.new (present (B.given bank.old) (B.tape bank.new)) list' }
+        → ((x : ℕ) → first ≤ x → x < first + length from.now / 512 → IsShown hidden members.old.newest x) → (bound : ℕ) → relied ≤ bound
+        → RowsStandTo hidden bound members.old (present (B.given bank.old) (B.tape bank.old)) list → RowsStandTo hidden bound members.new (present (B.given bank.old) (B.tape bank.new)) list' }
     ensures rebuilt { result.refusal ≡ None → B.tells → is_reshaping members.old.newest ≡ false → (list list' : ℕ → Sector) → IsWritten list list' first from.now
         → ListStands None members.old (present (B.given bank.old) (B.tape bank.old)) list → AreWhole members.new ⊎ RowsStandTo None relied members.old (present (B.given bank.old) (B.tape bank.old)) list
         → (role slot row : ℕ) → role < (shape_of members.old.newest).disks → role_state (reading_of members.new) role ≡ IsRecovering slot → row < members.old.newest.size
@@ -293,7 +295,8 @@ pub fn put_list<B: Bank>(
         → ((x : ℕ) → first ≤ x → x < first + length from.now / 512 → IsShown hidden members.old.newest x)
         → ListStands hidden members.old (present (B.given bank.old) (B.tape bank.old)) list
         → AreWhole members.new ⊎ RowsStandTo hidden relied members.old (present (B.given bank.old) (B.tape bank.old)) list
-        → (result.begun ≡ true → AreWritesAllowed members.old told.values list') → (OpensFit world → (x : ℕ) → IsTail members.old.newest x → ⊥)
+        → AreTailsStanding members.old (present (B.given bank.old) (B.tape bank.old)) list
+        → (result.begun ≡ true → AreWritesAllowed members.old told.values list') → (OpensFit world → IsTailZero members.old.newest list)
         → IsSafeOver world (B.given bank.old) told members.old (B.tape bank.old)
         → KeepsSafe world (B.given bank.old) told members.new (B.tape bank.old) (B.tape bank.new) }
     ensures given { B.given bank.new ≡ B.given bank.old }
