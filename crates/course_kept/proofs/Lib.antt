@@ -1,3 +1,4 @@
 pub mod Frames
 pub mod Courses
+pub mod Writes
 pub mod Under
