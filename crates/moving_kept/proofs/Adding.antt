@@ -1,4 +1,4 @@
--- A call that enters losses and one event behind them, by which the list may change: a write.
+-- A call whose events add to the list's values, behind what it tells lost: a write, or one that was torn.
 use Rattle.std.proofs.Common.{◌≡◌, ◌⊎◌, inl, inr, ℕ, ◌<◌, ◌≤◌, ◌==◌, ◌||◌, Bool, true, false, List, [], ◌∷◌, ◌++◌, length, refl, sym, ◌∙◌, ap, subst, arith, append-nil}
 use Rattle.std.specs.Prelude.{IsFalse, IfSome, ⊤}
 use Rattle.std.specs.List.{list_any}
@@ -11,13 +11,13 @@ use Rattle.bank.specs.Given.{Given, sizes}
 use Rattle.bank.specs.Tape.{IsIn, disk}
 use Rattle.superblocks.specs.declared.members.Members.{Members}
 use Rattle.superblocks.specs.Reading.{Scope, is_clean, shape_of, list_length, role_count}
-use Rattle.row_io.specs.Rows.{present}
+use Rattle.row_io.specs.Rows.{reading_of, present, is_missing}
 use Rattle.flat_history.specs.declared.events.Entry.{Entry}
 use Rattle.flat_history.specs.declared.events.Event.{Event}
 use Rattle.flat_history.specs.Epochs.{HasRoomForEvents, OpensAlike}
-use Rattle.flat_history.specs.Flat.{now}
+use Rattle.flat_history.specs.Flat.{now, values_of}
 use Rattle.flat_history.specs.Legal.{told_left, level_at, level_after, IsLegalEvent}
-use Rattle.flat_history.specs.Losses.{is_unsynced, unsettles}
+use Rattle.flat_history.specs.Losses.{loses, is_gone_after, is_unsynced, unsettles}
 use Rattle.flat_history.specs.OneShape.{is_unsettled}
 use Rattle.flat_history.specs.Plain.{entries_of}
 use Rattle.flat_history.specs.Sound.{OpensFit}
@@ -26,26 +26,27 @@ use Rattle.shape_views.specs.Regions.{DoWithout}
 use Rattle.shape_views.specs.Views.{Ledger}
 use Rattle.shape_changes.specs.Safety.{HasRoomLeft, IsRisen}
 use Rattle.shape_changes.specs.Steady.{IsMoreTold, IsSafeNow, IsSafeOver, KeepsSafe, AreGoneTold, IsUncleanTold}
+use Rattle.views.specs.Placed.{AreWhole}
 use Rattle.views.specs.Moving.{Grows}
 use Rattle.views.proofs.SoundViews.{throughout-kept}
 use Rattle.call_entries.specs.Losing.{losses_of}
 use Rattle.call_entries.proofs.CallLaws.{losses-are, last_end-behind}
-use Rattle.call_entries.proofs.StepLaws.{faults-are}
 use Rattle.call_entries.proofs.LosingLaws.{entries-both}
 use Rattle.kept_history.specs.Recorded.{IsHistoryKept, IsLegalCall, IsCallGoing, entry_of, ends_reshape, gives_some}
 use Rattle.kept_history.specs.Safe.{world_in, IsFilledRight, IsSafeHistory}
 use Rattle.kept_history.specs.Told.{told_now, told_by}
 use Rattle.kept_history.proofs.Growing.{fit-grown, now-grown, alike-before, room-before, room-now}
+use Rattle.kept_history.proofs.Ledgers.{gone-any}
 use Rattle.kept_history.proofs.Lists.{newest-in}
 use Rattle.kept_history.proofs.Seen.{now-more}
 use Rattle.kept_history.proofs.Calls.{safe-called}
 use Rattle.kept_history.proofs.KeptCalls.{kept-call}
-use Rattle.kept_history.proofs.Entered.{adds_only, AreAdding, told-adding, told-added, adding-losses, length-adding}
+use Rattle.kept_history.proofs.Entered.{adds_only, AreAdding, told-adding, told-added, length-adding}
 use Rattle.kept_history.proofs.Reshapes.{call-ends_none}
 use Rattle.course_kept.specs.declared.course.Course.{Course}
 use Rattle.course_kept.specs.Course.{IsCourseOf, IsStored, StandsInCourse}
 use Rattle.moving_kept.specs.Moving.{AreReshaping, IsReliable, AreToldGone, HasListInCourse, IsMoving}
-use Rattle.moving_kept.proofs.Behind.{AreLostOrMissing, IsAmong, IsBehind, early-losses, is-behind, legal-losses, and-true}
+use Rattle.moving_kept.proofs.Behind.{AreFirst, AreLostOrMissing, IsAmong, IsBehind, first-early, early-losses, first-behind, legal-losses, and-true}
 use Rattle.moving_kept.proofs.Quiet.{IsLeftBy}
 
 -- An event that only adds to what is told: it settles nothing, keeps the length and the level, and neither ends a reshape nor gives a role.
@@ -55,7 +56,25 @@ pub record IsAdding (event : Event) : Type 0 where
   pub ends : ends_reshape event ≡ false
   pub level : (n : ℕ) → level_after n event ≡ n
 
--- What is asked of a call, from this tape to that one with its end there.
+-- What is asked of a call, from this tape to that one with its end there, that enters these events before its last one: it may lose only what it tells, so that what is
+-- filled in is right, where it is by its entries.
+pub record IsAddingBehind (given : Given) (tape : List Operation) (scope : Scope) (first : ℕ) (entries : List Entry) (old new : Members) (carried : ℕ → Bool) (course' : Course) (buffer' : List ℕ)
+    (who : Who) (early : List Event) (event : Event) (tape' : List Operation) (end : ℕ) : Type 0 where
+  pub rise : IsRisen ⊤ old new tape tape'
+  pub keeps : (told : Ledger) → IsFilledRight (world_in given tape scope first) entries → AreWhole new ⊎ OpensFit (world_in given tape scope first)
+      → IsMoreTold (told_now (world_in given tape scope first) carried true entries) told
+      → ((x : ℕ) (v : Sector) → IsIn (values_of (opening_list (world_in given tape scope first)) (entries ++ entries_of who end (early ++ event ∷ [])) x) v → IsIn (told.values x) v)
+      → ((x : ℕ) → x < list_length old.newest → IsIn (told.values x) (now (opening_list (world_in given tape scope first)) (entries ++ entries_of who end (early ++ event ∷ [])) x))
+      → HasRoomLeft old tape tape' → AreGoneTold told new → IsUncleanTold told old → (unsettles event ≡ true → told.unclean ≡ true)
+      → IsSafeOver (world_in given tape scope first) given told old tape → KeepsSafe (world_in given tape scope first) given told new tape tape'
+  pub listed : DoWithout new → IsFilledRight (world_in given tape scope first) entries
+      → HasListInCourse (OpensFit (world_in given tape scope first)) new course' buffer' (present given tape')
+      (now (opening_list (world_in given tape scope first)) (entries ++ entries_of who end (early ++ event ∷ [])))
+  pub legal : IsReliable (world_in given tape scope first) entries → AreToldGone (world_in given tape' scope first) (entries ++ entries_of who end early) new
+      → level_at (world_in given tape' scope first) (entries ++ entries_of who end early) ≡ level_at (world_in given tape scope first) entries
+      → IsLegalCall (world_in given tape' scope first) entries who end (early ++ event ∷ [])
+
+-- The same of a call that enters losses before its event.
 pub record IsAddingCall (given : Given) (tape : List Operation) (scope : Scope) (first : ℕ) (entries : List Entry) (old new : Members) (carried : ℕ → Bool) (course' : Course) (buffer' : List ℕ)
     (who : Who) (roles spares : ℕ) (event : Event) (tape' : List Operation) (end : ℕ) : Type 0 where
   pub rise : IsRisen ⊤ old new tape tape'
@@ -71,11 +90,17 @@ pub record IsAddingCall (given : Given) (tape : List Operation) (scope : Scope) 
       → level_at (world_in given tape' scope first) (entries ++ entries_of who end (losses_of roles spares)) ≡ level_at (world_in given tape scope first) entries
       → IsLegalEvent (world_in given tape' scope first) (entries ++ entries_of who end (losses_of roles spares)) (entry_of who end event) [] event
 
+-- a role that no entry takes isn't gone
+not-gone : (world : World) (entries : List Entry) (role : ℕ) → list_any (loses world role) entries ≡ false → is_gone_after world entries role ≡ true → ⊥
+unfolding is_gone_after
+not-gone world entries role none is = absurd (let any : list_any (loses world role) entries ≡ true = gone-any world role [] entries is in let both = sym none ∙ any in cc)
+
 module _ (given : Given) (tape : List Operation) (scope : Scope) (first : ℕ) (entries : List Entry) (old new : Members) (carried : ℕ → Bool) (course' : Course) (buffer' : List ℕ)
-    (who : Who) (roles spares : ℕ) (event : Event) (ops : List Operation)
+    (who : Who) (early : List Event) (IsTaken : ℕ → Type 0) (event : Event) (ops : List Operation) (are : AreFirst early IsTaken)
     (goes : IsCallGoing entries who) (caller : IsFalse (who.caller == 254)) (adding : IsAdding event) (few : role_count new.newest ≤ 16)
-    (missing : AreLostOrMissing old new (IsAmong roles))
-    (sized : list_length new.newest ≡ list_length old.newest) (clean : is_clean new.newest ≡ false → (is_clean old.newest ≡ false) ⊎ (unsettles event ≡ true)) (sizes_are : scope.sizes ≡ sizes given)
+    (missing : AreLostOrMissing old new IsTaken)
+    (sized : list_length new.newest ≡ list_length old.newest)
+    (clean : is_clean new.newest ≡ false → ((is_unsynced (world_in given tape scope first) entries || is_unsettled entries) ≡ true) ⊎ (unsettles event ≡ true)) (sizes_are : scope.sizes ≡ sizes given)
     (gone : IsReliable (world_in given tape scope first) entries → AreToldGone (world_in given tape scope first) entries old)
     (unclean : is_clean old.newest ≡ false → (is_unsynced (world_in given tape scope first) entries || is_unsettled entries) ≡ true)
     (recorded : IsHistoryKept (IsReliable (world_in given tape scope first) entries) (world_in given tape scope first) (list_length old.newest) entries)
@@ -83,7 +108,7 @@ module _ (given : Given) (tape : List Operation) (scope : Scope) (first : ℕ) (
     → IsSafeHistory ⊤ (world_in given tape scope first) given old carried true entries)
     (now_safe : IsFilledRight (world_in given tape scope first) entries → HasRoomForEvents (world_in given tape scope first) → OpensAlike (world_in given tape scope first)
     → IsSafeOver (world_in given tape scope first) given (told_now (world_in given tape scope first) carried true entries) old tape)
-    (call : IsAddingCall given tape scope first entries old new carried course' buffer' who roles spares event (tape ++ ops) (length (tape ++ ops))) where
+    (call : IsAddingBehind given tape scope first entries old new carried course' buffer' who early event (tape ++ ops) (length (tape ++ ops))) where
   abbrev world : World
   world = world_in given tape scope first
 
@@ -93,23 +118,17 @@ module _ (given : Given) (tape : List Operation) (scope : Scope) (first : ℕ) (
   abbrev end : ℕ
   end = length (tape ++ ops)
 
-  abbrev losses : List Event
-  losses = losses_of roles spares
-
-  abbrev more : List Entry
-  more = entries_of who (length (tape ++ ops)) (losses_of roles spares)
-
   abbrev added : List Entry
-  added = entries_of who (length (tape ++ ops)) (losses_of roles spares ++ event ∷ [])
+  added = entries_of who (length (tape ++ ops)) (early ++ event ∷ [])
 
   abbrev all : List Entry
-  all = entries ++ entries_of who (length (tape ++ ops)) (losses_of roles spares ++ event ∷ [])
+  all = entries ++ entries_of who (length (tape ++ ops)) (early ++ event ∷ [])
 
-  behind : IsBehind (world_in given tape scope first) (world_in given (tape ++ ops) scope first) entries new who (length (tape ++ ops)) (losses_of roles spares) event
-  behind = is-behind given tape scope first entries old new who (losses_of roles spares) (IsAmong roles) event ops (early-losses roles spares) adding.gives adding.ends adding.level few missing gone recorded
+  behind : IsBehind (world_in given tape scope first) (world_in given (tape ++ ops) scope first) entries new who (length (tape ++ ops)) early event
+  behind = first-behind given tape scope first entries old new who early IsTaken event ops are adding.gives adding.ends adding.level few missing gone recorded
 
   adds-all : AreAdding added
-  adds-all = adding-losses who end losses (event ∷ []) (faults-are losses (losses-are roles spares)) (and-true (adds_only event) true adding.adds refl)
+  adds-all = are.adds who end (event ∷ []) (and-true (adds_only event) true adding.adds refl)
 
   -- ---- what is told
 
@@ -128,8 +147,8 @@ module _ (given : Given) (tape : List Operation) (scope : Scope) (first : ℕ) (
 
   told-unsettled : unsettles event ≡ true → told.unclean ≡ true
   told-unsettled is = last-of (is_unsynced later entries) (is_unsettled entries) (list_any (λ e. unsettles e.event) added)
-      (ap (λ (l : List Entry). list_any (λ e. unsettles e.event) l) (entries-both who end losses (event ∷ []))
-      ∙ list_any-append (λ e. unsettles e.event) more (entries_of who end (event ∷ [])) ∙ last-true (list_any (λ e. unsettles e.event) more) (unsettles event) is)
+      (ap (λ (l : List Entry). list_any (λ e. unsettles e.event) l) (entries-both who end early (event ∷ []))
+      ∙ list_any-append (λ e. unsettles e.event) (entries_of who end early) (entries_of who end (event ∷ [])) ∙ last-true (list_any (λ e. unsettles e.event) (entries_of who end early)) (unsettles event) is)
     where
       last-true : (a b : Bool) → b ≡ true → (a || (b || false)) ≡ true
       last-true true b e = refl
@@ -143,20 +162,17 @@ module _ (given : Given) (tape : List Operation) (scope : Scope) (first : ℕ) (
 
   unclean-all : is_clean new.newest ≡ false → (is_unsynced later all || is_unsettled all) ≡ true
   unclean-all dirty = elim (clean dirty) [
-    | inl before ↦ told-last.unclean (told-first.unclean (unclean before))
+    | inl before ↦ told-last.unclean (told-first.unclean before)
     | inr wrote ↦ told-last.unclean (told-unsettled wrote)
   ]
 
   -- ---- the history
 
-  legal-call : IsReliable later all → IsLegalCall later entries who end (losses ++ event ∷ [])
-  legal-call fills = legal-losses later entries who end losses (event ∷ []) (losses-are roles spares) (call.legal (behind.right fills) (behind.gone_more fills) behind.level_more, tt, tt)
-
   recorded-all : IsHistoryKept (IsReliable later all) later (list_length new.newest) all
-  recorded-all = kept-call (IsReliable world entries) (IsReliable later all) world ops (list_length old.newest) (list_length new.newest) entries who (losses ++ event ∷ []) goes recorded behind.right caller
+  recorded-all = kept-call (IsReliable world entries) (IsReliable later all) world ops (list_length old.newest) (list_length new.newest) entries who (early ++ event ∷ []) goes recorded behind.right caller
       (λ fills. inr behind.gives_all) (length-adding (length (opening_list world)) entries added adds-all ∙ recorded.sized ∙ sym sized)
-      (last_end-behind first entries who end losses event) legal-call
-      (λ fills. call-ends_none later entries who end (losses ++ event ∷ []) behind.ends)
+      (last_end-behind first entries who end early event) (λ fills. call.legal (behind.right fills) (behind.gone_more fills) behind.level_more)
+      (λ fills. call-ends_none later entries who end (early ++ event ∷ []) behind.ends)
 
   -- ---- the list
 
@@ -165,6 +181,9 @@ module _ (given : Given) (tape : List Operation) (scope : Scope) (first : ℕ) (
 
   allowed : (x : ℕ) → x < list_length old.newest → IsIn (told.values x) (now (opening_list world) all x)
   allowed x lt = subst (IsIn (told.values x)) (now-same x) (newest-in (opening_list later) all x (let size = recorded-all.sized in omega (arith, lt, size, sized)))
+
+  values-allowed : (x : ℕ) (v : Sector) → IsIn (values_of (opening_list world) all x) v → IsIn (told.values x) v
+  values-allowed x v may = subst (λ (l : List Sector). IsIn (values_of l all x) v) (sym behind.opened) may
 
   listed-all : DoWithout new → IsFilledRight later all → HasListInCourse (OpensFit later) new course' buffer' (present given (tape ++ ops)) (now (opening_list later) all)
   listed-all does fills =
@@ -181,8 +200,20 @@ module _ (given : Given) (tape : List Operation) (scope : Scope) (first : ℕ) (
     abbrev was : IsSafeHistory ⊤ (world_in given tape scope first) given old carried true entries
     was = safe (behind.fills fills) (room-before world ops begun room) (alike-before world ops begun alike)
 
+    -- where no entry takes a role, none is missing
+    whole-or : AreWhole new ⊎ OpensFit world
+    whole-or = of fills
+      where
+        of : IsFilledRight later all → AreWhole new ⊎ OpensFit world
+        of (inl none) = inl (λ role lt. by role lt (is_missing (reading_of new) role) refl)
+          where
+            by : (role : ℕ) → role < role_count new.newest → (b : Bool) → is_missing (reading_of new) role ≡ b → b ≡ false
+            by role lt false is = refl
+            by role lt true is = absurd (not-gone later all role (none role) (behind.gone_all (record { fills = fills; room = room; alike = alike }) role lt is))
+        of (inr fit) = inr (subst (λ (p : Type 0). p) (fit-grown world ops begun) fit)
+
     stretch : KeepsSafe world given told new tape (tape ++ ops)
-    stretch = call.keeps told (behind.fills fills) told-first allowed (room-now world ops begun old was.counted room)
+    stretch = call.keeps told (behind.fills fills) whole-or told-first values-allowed allowed (room-now world ops begun old was.counted room)
         (λ role lt miss. behind.counts_all (record { fills = fills; room = room; alike = alike }) role lt miss)
         (λ dirty. told-first.unclean (unclean dirty)) told-unsettled
         (now-more (OpensFit world) scope given (told_now world carried true entries) told old (disk given.start tape) told-first (now_safe (behind.fills fills) (room-before world ops begun room) (alike-before world ops begun alike)))
@@ -193,12 +224,12 @@ module _ (given : Given) (tape : List Operation) (scope : Scope) (first : ℕ) (
     abbrev all_of : List Event → List Entry
     all_of l = entries ++ entries_of who (length (tape ++ ops)) l
 
-    no-more : (losses ++ event ∷ []) ++ [] ≡ losses ++ event ∷ []
-    no-more = append-nil (losses ++ event ∷ [])
+    no-more : (early ++ event ∷ []) ++ [] ≡ early ++ event ∷ []
+    no-more = append-nil (early ++ event ∷ [])
 
     safe-all : IsSafeHistory ⊤ later given new carried true all
     safe-all = subst (λ (l : List Event). IsSafeHistory ⊤ later given new carried true (all_of l)) no-more
-        (safe-called ⊤ given tape scope first entries old new carried carried true true who (losses ++ event ∷ []) [] told ops (tape ++ ops) end refl refl sizes_are begun recorded.ends was
+        (safe-called ⊤ given tape scope first entries old new carried carried true true who (early ++ event ∷ []) [] told ops (tape ++ ops) end refl refl sizes_are begun recorded.ends was
         (subst (λ (l : List Event). IsFilledRight later (all_of l)) (sym no-more) fills) call.rise
         (λ claimed opened mark low high. throughout-kept world given told new ops refl begun stretch (was.sound tt) opened mark (omega (arith, begun, low)) high)
         (record { size = refl; values = λ x lt v may. may; gone = λ role is. is; unclean = λ is. is; reshaping = λ is. is; carried = λ number is. refl }) stretch
@@ -222,16 +253,18 @@ module _ (given : Given) (tape : List Operation) (scope : Scope) (first : ℕ) (
 -- ---- what is kept
 
 -- The call keeps the record, by the list that it leaves.
-pub adding-moves : (tells : Type 0) (given : Given) (tape tape' : List Operation) (scope : Scope) (first : ℕ) (entries : List Entry) (old new : Members) (carried : ℕ → Bool) (course course' : Course)
-    (buffer buffer' : List ℕ) (left left' : ℕ) (who : Who) (end roles spares : ℕ) (event : Event)
+pub behind-moves : (tells : Type 0) (given : Given) (tape tape' : List Operation) (scope : Scope) (first : ℕ) (entries : List Entry) (old new : Members) (carried : ℕ → Bool) (course course' : Course)
+    (buffer buffer' : List ℕ) (left left' : ℕ) (who : Who) (end : ℕ) (early : List Event) (IsTaken : ℕ → Type 0) (event : Event)
     → IsMoving tells given tape scope first entries old carried course buffer left → IsCallGoing entries who → IsFalse (who.caller == 254) → (tells → end ≡ length tape') → Grows tells tape tape' → IsAdding event
     → AreReshaping scope given new → role_count new.newest ≤ 16
-    → AreLostOrMissing old new (IsAmong roles)
-    → list_length new.newest ≡ list_length old.newest → (shape_of new.newest).level ≡ (shape_of old.newest).level → (is_clean new.newest ≡ false → (is_clean old.newest ≡ false) ⊎ (unsettles event ≡ true)) → IsCourseOf new.newest course' → (tells → IsStored scope new course'.window buffer' (disk given.start tape'))
-    → IfSome (told_left (entries ++ entries_of who end (losses_of roles spares ++ event ∷ []))) (λ n. n ≡ left')
-    → (tells → IsAddingCall given tape scope first entries old new carried course' buffer' who roles spares event tape' end)
-    → IsMoving tells given tape' scope first (entries ++ entries_of who end (losses_of roles spares ++ event ∷ [])) new carried course' buffer' left'
-adding-moves tells given tape tape' scope first entries old new carried course course' buffer buffer' left left' who end roles spares event was goes caller at_end grows adding members few missing sized level clean
+    → AreFirst early IsTaken → AreLostOrMissing old new IsTaken
+    → list_length new.newest ≡ list_length old.newest → (shape_of new.newest).level ≡ (shape_of old.newest).level
+    → (tells → is_clean new.newest ≡ false → ((is_unsynced (world_in given tape scope first) entries || is_unsettled entries) ≡ true) ⊎ (unsettles event ≡ true))
+    → IsCourseOf new.newest course' → (tells → IsStored scope new course'.window buffer' (disk given.start tape'))
+    → IfSome (told_left (entries ++ entries_of who end (early ++ event ∷ []))) (λ n. n ≡ left')
+    → (tells → IsAddingBehind given tape scope first entries old new carried course' buffer' who early event tape' end)
+    → IsMoving tells given tape' scope first (entries ++ entries_of who end (early ++ event ∷ [])) new carried course' buffer' left'
+behind-moves tells given tape tape' scope first entries old new carried course course' buffer buffer' left left' who end early IsTaken event was goes caller at_end grows adding members few are missing sized level clean
     course_is stored told call = record {
       slots = was.slots;
       members_are = members;
@@ -249,14 +282,40 @@ adding-moves tells given tape tape' scope first entries old new carried course c
     }
   where
     Then : List Operation → ℕ → Type 0
-    Then l e = IsAddingCall given tape scope first entries old new carried course' buffer' who roles spares event l e
-        → IsLeftBy given tape scope first entries (entries ++ entries_of who e (losses_of roles spares ++ event ∷ [])) new carried course' buffer' l
+    Then l e = IsAddingBehind given tape scope first entries old new carried course' buffer' who early event l e
+        → IsLeftBy given tape scope first entries (entries ++ entries_of who e (early ++ event ∷ [])) new carried course' buffer' l
 
-    leaves : tells → IsLeftBy given tape scope first entries (entries ++ entries_of who end (losses_of roles spares ++ event ∷ [])) new carried course' buffer' tape'
+    leaves : tells → IsLeftBy given tape scope first entries (entries ++ entries_of who end (early ++ event ∷ [])) new carried course' buffer' tape'
     leaves t =
         let g = grows.more t in
         subst (λ (l : List Operation). Then l end) (sym g.1)
         (subst (Then (tape ++ g.0)) (sym (at_end t ∙ ap (λ (l : List Operation). length l) g.1))
-        (λ adding_call. adding-leaves given tape scope first entries old new carried course' buffer' who roles spares event g.0 goes caller adding few missing sized clean was.sizes_are
+        (λ adding_call. adding-leaves given tape scope first entries old new carried course' buffer' who early IsTaken event g.0 are goes caller adding few missing sized (clean t) was.sizes_are
         (was.gone t) (was.unclean t) (was.recorded t) (was.safe t) (was.now_safe t) adding_call))
         (call t)
+
+-- And so does a call that enters losses before its event.
+pub adding-moves : (tells : Type 0) (given : Given) (tape tape' : List Operation) (scope : Scope) (first : ℕ) (entries : List Entry) (old new : Members) (carried : ℕ → Bool) (course course' : Course)
+    (buffer buffer' : List ℕ) (left left' : ℕ) (who : Who) (end roles spares : ℕ) (event : Event)
+    → IsMoving tells given tape scope first entries old carried course buffer left → IsCallGoing entries who → IsFalse (who.caller == 254) → (tells → end ≡ length tape') → Grows tells tape tape' → IsAdding event
+    → AreReshaping scope given new → role_count new.newest ≤ 16
+    → AreLostOrMissing old new (IsAmong roles)
+    → list_length new.newest ≡ list_length old.newest → (shape_of new.newest).level ≡ (shape_of old.newest).level → (is_clean new.newest ≡ false → (is_clean old.newest ≡ false) ⊎ (unsettles event ≡ true)) → IsCourseOf new.newest course' → (tells → IsStored scope new course'.window buffer' (disk given.start tape'))
+    → IfSome (told_left (entries ++ entries_of who end (losses_of roles spares ++ event ∷ []))) (λ n. n ≡ left')
+    → (tells → IsAddingCall given tape scope first entries old new carried course' buffer' who roles spares event tape' end)
+    → IsMoving tells given tape' scope first (entries ++ entries_of who end (losses_of roles spares ++ event ∷ [])) new carried course' buffer' left'
+adding-moves tells given tape tape' scope first entries old new carried course course' buffer buffer' left left' who end roles spares event was goes caller at_end grows adding members few missing sized level clean
+    course_is stored told call =
+    behind-moves tells given tape tape' scope first entries old new carried course course' buffer buffer' left left' who end (losses_of roles spares) (IsAmong roles) event was goes caller at_end grows adding members few
+    (first-early (early-losses roles spares)) missing sized level
+    (λ t dirty. elim (clean dirty) [
+      | inl before ↦ inl (was.unclean t before)
+      | inr wrote ↦ inr wrote
+    ])
+    course_is stored told
+    (λ t. let of = call t in record {
+      rise = of.rise;
+      keeps = λ told fills whole more values allowed room gone unclean unsettled before. of.keeps told fills more allowed room gone unclean unsettled before;
+      listed = of.listed;
+      legal = λ fills gone level. legal-losses (world_in given tape' scope first) entries who end (losses_of roles spares) (event ∷ []) (losses-are roles spares) (of.legal fills gone level, tt, tt);
+    })

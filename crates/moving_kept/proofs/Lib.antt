@@ -7,6 +7,7 @@ pub mod MoreSteps
 pub mod Staying
 pub mod Entering
 pub mod Adding
+pub mod Writing
 pub mod Settling
 pub mod Flushing
 pub mod Failing
@@ -17,3 +18,5 @@ pub mod Begun
 pub mod KeptStill
 pub mod BegunCall
 pub mod BegunMembers
+pub mod Shortening
+pub mod Shortened

@@ -1,8 +1,7 @@
 -- What the list is behind a write of two runs, and by which list their rows may be written.
-use Rattle.std.proofs.Common.{◌≡◌, ◌⊎◌, inl, inr, ℕ, ◌+◌, ◌-◌, ◌/◌, ◌<◌, ◌≤◌, ◌==◌, nat_lt, Bool, true, false, if◌then◌else◌, List, [], length, slice_index, Contains, Option, Some, refl, sym, ◌∙◌, ap, subst, arith, eqb-true, eq-eqb}
+use Rattle.std.proofs.Common.{◌≡◌, ◌⊎◌, inl, inr, ℕ, ◌+◌, ◌-◌, ◌/◌, ◌<◌, ◌≤◌, ◌==◌, Bool, true, false, if◌then◌else◌, List, [], length, slice_index, Contains, Option, Some, refl, sym, ◌∙◌, ap, subst, arith, eqb-true, eq-eqb}
 use Rattle.std.specs.Option.{option_map_or}
 use Rattle.std.proofs.lemmas.Bool.{cases_lt}
-use Rattle.std.proofs.lemmas.Bool.Decides.{nat_tests}
 use Rattle.std.proofs.lemmas.List.{get_or_default}
 use Rattle.md_base.specs.Sectors.{Sector}
 use Rattle.md_base.specs.Shapes.{is_valid_shape}
@@ -200,17 +199,17 @@ module _ (given : Given) (old mid new : Members) (one : IsMoved given old mid) (
     behind-end : MayBeHidden old.newest hidden → ListStands hidden old before list → AreTailsStanding old before list
         → DataStandsAmong run.shape (Contains rows) old before (mixed (λ y. is_listed old.newest y) list)
     behind-end window stands tails = mixed-stands (λ y. is_listed old.newest y) list (λ y slot passes has held. elim (listed-or-tail old.newest y passes) [
-        | inl y-in ↦
-            let touch = these.touched.only (place run.shape y).row has in
-            let t = run-sector old.newest was.fit run is (place run.shape y).row touch in
-            let here : shape_for old.newest y ≡ run.shape = mate-shape old.newest was.fit run is (place run.shape y).row y touch y-in refl in
-            let out = shown-mate old.newest was.fit hidden window t.0 y (shown t.0 t.1 t.2).within (run-mate old.newest was.fit run is (place run.shape y).row y touch y-in refl) (shown t.0 t.1 t.2).outside in
-            subst (λ (s : Shape). held_slot (reading_of old) (place s y).role (place s y).row ≡ Some slot → before slot (data_offset_of (reading_of old) slot + (place s y).row) ≡ list y) here
-            (stands y slot (record { within = y-in; outside = out })) held
-        | inr tail ↦
-            subst (λ (s : Shape). held_slot (reading_of old) (place s y).role (place s y).row ≡ Some slot → before slot (data_offset_of (reading_of old) slot + (place s y).row) ≡ list y)
-            (sym (tail-run old.newest was.fit run is y (place run.shape y).row tail (these.touched.only (place run.shape y).row has))) (tails y slot tail) held
-      ])
+      | inl y-in ↦
+          let touch = these.touched.only (place run.shape y).row has in
+          let t = run-sector old.newest was.fit run is (place run.shape y).row touch in
+          let here : shape_for old.newest y ≡ run.shape = mate-shape old.newest was.fit run is (place run.shape y).row y touch y-in refl in
+          let out = shown-mate old.newest was.fit hidden window t.0 y (shown t.0 t.1 t.2).within (run-mate old.newest was.fit run is (place run.shape y).row y touch y-in refl) (shown t.0 t.1 t.2).outside in
+          subst (λ (s : Shape). held_slot (reading_of old) (place s y).role (place s y).row ≡ Some slot → before slot (data_offset_of (reading_of old) slot + (place s y).row) ≡ list y) here
+          (stands y slot (record { within = y-in; outside = out })) held
+      | inr tail ↦
+          subst (λ (s : Shape). held_slot (reading_of old) (place s y).role (place s y).row ≡ Some slot → before slot (data_offset_of (reading_of old) slot + (place s y).row) ≡ list y)
+          (sym (tail-run old.newest was.fit run is y (place run.shape y).row tail (these.touched.only (place run.shape y).row has))) (tails y slot tail) held
+    ])
 
     -- so there is a list by which they may be written
     pub choose : MayBeHidden old.newest hidden → ListStands hidden old before list → AreTailsStanding old before list → AreWhole new ⊎ RowsStandTo hidden relied old before list
