@@ -17,7 +17,7 @@ use Rattle.bank.specs.Given.{Given}
 use Rattle.bank.specs.Tape.{IsIn, disk}
 use Rattle.sb1.specs.declared.sb.Sb.{Sb}
 use Rattle.superblocks.specs.declared.members.Members.{Members}
-use Rattle.superblocks.specs.Reading.{Scope, shape_of, list_length, role_count}
+use Rattle.superblocks.specs.Reading.{Scope, shape_of, final_shape, list_length, role_count}
 use Rattle.row_io.specs.Rows.{reading_of, present}
 use Rattle.list_io.specs.Writing.{IsWritten}
 use Rattle.flat_history.specs.declared.events.Entry.{Entry}
@@ -34,7 +34,7 @@ use Rattle.flat_history.specs.Transfers.{IsTooMany}
 use Rattle.flat_history.specs.World.{World, opening_list}
 use Rattle.shape_views.specs.Regions.{AreShapesFit, place_by, DoWithout}
 use Rattle.shape_views.specs.Views.{Ledger, IsTailZero}
-use Rattle.shape_views.specs.Windows.{IsShown, ListStands, AreTailsStanding}
+use Rattle.shape_views.specs.Windows.{IsShown, AreTailsStanding}
 use Rattle.shape_views.proofs.Alike.{row-below}
 use Rattle.shape_changes.specs.Marking.{AreOthersPresent}
 use Rattle.shape_changes.specs.Safety.{HasRoomLeft, IsRisen}
@@ -51,8 +51,8 @@ use Rattle.call_entries.proofs.LeftLaws.{TellLeft, left-behind, left-more}
 use Rattle.call_entries.proofs.LosingLaws.{entries-both}
 use Rattle.array_kept.proofs.LedgerLaws.{written-allowed, wrote-in, torn-in}
 use Rattle.array_kept.proofs.NowLaws.{wrote-is}
-use Rattle.region_rows.specs.Stretches.{RowsStandTo, relied_rows}
-use Rattle.region_writes.specs.Runs.{IsListTouched, MayBeHidden, IsListTorn, IsListUnwritten}
+use Rattle.region_rows.specs.Stretches.{relied_rows}
+use Rattle.region_writes.specs.Runs.{IsShapeOf, ListStandsIn, RowsStandIn, IsListTouched, MayBeHidden, IsListTorn, IsListUnwritten}
 use Rattle.region_writes.proofs.Together.{shape-force}
 use Rattle.region_writes.proofs.RunLists.{written-same}
 use Rattle.kept_history.specs.Recorded.{IsCallGoing, IsLegalCall, entry_of}
@@ -89,18 +89,22 @@ pub record ArePut (tells : Type 0) (given : Given) (tape tape' : List Operation)
   pub backup : tells → IsBackupKept scope course.window (disk given.start tape) (disk given.start tape')
   pub safe : tells → (world : World) → (told : Ledger) → HasRoomLeft old tape tape' → AreGoneTold told new → told.unclean ≡ true → (hidden : Option Span) → MayBeHidden old.newest hidden
       → (list list' : ℕ → Sector) → IsWritten list list' at from → ((x : ℕ) → at ≤ x → x < at + length from / 512 → IsShown hidden old.newest x)
-      → ListStands hidden old (present given tape) list → AreWhole new ⊎ RowsStandTo hidden relied old (present given tape) list → AreTailsStanding old (present given tape) list
+      → ListStandsIn (IsShapeOf old.newest at (at + length from / 512)) hidden old (present given tape) list
+      → AreWhole new ⊎ RowsStandIn (IsShapeOf old.newest at (at + length from / 512)) hidden relied old (present given tape) list
+      → (IsShapeOf old.newest at (at + length from / 512) (final_shape old.newest) → AreTailsStanding old (present given tape) list)
       → (begun ≡ true → AreWritesAllowed old told.values list') → (OpensFit world → IsTailZero old.newest list)
       → IsSafeOver world given told old tape → KeepsSafe world given told new tape tape'
 
 -- What it leaves besides where it is done.
 pub record AreWritten (tells : Type 0) (given : Given) (tape tape' : List Operation) (old new : Members) (at : ℕ) (from : List ℕ) (relied : ℕ) : Type 0 where
   pub bytes : AreBytes from
-  pub put : tells → (hidden : Option Span) → (list list' : ℕ → Sector) → IsWritten list list' at from → ListStands hidden old (present given tape) list → ListStands hidden new (present given tape') list'
+  pub put : tells → (among : Shape → Bool) → (hidden : Option Span) → (list list' : ℕ → Sector) → IsWritten list list' at from
+      → ListStandsIn (λ s. among s ≡ true) hidden old (present given tape) list → ListStandsIn (λ s. among s ≡ true) hidden new (present given tape') list'
   pub tail : tells → (list list' : ℕ → Sector) → IsWritten list list' at from → AreTailsStanding old (present given tape) list → AreTailsStanding new (present given tape') list'
   pub others : tells → AreOtherRowsKept (IsListTouched old.newest at (at + length from / 512)) (reading_of new) (present given tape) (present given tape')
-  pub good : tells → (hidden : Option Span) → (list list' : ℕ → Sector) → IsWritten list list' at from → AreBytes from → ((x : ℕ) → at ≤ x → x < at + length from / 512 → IsShown hidden old.newest x)
-      → (bound : ℕ) → relied ≤ bound → RowsStandTo hidden bound old (present given tape) list → RowsStandTo hidden bound new (present given tape') list'
+  pub good : tells → (among : Shape → Bool) → (hidden : Option Span) → (list list' : ℕ → Sector) → IsWritten list list' at from → AreBytes from
+      → ((x : ℕ) → at ≤ x → x < at + length from / 512 → IsShown hidden old.newest x) → (bound : ℕ) → relied ≤ bound
+      → RowsStandIn (λ s. among s ≡ true) hidden bound old (present given tape) list → RowsStandIn (λ s. among s ≡ true) hidden bound new (present given tape') list'
 
 -- And where it is refused: it was torn only where too many are missing, and where it wasn't begun nothing but superblocks is written. Parity isn't relied on everywhere only
 -- while a resync is pending.
@@ -243,12 +247,12 @@ module _ (tells : Type 0) (given : Given) (tape tape' : List Operation) (scope :
   keeps t told fills whole more unclean writes room gone before =
       let l = was.listed t does fills in
       did.safe t (world_in given tape scope first) told room gone unclean (hidden_in course.window) (hidden-next old.newest course.window was.course_is.window)
-      l.list (list-with l.list at from) (list-with-is l.list at from) shown l.stands.stands
+      l.list (list-with l.list at from) (list-with-is l.list at from) shown (λ x slot own out held. l.stands.stands x slot out held)
       (elim whole [
         | inl all ↦ inl all
-        | inr fit ↦ inr (λ x lt out. l.stands.rows fit x out)
+        | inr fit ↦ inr (λ x lt own out. l.stands.rows fit x out)
       ])
-      l.stands.tail
+      (λ own. l.stands.tail)
       (λ is. written-allowed (list_length old.newest) at from l.list (list-with l.list at from) told.values (list-with-is l.list at from)
       (λ x lt. subst (IsIn (told.values x)) (sym (l.is x lt))
       (more.values x (let size = (was.recorded t).sized in omega (arith, lt, size)) (now (opening_list (world_in given tape scope first)) entries x) (newest t x lt)))
@@ -302,10 +306,10 @@ module _ (tells : Type 0) (given : Given) (tape tape' : List Operation) (scope :
                 (l.is x (subst (λ (n : ℕ). x < n) list-same lt));
             stands = writes-go-on (OpensFit (world_in given tape scope first)) given old new course buffer (present given tape) (present given tape') l.list (list-with l.list at from) at from
                 was.members_are.placed did.moved was.course_is w did.within did.beside (done.others t)
-                (done.put t (hidden_in course.window) l.list (list-with l.list at from) w l.stands.stands)
+                (λ x slot out held. done.put t (λ s. true) (hidden_in course.window) l.list (list-with l.list at from) w (λ x slot own out held. l.stands.stands x slot out held) x slot refl out held)
                 (done.tail t l.list (list-with l.list at from) w l.stands.tail)
-                (λ fit x out. done.good t (hidden_in course.window) l.list (list-with l.list at from) w done.bytes shown (relied + list_length new.newest) (omega arith)
-                (λ x lt out. l.stands.rows fit x out) x (let within = out.within in omega (arith, within)) out)
+                (λ fit x out. done.good t (λ s. true) (hidden_in course.window) l.list (list-with l.list at from) w done.bytes shown (relied + list_length new.newest) (omega arith)
+                (λ x lt own out. l.stands.rows fit x out) x (let within = out.within in omega (arith, within)) refl out)
                 l.stands;
           }
 

@@ -1,5 +1,6 @@
-use Rattle.std.proofs.Common.{◌≡◌, ◌⊎◌, inl, inr, ◌+◌, ◌-◌, ◌/◌, ◌<◌, ◌≤◌, ℕ, List, length, refl, sym, ◌∙◌, subst, arith}
+use Rattle.std.proofs.Common.{◌≡◌, ◌⊎◌, inl, inr, ◌+◌, ◌-◌, ◌/◌, ◌<◌, ◌≤◌, ℕ, true, List, length, refl, sym, ◌∙◌, subst, arith}
 use Rattle.std.specs.Prelude.{Contains, slice_index, None}
+use Rattle.md_base.specs.declared.places.Shape.{Shape}
 use Rattle.bank.specs.Given.{Given}
 use Rattle.row_io.specs.Rows.{reading_of, present}
 use Rattle.list_io.specs.Buffers.{buffered, AreStanding}
@@ -20,9 +21,9 @@ use Rattle.superblocks.specs.Reading.{list_length}
 use Rattle.flat_history.specs.Sound.{OpensFit}
 use Rattle.shape_changes.proofs.Risen.{risen-then, room-first, room-then}
 use Rattle.region_rows.proofs.StretchLaws.{list-short, data-few}
-use Rattle.region_writes.specs.Runs.{AreRowsOf, AreFull, StayRebuilt, IsListTouched}
-use Rattle.region_writes.proofs.RunLaws.{told-as, each-does, runs-apart, runs-torn, runs-unwritten, touched-low, touched-high, run-region}
-use Rattle.region_writes.proofs.RunLists.{others-kept, list-written, tails-written, rows-written, rebuilt-written, choose, chosen-allowed}
+use Rattle.region_writes.specs.Runs.{AreRowsOf, AreFull, StayRebuilt, IsListTouched, IsShapeOf}
+use Rattle.region_writes.proofs.RunLaws.{told-as, high-sector, each-does, runs-apart, runs-torn, runs-unwritten, touched-low, touched-high, run-region}
+use Rattle.region_writes.proofs.RunLists.{list-in-one, rows-in-one, tails-in-one, others-kept, list-written, tails-written, rows-written, rebuilt-written, choose, chosen-allowed}
 use Rattle.region_writes.proofs.WriteLaws.{some-none, runs-alike}
 use Rattle.region_writes.proofs.writing.put_list.Goals as goal
 
@@ -381,7 +382,7 @@ returns-clause-put g c =
     let did2 = c.write_runs-done.ensures in
     let tape2 = g.B.Bank.tape c.write_runs-done.new.bank in
     let two : IsMoved given n p = moved-from given given1 n n p did.given refl did2.moved in
-    λ ok told hidden list list' w stands.
+    λ ok told among hidden list list' w stands.
     let kept : AreOtherRowsKept (λ row. Contains rows row ⊎ Contains far_rows row) (reading_of p) (present given tape1) (present given tape2) =
     subst (λ (b : Given). AreOtherRowsKept (λ row. Contains rows row ⊎ Contains far_rows row) (reading_of p) (present b tape1) (present b tape2)) did.given
     (subst (λ (l : List ℕ). AreOtherRowsKept (λ row. Contains rows row ⊎ Contains l row) (reading_of p) (present given1 tape1) (present given1 tape2)) c.as_slice-2.ensures.value
@@ -393,7 +394,7 @@ returns-clause-put g c =
     subst (λ (b : Given). AreFull p (present b tape2) cut.high.shape c.args.first c.args.from.now far_rows far_buffer) did.given
     (subst (λ (l : List ℕ). AreFull p (present given1 tape2) cut.high.shape c.args.first c.args.from.now l far_buffer) c.as_slice-2.ensures.value (did2.high ok told)) in
     list-written given m n p did.moved two c.requires.placed (present given tape0) (present given tape1) (present given tape2) (did.others told) c.args.relied c.args.first c.args.from.now cut.low cut.high are
-    rows buffer far_rows far_buffer (did.low_rows none) (did.high_rows none) (did.low none told) (did.high none told) kept low_full high_full hidden list list' w stands
+    rows buffer far_rows far_buffer (did.low_rows none) (did.high_rows none) (did.low none told) (did.high none told) kept low_full high_full (λ s. among s ≡ true) hidden list list' w stands
 
 pub returns-clause-tail : goal.returns-clause-tail
 returns-clause-tail g c =
@@ -462,7 +463,8 @@ returns-clause-rebuilt g c =
     let low_shown : (x : ℕ) → cut.low.first ≤ x → x < cut.low.end → IsShown None m.newest x =
     λ x from end. record { within = let within = are.low.within in omega (arith, end, within); outside = refl } in
     let chosen = choose given m n p did.moved two c.requires.placed cut.low are.low (present given tape0) c.args.first c.args.from.now rows buffer (did.low_rows none) (did.low none told)
-    c.args.relied are.low_relied None list low_shown (λ span is. absurd (cc)) stands (λ x slot tail held. absurd (let both = sym still ∙ tail.active in cc)) which list' w in
+    c.args.relied are.low_relied None list low_shown (λ span is. absurd (cc)) (λ x slot own out held. stands x slot out held) (λ own x slot tail held. absurd (let both = sym still ∙ tail.active in cc))
+    (elim which [ inl whole ↦ inl whole | inr rows ↦ inr (λ x lt own out. rows x lt out) ]) list' w in
     rebuilt-written given m n p did.moved two c.requires.placed (present given tape0) (present given tape1) (present given tape2) (did.others told) c.args.relied c.args.first c.args.from.now cut.low cut.high are
     rows buffer far_rows far_buffer (did.low_rows none) (did.high_rows none) (did.low none told) (did.high none told) kept still list list' w rebuilt chosen
 
@@ -519,7 +521,7 @@ returns-clause-good g c =
     let did2 = c.write_runs-done.ensures in
     let tape2 = g.B.Bank.tape c.write_runs-done.new.bank in
     let two : IsMoved given n p = moved-from given given1 n n p did.given refl did2.moved in
-    λ ok told hidden list list' w small shown bound trusted stands.
+    λ ok told among hidden list list' w small shown bound trusted stands.
     let kept : AreOtherRowsKept (λ row. Contains rows row ⊎ Contains far_rows row) (reading_of p) (present given tape1) (present given tape2) =
     subst (λ (b : Given). AreOtherRowsKept (λ row. Contains rows row ⊎ Contains far_rows row) (reading_of p) (present b tape1) (present b tape2)) did.given
     (subst (λ (l : List ℕ). AreOtherRowsKept (λ row. Contains rows row ⊎ Contains l row) (reading_of p) (present given1 tape1) (present given1 tape2)) c.as_slice-2.ensures.value
@@ -532,7 +534,7 @@ returns-clause-good g c =
     (subst (λ (l : List ℕ). AreFull p (present given1 tape2) cut.high.shape c.args.first c.args.from.now l far_buffer) c.as_slice-2.ensures.value (did2.high ok told)) in
     rows-written given m n p did.moved two c.requires.placed (present given tape0) (present given tape1) (present given tape2) (did.others told) c.args.relied c.args.first c.args.from.now cut.low cut.high are
     rows buffer far_rows far_buffer (did.low_rows none) (did.high_rows none) (did.low none told) (did.high none told) kept low_full high_full hidden list list' w
-    (λ x low high. sectors-whole c.args.from.now c.requires.from small (x - c.args.first) (omega (arith, low, high))) shown bound trusted stands
+    (λ x low high. sectors-whole c.args.from.now c.requires.from small (x - c.args.first) (omega (arith, low, high))) shown (λ s. among s ≡ true) bound trusted stands
 
 pub returns-clause-begun : goal.returns-clause-begun
 returns-clause-begun g c =
@@ -632,10 +634,16 @@ returns-clause-safe g c =
     λ x from end. shown x (let begins = are.begins in omega (arith, begins, from)) (let order = are.high.order in let meet = are.meet in let ends = are.ends in omega (arith, end, order, meet, ends)) in
     let high_shown : (x : ℕ) → cut.high.first ≤ x → x < cut.high.end → IsShown hidden m.newest x =
     λ x from end. shown x (let begins = are.begins in let some = are.some in let meet = are.meet in omega (arith, begins, some, meet, from)) (let ends = are.ends in omega (arith, end, ends)) in
+    let own : Shape → Type 0 = λ s. IsShapeOf m.newest c.args.first to s in
+    let low_own : IsShapeOf m.newest c.args.first to cut.low.shape =
+    (c.args.first, omega arith, omega (arith, c.requires.some), are.low.one c.args.first (let begins = are.begins in omega (arith, begins)) (let begins = are.begins in let some = are.some in omega (arith, begins, some))) in
+    let high_own : IsShapeOf m.newest c.args.first to cut.high.shape = high-sector m c.args.relied c.args.first to cut.low cut.high are in
     let near = choose given m n p did.moved two c.requires.placed cut.low are.low (present given tape0) c.args.first c.args.from.now rows buffer low_rows (did.low none told)
-    c.args.relied are.low_relied hidden list low_shown window stands tails which list' w in
+    c.args.relied are.low_relied hidden list low_shown window (list-in-one own cut.low.shape low_own m (present given tape0) hidden list stands) (tails-in-one own cut.low.shape low_own m (present given tape0) hidden list tails)
+    (elim which [ inl whole ↦ inl whole | inr rows ↦ inr (rows-in-one own cut.low.shape low_own m (present given tape0) hidden list c.args.relied rows) ]) list' w in
     let far = choose given m n p did.moved two c.requires.placed cut.high are.high (present given tape0) c.args.first c.args.from.now far_rows far_buffer high_rows (did.high none told)
-    c.args.relied are.high_relied hidden list high_shown window stands tails which list' w in
+    c.args.relied are.high_relied hidden list high_shown window (list-in-one own cut.high.shape high_own m (present given tape0) hidden list stands) (tails-in-one own cut.high.shape high_own m (present given tape0) hidden list tails)
+    (elim which [ inl whole ↦ inl whole | inr rows ↦ inr (rows-in-one own cut.high.shape high_own m (present given tape0) hidden list c.args.relied rows) ]) list' w in
     let low_region : IsOfRegion n cut.low.shape (Contains c.as_slice.result.now) = region-later given m n cut.low.shape (Contains c.as_slice.result.now) did.moved
     (λ x lt at. run-region m.newest c.requires.placed.fit cut.low are.low _ x (low_rows.touched.only _ (subst (λ (l : List ℕ). Contains l (place_by m.newest x).row) c.as_slice.ensures.value at)) lt refl) in
     let high_region : IsOfRegion n cut.high.shape (Contains c.as_slice-2.result.now) = region-later given m n cut.high.shape (Contains c.as_slice-2.result.now) did.moved
