@@ -41,7 +41,7 @@ module _ (old new : Sb) (reshape : HaveSameReshape old new) (shape : shape_of ne
     stripe = sym (ap (λ (s : Shape). stripe_of s x) reshape.final) ∙ tail.stripe ∙ (λ i. stripe_of (reshape.final i) (list-alike old new reshape shape size i - 1));
   }
 
-  copied-before : (window : Window) (row : ℕ) → IsCopiedRow new window row → IsCopiedRow old window row
+  pub copied-before : (window : Window) (row : ℕ) → IsCopiedRow new window row → IsCopiedRow old window row
   copied-before Closed row at = at
   copied-before (Entered span copied sectioned) row at = subst (λ (s : Shape). IsOfStripes s (span.lo / stripe_sectors s) copied row) reshape.final at
   copied-before (Unsure span) row at = at
@@ -49,7 +49,7 @@ module _ (old new : Sb) (reshape : HaveSameReshape old new) (shape : shape_of ne
   pub past-alike : past_stripe new ≡ past_stripe old
   past-alike = λ i. ceiling (list-alike old new reshape shape size i) (stripe_sectors (reshape.final i))
 
-  zeroed-before : (zeroed row : ℕ) → IsZeroedRow new zeroed row → IsZeroedRow old zeroed row
+  pub zeroed-before : (zeroed row : ℕ) → IsZeroedRow new zeroed row → IsZeroedRow old zeroed row
   zeroed-before zeroed row at = subst (λ (s : Shape). IsOfStripes s (past_stripe old) zeroed row) reshape.final (subst (λ (p : ℕ). IsOfStripes (final_shape new) p zeroed row) past-alike at)
 
 -- ---- rows that are written besides

@@ -39,6 +39,12 @@ hidden_in (Entered span copied true) = Some span
 hidden_in (Entered span copied false) = None
 hidden_in (Unsure span) = None
 
+-- the span of the window under way, hidden or not
+abbrev pub span_in : Window → Option Span
+span_in Closed = None
+span_in (Entered span copied sectioned) = Some span
+span_in (Unsure span) = Some span
+
 -- the buffer has the sectors of the window under way
 abbrev pub HasWindowIn : Window → List ℕ → (ℕ → Sector) → Type 0
 HasWindowIn Closed buffer list = ⊤

@@ -1,5 +1,5 @@
 -- What a step makes of the course of a reshape, by what its call leaves: on members that lost slots, with a stripe copied, recorded or zeroed.
-use Rattle.std.specs.Prelude.{◌≡◌, ℕ, ◌+◌, ◌*◌, ◌/◌, ◌<◌, ◌≤◌, Bool, true, false, List, Some, None}
+use Rattle.std.specs.Prelude.{◌≡◌, ℕ, ◌+◌, ◌*◌, ◌/◌, ◌<◌, ◌≤◌, Bool, true, false, List, Some, None, length}
 use Rattle.md_base.specs.declared.places.Span.{Span}
 use Rattle.md_base.specs.Sectors.{Sector, zero_sector}
 use Rattle.md_base.specs.Shapes.{stripe_sectors}
@@ -11,9 +11,11 @@ use Rattle.superblocks.specs.declared.members.Members.{Members}
 use Rattle.superblocks.specs.Reading.{Scope, is_reshaping, is_backward, shape_of, final_shape, list_length, next_window}
 use Rattle.row_io.specs.Rows.{reading_of}
 use Rattle.list_io.specs.Full.{RowStands}
-use Rattle.shape_views.specs.Regions.{ArePlaced}
+use Rattle.list_io.specs.Writing.{IsWritten}
+use Rattle.flat_history.specs.Stands.{covers}
+use Rattle.shape_views.specs.Regions.{place_by, ArePlaced}
 use Rattle.shape_views.specs.Views.{AreHeadersFit, Disk}
-use Rattle.shape_views.specs.Windows.{ListStands, RowsStand, moved_past}
+use Rattle.shape_views.specs.Windows.{ListStands, RowsStand, AreTailsStanding, moved_past}
 use Rattle.shape_views.specs.Backups.{IsOpenUnderAll}
 use Rattle.shape_changes.specs.Marking.{AreOthersPresent}
 use Rattle.shape_ends.specs.Ends.{IsBegun}
@@ -28,7 +30,7 @@ use Rattle.window_steps.specs.Zeroing.{IsThrough}
 use Rattle.course_kept.specs.declared.course.Course.{Course}
 use Rattle.grow_asked.specs.declared.window.Window.{Window}
 use Rattle.grow_asked.specs.declared.window.Window.TheVariants.{Closed, Entered, Unsure}
-use Rattle.course_kept.specs.Course.{IsStored, IsBackupKept, IsOfStripes, StandsInCourse, past_stripe}
+use Rattle.course_kept.specs.Course.{IsStored, IsBackupKept, IsOfStripes, StandsInCourse, past_stripe, IsCourseOf, hidden_in, span_in}
 
 -- ---- what stands
 
@@ -141,6 +143,16 @@ ZeroesAreAll sound = (given : Given) (m : Members) (buffer : List ℕ) (c : Cont
 abbrev pub CoursesStandUnder : (sound : Type 0) → Type 0
 CoursesStandUnder sound = (scope : Scope) (m : Members) (course : Course) (buffer : List ℕ) (c : Contents) (d : Disk) (list : ℕ → Sector)
     → IsStored scope m course.window buffer d → StandsInCourse sound m course buffer c list → StandsUnder scope m c d list × (sound → RowsStandUnder scope m c d list)
+
+-- Sectors of the list are written, none of them in the window under way, and no row but those in which one of them stands. The list with them stands in the same
+-- course, if it stands on the members and in the tail, and where the epoch opened sound its rows stand.
+abbrev pub WritesGoOn : (sound : Type 0) → Type 0
+WritesGoOn sound = (given : Given) (old new : Members) (course : Course) (buffer : List ℕ) (c e : Contents) (list list' : ℕ → Sector) (first : ℕ) (from : List ℕ)
+    → IsPlaced given old → IsMoved given old new → IsCourseOf old.newest course → IsWritten list list' first from → first + length from / 512 ≤ list_length old.newest
+    → ((x : ℕ) → first ≤ x → x < first + length from / 512 → covers (span_in course.window) x ≡ false)
+    → AreOtherRowsKept (λ row. (x : ℕ) × (first ≤ x) × (x < first + length from / 512) × ((place_by old.newest x).row ≡ row)) (reading_of new) c e
+    → ListStands (hidden_in course.window) new e list' → AreTailsStanding new e list' → (sound → RowsStand (hidden_in course.window) new e list')
+    → StandsInCourse sound old course buffer c list → StandsInCourse sound new course buffer e list'
 
 -- ---- the headers
 

@@ -1,7 +1,7 @@
 //! Laws of the course of a reshape. Each function's contract is the law.
 
 ghost use Rattle.std.specs.Prelude.{⊤};
-ghost use Rattle.course_kept.specs.Laws.{BeginsStand, EntersStand, CoursesMove, CopiesGoOn, CoursesAreCopied, WindowsAreCopied, RecordsClose, RestsGoOn, FinishesClose, ZeroesGoOn, ZeroesAreAll, CoursesStandUnder, StoredMove, OpenHeadersFit};
+ghost use Rattle.course_kept.specs.Laws.{BeginsStand, EntersStand, CoursesMove, CopiesGoOn, CoursesAreCopied, WindowsAreCopied, RecordsClose, RestsGoOn, FinishesClose, ZeroesGoOn, ZeroesAreAll, CoursesStandUnder, StoredMove, OpenHeadersFit, WritesGoOn};
 
 /// A reshape begins.
 pub fn a_begun_reshape_stands()
@@ -56,6 +56,11 @@ pub fn a_zeroing_goes_on()
 /// All stripes behind the list are zeroed.
 pub fn all_is_zeroed()
     ensures { ZeroesAreAll ⊤ }
+{}
+
+/// Sectors are written beside the window.
+pub fn a_write_goes_on()
+    ensures { WritesGoOn ⊤ }
 {}
 
 /// The list stands whichever header a stop leaves.

@@ -54,7 +54,7 @@ use Rattle.history_calls.proofs.Behind.{IsAmong, early-losses, inner-of, legal-l
 use Rattle.moving_kept.proofs.ReadShapes.{IsShapeRead}
 
 -- what is told before it, of the roles that the old shape has
-abbrev told_before : World → (ℕ → Bool) → List Entry → ℕ → Ledger
+abbrev pub told_before : World → (ℕ → Bool) → List Entry → ℕ → Ledger
 told_before world carried entries disks = record {
   size = length_of (length (opening_list world)) entries;
   values = values_of (opening_list world) entries;

@@ -59,7 +59,6 @@ begun-length former newest to has still forward =
 
 -- What is asked before it, and what it leaves where it isn't refused; the slots that its update lost were of these roles, or of such as were missing.
 pub record IsBegunBy (tells : Type 0) (given : Given) (tape tape' : List Operation) (scope : Scope) (backup : ℕ) (uuid : List ℕ) (to : Shape) (old new : Members) (roles : ℕ) : Type 0 where
-  pub forward : goes_back (shape_of old.newest) to ≡ false
   pub in_force : AreInForce (shape_of old.newest) to old.newest.size
   pub level : to.level ≡ old.newest.level
   pub live : HasLiveSlot old
@@ -76,13 +75,13 @@ pub record IsBegunBy (tells : Type 0) (given : Given) (tape tape' : List Operati
       → IsSafeOver world given told old tape → IsSafeChange (OpensFit world) world.scope given told more new tape tape'
 
 pub begun-call : (tells : Type 0) (given : Given) (tape ops : List Operation) (scope : Scope) (first : ℕ) (entries : List Entry) (backup : ℕ) (uuid : List ℕ) (to : Shape) (old new : Members) (carried carried' : ℕ → Bool) (roles : ℕ)
-    → IsStillKept tells given tape scope first entries old carried → tells → IsBegunBy tells given tape (tape ++ ops) scope backup uuid to old new roles
+    → IsStillKept tells given tape scope first entries old carried → tells → goes_back (shape_of old.newest) to ≡ false → IsBegunBy tells given tape (tape ++ ops) scope backup uuid to old new roles
     → ((number : ℕ) → carried number ≡ true → carried' number ≡ true) → IsBeginningCall given tape scope first entries old (begun_plan old to) new carried carried' roles (tape ++ ops)
-begun-call tells given tape ops scope first entries backup uuid to old new carried carried' roles was t did numbers = record {
+begun-call tells given tape ops scope first entries backup uuid to old new carried carried' roles was t forward did numbers = record {
   live = did.live;
   count = count-still old.newest was.still;
-  planned = begun-length old.newest (begun_plan old to).newest to (planned-begun-is old to was.still same_roles did.in_force did.level) was.still did.forward;
-  sized = begun-length old.newest new.newest to did.newest was.still did.forward;
+  planned = begun-length old.newest (begun_plan old to).newest to (planned-begun-is old to was.still same_roles did.in_force did.level) was.still forward;
+  sized = begun-length old.newest new.newest to did.newest was.still forward;
   few = few-roles new.newest did.moved.placed.fit.valid;
   numbers = numbers;
   since = did.since;

@@ -1,5 +1,5 @@
 -- The members behind the begin of a reshape, and that the array keeps its record then, from what `begin` leaves where it isn't refused.
-use Rattle.std.proofs.Common.{◌≡◌, ◌≢◌, ◌⊎◌, inl, inr, ℕ, ◌+◌, ◌≤◌, ◌==◌, ◌^◌, ◌-◌, Bool, true, Option, Some, None, List, ◌∷◌, ◌++◌, length, sym, ◌∙◌, ap, subst, arith}
+use Rattle.std.proofs.Common.{◌≡◌, ◌≢◌, ◌⊎◌, inl, inr, ℕ, ◌+◌, ◌≤◌, ◌==◌, ◌^◌, ◌-◌, Bool, true, false, Option, Some, None, List, ◌∷◌, ◌++◌, length, sym, ◌∙◌, ap, subst, arith}
 use Rattle.std.specs.Prelude.{IsFalse, IfSome}
 use Rattle.std.specs.Option.{option_map_or}
 use Rattle.std.proofs.lemmas.Bool.{cases_lt}
@@ -33,7 +33,7 @@ use Rattle.views.specs.Rebuilding.{AreSparesFree}
 use Rattle.views.proofs.Fit.{roles-still}
 use Rattle.safe_updates.proofs.Unused.{unused-moved}
 use Rattle.call_entries.specs.Losing.{losses_of}
-use Rattle.reshape_updates.specs.Beginning.{beginning}
+use Rattle.reshape_updates.specs.Beginning.{beginning, goes_back}
 use Rattle.reshape_updates.proofs.BegunPlan.{is-begun}
 use Rattle.reshape_updates.proofs.NewRoles.{new-or}
 use Rattle.reshape_ends.specs.Begun.{begun_plan}
@@ -80,7 +80,7 @@ module _ (old : Members) (to : Shape) (whole : HasNoneRecovering old) where
 module _ (tells : Type 0) (given : Given) (tape tape' : List Operation) (scope : Scope) (first : ℕ) (entries : List Entry) (backup : ℕ) (uuid : List ℕ) (to : Shape) (old new : Members) (carried carried' : ℕ → Bool) (roles : ℕ)
     (was : IsStillKept tells given tape scope first entries old carried) (did : IsBegunBy tells given tape tape' scope backup uuid to old new roles) (whole : HasNoneRecovering old) (free : AreSparesFree given old)
     (long : length old.own ≡ 32) (still_free : AreSparesFree given new) (spares : length new.spares ≤ 32) where
-  begun-members : AreBegun scope given old (begun_plan old to) new
+  pub begun-members : AreBegun scope given old (begun_plan old to) new
   begun-members = record {
     members_are = record {
       placed = did.moved.placed;
@@ -108,17 +108,17 @@ module _ (tells : Type 0) (given : Given) (tape tape' : List Operation) (scope :
   -- ---- the array keeps its record
 
   -- no row is written: neither the superblocks nor the backup's header are rows
-  begun-rows : tells → ((s k : ℕ) → k ≢ 8 → (s ≢ backup) ⊎ (k ≢ 0) → present given tape' s k ≡ present given tape s k) → AreOtherRowsKept (λ row. ⊥) (reading_of new) (present given tape) (present given tape')
+  pub begun-rows : tells → ((s k : ℕ) → k ≢ 8 → (s ≢ backup) ⊎ (k ≢ 0) → present given tape' s k ≡ present given tape s k) → AreOtherRowsKept (λ row. ⊥) (reading_of new) (present given tape) (present given tape')
   begun-rows t others row out role slot held =
       let far = did.moved.placed.behind role slot held in
       others slot (data_offset_of (reading_of new) slot + row) (λ is. absurd (omega (arith, far, is))) (inr (λ is. absurd (omega (arith, far, is))))
 
   -- So a reshape that begins in an array that keeps its record leaves one that keeps it in the reshape: from what `begin` says of its call.
-  pub array-begins : (buffer : List ℕ) (left : ℕ) (who : Who) (end lost_spares : ℕ) → (goes : IsCallGoing entries who) → IsFalse (who.caller == 254) → (tells → end ≡ length tape') → Grows tells tape tape'
+  pub array-begins : (buffer : List ℕ) (left : ℕ) (who : Who) (end lost_spares : ℕ) → goes_back (shape_of old.newest) to ≡ false → (goes : IsCallGoing entries who) → IsFalse (who.caller == 254) → (tells → end ≡ length tape') → Grows tells tape tape'
       → IfSome (told_left entries) (λ n. n ≡ left + 1) → left ≢ 0 → ((number : ℕ) → carried number ≡ true → carried' number ≡ true) → (tells → IsCleared scope (disk given.start tape'))
       → (tells → (s k : ℕ) → k ≢ 8 → (s ≢ backup) ⊎ (k ≢ 0) → present given tape' s k ≡ present given tape s k) → (tells → IsOpenBehind (world_in given tape' scope first) goes.call)
       → IsMoving tells given tape' scope first (entries ++ entries_of who end (Step Begun left ∷ losses_of roles lost_spares)) new carried' (closed 0) buffer left
-  array-begins buffer left who end lost_spares goes caller at_end grows told some numbers cleared others behind =
+  array-begins buffer left who end lost_spares forward goes caller at_end grows told some numbers cleared others behind =
       begun-moves tells given tape tape' scope first entries old (begun_plan old to) new carried carried' buffer left who end roles lost_spares was goes caller at_end grows told some begun-members cleared
       (λ t. begun-rows t (others t)) behind (λ t. call t)
     where
@@ -128,4 +128,4 @@ module _ (tells : Type 0) (given : Given) (tape tape' : List Operation) (scope :
       call : tells → IsBeginningCall given tape scope first entries old (begun_plan old to) new carried carried' roles tape'
       call t =
           let g = grows.more t in
-          subst Then (sym g.1) (λ by. begun-call tells given tape g.0 scope first entries backup uuid to old new carried carried' roles was t by numbers) did
+          subst Then (sym g.1) (λ by. begun-call tells given tape g.0 scope first entries backup uuid to old new carried carried' roles was t forward by numbers) did

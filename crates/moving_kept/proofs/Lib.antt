@@ -11,6 +11,7 @@ pub mod Finishing
 pub mod FinishedCall
 pub mod Entering
 pub mod Adding
+pub mod Writing
 pub mod Settling
 pub mod Flushing
 pub mod Failing
@@ -21,3 +22,5 @@ pub mod Begun
 pub mod KeptStill
 pub mod BegunCall
 pub mod BegunMembers
+pub mod Shortening
+pub mod Shortened

@@ -74,6 +74,15 @@ module _ (world : World) (before : List Entry) (given : Given) (m : Members) (pl
         tolerated = t ∙ ap tolerance_of same ∙ sym level;
       }
 
+  -- so it is of each shape in force
+  pub lacking-right : (shape : Shape) (refusal : Refusal) → IsInForce m.newest shape → LacksTooMany shape m refusal → IsRefusedRight world before refusal
+  lacking-right shape refusal force lacks =
+      subst (λ (r : Refusal). IsRefusedRight world before r) (sym lacks.told) (lacks-right shape (lacking shape m) (tolerance shape) force (same force) (record { above = lacks.above; told = refl }))
+    where
+      same : IsInForce m.newest shape → shape.level ≡ (shape_of m.newest).level
+      same (inl is) = ap (λ (s : Shape). s.level) is
+      same (inr is) = ap (λ (s : Shape). s.level) is ∙ placed.fit.level
+
   pub refused-right : (refusal : Refusal) → AreTooMany m refusal → IsRefusedRight world before refusal
   refused-right (TooManyMissing count most) (inl old) = lacks-right (shape_of m.newest) count most (inl refl) refl old
   refused-right (TooManyMissing count most) (inr new) = lacks-right (final_shape m.newest) count most (inr refl) placed.fit.level new.1

@@ -1,4 +1,5 @@
 pub mod Together
 pub mod RunLaws
+pub mod Tails
 pub mod RunLists
 pub mod WriteLaws

@@ -161,7 +161,7 @@ module _ (low high : Run) (m : Members) (few : DoesWithout low.shape m) (far : D
 
 module _ (m : Members) (relied first to : ℕ) (low high : Run) (are : AreRuns m.newest relied first to low high) where
   -- a sector that the high run's shape places
-  high-sector : (x : ℕ) × (first ≤ x) × (x < to) × (shape_for m.newest x ≡ high.shape)
+  pub high-sector : (x : ℕ) × (first ≤ x) × (x < to) × (shape_for m.newest x ≡ high.shape)
   high-sector = elim (cases_lt low.end to) [
     | inl more ↦ (
       low.end,

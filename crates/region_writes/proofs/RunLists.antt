@@ -1,8 +1,7 @@
 -- What the list is behind a write of two runs, and by which list their rows may be written.
-use Rattle.std.proofs.Common.{◌≡◌, ◌⊎◌, inl, inr, ℕ, ◌+◌, ◌-◌, ◌/◌, ◌<◌, ◌≤◌, ◌==◌, nat_lt, Bool, true, false, if◌then◌else◌, List, [], length, slice_index, Contains, Option, Some, refl, sym, ◌∙◌, ap, subst, arith, eqb-true, eq-eqb}
+use Rattle.std.proofs.Common.{◌≡◌, ◌⊎◌, inl, inr, ℕ, ◌+◌, ◌-◌, ◌/◌, ◌<◌, ◌≤◌, ◌==◌, Bool, true, false, if◌then◌else◌, List, [], length, slice_index, Contains, Option, Some, refl, sym, ◌∙◌, ap, subst, arith, eqb-true, eq-eqb}
 use Rattle.std.specs.Option.{option_map_or}
 use Rattle.std.proofs.lemmas.Bool.{cases_lt}
-use Rattle.std.proofs.lemmas.Bool.Decides.{nat_tests}
 use Rattle.std.proofs.lemmas.List.{get_or_default}
 use Rattle.md_base.specs.Sectors.{Sector}
 use Rattle.md_base.specs.Shapes.{is_valid_shape}
@@ -16,7 +15,7 @@ use Rattle.layout.specs.Layout.{place}
 use Rattle.layout.proofs.Places.{place-role_below, place-sector_below}
 use Rattle.parity.specs.Rows.{IsSector, sector_of}
 use Rattle.superblocks.specs.declared.members.Members.{Members}
-use Rattle.superblocks.specs.Reading.{is_reshaping, shape_of, list_length, role_state, holder, data_offset_of}
+use Rattle.superblocks.specs.Reading.{is_reshaping, shape_of, final_shape, list_length, role_state, holder, data_offset_of}
 use Rattle.row_io.specs.Rows.{reading_of, held_slot}
 use Rattle.row_io.proofs.Losses.{holder-of}
 use Rattle.list_io.specs.Full.{full_sector, AreWholeIn, RowStands}
@@ -24,7 +23,8 @@ use Rattle.list_io.specs.Writing.{IsWritten, AreDataFrom, HasFull}
 use Rattle.list_io.proofs.FullLaws.{full-data, full-same}
 use Rattle.flat_history.specs.Stands.{shape_for}
 use Rattle.shape_views.specs.Regions.{place_by}
-use Rattle.shape_views.specs.Windows.{IsShown, ListStands}
+use Rattle.shape_views.specs.Views.{IsTail}
+use Rattle.shape_views.specs.Windows.{IsShown, AreTailsStanding}
 use Rattle.shape_views.proofs.Alike.{valid-for}
 use Rattle.shape_views.proofs.Stands.{data-at, data-from, for-still, final-still, list-still}
 use Rattle.shape_changes.specs.Marking.{AreOthersPresent}
@@ -38,12 +38,12 @@ use Rattle.views.proofs.HeldRows.{held-moved}
 use Rattle.views.proofs.MovedLaws.{moved-then}
 use Rattle.views.proofs.LackingLists.{data-held}
 use Rattle.views.proofs.LackingWrites.{list-in, list-in-is, list-with, list-with-is}
-use Rattle.region_rows.specs.Stretches.{RowsStandTo}
 use Rattle.region_rows.proofs.StretchLaws.{relied-below}
 use Rattle.region_writes.specs.declared.runs.Run.{Run}
-use Rattle.region_writes.specs.Runs.{IsRun, IsRelied, AreRuns, AreRowsOf, AreFull, StayRebuilt, MayBeHidden}
+use Rattle.region_writes.specs.Runs.{IsRun, IsRelied, AreRuns, AreRowsOf, AreFull, StayRebuilt, MayBeHidden, ListStandsIn, RowsStandIn}
 use Rattle.region_writes.proofs.Together.{mates-together, together-shape, shown-mate}
 use Rattle.region_writes.proofs.RunLaws.{run-sector, run-region, run-mate, mate-shape}
+use Rattle.region_writes.proofs.Tails.{is_listed, listed-is, tailed-is, listed-or-tail, tail-run, tail-before}
 
 -- where a row stands among these
 index-of : (rows : List ℕ) (row : ℕ) → Contains rows row → (i : ℕ) × (i < length rows) × (slice_index rows i ≡ row)
@@ -59,7 +59,7 @@ written-same one one' two two' first from w v x same = elim (cases_lt x first) [
   ]
 ]
 
--- a list by which rows may be written that were read: where the list has sectors, it becomes the same
+-- a list by which rows may be written that were read: where the list has sectors, and in the tail, it becomes the same
 pub record IsChosen (newest : Sb) (shape : Shape) (first : ℕ) (from rows buffer : List ℕ) (list list' : ℕ → Sector) : Type 0 where
   pub chosen : ℕ → Sector
   pub chosen' : ℕ → Sector
@@ -67,6 +67,18 @@ pub record IsChosen (newest : Sb) (shape : Shape) (first : ℕ) (from rows buffe
   pub read : AreDataFrom 0 shape chosen rows buffer
   pub first_same : (y : ℕ) → y < list_length newest → chosen y ≡ list y
   pub same : (y : ℕ) → y < list_length newest → chosen' y ≡ list' y
+  pub tail : (y : ℕ) → IsTail newest y → chosen' y ≡ list' y
+
+-- what stands in the regions of some shapes stands in that of one of them
+module _ (among : Shape → Type 0) (shape : Shape) (own : among shape) (m : Members) (before : Contents) (hidden : Option Span) (list : ℕ → Sector) where
+  pub list-in-one : ListStandsIn among hidden m before list → ListStandsIn (λ s. s ≡ shape) hidden m before list
+  list-in-one stands x slot same out held = stands x slot (subst among (sym same) own) out held
+
+  pub rows-in-one : (relied : ℕ) → RowsStandIn among hidden relied m before list → RowsStandIn (λ s. s ≡ shape) hidden relied m before list
+  rows-in-one relied stands x lt same out = stands x lt (subst among (sym same) own) out
+
+  pub tails-in-one : (among (final_shape m.newest) → AreTailsStanding m before list) → final_shape m.newest ≡ shape → AreTailsStanding m before list
+  tails-in-one tails same = tails (subst among (sym same) own)
 
 -- it is allowed where that is
 pub chosen-allowed : (m : Members) (values : ℕ → List Sector) (shape : Shape) (first : ℕ) (from rows buffer : List ℕ) (list list' : ℕ → Sector) (is : IsChosen m.newest shape first from rows buffer list list')
@@ -162,7 +174,7 @@ module _ (given : Given) (old mid new : Members) (one : IsMoved given old mid) (
 
   module _ (relied : ℕ) (trusted : IsRelied old.newest relied run) (hidden : Option Span) (list : ℕ → Sector) (shown : (x : ℕ) → run.first ≤ x → x < run.end → IsShown hidden old.newest x) where
     -- where parity is relied on, each row stands
-    rows-stood : RowsStandTo hidden relied old before list → run.synced ≡ true → (row : ℕ) → Contains rows row → RowStands (reading_of old) before run.shape list row
+    rows-stood : RowsStandIn (λ s. s ≡ run.shape) hidden relied old before list → run.synced ≡ true → (row : ℕ) → Contains rows row → RowStands (reading_of old) before run.shape list row
     rows-stood stood synced row has =
         let touch = these.touched.only row has in
         let x = touch.0 in
@@ -170,10 +182,10 @@ module _ (given : Given) (old mid new : Members) (one : IsMoved given old mid) (
         let high : x < run.end = (let under = touch.2 in let order = is.order in omega (arith, under, order)) in
         let below : x < relied = relied-below old.newest was.fit run.shape is.force relied x (shown x low high).within (trusted.rows synced x low high) in
         subst (λ (r : ℕ). RowStands (reading_of old) before run.shape list r) touch.3
-        (subst (λ (s : Shape). RowStands (reading_of old) before s list (place s x).row) (is.one x low high) (stood x below (shown x low high)))
+        (subst (λ (s : Shape). RowStands (reading_of old) before s list (place s x).row) (is.one x low high) (stood x below (is.one x low high) (shown x low high)))
 
     -- what was read of a row that stood is the list's
-    pub row-read : RowsStandTo hidden relied old before list → (row : ℕ) → RowStands (reading_of old) before run.shape list row
+    pub row-read : RowsStandIn (λ s. s ≡ run.shape) hidden relied old before list → (row : ℕ) → RowStands (reading_of old) before run.shape list row
         → (list0 : ℕ → Sector) × AreDataFrom 0 run.shape list0 rows buffer × ((y : ℕ) → (place run.shape y).row ≡ row → list0 y ≡ list y)
     row-read stood row stands = of run.synced refl
       where
@@ -193,46 +205,49 @@ module _ (given : Given) (old mid new : Members) (one : IsMoved given old mid) (
           λ y at. mixed-is (λ y. (place run.shape y).row == row) list y (eq-eqb (place run.shape y).row row at),
         )
 
-    -- the list has its sectors in the rows
-    behind-end : MayBeHidden old.newest hidden → ListStands hidden old before list → DataStandsAmong run.shape (Contains rows) old before (mixed (λ y. nat_lt y (list_length old.newest)) list)
-    behind-end window stands = mixed-stands (λ y. nat_lt y (list_length old.newest)) list (λ y slot passes has held.
-        let y-in : y < list_length old.newest = lt-of y (list_length old.newest) passes in
-        let touch = these.touched.only (place run.shape y).row has in
-        let t = run-sector old.newest was.fit run is (place run.shape y).row touch in
-        let here : shape_for old.newest y ≡ run.shape = mate-shape old.newest was.fit run is (place run.shape y).row y touch y-in refl in
-        let out = shown-mate old.newest was.fit hidden window t.0 y (shown t.0 t.1 t.2).within (run-mate old.newest was.fit run is (place run.shape y).row y touch y-in refl) (shown t.0 t.1 t.2).outside in
-        subst (λ (s : Shape). held_slot (reading_of old) (place s y).role (place s y).row ≡ Some slot → before slot (data_offset_of (reading_of old) slot + (place s y).row) ≡ list y) here
-        (stands y slot (record { within = y-in; outside = out })) held)
-      where
-        lt-of : (a b : ℕ) → nat_lt a b ≡ true → a < b
-        lt-of a b passes = grind (arith, nat_tests, passes)
+    -- the list has its sectors in the rows, and those of the tail
+    behind-end : MayBeHidden old.newest hidden → ListStandsIn (λ s. s ≡ run.shape) hidden old before list → (final_shape old.newest ≡ run.shape → AreTailsStanding old before list)
+        → DataStandsAmong run.shape (Contains rows) old before (mixed (λ y. is_listed old.newest y) list)
+    behind-end window stands tails = mixed-stands (λ y. is_listed old.newest y) list (λ y slot passes has held. elim (listed-or-tail old.newest y passes) [
+      | inl y-in ↦
+          let touch = these.touched.only (place run.shape y).row has in
+          let t = run-sector old.newest was.fit run is (place run.shape y).row touch in
+          let here : shape_for old.newest y ≡ run.shape = mate-shape old.newest was.fit run is (place run.shape y).row y touch y-in refl in
+          let out = shown-mate old.newest was.fit hidden window t.0 y (shown t.0 t.1 t.2).within (run-mate old.newest was.fit run is (place run.shape y).row y touch y-in refl) (shown t.0 t.1 t.2).outside in
+          subst (λ (s : Shape). held_slot (reading_of old) (place s y).role (place s y).row ≡ Some slot → before slot (data_offset_of (reading_of old) slot + (place s y).row) ≡ list y) here
+          (stands y slot here (record { within = y-in; outside = out })) held
+      | inr tail ↦
+          let same : run.shape ≡ final_shape old.newest = tail-run old.newest was.fit run is y (place run.shape y).row tail (these.touched.only (place run.shape y).row has) in
+          subst (λ (s : Shape). held_slot (reading_of old) (place s y).role (place s y).row ≡ Some slot → before slot (data_offset_of (reading_of old) slot + (place s y).row) ≡ list y)
+          (sym same) (tails (sym same) y slot tail) held
+    ])
 
     -- so there is a list by which they may be written
-    pub choose : MayBeHidden old.newest hidden → ListStands hidden old before list → AreWhole new ⊎ RowsStandTo hidden relied old before list
+    pub choose : MayBeHidden old.newest hidden → ListStandsIn (λ s. s ≡ run.shape) hidden old before list → (final_shape old.newest ≡ run.shape → AreTailsStanding old before list)
+        → AreWhole new ⊎ RowsStandIn (λ s. s ≡ run.shape) hidden relied old before list
         → (list' : ℕ → Sector) → IsWritten list list' first from → IsChosen old.newest run.shape first from rows buffer list list'
-    choose window stands which list' w = of which run.synced refl
+    choose window stands tails which list' w = of which run.synced refl
       where
-        ended : ℕ → Sector
-        ended = mixed (λ y. nat_lt y (list_length old.newest)) list
+        -- where the two lists are one, they become the same
+        becomes : (y : ℕ) → mixed (λ y. is_listed old.newest y) list y ≡ list y → list-with (mixed (λ y. is_listed old.newest y) list) first from y ≡ list' y
+        becomes y same = written-same (mixed (λ y. is_listed old.newest y) list) (list-with (mixed (λ y. is_listed old.newest y) list) first from) list list' first from
+            (list-with-is (mixed (λ y. is_listed old.newest y) list) first from) w y same
 
-        lt-is : (a b : ℕ) → a < b → nat_lt a b ≡ true
-        lt-is a b lt = grind (arith, nat_tests, lt)
-
-        by-ended : AreDataFrom 0 run.shape (mixed (λ y. nat_lt y (list_length old.newest)) list) rows buffer → IsChosen old.newest run.shape first from rows buffer list list'
+        by-ended : AreDataFrom 0 run.shape (mixed (λ y. is_listed old.newest y) list) rows buffer → IsChosen old.newest run.shape first from rows buffer list list'
         by-ended holds = record {
-          chosen = mixed (λ y. nat_lt y (list_length old.newest)) list;
-          chosen' = list-with (mixed (λ y. nat_lt y (list_length old.newest)) list) first from;
-          written = list-with-is (mixed (λ y. nat_lt y (list_length old.newest)) list) first from;
+          chosen = mixed (λ y. is_listed old.newest y) list;
+          chosen' = list-with (mixed (λ y. is_listed old.newest y) list) first from;
+          written = list-with-is (mixed (λ y. is_listed old.newest y) list) first from;
           read = holds;
-          first_same = λ y lt. mixed-is (λ y. nat_lt y (list_length old.newest)) list y (lt-is y (list_length old.newest) lt);
-          same = λ y lt. written-same (mixed (λ y. nat_lt y (list_length old.newest)) list) (list-with (mixed (λ y. nat_lt y (list_length old.newest)) list) first from) list list' first from
-              (list-with-is (mixed (λ y. nat_lt y (list_length old.newest)) list) first from) w y (mixed-is (λ y. nat_lt y (list_length old.newest)) list y (lt-is y (list_length old.newest) lt));
+          first_same = λ y lt. mixed-is (λ y. is_listed old.newest y) list y (listed-is old.newest y lt);
+          same = λ y lt. becomes y (mixed-is (λ y. is_listed old.newest y) list y (listed-is old.newest y lt));
+          tail = λ y tail. becomes y (mixed-is (λ y. is_listed old.newest y) list y (tailed-is old.newest y tail));
         }
 
-        of : AreWhole new ⊎ RowsStandTo hidden relied old before list → (b : Bool) → run.synced ≡ b → IsChosen old.newest run.shape first from rows buffer list list'
-        of (inl whole) b synced = by-ended (data-held given old mid run.shape is.force one was (two.whole whole) before rows buffer (mixed (λ y. nat_lt y (list_length old.newest)) list)
-            (λ row has. subst (λ (n : ℕ). row < n) (sym one.size) (these.below row has)) read.held (behind-end window stands))
-        of (inr rows-stand) false unsynced = by-ended (read.listed (mixed (λ y. nat_lt y (list_length old.newest)) list) (behind-end window stands) (λ yes. absurd (let both = sym unsynced ∙ yes in cc)))
+        of : AreWhole new ⊎ RowsStandIn (λ s. s ≡ run.shape) hidden relied old before list → (b : Bool) → run.synced ≡ b → IsChosen old.newest run.shape first from rows buffer list list'
+        of (inl whole) b synced = by-ended (data-held given old mid run.shape is.force one was (two.whole whole) before rows buffer (mixed (λ y. is_listed old.newest y) list)
+            (λ row has. subst (λ (n : ℕ). row < n) (sym one.size) (these.below row has)) read.held (behind-end window stands tails))
+        of (inr rows-stand) false unsynced = by-ended (read.listed (mixed (λ y. is_listed old.newest y) list) (behind-end window stands tails) (λ yes. absurd (let both = sym unsynced ∙ yes in cc)))
         of (inr rows-stand) true synced = record {
           chosen = list;
           chosen' = list';
@@ -240,6 +255,7 @@ module _ (given : Given) (old mid new : Members) (one : IsMoved given old mid) (
           read = read.listed list (λ r has below. (rows-stood rows-stand synced r has).sectors) (λ yes r has below. rows-stood rows-stand synced r has);
           first_same = λ y lt. refl;
           same = λ y lt. refl;
+          tail = λ y tail. refl;
         }
 
 -- ---- two runs
@@ -322,12 +338,36 @@ module _ (given : Given) (old mid new : Members) (one : IsMoved given old mid) (
     ]
 
     -- so the list stands with the write put in
-    pub list-written : (hidden : Option Span) (list list' : ℕ → Sector) → IsWritten list list' first from → ListStands hidden old before list → ListStands hidden new after list'
-    list-written hidden list list' w stands x slot shown held =
+    pub list-written : (among : Shape → Type 0) (hidden : Option Span) (list list' : ℕ → Sector) → IsWritten list list' first from → ListStandsIn among hidden old before list → ListStandsIn among hidden new after list'
+    list-written among hidden list list' w stands x slot own shown held =
         let was-shown = shown-before hidden x shown in
         subst (λ (s : Shape). held_slot (reading_of new) (place s x).role (place s x).row ≡ Some slot → after slot (data_offset_of (reading_of new) slot + (place s x).row) ≡ list' x) (sym (same-shape x))
         (λ held. sector-stays list list' w x slot was-shown.within held
-        (stands x slot was-shown (held-moved moved (place_by old.newest x).role (place_by old.newest x).row slot held))) held
+        (stands x slot (subst among (same-shape x) own) was-shown (held-moved moved (place_by old.newest x).role (place_by old.newest x).row slot held))) held
+
+    -- and so does the tail
+    tail-stays : (list list' : ℕ → Sector) → IsWritten list list' first from → (x slot : ℕ) → IsTail old.newest x → Stays list list' x slot (final_shape old.newest)
+    tail-stays list list' w x slot tail = elim (contains_or_not rows (place (final_shape old.newest) x).row) [
+      | inl has ↦ subst (λ (s : Shape). Contains rows (place s x).row → Stays list list' x slot s)
+          (tail-run old.newest was.fit low are.low x (place (final_shape old.newest) x).row tail (low-rows.touched.only (place (final_shape old.newest) x).row has))
+          (λ here held stood. sector-written given old mid new one two was low are.low before first from rows buffer low-rows low-read after low-full list list' w x slot here held stood) has
+      | inr not-low ↦ elim (contains_or_not far_rows (place (final_shape old.newest) x).row) [
+        | inl has ↦ subst (λ (s : Shape). Contains far_rows (place s x).row → Stays list list' x slot s)
+            (tail-run old.newest was.fit high are.high x (place (final_shape old.newest) x).row tail (high-rows.touched.only (place (final_shape old.newest) x).row has))
+            (λ here held stood. sector-written given old mid new one two was high are.high before first from far_rows far_buffer high-rows high-read after high-full list list' w x slot here held stood) has
+        | inr not-high ↦ (λ held stood.
+            row-kept (place (final_shape old.newest) x).row (place (final_shape old.newest) x).role slot not-low not-high
+            (holder-of (reading_of new) (place (final_shape old.newest) x).role (place (final_shape old.newest) x).row slot held)
+            ∙ stood ∙ sym (w.other x (inr (let end = are.ends in let within = are.high.within in let past = tail.past in omega (arith, end, within, past)))))
+      ]
+    ]
+
+    pub tails-written : (list list' : ℕ → Sector) → IsWritten list list' first from → AreTailsStanding old before list → AreTailsStanding new after list'
+    tails-written list list' w stands x slot tail held =
+        let before-tail = tail-before given old new moved x tail in
+        subst (λ (s : Shape). held_slot (reading_of new) (place s x).role (place s x).row ≡ Some slot → after slot (data_offset_of (reading_of new) slot + (place s x).row) ≡ list' x) (sym moved.reshape.final)
+        (λ held. tail-stays list list' w x slot before-tail held
+        (stands x slot before-tail (held-moved moved (place (final_shape old.newest) x).role (place (final_shape old.newest) x).row slot held))) held
 
     -- a row that isn't touched stands with its parity
     row-stays : (list list' : ℕ → Sector) → IsWritten list list' first from → (x : ℕ) → x < list_length old.newest → (Contains rows (place_by old.newest x).row → ⊥) → (Contains far_rows (place_by old.newest x).row → ⊥)
@@ -357,35 +397,40 @@ module _ (given : Given) (old mid new : Members) (one : IsMoved given old mid) (
             ∙ stood ∙ full-same (shape_for old.newest x) list list' (place_by old.newest x).row (valid-for old.newest was.fit x) same role lt
 
     module _ (hidden : Option Span) (list list' : ℕ → Sector) (w : IsWritten list list' first from) (small : (x : ℕ) → first ≤ x → x < first + length from / 512 → IsSector (sector_of from (x - first)))
-        (shown : (x : ℕ) → first ≤ x → x < first + length from / 512 → IsShown hidden old.newest x) (stands : RowsStandTo hidden relied old before list) where
+        (shown : (x : ℕ) → first ≤ x → x < first + length from / 512 → IsShown hidden old.newest x) (among : Shape → Type 0) (bound : ℕ) (trusted : relied ≤ bound)
+        (stands : RowsStandIn among hidden bound old before list) where
+      relied-stand : (shape : Shape) → among shape → RowsStandIn (λ s. s ≡ shape) hidden relied old before list
+      relied-stand shape own = rows-in-one among shape own old before hidden list relied (λ x lt own out. stands x (omega (arith, lt, trusted)) own out)
+
       low-shown : (x : ℕ) → low.first ≤ x → x < low.end → IsShown hidden old.newest x
       low-shown x begin end = shown x (let begins = are.begins in omega (arith, begins, begin)) (let order = are.high.order in let meet = are.meet in let ends = are.ends in omega (arith, end, order, meet, ends))
 
       high-shown : (x : ℕ) → high.first ≤ x → x < high.end → IsShown hidden old.newest x
       high-shown x begin end = shown x (let begins = are.begins in let some = are.some in let meet = are.meet in omega (arith, begins, some, meet, begin)) (let ends = are.ends in omega (arith, end, ends))
 
-      row-low : (row : ℕ) → Contains rows row → RowStands (reading_of old) before low.shape list row → RowStands (reading_of new) after low.shape list' row
-      row-low row has stood =
-          let found = row-read given old mid new one two was low are.low before first from rows buffer low-rows low-read relied are.low_relied hidden list low-shown stands row stood in
+      row-low : among low.shape → (row : ℕ) → Contains rows row → RowStands (reading_of old) before low.shape list row → RowStands (reading_of new) after low.shape list' row
+      row-low own row has stood =
+          let found = row-read given old mid new one two was low are.low before first from rows buffer low-rows low-read relied are.low_relied hidden list low-shown (relied-stand low.shape own) row stood in
           row-written given old mid new one two was low are.low before first from rows buffer low-rows low-read after low-full list list' found.0 w found.1 small row has stood.whole found.2
 
-      row-high : (row : ℕ) → Contains far_rows row → RowStands (reading_of old) before high.shape list row → RowStands (reading_of new) after high.shape list' row
-      row-high row has stood =
-          let found = row-read given old mid new one two was high are.high before first from far_rows far_buffer high-rows high-read relied are.high_relied hidden list high-shown stands row stood in
+      row-high : among high.shape → (row : ℕ) → Contains far_rows row → RowStands (reading_of old) before high.shape list row → RowStands (reading_of new) after high.shape list' row
+      row-high own row has stood =
+          let found = row-read given old mid new one two was high are.high before first from far_rows far_buffer high-rows high-read relied are.high_relied hidden list high-shown (relied-stand high.shape own) row stood in
           row-written given old mid new one two was high are.high before first from far_rows far_buffer high-rows high-read after high-full list list' found.0 w found.1 small row has stood.whole found.2
 
       -- and so do its rows, with their parity
-      pub rows-written : RowsStandTo hidden relied new after list'
-      rows-written x below is-shown =
+      pub rows-written : RowsStandIn among hidden bound new after list'
+      rows-written x below new-own is-shown =
           let was-shown = shown-before hidden x is-shown in
-          let stood = stands x below was-shown in
+          let own : among (shape_for old.newest x) = subst among (same-shape x) new-own in
+          let stood = stands x below own was-shown in
           subst (λ (s : Shape). RowStands (reading_of new) after s list' (place s x).row) (sym (same-shape x))
           (elim (contains_or_not rows (place_by old.newest x).row) [
             | inl has ↦ subst (λ (s : Shape). Contains rows (place s x).row → RowStands (reading_of old) before s list (place s x).row → RowStands (reading_of new) after s list' (place s x).row)
-                (sym (low-shape x was-shown.within has)) (λ here. row-low (place low.shape x).row here) has stood
+                (sym (low-shape x was-shown.within has)) (λ here. row-low (subst among (low-shape x was-shown.within has) own) (place low.shape x).row here) has stood
             | inr not-low ↦ elim (contains_or_not far_rows (place_by old.newest x).row) [
               | inl has ↦ subst (λ (s : Shape). Contains far_rows (place s x).row → RowStands (reading_of old) before s list (place s x).row → RowStands (reading_of new) after s list' (place s x).row)
-                  (sym (high-shape x was-shown.within has)) (λ here. row-high (place high.shape x).row here) has stood
+                  (sym (high-shape x was-shown.within has)) (λ here. row-high (subst among (high-shape x was-shown.within has) own) (place high.shape x).row here) has stood
               | inr not-high ↦ row-stays list list' w x was-shown.within not-low not-high stood
             ]
           ])

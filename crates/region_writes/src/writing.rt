@@ -1,19 +1,20 @@
 //! Writes of the list of an array in a reshape.
 
-ghost use Rattle.std.specs.Prelude.{◌≡◌, ◌⊎◌, ◌+◌, ◌-◌, ◌/◌, ◌^◌, ◌<◌, ◌≤◌, ℕ, true, false, length, slice_index, Contains, vec_capacity, None, Option, MatchOption, ⊤};
+ghost use Rattle.std.specs.Prelude.{◌≡◌, ◌⊎◌, ◌+◌, ◌-◌, ◌/◌, ◌^◌, ◌<◌, ◌≤◌, ℕ, Bool, true, false, length, slice_index, Contains, vec_capacity, None, Option, MatchOption, ⊤};
 ghost use Rattle.bank.specs.Given.{NeverFalls};
 ghost use Rattle.md_base.specs.Sectors.{Sector, IsWhole};
+ghost use Rattle.md_base.specs.declared.places.Shape.{Shape};
 ghost use Rattle.md_base.specs.declared.places.Span.{Span};
 ghost use Rattle.md_base.specs.declared.status.Role.TheVariants.{Recovering as IsRecovering};
-ghost use Rattle.superblocks.specs.Reading.{is_clean, is_reshaping, shape_of, list_length, role_state};
+ghost use Rattle.superblocks.specs.Reading.{is_clean, is_reshaping, shape_of, final_shape, list_length, role_state};
 ghost use Rattle.row_io.specs.Rows.{reading_of, present, members_without};
 ghost use Rattle.list_io.specs.Buffers.{buffered, AreStanding};
 ghost use Rattle.list_io.specs.Writing.{IsWritten, AreDataFrom, HasFull};
 ghost use Rattle.flat_history.specs.Sound.{OpensFit};
 ghost use Rattle.flat_history.specs.Stands.{shape_for};
 ghost use Rattle.flat_history.specs.World.{World};
-ghost use Rattle.shape_views.specs.Views.{IsTail, IsTailZero, Ledger};
-ghost use Rattle.shape_views.specs.Windows.{IsOfRegion, IsShown, ListStands};
+ghost use Rattle.shape_views.specs.Views.{IsTailZero, Ledger};
+ghost use Rattle.shape_views.specs.Windows.{IsOfRegion, IsShown, ListStands, AreTailsStanding};
 ghost use Rattle.shape_changes.specs.Steady.{AreUnlost, IsSafeOver, KeepsSafe, AreGoneTold, AreWritesAllowed};
 ghost use Rattle.shape_changes.specs.Marking.{AreOthersPresent};
 ghost use Rattle.shape_changes.specs.Safety.{HasRoomLeft, IsRisen};
@@ -23,7 +24,7 @@ ghost use Rattle.views.specs.Moving.{Grows, IsMoved};
 ghost use Rattle.views.specs.Lacking.{HaveFailedSince, DoesWithout, AreOtherRowsKept, AreBytes, AreRowsRead};
 ghost use Rattle.safe_updates.specs.First.{write_refusal};
 ghost use Rattle.region_rows.specs.Stretches.{RowsStandTo};
-ghost use Rattle.region_writes.specs.Runs.{IsRun, AreRowsOf, AreFull, StayRebuilt, IsListTouched, MayBeHidden, IsListTorn, IsListUnwritten, AreRunsTorn, AreRunsUnwritten};
+ghost use Rattle.region_writes.specs.Runs.{IsShapeOf, ListStandsIn, RowsStandIn, IsRun, AreRowsOf, AreFull, StayRebuilt, IsListTouched, MayBeHidden, IsListTorn, IsListUnwritten, AreRunsTorn, AreRunsUnwritten};
 
 use crate::runs::{Run, runs_of, too_many_runs, unwritten_runs};
 use bank::Bank;
@@ -273,12 +274,16 @@ pub fn put_list<B: Bank>(
     ensures begun { result.begun ≡ true → (x : ℕ) → first ≤ x → x < first + length from.now / 512 → DoesWithout (shape_for members.old.newest x) members.old }
     ensures torn { result.begun ≡ true → MatchOption result.refusal ⊤ (IsListTorn first (first + length from.now / 512) members.new) }
     ensures grows { Grows B.tells (B.tape bank.old) (B.tape bank.new) }
-    ensures put { result.refusal ≡ None → B.tells → (hidden : Option Span) → (list list' : ℕ → Sector) → IsWritten list list' first from.now
-        → ListStands hidden members.old (present (B.given bank.old) (B.tape bank.old)) list → ListStands hidden members.new (present (B.given bank.old) (B.tape bank.new)) list' }
+    ensures put { result.refusal ≡ None → B.tells → (among : Shape → Bool) → (hidden : Option Span) → (list list' : ℕ → Sector) → IsWritten list list' first from.now
+        → ListStandsIn (λ s. among s ≡ true) hidden members.old (present (B.given bank.old) (B.tape bank.old)) list
+        → ListStandsIn (λ s. among s ≡ true) hidden members.new (present (B.given bank.old) (B.tape bank.new)) list' }
+    ensures tail { result.refusal ≡ None → B.tells → (list list' : ℕ → Sector) → IsWritten list list' first from.now
+        → AreTailsStanding members.old (present (B.given bank.old) (B.tape bank.old)) list → AreTailsStanding members.new (present (B.given bank.old) (B.tape bank.new)) list' }
     ensures others { B.tells → AreOtherRowsKept (IsListTouched members.old.newest first (first + length from.now / 512)) (reading_of members.new) (present (B.given bank.old) (B.tape bank.old)) (present (B.given bank.old) (B.tape bank.new)) }
-    ensures good { result.refusal ≡ None → B.tells → (hidden : Option Span) → (list list' : ℕ → Sector) → IsWritten list list' first from.now → AreBytes from.now
-        → ((x : ℕ) → first ≤ x → x < first + length from.now / 512 → IsShown hidden members.old.newest x)
-        → RowsStandTo hidden relied members.old (present (B.given bank.old) (B.tape bank.old)) list → RowsStandTo hidden relied members.new (present (B.given bank.old) (B.tape bank.new)) list' }
+    ensures good { result.refusal ≡ None → B.tells → (among : Shape → Bool) → (hidden : Option Span) → (list list' : ℕ → Sector) → IsWritten list list' first from.now → AreBytes from.now
+        → ((x : ℕ) → first ≤ x → x < first + length from.now / 512 → IsShown hidden members.old.newest x) → (bound : ℕ) → relied ≤ bound
+        → RowsStandIn (λ s. among s ≡ true) hidden bound members.old (present (B.given bank.old) (B.tape bank.old)) list
+        → RowsStandIn (λ s. among s ≡ true) hidden bound members.new (present (B.given bank.old) (B.tape bank.new)) list' }
     ensures rebuilt { result.refusal ≡ None → B.tells → is_reshaping members.old.newest ≡ false → (list list' : ℕ → Sector) → IsWritten list list' first from.now
         → ListStands None members.old (present (B.given bank.old) (B.tape bank.old)) list → AreWhole members.new ⊎ RowsStandTo None relied members.old (present (B.given bank.old) (B.tape bank.old)) list
         → (role slot row : ℕ) → role < (shape_of members.old.newest).disks → role_state (reading_of members.new) role ≡ IsRecovering slot → row < members.old.newest.size
@@ -291,9 +296,10 @@ pub fn put_list<B: Bank>(
     ensures safe { B.tells → (world : World) → (told : Ledger) → HasRoomLeft members.old (B.tape bank.old) (B.tape bank.new)
         → AreGoneTold told members.new → told.unclean ≡ true → (hidden : Option Span) → MayBeHidden members.old.newest hidden → (list list' : ℕ → Sector) → IsWritten list list' first from.now
         → ((x : ℕ) → first ≤ x → x < first + length from.now / 512 → IsShown hidden members.old.newest x)
-        → ListStands hidden members.old (present (B.given bank.old) (B.tape bank.old)) list
-        → AreWhole members.new ⊎ RowsStandTo hidden relied members.old (present (B.given bank.old) (B.tape bank.old)) list
-        → (result.begun ≡ true → AreWritesAllowed members.old told.values list') → (OpensFit world → (x : ℕ) → IsTail members.old.newest x → ⊥)
+        → ListStandsIn (IsShapeOf members.old.newest first (first + length from.now / 512)) hidden members.old (present (B.given bank.old) (B.tape bank.old)) list
+        → AreWhole members.new ⊎ RowsStandIn (IsShapeOf members.old.newest first (first + length from.now / 512)) hidden relied members.old (present (B.given bank.old) (B.tape bank.old)) list
+        → (IsShapeOf members.old.newest first (first + length from.now / 512) (final_shape members.old.newest) → AreTailsStanding members.old (present (B.given bank.old) (B.tape bank.old)) list)
+        → (result.begun ≡ true → AreWritesAllowed members.old told.values list') → (OpensFit world → IsTailZero members.old.newest list)
         → IsSafeOver world (B.given bank.old) told members.old (B.tape bank.old)
         → KeepsSafe world (B.given bank.old) told members.new (B.tape bank.old) (B.tape bank.new) }
     ensures given { B.given bank.new ≡ B.given bank.old }

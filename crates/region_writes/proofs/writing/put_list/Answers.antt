@@ -1,5 +1,6 @@
-use Rattle.std.proofs.Common.{◌⊎◌, inl, ◌+◌, ◌-◌, ◌/◌, ◌<◌, ◌≤◌, ℕ, List, length, refl, sym, ◌∙◌, subst, arith}
+use Rattle.std.proofs.Common.{◌≡◌, ◌⊎◌, inl, inr, ◌+◌, ◌-◌, ◌/◌, ◌<◌, ◌≤◌, ℕ, true, List, length, refl, sym, ◌∙◌, subst, arith}
 use Rattle.std.specs.Prelude.{Contains, slice_index, None}
+use Rattle.md_base.specs.declared.places.Shape.{Shape}
 use Rattle.bank.specs.Given.{Given}
 use Rattle.row_io.specs.Rows.{reading_of, present}
 use Rattle.list_io.specs.Buffers.{buffered, AreStanding}
@@ -16,12 +17,13 @@ use Rattle.views.proofs.LackingLaws.{since-then, in-either}
 use Rattle.views.proofs.LackingLists.{none-of, sectors-whole}
 use Rattle.views.proofs.LackingWrites.{standing-later, others-same}
 use Rattle.views.proofs.SafeStretch.{gone-before, safe-then, allowed-later, zeros-later, region-later, grows-longer, over-at, keeps-from}
+use Rattle.superblocks.specs.Reading.{list_length}
 use Rattle.flat_history.specs.Sound.{OpensFit}
 use Rattle.shape_changes.proofs.Risen.{risen-then, room-first, room-then}
 use Rattle.region_rows.proofs.StretchLaws.{list-short, data-few}
-use Rattle.region_writes.specs.Runs.{AreRowsOf, AreFull, StayRebuilt, IsListTouched}
-use Rattle.region_writes.proofs.RunLaws.{told-as, each-does, runs-apart, runs-torn, runs-unwritten, touched-low, touched-high, run-region}
-use Rattle.region_writes.proofs.RunLists.{others-kept, list-written, rows-written, rebuilt-written, choose, chosen-allowed}
+use Rattle.region_writes.specs.Runs.{AreRowsOf, AreFull, StayRebuilt, IsListTouched, IsShapeOf}
+use Rattle.region_writes.proofs.RunLaws.{told-as, high-sector, each-does, runs-apart, runs-torn, runs-unwritten, touched-low, touched-high, run-region}
+use Rattle.region_writes.proofs.RunLists.{list-in-one, rows-in-one, tails-in-one, others-kept, list-written, tails-written, rows-written, rebuilt-written, choose, chosen-allowed}
 use Rattle.region_writes.proofs.WriteLaws.{some-none, runs-alike}
 use Rattle.region_writes.proofs.writing.put_list.Goals as goal
 
@@ -69,6 +71,10 @@ pub returns-then-is_some-clause-put : goal.returns-then-is_some-clause-put
 returns-then-is_some-clause-put g c =
     λ none. absurd (some-none c.prepare_runs-begun.result.refusal (sym c.is_some.ensures ∙ c.if-is_some.true) none)
 
+pub returns-then-is_some-clause-tail : goal.returns-then-is_some-clause-tail
+returns-then-is_some-clause-tail g c =
+    λ none. absurd (some-none c.prepare_runs-begun.result.refusal (sym c.is_some.ensures ∙ c.if-is_some.true) none)
+
 pub returns-then-is_some-clause-good : goal.returns-then-is_some-clause-good
 returns-then-is_some-clause-good g c =
     λ none. absurd (some-none c.prepare_runs-begun.result.refusal (sym c.is_some.ensures ∙ c.if-is_some.true) none)
@@ -97,7 +103,7 @@ returns-then-is_some-clause-others g c =
 
 pub returns-then-is_some-clause-safe : goal.returns-then-is_some-clause-safe
 returns-then-is_some-clause-safe g c =
-    λ told world ledger room gone unclean hidden window list list' w shown stands which allowed untailed safe. c.prepare_runs-begun.ensures.safe told world ledger room gone unclean safe
+    λ told world ledger room gone unclean hidden window list list' w shown stands which tails allowed zeros safe. c.prepare_runs-begun.ensures.safe told world ledger room gone unclean safe
 
 pub write_runs-done-requires-clause-low : goal.write_runs-done-requires-clause-low
 write_runs-done-requires-clause-low g c =
@@ -376,7 +382,7 @@ returns-clause-put g c =
     let did2 = c.write_runs-done.ensures in
     let tape2 = g.B.Bank.tape c.write_runs-done.new.bank in
     let two : IsMoved given n p = moved-from given given1 n n p did.given refl did2.moved in
-    λ ok told hidden list list' w stands.
+    λ ok told among hidden list list' w stands.
     let kept : AreOtherRowsKept (λ row. Contains rows row ⊎ Contains far_rows row) (reading_of p) (present given tape1) (present given tape2) =
     subst (λ (b : Given). AreOtherRowsKept (λ row. Contains rows row ⊎ Contains far_rows row) (reading_of p) (present b tape1) (present b tape2)) did.given
     (subst (λ (l : List ℕ). AreOtherRowsKept (λ row. Contains rows row ⊎ Contains l row) (reading_of p) (present given1 tape1) (present given1 tape2)) c.as_slice-2.ensures.value
@@ -388,7 +394,42 @@ returns-clause-put g c =
     subst (λ (b : Given). AreFull p (present b tape2) cut.high.shape c.args.first c.args.from.now far_rows far_buffer) did.given
     (subst (λ (l : List ℕ). AreFull p (present given1 tape2) cut.high.shape c.args.first c.args.from.now l far_buffer) c.as_slice-2.ensures.value (did2.high ok told)) in
     list-written given m n p did.moved two c.requires.placed (present given tape0) (present given tape1) (present given tape2) (did.others told) c.args.relied c.args.first c.args.from.now cut.low cut.high are
-    rows buffer far_rows far_buffer (did.low_rows none) (did.high_rows none) (did.low none told) (did.high none told) kept low_full high_full hidden list list' w stands
+    rows buffer far_rows far_buffer (did.low_rows none) (did.high_rows none) (did.low none told) (did.high none told) kept low_full high_full (λ s. among s ≡ true) hidden list list' w stands
+
+pub returns-clause-tail : goal.returns-clause-tail
+returns-clause-tail g c =
+    let m = c.args.members.now in
+    let n = c.prepare_runs-begun.new.members in
+    let given = g.B.Bank.given c.args.bank.now in
+    let given1 = g.B.Bank.given c.prepare_runs-begun.new.bank in
+    let did = c.prepare_runs-begun.ensures in
+    let tape0 = g.B.Bank.tape c.args.bank.now in
+    let tape1 = g.B.Bank.tape c.prepare_runs-begun.new.bank in
+    let cut = c.runs_of-cut.result in
+    let are = c.runs_of-cut.ensures in
+    let to = c.args.first + length c.args.from.now / 512 in
+    let none = none-of c.prepare_runs-begun.result.refusal (sym c.is_some.ensures ∙ c.if-is_some.false) in
+    let rows = c.prepare_runs-begun.new.rows.items in
+    let far_rows = c.prepare_runs-begun.new.far_rows.items in
+    let buffer = c.prepare_runs-begun.new.buffer.items in
+    let far_buffer = c.prepare_runs-begun.new.far_buffer.items in
+    let p = c.write_runs-done.new.members in
+    let did2 = c.write_runs-done.ensures in
+    let tape2 = g.B.Bank.tape c.write_runs-done.new.bank in
+    let two : IsMoved given n p = moved-from given given1 n n p did.given refl did2.moved in
+    λ ok told list list' w stands.
+    let kept : AreOtherRowsKept (λ row. Contains rows row ⊎ Contains far_rows row) (reading_of p) (present given tape1) (present given tape2) =
+    subst (λ (b : Given). AreOtherRowsKept (λ row. Contains rows row ⊎ Contains far_rows row) (reading_of p) (present b tape1) (present b tape2)) did.given
+    (subst (λ (l : List ℕ). AreOtherRowsKept (λ row. Contains rows row ⊎ Contains l row) (reading_of p) (present given1 tape1) (present given1 tape2)) c.as_slice-2.ensures.value
+    (subst (λ (l : List ℕ). AreOtherRowsKept (λ row. Contains l row ⊎ Contains c.as_slice-2.result.now row) (reading_of p) (present given1 tape1) (present given1 tape2)) c.as_slice.ensures.value (did2.others told))) in
+    let low_full : AreFull p (present given tape2) cut.low.shape c.args.first c.args.from.now rows buffer =
+    subst (λ (b : Given). AreFull p (present b tape2) cut.low.shape c.args.first c.args.from.now rows buffer) did.given
+    (subst (λ (l : List ℕ). AreFull p (present given1 tape2) cut.low.shape c.args.first c.args.from.now l buffer) c.as_slice.ensures.value (did2.low ok told)) in
+    let high_full : AreFull p (present given tape2) cut.high.shape c.args.first c.args.from.now far_rows far_buffer =
+    subst (λ (b : Given). AreFull p (present b tape2) cut.high.shape c.args.first c.args.from.now far_rows far_buffer) did.given
+    (subst (λ (l : List ℕ). AreFull p (present given1 tape2) cut.high.shape c.args.first c.args.from.now l far_buffer) c.as_slice-2.ensures.value (did2.high ok told)) in
+    tails-written given m n p did.moved two c.requires.placed (present given tape0) (present given tape1) (present given tape2) (did.others told) c.args.relied c.args.first c.args.from.now cut.low cut.high are
+    rows buffer far_rows far_buffer (did.low_rows none) (did.high_rows none) (did.low none told) (did.high none told) kept low_full high_full list list' w stands
 
 pub returns-clause-rebuilt : goal.returns-clause-rebuilt
 returns-clause-rebuilt g c =
@@ -422,7 +463,8 @@ returns-clause-rebuilt g c =
     let low_shown : (x : ℕ) → cut.low.first ≤ x → x < cut.low.end → IsShown None m.newest x =
     λ x from end. record { within = let within = are.low.within in omega (arith, end, within); outside = refl } in
     let chosen = choose given m n p did.moved two c.requires.placed cut.low are.low (present given tape0) c.args.first c.args.from.now rows buffer (did.low_rows none) (did.low none told)
-    c.args.relied are.low_relied None list low_shown (λ span is. absurd (cc)) stands which list' w in
+    c.args.relied are.low_relied None list low_shown (λ span is. absurd (cc)) (λ x slot own out held. stands x slot out held) (λ own x slot tail held. absurd (let both = sym still ∙ tail.active in cc))
+    (elim which [ inl whole ↦ inl whole | inr rows ↦ inr (λ x lt own out. rows x lt out) ]) list' w in
     rebuilt-written given m n p did.moved two c.requires.placed (present given tape0) (present given tape1) (present given tape2) (did.others told) c.args.relied c.args.first c.args.from.now cut.low cut.high are
     rows buffer far_rows far_buffer (did.low_rows none) (did.high_rows none) (did.low none told) (did.high none told) kept still list list' w rebuilt chosen
 
@@ -479,7 +521,7 @@ returns-clause-good g c =
     let did2 = c.write_runs-done.ensures in
     let tape2 = g.B.Bank.tape c.write_runs-done.new.bank in
     let two : IsMoved given n p = moved-from given given1 n n p did.given refl did2.moved in
-    λ ok told hidden list list' w small shown stands.
+    λ ok told among hidden list list' w small shown bound trusted stands.
     let kept : AreOtherRowsKept (λ row. Contains rows row ⊎ Contains far_rows row) (reading_of p) (present given tape1) (present given tape2) =
     subst (λ (b : Given). AreOtherRowsKept (λ row. Contains rows row ⊎ Contains far_rows row) (reading_of p) (present b tape1) (present b tape2)) did.given
     (subst (λ (l : List ℕ). AreOtherRowsKept (λ row. Contains rows row ⊎ Contains l row) (reading_of p) (present given1 tape1) (present given1 tape2)) c.as_slice-2.ensures.value
@@ -492,7 +534,7 @@ returns-clause-good g c =
     (subst (λ (l : List ℕ). AreFull p (present given1 tape2) cut.high.shape c.args.first c.args.from.now l far_buffer) c.as_slice-2.ensures.value (did2.high ok told)) in
     rows-written given m n p did.moved two c.requires.placed (present given tape0) (present given tape1) (present given tape2) (did.others told) c.args.relied c.args.first c.args.from.now cut.low cut.high are
     rows buffer far_rows far_buffer (did.low_rows none) (did.high_rows none) (did.low none told) (did.high none told) kept low_full high_full hidden list list' w
-    (λ x low high. sectors-whole c.args.from.now c.requires.from small (x - c.args.first) (omega (arith, low, high))) shown stands
+    (λ x low high. sectors-whole c.args.from.now c.requires.from small (x - c.args.first) (omega (arith, low, high))) shown (λ s. among s ≡ true) bound trusted stands
 
 pub returns-clause-begun : goal.returns-clause-begun
 returns-clause-begun g c =
@@ -585,22 +627,29 @@ returns-clause-safe g c =
     let did2 = c.write_runs-done.ensures in
     let tape2 = g.B.Bank.tape c.write_runs-done.new.bank in
     let two : IsMoved given n p = moved-from given given1 n n p did.given refl did2.moved in
-    λ told world ledger room gone unclean hidden window list list' w shown stands which allowed untailed safe.
+    λ told world ledger room gone unclean hidden window list list' w shown stands which tails allowed zeros safe.
     let low_rows = did.low_rows none in
     let high_rows = did.high_rows none in
     let low_shown : (x : ℕ) → cut.low.first ≤ x → x < cut.low.end → IsShown hidden m.newest x =
     λ x from end. shown x (let begins = are.begins in omega (arith, begins, from)) (let order = are.high.order in let meet = are.meet in let ends = are.ends in omega (arith, end, order, meet, ends)) in
     let high_shown : (x : ℕ) → cut.high.first ≤ x → x < cut.high.end → IsShown hidden m.newest x =
     λ x from end. shown x (let begins = are.begins in let some = are.some in let meet = are.meet in omega (arith, begins, some, meet, from)) (let ends = are.ends in omega (arith, end, ends)) in
+    let own : Shape → Type 0 = λ s. IsShapeOf m.newest c.args.first to s in
+    let low_own : IsShapeOf m.newest c.args.first to cut.low.shape =
+    (c.args.first, omega arith, omega (arith, c.requires.some), are.low.one c.args.first (let begins = are.begins in omega (arith, begins)) (let begins = are.begins in let some = are.some in omega (arith, begins, some))) in
+    let high_own : IsShapeOf m.newest c.args.first to cut.high.shape = high-sector m c.args.relied c.args.first to cut.low cut.high are in
     let near = choose given m n p did.moved two c.requires.placed cut.low are.low (present given tape0) c.args.first c.args.from.now rows buffer low_rows (did.low none told)
-    c.args.relied are.low_relied hidden list low_shown window stands which list' w in
+    c.args.relied are.low_relied hidden list low_shown window (list-in-one own cut.low.shape low_own m (present given tape0) hidden list stands) (tails-in-one own cut.low.shape low_own m (present given tape0) hidden list tails)
+    (elim which [ inl whole ↦ inl whole | inr rows ↦ inr (rows-in-one own cut.low.shape low_own m (present given tape0) hidden list c.args.relied rows) ]) list' w in
     let far = choose given m n p did.moved two c.requires.placed cut.high are.high (present given tape0) c.args.first c.args.from.now far_rows far_buffer high_rows (did.high none told)
-    c.args.relied are.high_relied hidden list high_shown window stands which list' w in
+    c.args.relied are.high_relied hidden list high_shown window (list-in-one own cut.high.shape high_own m (present given tape0) hidden list stands) (tails-in-one own cut.high.shape high_own m (present given tape0) hidden list tails)
+    (elim which [ inl whole ↦ inl whole | inr rows ↦ inr (rows-in-one own cut.high.shape high_own m (present given tape0) hidden list c.args.relied rows) ]) list' w in
     let low_region : IsOfRegion n cut.low.shape (Contains c.as_slice.result.now) = region-later given m n cut.low.shape (Contains c.as_slice.result.now) did.moved
     (λ x lt at. run-region m.newest c.requires.placed.fit cut.low are.low _ x (low_rows.touched.only _ (subst (λ (l : List ℕ). Contains l (place_by m.newest x).row) c.as_slice.ensures.value at)) lt refl) in
     let high_region : IsOfRegion n cut.high.shape (Contains c.as_slice-2.result.now) = region-later given m n cut.high.shape (Contains c.as_slice-2.result.now) did.moved
     (λ x lt at. run-region m.newest c.requires.placed.fit cut.high are.high _ x (high_rows.touched.only _ (subst (λ (l : List ℕ). Contains l (place_by m.newest x).row) c.as_slice-2.ensures.value at)) lt refl) in
     let may = allowed refl in
+    let behind : (x : ℕ) → list_length m.newest ≤ x → list' x ≡ list x = λ x past. w.other x (inr (omega (arith, c.requires.within, past))) in
     let one = did.safe told world ledger (room-first m tape0 tape1 tape2 room (grows-longer did2.grows told)) (gone-before given n p did.moved.placed two ledger gone) unclean safe in
     safe-then (OpensFit world) world.scope given ledger n p tape0 tape1 tape2 one
     (keeps-from world given given1 ledger p tape1 tape2 did.given
@@ -609,8 +658,8 @@ returns-clause-safe g c =
     (subst (λ (l : List ℕ). AreDataFrom 0 cut.high.shape far.chosen l far_buffer) (sym c.as_slice-2.ensures.value) far.read)
     (allowed-later given m n did.moved ledger.values near.chosen' (chosen-allowed m ledger.values cut.low.shape c.args.first c.args.from.now rows buffer list list' near may))
     (allowed-later given m n did.moved ledger.values far.chosen' (chosen-allowed m ledger.values cut.high.shape c.args.first c.args.from.now far_rows far_buffer list list' far may))
-    (λ fit. zeros-later given m n did.moved near.chosen' (λ x tail. absurd (untailed fit x tail)))
-    (λ fit. zeros-later given m n did.moved far.chosen' (λ x tail. absurd (untailed fit x tail)))
+    (λ fit. zeros-later given m n did.moved near.chosen' (λ x tail. near.tail x tail ∙ behind x tail.past ∙ zeros fit x tail))
+    (λ fit. zeros-later given m n did.moved far.chosen' (λ x tail. far.tail x tail ∙ behind x tail.past ∙ zeros fit x tail))
     (over-at world given given1 ledger n tape1 did.given one.next)))
 
 pub returns-clause-counts : goal.returns-clause-counts

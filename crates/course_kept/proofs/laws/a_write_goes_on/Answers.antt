@@ -1,0 +1,7 @@
+use Rattle.std.specs.Prelude.{⊤}
+use Rattle.course_kept.proofs.Writes.{writes-go-on}
+use Rattle.course_kept.proofs.laws.a_write_goes_on.Goals as goal
+
+pub returns : goal.returns
+returns c =
+    writes-go-on ⊤

@@ -1,0 +1,453 @@
+-- A write beside the window of a reshape, from what `put_list` of region_writes leaves: it is done, or refused before its first row, or behind it.
+use Rattle.std.proofs.Common.{◌≡◌, ◌⊎◌, inl, inr, ℕ, ◌+◌, ◌-◌, ◌*◌, ◌/◌, ◌<◌, ◌≤◌, ◌==◌, ◌||◌, nat_le, Bool, true, false, if◌then◌else◌, Option, Some, None, List, [], ◌∷◌, ◌++◌, length, refl, sym, ◌∙◌, ap, subst, arith, append_assoc, append-nil}
+use Rattle.std.specs.Prelude.{IsFalse, fold, min, slice_index_or, ⊤}
+use Rattle.std.specs.Option.{option_map_or}
+use Rattle.std.proofs.lemmas.Bool.{cases_lt}
+use Rattle.std.proofs.lemmas.Bool.Decides.{nat_tests}
+use Rattle.std.proofs.lemmas.List.Sums.{fold-append}
+use Rattle.md_base.specs.Sectors.{Sector, sectors_of}
+use Rattle.md_base.proofs.SectorLaws.{length-sectors_of}
+use Rattle.md_base.specs.declared.answers.Refusal.{Refusal}
+use Rattle.md_base.specs.declared.answers.Who.{Who}
+use Rattle.md_base.specs.declared.places.Shape.{Shape}
+use Rattle.md_base.specs.declared.places.Span.{Span}
+use Rattle.md_base.specs.Shapes.{tolerance, tolerance_of, stripe_sectors}
+use Rattle.bank.specs.declared.bank.Operation.{Operation}
+use Rattle.bank.specs.Given.{Given}
+use Rattle.bank.specs.Tape.{IsIn, disk}
+use Rattle.sb1.specs.declared.sb.Sb.{Sb}
+use Rattle.superblocks.specs.declared.members.Members.{Members}
+use Rattle.superblocks.specs.Reading.{Scope, shape_of, final_shape, list_length, role_count}
+use Rattle.row_io.specs.Rows.{reading_of, present}
+use Rattle.list_io.specs.Writing.{IsWritten}
+use Rattle.flat_history.specs.declared.events.Entry.{Entry}
+use Rattle.flat_history.specs.declared.events.Event.{Event}
+use Rattle.flat_history.specs.declared.events.Event.TheVariants.{Wrote, Torn, Refused}
+use Rattle.flat_history.specs.Flat.{covers as writes_at, sector_at, length_of, limit_of, limit_after, visible_of, values_of, now}
+use Rattle.flat_history.specs.Legal.{level_at, IsTorn, IsRefusedRight}
+use Rattle.flat_history.specs.Losses.{is_unsynced, unsettles}
+use Rattle.flat_history.specs.OneShape.{is_unsettled}
+use Rattle.flat_history.specs.Plain.{entries_of}
+use Rattle.flat_history.specs.Sound.{OpensFit}
+use Rattle.flat_history.specs.Stands.{shape_for, covers}
+use Rattle.flat_history.specs.Transfers.{IsTooMany}
+use Rattle.flat_history.specs.World.{World, opening_list}
+use Rattle.shape_views.specs.Regions.{AreShapesFit, place_by, DoWithout}
+use Rattle.shape_views.specs.Views.{Ledger, IsTailZero}
+use Rattle.shape_views.specs.Windows.{IsShown, AreTailsStanding}
+use Rattle.shape_views.proofs.Alike.{row-below}
+use Rattle.shape_changes.specs.Marking.{AreOthersPresent}
+use Rattle.shape_changes.specs.Safety.{HasRoomLeft, IsRisen}
+use Rattle.shape_changes.specs.Steady.{IsMoreTold, IsSafeOver, KeepsSafe, AreGoneTold, AreWritesAllowed}
+use Rattle.views.specs.Placed.{AreWhole, IsInForce}
+use Rattle.views.specs.Moving.{Grows, IsMoved}
+use Rattle.views.specs.Lacking.{LacksTooMany, AreOtherRowsKept, AreBytes}
+use Rattle.views.proofs.Fit.{list-alike, force-disks}
+use Rattle.views.proofs.LackingLists.{row-sector}
+use Rattle.views.proofs.LackingWrites.{list-with, list-with-is}
+use Rattle.call_entries.specs.Losing.{losses_of, failure_events}
+use Rattle.call_entries.proofs.CallLaws.{losses-are, limit-losses, values-losses}
+use Rattle.call_entries.proofs.LeftLaws.{TellLeft, left-behind, left-more}
+use Rattle.call_entries.proofs.LosingLaws.{entries-both}
+use Rattle.array_kept.proofs.LedgerLaws.{written-allowed, wrote-in, torn-in}
+use Rattle.array_kept.proofs.NowLaws.{wrote-is}
+use Rattle.region_rows.specs.Stretches.{relied_rows}
+use Rattle.region_writes.specs.Runs.{IsShapeOf, ListStandsIn, RowsStandIn, IsListTouched, MayBeHidden, IsListTorn, IsListUnwritten}
+use Rattle.region_writes.proofs.Together.{shape-force}
+use Rattle.region_writes.proofs.RunLists.{written-same}
+use Rattle.kept_history.specs.Recorded.{IsCallGoing, IsLegalCall, entry_of}
+use Rattle.kept_history.specs.Safe.{world_in, IsFilledRight}
+use Rattle.kept_history.specs.Told.{told_now}
+use Rattle.kept_history.proofs.Entered.{AreAdding, settle-none, values-more, length-adding}
+use Rattle.kept_history.proofs.Growing.{opening-grown, unsynced-grown}
+use Rattle.kept_history.proofs.Ledgers.{unsynced-still, none-ends}
+use Rattle.kept_history.proofs.Lists.{newest-in}
+use Rattle.course_kept.specs.declared.course.Course.{Course}
+use Rattle.grow_asked.specs.declared.window.Window.{Window}
+use Rattle.grow_asked.specs.declared.window.Window.TheVariants.{Closed, Entered, Unsure}
+use Rattle.course_kept.specs.Course.{IsBackupKept, IsWindowOf, hidden_in, span_in}
+use Rattle.course_kept.proofs.Courses.{courses-move, stored-moves}
+use Rattle.course_kept.proofs.Writes.{writes-go-on}
+use Rattle.history_calls.specs.Reliable.{IsReliable, AreToldGone}
+use Rattle.moving_kept.specs.Moving.{HasListInCourse, IsMoving}
+use Rattle.moving_kept.proofs.Adding.{behind-moves}
+use Rattle.history_calls.proofs.Behind.{IsAmong, early-losses, legal-losses}
+use Rattle.moving_kept.proofs.Behind.{first-early, first-more}
+use Rattle.moving_kept.proofs.MembersMove.{reshaping-moved}
+use Rattle.moving_kept.proofs.Refusals.{lacking-right}
+use Rattle.moving_kept.proofs.Staying.{course-moved}
+use Rattle.moving_kept.proofs.Steps.{AreMissingSince, missing-moved}
+
+-- ---- what a write leaves
+
+-- What a call leaves that was asked to put these sectors into the list from a place on, none of them in the window under way, whether it is done or not.
+pub record ArePut (tells : Type 0) (given : Given) (tape tape' : List Operation) (scope : Scope) (old new : Members) (course : Course) (at : ℕ) (from : List ℕ) (relied roles : ℕ) (begun : Bool) : Type 0 where
+  pub within : at + length from / 512 ≤ list_length old.newest
+  pub beside : (x : ℕ) → at ≤ x → x < at + length from / 512 → covers (span_in course.window) x ≡ false
+  pub moved : IsMoved given old new
+  pub few : role_count new.newest ≤ 16
+  pub since : AreMissingSince old new roles
+  pub rise : tells → IsRisen ⊤ old new tape tape'
+  pub backup : tells → IsBackupKept scope course.window (disk given.start tape) (disk given.start tape')
+  pub safe : tells → (world : World) → (told : Ledger) → HasRoomLeft old tape tape' → AreGoneTold told new → told.unclean ≡ true → (hidden : Option Span) → MayBeHidden old.newest hidden
+      → (list list' : ℕ → Sector) → IsWritten list list' at from → ((x : ℕ) → at ≤ x → x < at + length from / 512 → IsShown hidden old.newest x)
+      → ListStandsIn (IsShapeOf old.newest at (at + length from / 512)) hidden old (present given tape) list
+      → AreWhole new ⊎ RowsStandIn (IsShapeOf old.newest at (at + length from / 512)) hidden relied old (present given tape) list
+      → (IsShapeOf old.newest at (at + length from / 512) (final_shape old.newest) → AreTailsStanding old (present given tape) list)
+      → (begun ≡ true → AreWritesAllowed old told.values list') → (OpensFit world → IsTailZero old.newest list)
+      → IsSafeOver world given told old tape → KeepsSafe world given told new tape tape'
+
+-- What it leaves besides where it is done.
+pub record AreWritten (tells : Type 0) (given : Given) (tape tape' : List Operation) (old new : Members) (at : ℕ) (from : List ℕ) (relied : ℕ) : Type 0 where
+  pub bytes : AreBytes from
+  pub put : tells → (among : Shape → Bool) → (hidden : Option Span) → (list list' : ℕ → Sector) → IsWritten list list' at from
+      → ListStandsIn (λ s. among s ≡ true) hidden old (present given tape) list → ListStandsIn (λ s. among s ≡ true) hidden new (present given tape') list'
+  pub tail : tells → (list list' : ℕ → Sector) → IsWritten list list' at from → AreTailsStanding old (present given tape) list → AreTailsStanding new (present given tape') list'
+  pub others : tells → AreOtherRowsKept (IsListTouched old.newest at (at + length from / 512)) (reading_of new) (present given tape) (present given tape')
+  pub good : tells → (among : Shape → Bool) → (hidden : Option Span) → (list list' : ℕ → Sector) → IsWritten list list' at from → AreBytes from
+      → ((x : ℕ) → at ≤ x → x < at + length from / 512 → IsShown hidden old.newest x) → (bound : ℕ) → relied ≤ bound
+      → RowsStandIn (λ s. among s ≡ true) hidden bound old (present given tape) list → RowsStandIn (λ s. among s ≡ true) hidden bound new (present given tape') list'
+
+-- And where it is refused: it was torn only where too many are missing, and where it wasn't begun nothing but superblocks is written. Parity isn't relied on everywhere only
+-- while a resync is pending.
+pub record AreUnwritten (tells : Type 0) (given : Given) (tape tape' : List Operation) (scope : Scope) (first : ℕ) (entries : List Entry) (old new : Members) (at : ℕ) (from : List ℕ) (relied : ℕ)
+    (begun : Bool) (refusal : Refusal) : Type 0 where
+  pub refused : IsListUnwritten relied at (at + length from / 512) new refusal
+  pub torn : begun ≡ true → IsListTorn at (at + length from / 512) new refusal
+  pub untouched : begun ≡ false → tells → AreOthersPresent (present given tape) (present given tape')
+  pub pending : tells → relied < list_length old.newest → is_unsynced (world_in given tape scope first) entries ≡ true
+
+-- ---- the window
+
+-- what is hidden is the next window
+hidden-next : (newest : Sb) (window : Window) → IsWindowOf newest window → MayBeHidden newest (hidden_in window)
+hidden-next newest Closed is span same = absurd (let none : ◌≡◌ {A = Option Span} None (Some span) = same in cc)
+hidden-next newest (Entered own copied true) is span same = is.0 ∙ same
+hidden-next newest (Entered own copied false) is span same = absurd (let none : ◌≡◌ {A = Option Span} None (Some span) = same in cc)
+hidden-next newest (Unsure own) is span same = absurd (let none : ◌≡◌ {A = Option Span} None (Some span) = same in cc)
+
+hidden-out : (window : Window) (x : ℕ) → covers (span_in window) x ≡ false → covers (hidden_in window) x ≡ false
+hidden-out Closed x out = out
+hidden-out (Entered own copied true) x out = out
+hidden-out (Entered own copied false) x out = refl
+hidden-out (Unsure own) x out = refl
+
+-- ---- losses
+
+or-first : (a b : Bool) → a ≡ true → (a || b) ≡ true
+or-first true b is = refl
+or-first false b is = absurd (cc)
+
+module _ (who : Who) (end roles spares : ℕ) where
+  alone : (P : List Event → Type 0) → P (losses_of roles spares ++ []) → P (losses_of roles spares)
+  alone P is = subst P (append-nil (losses_of roles spares)) is
+
+  losses-add : AreAdding (entries_of who end (losses_of roles spares))
+  losses-add = alone (λ (l : List Event). AreAdding (entries_of who end l)) ((early-losses roles spares).adds who end [] refl)
+
+  -- they leave as much visible
+  losses-seen : (n : ℕ) (entries : List Entry) → visible_of n (entries ++ entries_of who end (losses_of roles spares)) ≡ visible_of n entries
+  losses-seen n entries = λ i. option_map_or (λ limit. min limit (long i)) (limited i) (long i)
+    where
+      long : length_of n (entries ++ entries_of who end (losses_of roles spares)) ≡ length_of n entries
+      long = length-adding n entries (entries_of who end (losses_of roles spares)) losses-add
+
+      limited : limit_of (entries ++ entries_of who end (losses_of roles spares)) ≡ limit_of entries
+      limited =
+          fold-append (λ (limit : Option ℕ) e. limit_after limit e.event) None entries (entries_of who end (losses_of roles spares))
+          ∙ alone (λ (l : List Event). fold (λ (limit : Option ℕ) e. limit_after limit e.event) (limit_of entries) (entries_of who end l) ≡ limit_of entries)
+          (limit-losses who end (losses_of roles spares) [] (losses-are roles spares) (limit_of entries))
+
+  -- and end no resync
+  losses-unsynced : (world : World) (entries : List Entry) → is_unsynced world (entries ++ entries_of who end (losses_of roles spares)) ≡ is_unsynced world entries
+  losses-unsynced world entries =
+      unsynced-still world entries (entries_of who end (losses_of roles spares)) (none-ends (entries_of who end (losses_of roles spares)) (settle-none (entries_of who end (losses_of roles spares)) losses-add))
+
+-- ---- refusals
+
+module _ (at to : ℕ) (m : Members) (refusal : Refusal) (torn : IsListTorn at to m refusal) where
+  torn-unsettles : unsettles (Refused refusal) ≡ true
+  torn-unsettles = subst (λ (r : Refusal). unsettles (Refused r) ≡ true) (sym torn.3.told) refl
+
+  torn-many : IsTooMany (Refused refusal)
+  torn-many = subst (λ (r : Refusal). IsTooMany (Refused r)) (sym torn.3.told) tt
+
+  -- an array that does without what it misses tears none
+  torn-never : DoWithout m → ⊥
+  torn-never does = of (shape-force m.newest torn.0)
+    where
+      of : IsInForce m.newest (shape_for m.newest torn.0) → ⊥
+      of (inl same) = let many = subst (λ (s : Shape). LacksTooMany s m refusal) same torn.3 in absurd (let above = many.above in let few = does.old in omega (arith, above, few))
+      of (inr same) = let many = subst (λ (s : Shape). LacksTooMany s m refusal) same torn.3 in absurd (let above = many.above in let few = does.final in omega (arith, above, few))
+
+-- where the row of a sector of the list isn't relied on, not all are
+unrelied-short : (newest : Sb) → AreShapesFit newest → (relied x : ℕ) → x < list_length newest → relied_rows newest relied (shape_for newest x) ≤ (place_by newest x).row → relied < list_length newest
+unrelied-short newest fit relied x lt far = elim (cases_lt relied (list_length newest)) [
+  | inl less ↦ less
+  | inr all ↦ absurd (
+      let whole : relied_rows newest relied (shape_for newest x) ≡ newest.size =
+      ap (λ (b : Bool). if b then newest.size else relied / stripe_sectors (shape_for newest x) * (shape_for newest x).chunk) (le-is (list_length newest) relied all) in
+      let below = row-below newest fit x lt in
+      omega (arith, whole, below, far))
+]
+  where
+    le-is : (a b : ℕ) → a ≤ b → nat_le a b ≡ true
+    le-is a b le = grind (arith, nat_tests, le)
+
+-- ---- the call
+
+module _ (tells : Type 0) (given : Given) (tape tape' : List Operation) (scope : Scope) (first : ℕ) (entries : List Entry) (old new : Members) (carried : ℕ → Bool)
+    (course : Course) (buffer : List ℕ) (left : ℕ) (who : Who) (end roles spares at : ℕ) (from : List ℕ) (relied : ℕ) (begun : Bool)
+    (was : IsMoving tells given tape scope first entries old carried course buffer left) (goes : IsCallGoing entries who) (caller : IsFalse (who.caller == 254))
+    (at_end : tells → end ≡ length tape') (grows : Grows tells tape tape') (does : DoWithout old)
+    (visible : tells → at + length from / 512 ≤ visible_of (length (opening_list (world_in given tape scope first))) entries)
+    (did : ArePut tells given tape tape' scope old new course at from relied roles begun) where
+  list-same : list_length new.newest ≡ list_length old.newest
+  list-same = list-alike old.newest new.newest did.moved.reshape did.moved.shape did.moved.size
+
+  level-same : (shape_of new.newest).level ≡ (shape_of old.newest).level
+  level-same = ap (λ (s : Shape). s.level) did.moved.shape
+
+  shown : (x : ℕ) → at ≤ x → x < at + length from / 512 → IsShown (hidden_in course.window) old.newest x
+  shown x low high = record { within = let within = did.within in omega (arith, high, within); outside = hidden-out course.window x (did.beside x low high) }
+
+  -- ---- the world, behind the call
+
+  opened-later : tells → opening_list (world_in given tape' scope first) ≡ opening_list (world_in given tape scope first)
+  opened-later t =
+      let g = grows.more t in
+      subst (λ (l : List Operation). opening_list (world_in given l scope first) ≡ opening_list (world_in given tape scope first)) (sym g.1)
+      (opening-grown (world_in given tape scope first) g.0 (was.recorded t).begun)
+
+  unsynced-later : tells → is_unsynced (world_in given tape' scope first) entries ≡ is_unsynced (world_in given tape scope first) entries
+  unsynced-later t =
+      let g = grows.more t in
+      subst (λ (l : List Operation). is_unsynced (world_in given l scope first) entries ≡ is_unsynced (world_in given tape scope first) entries) (sym g.1)
+      (unsynced-grown (world_in given tape scope first) g.0 (was.recorded t).begun entries)
+
+  -- the sectors end within what is visible
+  ends-within : tells → at + length (sectors_of from) ≤ visible_of (length (opening_list (world_in given tape' scope first))) (entries ++ entries_of who end (losses_of roles spares))
+  ends-within t =
+      let seen = visible t in
+      let n : length (sectors_of from) ≡ length from / 512 = length-sectors_of from in
+      let same : visible_of (length (opening_list (world_in given tape' scope first))) (entries ++ entries_of who end (losses_of roles spares)) ≡ visible_of (length (opening_list (world_in given tape scope first))) entries =
+      ap (λ (l : List Sector). visible_of (length l) (entries ++ entries_of who end (losses_of roles spares))) (opened-later t)
+      ∙ losses-seen who end roles spares (length (opening_list (world_in given tape scope first))) entries in
+      omega (arith, seen, n, same)
+
+  -- ---- the list
+
+  -- each sector of the list may have its newest value
+  newest : tells → (x : ℕ) → x < list_length old.newest → IsIn (values_of (opening_list (world_in given tape scope first)) entries x) (now (opening_list (world_in given tape scope first)) entries x)
+  newest t x lt = newest-in (opening_list (world_in given tape scope first)) entries x (let size = (was.recorded t).sized in omega (arith, lt, size))
+
+  -- each mark is safe, if what may be written is told
+  keeps : (t : tells) → (told : Ledger) → IsFilledRight (world_in given tape scope first) entries → AreWhole new ⊎ OpensFit (world_in given tape scope first)
+      → IsMoreTold (told_now (world_in given tape scope first) carried true entries) told → told.unclean ≡ true
+      → (begun ≡ true → (x : ℕ) → x < list_length old.newest → writes_at at (sectors_of from) x ≡ true → IsIn (told.values x) (sector_at at (sectors_of from) x))
+      → HasRoomLeft old tape tape' → AreGoneTold told new → IsSafeOver (world_in given tape scope first) given told old tape → KeepsSafe (world_in given tape scope first) given told new tape tape'
+  keeps t told fills whole more unclean writes room gone before =
+      let l = was.listed t does fills in
+      did.safe t (world_in given tape scope first) told room gone unclean (hidden_in course.window) (hidden-next old.newest course.window was.course_is.window)
+      l.list (list-with l.list at from) (list-with-is l.list at from) shown (λ x slot own out held. l.stands.stands x slot out held)
+      (elim whole [
+        | inl all ↦ inl all
+        | inr fit ↦ inr (λ x lt own out. l.stands.rows fit x out)
+      ])
+      (λ own. l.stands.tail)
+      (λ is. written-allowed (list_length old.newest) at from l.list (list-with l.list at from) told.values (list-with-is l.list at from)
+      (λ x lt. subst (IsIn (told.values x)) (sym (l.is x lt))
+      (more.values x (let size = (was.recorded t).sized in omega (arith, lt, size)) (now (opening_list (world_in given tape scope first)) entries x) (newest t x lt)))
+      (writes is))
+      (λ fit x tail. l.stands.zeros tail.forth x tail.past) before
+
+  -- ---- it is done
+
+  pub written-moves : AreWritten tells given tape tape' old new at from relied
+      → IsMoving tells given tape' scope first (entries ++ entries_of who end (losses_of roles spares ++ Wrote at (sectors_of from) ∷ [])) new carried course buffer left
+  written-moves done =
+      behind-moves tells given tape tape' scope first entries old new carried course course buffer buffer left left who end (losses_of roles spares) (IsAmong roles) (Wrote at (sectors_of from))
+      was goes caller at_end grows (record { adds = refl; gives = refl; ends = refl; level = λ n. refl })
+      (reshaping-moved scope given old new did.moved was.members_are) did.few (first-early (early-losses roles spares)) (missing-moved roles did.moved did.since) list-same level-same (λ t dirty. inr refl)
+      (course-moved given old new course did.moved was.course_is)
+      (λ t. stored-moves scope given old new course.window buffer (disk given.start tape) (disk given.start tape') did.moved (did.backup t) (was.stored t))
+      (left-more left entries who end (losses_of roles spares ++ Wrote at (sectors_of from) ∷ []) was.left_told
+      (left-behind left who end (losses_of roles spares) (Wrote at (sectors_of from) ∷ []) (losses-are roles spares) (λ told is. is)))
+      (λ t. record {
+        rise = did.rise t;
+        keeps = λ told fills whole more values allowed room gone unclean unsettled before.
+            keeps t told fills whole more (unsettled refl) (λ is x lt covered. values x (sector_at at (sectors_of from) x) (written-in t x covered)) room gone before;
+        listed = λ does_new fills. listed t fills;
+        legal = λ fills gone level. legal-losses (world_in given tape' scope first) entries who end (losses_of roles spares) (Wrote at (sectors_of from) ∷ []) (losses-are roles spares) (ends-within t, tt, tt);
+      })
+    where
+      written-in : tells → (x : ℕ) → writes_at at (sectors_of from) x ≡ true
+          → IsIn (values_of (opening_list (world_in given tape scope first)) (entries ++ entries_of who end (losses_of roles spares ++ Wrote at (sectors_of from) ∷ [])) x) (sector_at at (sectors_of from) x)
+      written-in t x covered = subst (λ (l : List Sector). IsIn l (sector_at at (sectors_of from) x))
+          (sym (values-more (opening_list (world_in given tape scope first)) entries (entries_of who end (losses_of roles spares ++ Wrote at (sectors_of from) ∷ [])) x
+          ∙ values-losses who end (losses_of roles spares) (Wrote at (sectors_of from) ∷ []) (losses-are roles spares) x (values_of (opening_list (world_in given tape scope first)) entries x)))
+          (wrote-in at (sectors_of from) x (values_of (opening_list (world_in given tape scope first)) entries x) covered)
+
+      -- what the history's list has become
+      is-written : IsWritten (now (opening_list (world_in given tape scope first)) entries)
+          (now (opening_list (world_in given tape scope first)) (entries ++ entries_of who end (losses_of roles spares ++ Wrote at (sectors_of from) ∷ []))) at from
+      is-written =
+          let w = wrote-is (opening_list (world_in given tape scope first)) entries who end (losses_of roles spares) at from (losses-are roles spares) in
+          record { here = λ x low high. w.here x low high ∙ sym (row-sector from (x - at)); other = w.other }
+
+      listed : tells → IsFilledRight (world_in given tape scope first) entries
+          → HasListInCourse (OpensFit (world_in given tape scope first)) new course buffer (present given tape')
+          (now (opening_list (world_in given tape scope first)) (entries ++ entries_of who end (losses_of roles spares ++ Wrote at (sectors_of from) ∷ [])))
+      listed t fills =
+          let l = was.listed t does fills in
+          let w = list-with-is l.list at from in
+          record {
+            list = list-with l.list at from;
+            is = λ x lt. written-same l.list (list-with l.list at from) (now (opening_list (world_in given tape scope first)) entries)
+                (now (opening_list (world_in given tape scope first)) (entries ++ entries_of who end (losses_of roles spares ++ Wrote at (sectors_of from) ∷ []))) at from w is-written x
+                (l.is x (subst (λ (n : ℕ). x < n) list-same lt));
+            stands = writes-go-on (OpensFit (world_in given tape scope first)) given old new course buffer (present given tape) (present given tape') l.list (list-with l.list at from) at from
+                was.members_are.placed did.moved was.course_is w did.within did.beside (done.others t)
+                (λ x slot out held. done.put t (λ s. true) (hidden_in course.window) l.list (list-with l.list at from) w (λ x slot own out held. l.stands.stands x slot out held) x slot refl out held)
+                (done.tail t l.list (list-with l.list at from) w l.stands.tail)
+                (λ fit x out. done.good t (λ s. true) (hidden_in course.window) l.list (list-with l.list at from) w done.bytes shown (relied + list_length new.newest) (omega arith)
+                (λ x lt own out. l.stands.rows fit x out) x (let within = out.within in omega (arith, within)) refl out)
+                l.stands;
+          }
+
+  -- ---- it is refused
+
+  module _ (refusal : Refusal) (undone : AreUnwritten tells given tape tape' scope first entries old new at from relied begun refusal) where
+    -- what stands behind a refusal for missing members
+    torn-right : (t : tells) → (before : List Entry) → IsReliable (world_in given tape scope first) entries → AreToldGone (world_in given tape' scope first) before new
+        → level_at (world_in given tape' scope first) before ≡ level_at (world_in given tape scope first) entries → IsListTorn at (at + length from / 512) new refusal
+        → IsRefusedRight (world_in given tape' scope first) before refusal
+    torn-right t before fills gone level torn =
+        lacking-right (world_in given tape' scope first) before given new did.moved.placed gone (ap tolerance_of level ∙ was.levelled t fills ∙ ap tolerance (sym did.moved.shape))
+        (shape_for new.newest torn.0) refusal (shape-force new.newest torn.0) torn.3
+
+    -- behind its first row
+    torn-moves : begun ≡ true → IsMoving tells given tape' scope first (entries ++ entries_of who end ((losses_of roles spares ++ Torn at (sectors_of from) ∷ []) ++ Refused refusal ∷ [])) new carried course buffer left
+    torn-moves is =
+        behind-moves tells given tape tape' scope first entries old new carried course course buffer buffer left left who end (losses_of roles spares ++ Torn at (sectors_of from) ∷ []) (IsAmong roles) (Refused refusal)
+        was goes caller at_end grows (record { adds = refl; gives = refl; ends = refl; level = λ n. refl })
+        (reshaping-moved scope given old new did.moved was.members_are) did.few
+        (first-more (losses_of roles spares) (IsAmong roles) (Torn at (sectors_of from)) (first-early (early-losses roles spares)) refl refl refl (λ n. refl))
+        (missing-moved roles did.moved did.since) list-same level-same (λ t dirty. inr (torn-unsettles at (at + length from / 512) new refusal (undone.torn is)))
+        (course-moved given old new course did.moved was.course_is)
+        (λ t. stored-moves scope given old new course.window buffer (disk given.start tape) (disk given.start tape') did.moved (did.backup t) (was.stored t))
+        (left-more left entries who end ((losses_of roles spares ++ Torn at (sectors_of from) ∷ []) ++ Refused refusal ∷ []) was.left_told
+        (subst (λ (l : List Event). TellLeft left who end l) (sym torn-assoc)
+        (left-behind left who end (losses_of roles spares) (Torn at (sectors_of from) ∷ Refused refusal ∷ []) (losses-are roles spares) (λ told is. is))))
+        (λ t. record {
+          rise = did.rise t;
+          keeps = λ told fills whole more values allowed room gone unclean unsettled before.
+              keeps t told fills whole more (unsettled (torn-unsettles at (at + length from / 512) new refusal (undone.torn is)))
+              (λ now_begun x lt covered. values x (sector_at at (sectors_of from) x) (torn-allowed t x lt covered)) room gone before;
+          listed = λ does_new fills. absurd (torn-never at (at + length from / 512) new refusal (undone.torn is) does_new);
+          legal = λ fills gone level. subst (λ (l : List Event). IsLegalCall (world_in given tape' scope first) entries who end l) (sym torn-assoc)
+              (legal-losses (world_in given tape' scope first) entries who end (losses_of roles spares) (Torn at (sectors_of from) ∷ Refused refusal ∷ []) (losses-are roles spares)
+              (torn-legal t, tt, (refused-legal t fills gone level, tt, tt)));
+        })
+      where
+        torn-assoc : (losses_of roles spares ++ Torn at (sectors_of from) ∷ []) ++ Refused refusal ∷ [] ≡ losses_of roles spares ++ Torn at (sectors_of from) ∷ Refused refusal ∷ []
+        torn-assoc = append_assoc (losses_of roles spares) (Torn at (sectors_of from) ∷ []) (Refused refusal ∷ [])
+
+        -- the sectors stand behind the newest values
+        torn-allowed : (t : tells) → (x : ℕ) → x < list_length old.newest → writes_at at (sectors_of from) x ≡ true
+            → IsIn (values_of (opening_list (world_in given tape scope first)) (entries ++ entries_of who end ((losses_of roles spares ++ Torn at (sectors_of from) ∷ []) ++ Refused refusal ∷ [])) x)
+            (sector_at at (sectors_of from) x)
+        torn-allowed t x lt covered = subst (λ (l : List Sector). IsIn l (sector_at at (sectors_of from) x))
+            (sym (ap (λ (l : List Event). values_of (opening_list (world_in given tape scope first)) (entries ++ entries_of who end l) x) torn-assoc
+            ∙ values-more (opening_list (world_in given tape scope first)) entries (entries_of who end (losses_of roles spares ++ Torn at (sectors_of from) ∷ Refused refusal ∷ [])) x
+            ∙ values-losses who end (losses_of roles spares) (Torn at (sectors_of from) ∷ Refused refusal ∷ []) (losses-are roles spares) x (values_of (opening_list (world_in given tape scope first)) entries x)))
+            (torn-in at (sectors_of from) x (values_of (opening_list (world_in given tape scope first)) entries x) (newest t x lt) covered)
+
+        torn-legal : tells → IsTorn (world_in given tape' scope first) (entries ++ entries_of who end (losses_of roles spares)) at (sectors_of from) (entries_of who end (Refused refusal ∷ []))
+        torn-legal t = record { within = ends-within t; refused = torn-many at (at + length from / 512) new refusal (undone.torn is) }
+
+        torn-before : entries ++ entries_of who end (losses_of roles spares ++ Torn at (sectors_of from) ∷ [])
+            ≡ (entries ++ entries_of who end (losses_of roles spares)) ++ entry_of who end (Torn at (sectors_of from)) ∷ []
+        torn-before =
+            ap (λ (l : List Entry). entries ++ l) (entries-both who end (losses_of roles spares) (Torn at (sectors_of from) ∷ []))
+            ∙ sym (append_assoc entries (entries_of who end (losses_of roles spares)) (entry_of who end (Torn at (sectors_of from)) ∷ []))
+
+        refused-legal : (t : tells) → IsReliable (world_in given tape scope first) entries
+            → AreToldGone (world_in given tape' scope first) (entries ++ entries_of who end (losses_of roles spares ++ Torn at (sectors_of from) ∷ [])) new
+            → level_at (world_in given tape' scope first) (entries ++ entries_of who end (losses_of roles spares ++ Torn at (sectors_of from) ∷ [])) ≡ level_at (world_in given tape scope first) entries
+            → IsRefusedRight (world_in given tape' scope first) ((entries ++ entries_of who end (losses_of roles spares)) ++ entry_of who end (Torn at (sectors_of from)) ∷ []) refusal
+        refused-legal t fills gone level = subst (λ (l : List Entry). IsRefusedRight (world_in given tape' scope first) l refusal) torn-before
+            (torn-right t (entries ++ entries_of who end (losses_of roles spares ++ Torn at (sectors_of from) ∷ [])) fills gone level (undone.torn is))
+
+    -- or before it
+    unbegun-moves : begun ≡ false → IsMoving tells given tape' scope first (entries ++ entries_of who end (losses_of roles spares ++ Refused refusal ∷ [])) new carried course buffer left
+    unbegun-moves is =
+        behind-moves tells given tape tape' scope first entries old new carried course course buffer buffer left left who end (losses_of roles spares) (IsAmong roles) (Refused refusal)
+        was goes caller at_end grows (record { adds = refl; gives = refl; ends = refl; level = λ n. refl })
+        (reshaping-moved scope given old new did.moved was.members_are) did.few (first-early (early-losses roles spares)) (missing-moved roles did.moved did.since) list-same level-same
+        (λ t dirty. clean t undone.refused) (course-moved given old new course did.moved was.course_is)
+        (λ t. stored-moves scope given old new course.window buffer (disk given.start tape) (disk given.start tape') did.moved (did.backup t) (was.stored t))
+        (left-more left entries who end (losses_of roles spares ++ Refused refusal ∷ []) was.left_told (left-behind left who end (losses_of roles spares) (Refused refusal ∷ []) (losses-are roles spares) (λ told is. is)))
+        (λ t. record {
+          rise = did.rise t;
+          keeps = λ told fills whole more values allowed room gone unclean unsettled before.
+              keeps t told fills whole more (told-unclean t told more unsettled undone.refused) (λ now_begun. absurd (let both = sym is ∙ now_begun in cc)) room gone before;
+          listed = λ does_new fills. listed t does_new fills undone.refused;
+          legal = λ fills gone level. legal-losses (world_in given tape' scope first) entries who end (losses_of roles spares) (Refused refusal ∷ []) (losses-are roles spares) (legal t fills gone level undone.refused, tt, tt);
+        })
+      where
+        -- a resync is pending where it isn't refused for missing members alone
+        pending-is : (t : tells) → (x : ℕ) → x < at + length from / 512 → relied_rows new.newest relied (shape_for new.newest x) ≤ (place_by new.newest x).row → is_unsynced (world_in given tape scope first) entries ≡ true
+        pending-is t x high far =
+            let within = did.within in
+            let short = unrelied-short new.newest did.moved.placed.fit relied x (omega (arith, high, within, list-same)) far in
+            undone.pending t (omega (arith, short, list-same))
+
+        clean : (t : tells) → IsListUnwritten relied at (at + length from / 512) new refusal
+            → ((is_unsynced (world_in given tape scope first) entries || is_unsettled entries) ≡ true) ⊎ (unsettles (Refused refusal) ≡ true)
+        clean t (inl torn) = inr (torn-unsettles at (at + length from / 512) new refusal torn)
+        clean t (inr (each, there)) = inl (or-first (is_unsynced (world_in given tape scope first) entries) (is_unsettled entries) (pending-is t there.0 there.2 there.3))
+
+        told-unclean : (t : tells) → (told : Ledger) → IsMoreTold (told_now (world_in given tape scope first) carried true entries) told → (unsettles (Refused refusal) ≡ true → told.unclean ≡ true)
+            → IsListUnwritten relied at (at + length from / 512) new refusal → told.unclean ≡ true
+        told-unclean t told more unsettled (inl torn) = unsettled (torn-unsettles at (at + length from / 512) new refusal torn)
+        told-unclean t told more unsettled (inr (each, there)) =
+            more.unclean (or-first (is_unsynced (world_in given tape scope first) entries) (is_unsettled entries) (pending-is t there.0 there.2 there.3))
+
+        now-same : (x : ℕ) → now (opening_list (world_in given tape scope first)) (entries ++ entries_of who end (losses_of roles spares ++ Refused refusal ∷ [])) x
+            ≡ now (opening_list (world_in given tape scope first)) entries x
+        now-same x = ap (λ (l : List Sector). slice_index_or l 0 [])
+            (values-more (opening_list (world_in given tape scope first)) entries (entries_of who end (losses_of roles spares ++ Refused refusal ∷ [])) x
+            ∙ values-losses who end (losses_of roles spares) (Refused refusal ∷ []) (losses-are roles spares) x (values_of (opening_list (world_in given tape scope first)) entries x))
+
+        listed : (t : tells) → DoWithout new → IsFilledRight (world_in given tape scope first) entries → IsListUnwritten relied at (at + length from / 512) new refusal
+            → HasListInCourse (OpensFit (world_in given tape scope first)) new course buffer (present given tape')
+            (now (opening_list (world_in given tape scope first)) (entries ++ entries_of who end (losses_of roles spares ++ Refused refusal ∷ [])))
+        listed t does_new fills (inl torn) = absurd (torn-never at (at + length from / 512) new refusal torn does_new)
+        listed t does_new fills (inr (each, there)) =
+            let l = was.listed t does fills in
+            record {
+              list = l.list;
+              is = λ x lt. l.is x (subst (λ (n : ℕ). x < n) list-same lt) ∙ sym (now-same x);
+              stands = courses-move (OpensFit (world_in given tape scope first)) given old new course buffer (present given tape) (present given tape') l.list was.members_are.placed did.moved (undone.untouched is t) l.stands;
+            }
+
+        legal : (t : tells) → IsReliable (world_in given tape scope first) entries
+            → AreToldGone (world_in given tape' scope first) (entries ++ entries_of who end (losses_of roles spares)) new
+            → level_at (world_in given tape' scope first) (entries ++ entries_of who end (losses_of roles spares)) ≡ level_at (world_in given tape scope first) entries
+            → IsListUnwritten relied at (at + length from / 512) new refusal → IsRefusedRight (world_in given tape' scope first) (entries ++ entries_of who end (losses_of roles spares)) refusal
+        legal t fills gone level (inl torn) = torn-right t (entries ++ entries_of who end (losses_of roles spares)) fills gone level torn
+        legal t fills gone level (inr (each, there)) =
+            let why = there.4 in
+            subst (λ (r : Refusal). IsRefusedRight (world_in given tape' scope first) (entries ++ entries_of who end (losses_of roles spares)) r) (sym why.1) (
+              gone why.0 (let lt = why.4.0 in let disks = force-disks new.newest did.moved.placed.fit (shape_for new.newest there.0) (shape-force new.newest there.0) in omega (arith, lt, disks)) why.3,
+              losses-unsynced who end roles spares (world_in given tape' scope first) entries ∙ unsynced-later t ∙ pending-is t there.0 there.2 there.3,
+            )
+
+    -- as a write enters it that is refused
+    pub unwritten-moves : IsMoving tells given tape' scope first (entries ++ entries_of who end (failure_events roles spares begun at (sectors_of from) refusal)) new carried course buffer left
+    unwritten-moves = by begun refl
+      where
+        by : (b : Bool) → begun ≡ b → IsMoving tells given tape' scope first (entries ++ entries_of who end (failure_events roles spares b at (sectors_of from) refusal)) new carried course buffer left
+        by true is = torn-moves is
+        by false is = unbegun-moves is
