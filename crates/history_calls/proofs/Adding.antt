@@ -57,7 +57,7 @@ pub record ChangesEarly (given : Given) (tape : List Operation) (scope : Scope) 
   pub keeps : (told : Ledger) → IsReliable (world_in given tape' scope first) (entries ++ entries_of who end (early ++ event ∷ []))
       → AreToldGone (world_in given tape' scope first) (entries ++ entries_of who end (early ++ event ∷ [])) new → IsFilledRight (world_in given tape scope first) entries
       → IsMoreTold (told_now (world_in given tape scope first) carried reshaping entries) told
-      → ((x : ℕ) (v : Sector) → x < list_length old.newest → IsIn (values_of (opening_list (world_in given tape scope first)) (entries ++ entries_of who end (early ++ event ∷ [])) x) v → IsIn (told.values x) v)
+      → ((x : ℕ) (v : Sector) → IsIn (values_of (opening_list (world_in given tape scope first)) (entries ++ entries_of who end (early ++ event ∷ [])) x) v → IsIn (told.values x) v)
       → HasRoomLeft old tape tape' → AreGoneTold told new → IsUncleanTold told old
       → (list_any (λ e. unsettles e.event) (entries_of who end (early ++ event ∷ [])) ≡ true → told.unclean ≡ true)
       → IsSafeOver (world_in given tape scope first) given told old tape → KeepsSafe (world_in given tape scope first) given told new tape tape'
@@ -71,7 +71,8 @@ module _ (given : Given) (tape : List Operation) (scope : Scope) (first : ℕ) (
     (goes : IsCallGoing entries who) (caller : IsFalse (who.caller == 254)) (adding : IsAdding event) (few : role_count new.newest ≤ 16)
     (missing : AreLostOrMissing old new IsTaken)
     (sized : list_length new.newest ≡ list_length old.newest)
-    (clean : is_clean new.newest ≡ false → (is_clean old.newest ≡ false) ⊎ (list_any (λ e. unsettles e.event) (entries_of who (length (tape ++ ops)) (early ++ event ∷ [])) ≡ true))
+    (clean : is_clean new.newest ≡ false → ((is_unsynced (world_in given tape scope first) entries || is_unsettled entries) ≡ true)
+    ⊎ (list_any (λ e. unsettles e.event) (entries_of who (length (tape ++ ops)) (early ++ event ∷ [])) ≡ true))
     (sizes_are : scope.sizes ≡ sizes given)
     (gone : IsReliable (world_in given tape scope first) entries → AreToldGone (world_in given tape scope first) entries old)
     (unclean : is_clean old.newest ≡ false → (is_unsynced (world_in given tape scope first) entries || is_unsettled entries) ≡ true)
@@ -127,13 +128,13 @@ module _ (given : Given) (tape : List Operation) (scope : Scope) (first : ℕ) (
 
   unclean-all : is_clean new.newest ≡ false → (is_unsynced later all || is_unsettled all) ≡ true
   unclean-all dirty = elim (clean dirty) [
-    | inl before ↦ told-last.unclean (told-first.unclean (unclean before))
+    | inl before ↦ told-last.unclean (told-first.unclean before)
     | inr wrote ↦ told-last.unclean (told-unsettled wrote)
   ]
 
   -- each value that the history allows
-  allowed : (x : ℕ) (v : Sector) → x < list_length old.newest → IsIn (values_of (opening_list world) all x) v → IsIn (told.values x) v
-  allowed x v lt may = subst (λ (l : List Sector). IsIn (values_of l all x) v) (sym behind.opened) may
+  allowed : (x : ℕ) (v : Sector) → IsIn (values_of (opening_list world) all x) v → IsIn (told.values x) v
+  allowed x v may = subst (λ (l : List Sector). IsIn (values_of l all x) v) (sym behind.opened) may
 
   -- ---- the history
 
@@ -208,11 +209,11 @@ pub record ChangesList (given : Given) (tape : List Operation) (scope : Scope) (
       → IsLegalEvent (world_in given tape' scope first) (entries ++ entries_of who end (losses_of roles spares)) (entry_of who end event) [] event
 
 -- what its event leaves unsettled
-pub unsettled-behind : (who : Who) (end roles spares : ℕ) (event : Event) → unsettles event ≡ true → list_any (λ e. unsettles e.event) (entries_of who end (losses_of roles spares ++ event ∷ [])) ≡ true
-unsettled-behind who end roles spares event is =
-    ap (λ (l : List Entry). list_any (λ e. unsettles e.event) l) (entries-both who end (losses_of roles spares) (event ∷ []))
-    ∙ list_any-append (λ e. unsettles e.event) (entries_of who end (losses_of roles spares)) (entries_of who end (event ∷ []))
-    ∙ last-true (list_any (λ e. unsettles e.event) (entries_of who end (losses_of roles spares))) (unsettles event) is
+pub unsettled-last : (who : Who) (end : ℕ) (early : List Event) (event : Event) → unsettles event ≡ true → list_any (λ e. unsettles e.event) (entries_of who end (early ++ event ∷ [])) ≡ true
+unsettled-last who end early event is =
+    ap (λ (l : List Entry). list_any (λ e. unsettles e.event) l) (entries-both who end early (event ∷ []))
+    ∙ list_any-append (λ e. unsettles e.event) (entries_of who end early) (entries_of who end (event ∷ []))
+    ∙ last-true (list_any (λ e. unsettles e.event) (entries_of who end early)) (unsettles event) is
   where
     last-true : (a b : Bool) → b ≡ true → (a || (b || false)) ≡ true
     last-true true b e = refl
@@ -249,14 +250,14 @@ module _ (given : Given) (tape : List Operation) (scope : Scope) (first : ℕ) (
   pub adding-leaves : IsLeftBehind given tape scope first entries (entries ++ entries_of who (length (tape ++ ops)) (losses_of roles spares ++ event ∷ [])) new carried reshaping (tape ++ ops)
   adding-leaves = changing-leaves given tape scope first entries old new carried reshaping who (losses_of roles spares) (IsAmong roles) event ops first-losses goes caller adding few missing sized
       (λ dirty. elim (clean dirty) [
-        | inl before ↦ inl before
-        | inr wrote ↦ inr (unsettled-behind who (length (tape ++ ops)) roles spares event wrote)
+        | inl before ↦ inl (unclean before)
+        | inr wrote ↦ inr (unsettled-last who (length (tape ++ ops)) (losses_of roles spares) event wrote)
       ]) sizes_are gone unclean recorded safe now_safe
       (record {
         rise = call.rise;
         keeps = λ told all all_gone fills more allowed room told_gone told_unclean unsettled before.
-            call.keeps told all all_gone fills more (λ x lt. allowed x (now (opening_list (world_in given tape scope first)) (entries ++ entries_of who (length (tape ++ ops)) (losses_of roles spares ++ event ∷ [])) x) lt (newest x lt)) room told_gone told_unclean
-            (λ is. unsettled (unsettled-behind who (length (tape ++ ops)) roles spares event is)) before;
+            call.keeps told all all_gone fills more (λ x lt. allowed x (now (opening_list (world_in given tape scope first)) (entries ++ entries_of who (length (tape ++ ops)) (losses_of roles spares ++ event ∷ [])) x) (newest x lt)) room told_gone told_unclean
+            (λ is. unsettled (unsettled-last who (length (tape ++ ops)) (losses_of roles spares) event is)) before;
         legal = λ fills told_gone level.
             legal-losses (world_in given (tape ++ ops) scope first) entries who (length (tape ++ ops)) (losses_of roles spares) (event ∷ []) (losses-are roles spares) (call.legal fills told_gone level, tt, tt);
       })

@@ -31,9 +31,8 @@ use Rattle.kept_history.proofs.Growing.{reading-grown, opening-grown, fit-grown,
 use Rattle.kept_history.proofs.Tests.{none-before}
 use Rattle.kept_history.proofs.Ledgers.{any-gone}
 use Rattle.kept_history.proofs.Longer.{regains-none}
-use Rattle.kept_history.proofs.Entered.{AreAdding, adding-losses, none-losses, gone-was, gone-lost, adds_only}
+use Rattle.kept_history.proofs.Entered.{adds_only, AreAdding, adding-losses, none-losses, gone-was, gone-lost}
 use Rattle.history_calls.specs.Reliable.{IsReliable, AreToldGone}
-use Rattle.moving_kept.specs.Moving.{IsReliable, AreToldGone}
 
 -- ---- losses
 
@@ -102,12 +101,8 @@ pub record AreEarly (early : List Event) (IsTaken : ℕ → Type 0) : Type 0 whe
   pub values : (who : Who) (end : ℕ) (tail : List Event) (x : ℕ) (values : List Sector)
       → fold (λ values e. values_after x values e.event) values (entries_of who end (early ++ tail)) ≡ fold (λ values e. values_after x values e.event) values (entries_of who end tail)
 
-<<<<<<< HEAD:crates/history_calls/proofs/Behind.antt
 pub first-of : {early : List Event} {IsTaken : ℕ → Type 0} → AreEarly early IsTaken → AreFirst early IsTaken
 first-of are = record { adds = are.adds; gives = are.gives; lost = are.lost; ends = are.ends; level = are.level }
-=======
-pub first-early : {early : List Event} {IsTaken : ℕ → Type 0} → AreEarly early IsTaken → AreFirst early IsTaken
-first-early are = record { adds = are.adds; gives = are.gives; lost = are.lost; ends = are.ends; level = are.level }
 
 -- with one event more
 pub first-more : (early : List Event) (IsTaken : ℕ → Type 0) (event : Event) → AreFirst early IsTaken → adds_only event ≡ true → gives_some event ≡ false → ends_reshape event ≡ false
@@ -125,7 +120,6 @@ first-more early IsTaken event are adds gives ends level = record {
       ∙ are.level who end (event ∷ tail) n
       ∙ ap (λ (m : ℕ). fold (λ level e. level_after level e.event) m (entries_of who end tail)) (level n);
 }
->>>>>>> c64cd3e8db71265673e694f63f5282ad8c5af497:crates/moving_kept/proofs/Behind.antt
 
 -- one of these roles
 abbrev pub IsAmong : ℕ → ℕ → Type 0
@@ -164,14 +158,9 @@ pub record IsBehind (world later : World) (entries : List Entry) (new : Members)
   pub right : IsReliable later (entries ++ entries_of who end (early ++ tail)) → IsReliable world entries
   pub opened : opening_list later ≡ opening_list world
 
-<<<<<<< HEAD:crates/history_calls/proofs/Behind.antt
 module _ (given : Given) (tape : List Operation) (scope : Scope) (first : ℕ) (entries : List Entry) (old new : Members) (who : Who) (early : List Event) (IsTaken : ℕ → Type 0) (tail : List Event) (ops : List Operation)
     (are : AreFirst early IsTaken) (gives : list_any (λ e. gives_some e.event) (entries_of who (length (tape ++ ops)) tail) ≡ false)
     (level : (n : ℕ) → fold (λ level e. level_after level e.event) n (entries_of who (length (tape ++ ops)) tail) ≡ n) (few : role_count new.newest ≤ 16) (missing : AreLostOrMissing old new IsTaken)
-=======
-module _ (given : Given) (tape : List Operation) (scope : Scope) (first : ℕ) (entries : List Entry) (old new : Members) (who : Who) (early : List Event) (IsTaken : ℕ → Type 0) (event : Event) (ops : List Operation)
-    (are : AreFirst early IsTaken) (gives : gives_some event ≡ false) (ends : ends_reshape event ≡ false) (level : (n : ℕ) → level_after n event ≡ n) (few : role_count new.newest ≤ 16) (missing : AreLostOrMissing old new IsTaken)
->>>>>>> c64cd3e8db71265673e694f63f5282ad8c5af497:crates/moving_kept/proofs/Behind.antt
     (gone : IsReliable (world_in given tape scope first) entries → AreToldGone (world_in given tape scope first) entries old)
     (recorded : IsHistoryKept (IsReliable (world_in given tape scope first) entries) (world_in given tape scope first) (list_length old.newest) entries) where
   abbrev world : World
@@ -225,13 +214,8 @@ module _ (given : Given) (tape : List Operation) (scope : Scope) (first : ℕ) (
       ∙ fold-append (λ level e. level_after level e.event) (option_map_or (λ r. r.newest.level) (reading_at world world.first) 5) entries (entries_of who end xs)
       ∙ same
 
-<<<<<<< HEAD:crates/history_calls/proofs/Behind.antt
   pub is-behind : IsBehind (world_in given tape scope first) (world_in given (tape ++ ops) scope first) entries new who (length (tape ++ ops)) early tail
   is-behind = record {
-=======
-  pub first-behind : IsBehind (world_in given tape scope first) (world_in given (tape ++ ops) scope first) entries new who (length (tape ++ ops)) early event
-  first-behind = record {
->>>>>>> c64cd3e8db71265673e694f63f5282ad8c5af497:crates/moving_kept/proofs/Behind.antt
     adds_more = all-but (λ (l : List Event). AreAdding (entries_of who end l)) (are.adds who end [] refl);
     gives_more = gives-more;
     gives_all = gives-all;
@@ -245,11 +229,3 @@ module _ (given : Given) (tape : List Operation) (scope : Scope) (first : ℕ) (
     right = right-before;
     opened = opening-grown world ops recorded.begun;
   }
-
-pub is-behind : (given : Given) (tape : List Operation) (scope : Scope) (first : ℕ) (entries : List Entry) (old new : Members) (who : Who) (early : List Event) (IsTaken : ℕ → Type 0) (event : Event) (ops : List Operation)
-    → AreEarly early IsTaken → gives_some event ≡ false → ends_reshape event ≡ false → ((n : ℕ) → level_after n event ≡ n) → role_count new.newest ≤ 16 → AreLostOrMissing old new IsTaken
-    → (IsReliable (world_in given tape scope first) entries → AreToldGone (world_in given tape scope first) entries old)
-    → IsHistoryKept (IsReliable (world_in given tape scope first) entries) (world_in given tape scope first) (list_length old.newest) entries
-    → IsBehind (world_in given tape scope first) (world_in given (tape ++ ops) scope first) entries new who (length (tape ++ ops)) early event
-is-behind given tape scope first entries old new who early IsTaken event ops are gives ends level few missing gone recorded =
-    first-behind given tape scope first entries old new who early IsTaken event ops (first-early are) gives ends level few missing gone recorded

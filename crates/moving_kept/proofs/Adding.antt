@@ -1,54 +1,48 @@
-<<<<<<< HEAD
--- A call that enters losses and one event behind them, by which the list may change: a write.
-use Rattle.std.proofs.Common.{◌≡◌, ◌⊎◌, ℕ, ◌<◌, ◌≤◌, ◌==◌, Bool, true, false, List, [], ◌∷◌, ◌++◌, length, refl, sym, ◌∙◌, ap, subst}
-=======
 -- A call whose events add to the list's values, behind what it tells lost: a write, or one that was torn.
-use Rattle.std.proofs.Common.{◌≡◌, ◌⊎◌, inl, inr, ℕ, ◌<◌, ◌≤◌, ◌==◌, ◌||◌, Bool, true, false, List, [], ◌∷◌, ◌++◌, length, refl, sym, ◌∙◌, ap, subst, arith, append-nil}
->>>>>>> c64cd3e8db71265673e694f63f5282ad8c5af497
+use Rattle.std.proofs.Common.{◌≡◌, ◌⊎◌, ℕ, ◌<◌, ◌≤◌, ◌==◌, Bool, true, false, List, [], ◌∷◌, ◌++◌, length, refl, sym, ◌∙◌, ap, subst, inl, inr, ◌||◌, arith, append-nil}
 use Rattle.std.specs.Prelude.{IsFalse, IfSome, ⊤}
 use Rattle.md_base.specs.Shapes.{tolerance_of}
 use Rattle.md_base.specs.declared.answers.Who.{Who}
 use Rattle.bank.specs.declared.bank.Operation.{Operation}
-use Rattle.bank.specs.Given.{Given}
+use Rattle.bank.specs.Given.{Given, sizes}
 use Rattle.bank.specs.Tape.{IsIn, disk}
 use Rattle.superblocks.specs.declared.members.Members.{Members}
 use Rattle.superblocks.specs.Reading.{Scope, is_clean, shape_of, list_length, role_count}
-use Rattle.row_io.specs.Rows.{reading_of, present, is_missing}
+use Rattle.row_io.specs.Rows.{present, reading_of, is_missing}
 use Rattle.flat_history.specs.declared.events.Entry.{Entry}
 use Rattle.flat_history.specs.declared.events.Event.{Event}
 use Rattle.flat_history.specs.Flat.{now, values_of}
 use Rattle.flat_history.specs.Legal.{told_left, level_at, IsLegalEvent, level_after}
 use Rattle.flat_history.specs.Losses.{unsettles, loses, is_gone_after, is_unsynced}
-use Rattle.flat_history.specs.Epochs.{HasRoomForEvents, OpensAlike}
-use Rattle.flat_history.specs.OneShape.{is_unsettled}
 use Rattle.flat_history.specs.Plain.{entries_of}
 use Rattle.flat_history.specs.Sound.{OpensFit}
-use Rattle.flat_history.specs.World.{opening_list}
+use Rattle.flat_history.specs.World.{opening_list, World}
 use Rattle.shape_views.specs.Regions.{DoWithout}
 use Rattle.shape_views.specs.Views.{Ledger}
 use Rattle.shape_changes.specs.Safety.{HasRoomLeft, IsRisen}
 use Rattle.shape_changes.specs.Steady.{IsMoreTold, IsSafeOver, KeepsSafe, AreGoneTold, IsUncleanTold, IsSafeNow}
-use Rattle.views.specs.Placed.{AreWhole}
 use Rattle.views.specs.Moving.{Grows}
 use Rattle.call_entries.specs.Losing.{losses_of}
-<<<<<<< HEAD
-use Rattle.kept_history.specs.Recorded.{IsCallGoing, entry_of}
-use Rattle.kept_history.specs.Safe.{world_in, IsFilledRight}
-use Rattle.kept_history.specs.Told.{told_now}
-use Rattle.course_kept.specs.declared.course.Course.{Course}
-use Rattle.course_kept.specs.Course.{IsCourseOf, IsStored}
-use Rattle.history_calls.specs.Reliable.{IsReliable, AreToldGone}
-use Rattle.history_calls.proofs.Behind.{AreLostOrMissing, IsAmong, IsBehind, early-losses, legal-losses, and-true}
-use Rattle.history_calls.proofs.Quiet.{IsLeftBehind}
-use Rattle.history_calls.proofs.Adding.{IsAdding, adding-leaves}
-use Rattle.moving_kept.specs.Moving.{AreReshaping, HasListInCourse, IsMoving}
-use Rattle.moving_kept.proofs.Quiet.{listed-later}
-=======
-use Rattle.call_entries.proofs.CallLaws.{losses-are, last_end-behind}
-use Rattle.call_entries.proofs.LosingLaws.{entries-both}
-use Rattle.kept_history.specs.Recorded.{IsHistoryKept, IsLegalCall, IsCallGoing, entry_of, ends_reshape, gives_some}
+use Rattle.kept_history.specs.Recorded.{IsCallGoing, entry_of, IsHistoryKept, IsLegalCall, ends_reshape, gives_some}
 use Rattle.kept_history.specs.Safe.{world_in, IsFilledRight, IsSafeHistory}
 use Rattle.kept_history.specs.Told.{told_now, told_by}
+use Rattle.course_kept.specs.declared.course.Course.{Course}
+use Rattle.course_kept.specs.Course.{IsCourseOf, IsStored, StandsInCourse}
+use Rattle.history_calls.specs.Reliable.{IsReliable, AreToldGone}
+use Rattle.history_calls.proofs.Behind.{AreLostOrMissing, IsAmong, AreFirst, first-of, early-losses, legal-losses, and-true}
+use Rattle.history_calls.proofs.Quiet.{IsLeftBehind}
+use Rattle.history_calls.proofs.Adding.{IsAdding, adding-leaves, changing-leaves, ChangesEarly, unsettled-last}
+use Rattle.moving_kept.specs.Moving.{AreReshaping, HasListInCourse, IsMoving}
+use Rattle.moving_kept.proofs.Quiet.{listed-later}
+use Rattle.std.specs.List.{list_any}
+use Rattle.std.proofs.lemmas.List.Folds.{list_any-append}
+use Rattle.md_base.specs.Sectors.{Sector}
+use Rattle.flat_history.specs.Epochs.{HasRoomForEvents, OpensAlike}
+use Rattle.flat_history.specs.OneShape.{is_unsettled}
+use Rattle.views.specs.Placed.{AreWhole}
+use Rattle.views.proofs.SoundViews.{throughout-kept}
+use Rattle.call_entries.proofs.CallLaws.{losses-are, last_end-behind}
+use Rattle.call_entries.proofs.LosingLaws.{entries-both}
 use Rattle.kept_history.proofs.Growing.{fit-grown, now-grown, alike-before, room-before, room-now}
 use Rattle.kept_history.proofs.Ledgers.{gone-any}
 use Rattle.kept_history.proofs.Lists.{newest-in}
@@ -57,19 +51,6 @@ use Rattle.kept_history.proofs.Calls.{safe-called}
 use Rattle.kept_history.proofs.KeptCalls.{kept-call}
 use Rattle.kept_history.proofs.Entered.{adds_only, AreAdding, told-adding, told-added, length-adding}
 use Rattle.kept_history.proofs.Reshapes.{call-ends_none}
-use Rattle.course_kept.specs.declared.course.Course.{Course}
-use Rattle.course_kept.specs.Course.{IsCourseOf, IsStored, StandsInCourse}
-use Rattle.moving_kept.specs.Moving.{AreReshaping, HasListInCourse, IsMoving}
-use Rattle.moving_kept.proofs.Behind.{AreFirst, first-early, first-behind}
-use Rattle.moving_kept.proofs.Quiet.{IsLeftBy}
-
--- An event that only adds to what is told: it settles nothing, keeps the length and the level, and neither ends a reshape nor gives a role.
-pub record IsAdding (event : Event) : Type 0 where
-  pub adds : adds_only event ≡ true
-  pub gives : gives_some event ≡ false
-  pub ends : ends_reshape event ≡ false
-  pub level : (n : ℕ) → level_after n event ≡ n
->>>>>>> c64cd3e8db71265673e694f63f5282ad8c5af497
 
 -- What is asked of a call, from this tape to that one with its end there, that enters these events before its last one: it may lose only what it tells, so that what is
 -- filled in is right, where it is by its entries.
@@ -105,169 +86,11 @@ pub record IsAddingCall (given : Given) (tape : List Operation) (scope : Scope) 
       → level_at (world_in given tape' scope first) (entries ++ entries_of who end (losses_of roles spares)) ≡ level_at (world_in given tape scope first) entries
       → IsLegalEvent (world_in given tape' scope first) (entries ++ entries_of who end (losses_of roles spares)) (entry_of who end event) [] event
 
-<<<<<<< HEAD
-=======
 -- a role that no entry takes isn't gone
 not-gone : (world : World) (entries : List Entry) (role : ℕ) → list_any (loses world role) entries ≡ false → is_gone_after world entries role ≡ true → ⊥
 unfolding is_gone_after
 not-gone world entries role none is = absurd (let any : list_any (loses world role) entries ≡ true = gone-any world role [] entries is in let both = sym none ∙ any in cc)
 
-module _ (given : Given) (tape : List Operation) (scope : Scope) (first : ℕ) (entries : List Entry) (old new : Members) (carried : ℕ → Bool) (course' : Course) (buffer' : List ℕ)
-    (who : Who) (early : List Event) (IsTaken : ℕ → Type 0) (event : Event) (ops : List Operation) (are : AreFirst early IsTaken)
-    (goes : IsCallGoing entries who) (caller : IsFalse (who.caller == 254)) (adding : IsAdding event) (few : role_count new.newest ≤ 16)
-    (missing : AreLostOrMissing old new IsTaken)
-    (sized : list_length new.newest ≡ list_length old.newest)
-    (clean : is_clean new.newest ≡ false → ((is_unsynced (world_in given tape scope first) entries || is_unsettled entries) ≡ true) ⊎ (unsettles event ≡ true)) (sizes_are : scope.sizes ≡ sizes given)
-    (gone : IsReliable (world_in given tape scope first) entries → AreToldGone (world_in given tape scope first) entries old)
-    (unclean : is_clean old.newest ≡ false → (is_unsynced (world_in given tape scope first) entries || is_unsettled entries) ≡ true)
-    (recorded : IsHistoryKept (IsReliable (world_in given tape scope first) entries) (world_in given tape scope first) (list_length old.newest) entries)
-    (safe : IsFilledRight (world_in given tape scope first) entries → HasRoomForEvents (world_in given tape scope first) → OpensAlike (world_in given tape scope first)
-    → IsSafeHistory ⊤ (world_in given tape scope first) given old carried true entries)
-    (now_safe : IsFilledRight (world_in given tape scope first) entries → HasRoomForEvents (world_in given tape scope first) → OpensAlike (world_in given tape scope first)
-    → IsSafeOver (world_in given tape scope first) given (told_now (world_in given tape scope first) carried true entries) old tape)
-    (call : IsAddingBehind given tape scope first entries old new carried course' buffer' who early event (tape ++ ops) (length (tape ++ ops))) where
-  abbrev world : World
-  world = world_in given tape scope first
-
-  abbrev later : World
-  later = world_in given (tape ++ ops) scope first
-
-  abbrev end : ℕ
-  end = length (tape ++ ops)
-
-  abbrev added : List Entry
-  added = entries_of who (length (tape ++ ops)) (early ++ event ∷ [])
-
-  abbrev all : List Entry
-  all = entries ++ entries_of who (length (tape ++ ops)) (early ++ event ∷ [])
-
-  behind : IsBehind (world_in given tape scope first) (world_in given (tape ++ ops) scope first) entries new who (length (tape ++ ops)) early event
-  behind = first-behind given tape scope first entries old new who early IsTaken event ops are adding.gives adding.ends adding.level few missing gone recorded
-
-  adds-all : AreAdding added
-  adds-all = are.adds who end (event ∷ []) (and-true (adds_only event) true adding.adds refl)
-
-  -- ---- what is told
-
-  begun : first ≤ length tape
-  begun = recorded.begun
-
-  abbrev told : Ledger
-  told = told_by later carried true entries added
-
-  told-first : IsMoreTold (told_now world carried true entries) told
-  told-first = subst (λ (l : Ledger). IsMoreTold l told) (now-grown world ops begun carried true entries recorded.ends)
-      (told-adding later carried carried true true entries added adds-all (λ number is. is) (λ is. is))
-
-  told-last : IsMoreTold told (told_now later carried true all)
-  told-last = told-added later carried true entries added adds-all behind.gives_all
-
-  told-unsettled : unsettles event ≡ true → told.unclean ≡ true
-  told-unsettled is = last-of (is_unsynced later entries) (is_unsettled entries) (list_any (λ e. unsettles e.event) added)
-      (ap (λ (l : List Entry). list_any (λ e. unsettles e.event) l) (entries-both who end early (event ∷ []))
-      ∙ list_any-append (λ e. unsettles e.event) (entries_of who end early) (entries_of who end (event ∷ [])) ∙ last-true (list_any (λ e. unsettles e.event) (entries_of who end early)) (unsettles event) is)
-    where
-      last-true : (a b : Bool) → b ≡ true → (a || (b || false)) ≡ true
-      last-true true b e = refl
-      last-true false true e = refl
-      last-true false false e = absurd (cc)
-
-      last-of : (a b c : Bool) → c ≡ true → (a || (b || c)) ≡ true
-      last-of true b c e = refl
-      last-of false true c e = refl
-      last-of false false c e = e
-
-  unclean-all : is_clean new.newest ≡ false → (is_unsynced later all || is_unsettled all) ≡ true
-  unclean-all dirty = elim (clean dirty) [
-    | inl before ↦ told-last.unclean (told-first.unclean before)
-    | inr wrote ↦ told-last.unclean (told-unsettled wrote)
-  ]
-
-  -- ---- the history
-
-  recorded-all : IsHistoryKept (IsReliable later all) later (list_length new.newest) all
-  recorded-all = kept-call (IsReliable world entries) (IsReliable later all) world ops (list_length old.newest) (list_length new.newest) entries who (early ++ event ∷ []) goes recorded behind.right caller
-      (λ fills. inr behind.gives_all) (length-adding (length (opening_list world)) entries added adds-all ∙ recorded.sized ∙ sym sized)
-      (last_end-behind first entries who end early event) (λ fills. call.legal (behind.right fills) (behind.gone_more fills) behind.level_more)
-      (λ fills. call-ends_none later entries who end (early ++ event ∷ []) behind.ends)
-
-  -- ---- the list
-
-  now-same : (x : ℕ) → now (opening_list later) all x ≡ now (opening_list world) all x
-  now-same x = ap (λ (l : List Sector). now l all x) behind.opened
-
-  allowed : (x : ℕ) → x < list_length old.newest → IsIn (told.values x) (now (opening_list world) all x)
-  allowed x lt = subst (IsIn (told.values x)) (now-same x) (newest-in (opening_list later) all x (let size = recorded-all.sized in omega (arith, lt, size, sized)))
-
-  values-allowed : (x : ℕ) (v : Sector) → IsIn (values_of (opening_list world) all x) v → IsIn (told.values x) v
-  values-allowed x v may = subst (λ (l : List Sector). IsIn (values_of l all x) v) (sym behind.opened) may
-
-  listed-all : DoWithout new → IsFilledRight later all → HasListInCourse (OpensFit later) new course' buffer' (present given (tape ++ ops)) (now (opening_list later) all)
-  listed-all does fills =
-      let l = call.listed does (behind.fills fills) in
-      record {
-        list = l.list;
-        is = λ x lt. l.is x lt ∙ sym (now-same x);
-        stands = subst (λ (sound : Type 0). StandsInCourse sound new course' buffer' (present given (tape ++ ops)) l.list) (sym (fit-grown world ops begun)) l.stands;
-      }
-
-  -- ---- each mark
-
-  module _ (fills : IsFilledRight later all) (room : HasRoomForEvents later) (alike : OpensAlike later) where
-    abbrev was : IsSafeHistory ⊤ (world_in given tape scope first) given old carried true entries
-    was = safe (behind.fills fills) (room-before world ops begun room) (alike-before world ops begun alike)
-
-    -- where no entry takes a role, none is missing
-    whole-or : AreWhole new ⊎ OpensFit world
-    whole-or = of fills
-      where
-        of : IsFilledRight later all → AreWhole new ⊎ OpensFit world
-        of (inl none) = inl (λ role lt. by role lt (is_missing (reading_of new) role) refl)
-          where
-            by : (role : ℕ) → role < role_count new.newest → (b : Bool) → is_missing (reading_of new) role ≡ b → b ≡ false
-            by role lt false is = refl
-            by role lt true is = absurd (not-gone later all role (none role) (behind.gone_all (record { fills = fills; room = room; alike = alike }) role lt is))
-        of (inr fit) = inr (subst (λ (p : Type 0). p) (fit-grown world ops begun) fit)
-
-    stretch : KeepsSafe world given told new tape (tape ++ ops)
-    stretch = call.keeps told (behind.fills fills) whole-or told-first values-allowed allowed (room-now world ops begun old was.counted room)
-        (λ role lt miss. behind.counts_all (record { fills = fills; room = room; alike = alike }) role lt miss)
-        (λ dirty. told-first.unclean (unclean dirty)) told-unsettled
-        (now-more (OpensFit world) scope given (told_now world carried true entries) told old (disk given.start tape) told-first (now_safe (behind.fills fills) (room-before world ops begun room) (alike-before world ops begun alike)))
-
-    last : IsSafeOver world given (told_now later carried true all) new (tape ++ ops)
-    last = now-more (OpensFit world) scope given told (told_now later carried true all) new (disk given.start (tape ++ ops)) told-last stretch.next
-
-    abbrev all_of : List Event → List Entry
-    all_of l = entries ++ entries_of who (length (tape ++ ops)) l
-
-    no-more : (early ++ event ∷ []) ++ [] ≡ early ++ event ∷ []
-    no-more = append-nil (early ++ event ∷ [])
-
-    safe-all : IsSafeHistory ⊤ later given new carried true all
-    safe-all = subst (λ (l : List Event). IsSafeHistory ⊤ later given new carried true (all_of l)) no-more
-        (safe-called ⊤ given tape scope first entries old new carried carried true true who (early ++ event ∷ []) [] told ops (tape ++ ops) end refl refl sizes_are begun recorded.ends was
-        (subst (λ (l : List Event). IsFilledRight later (all_of l)) (sym no-more) fills) call.rise
-        (λ claimed opened mark low high. throughout-kept world given told new ops refl begun stretch (was.sound tt) opened mark (omega (arith, begun, low)) high)
-        (record { size = refl; values = λ x lt v may. may; gone = λ role is. is; unclean = λ is. is; reshaping = λ is. is; carried = λ number is. refl }) stretch
-        (subst (λ (l : List Event). IsSafeOver world given (told_now later carried true (all_of l)) new (tape ++ ops)) (sym no-more) last))
-
-    now-all : IsSafeOver later given (told_now later carried true all) new (tape ++ ops)
-    now-all = subst (λ (fit : Type 0). IsSafeNow fit scope given (told_now later carried true all) new (disk given.start (tape ++ ops))) (sym (fit-grown world ops begun)) last
-
-  adding-leaves : IsLeftBy given tape scope first entries all new carried course' buffer' (tape ++ ops)
-  adding-leaves = record {
-    right = behind.right;
-    levelled = behind.level_all;
-    gone = behind.gone_all;
-    unclean = unclean-all;
-    recorded = recorded-all;
-    listed = listed-all;
-    safe = safe-all;
-    now_safe = now-all;
-  }
-
->>>>>>> c64cd3e8db71265673e694f63f5282ad8c5af497
 -- ---- what is kept
 
 -- The call keeps the record, by the list that it leaves.
@@ -294,35 +117,60 @@ behind-moves tells given tape tape' scope first entries old new carried course c
       unclean = λ t. (leaves t).unclean;
       recorded = λ t. (leaves t).recorded;
       stored = stored;
-      listed = λ t. listed-later given tape scope first entries (entries ++ entries_of who end (losses_of roles spares ++ event ∷ [])) new carried course' buffer' tape'
-          (now (opening_list (world_in given tape scope first)) (entries ++ entries_of who end (losses_of roles spares ++ event ∷ []))) (leaves t) (λ x. refl) (call t).listed;
+      listed = λ t. listed-later given tape scope first entries (entries ++ entries_of who end (early ++ event ∷ [])) new carried course' buffer' tape'
+          (now (opening_list (world_in given tape scope first)) (entries ++ entries_of who end (early ++ event ∷ []))) (leaves t) (λ x. refl) (call t).listed;
       safe = λ t. (leaves t).safe;
       now_safe = λ t. (leaves t).now_safe;
     }
   where
     Then : List Operation → ℕ → Type 0
-<<<<<<< HEAD
-    Then l e = IsAddingCall given tape scope first entries old new carried course' buffer' who roles spares event l e
-        → IsLeftBehind given tape scope first entries (entries ++ entries_of who e (losses_of roles spares ++ event ∷ [])) new carried true l
-
-    leaves : tells → IsLeftBehind given tape scope first entries (entries ++ entries_of who end (losses_of roles spares ++ event ∷ [])) new carried true tape'
-=======
     Then l e = IsAddingBehind given tape scope first entries old new carried course' buffer' who early event l e
-        → IsLeftBy given tape scope first entries (entries ++ entries_of who e (early ++ event ∷ [])) new carried course' buffer' l
+        → IsLeftBehind given tape scope first entries (entries ++ entries_of who e (early ++ event ∷ [])) new carried true l
 
-    leaves : tells → IsLeftBy given tape scope first entries (entries ++ entries_of who end (early ++ event ∷ [])) new carried course' buffer' tape'
->>>>>>> c64cd3e8db71265673e694f63f5282ad8c5af497
+    module _ (t : tells) (ops : List Operation) (grown : tape' ≡ tape ++ ops) (call_to : IsAddingBehind given tape scope first entries old new carried course' buffer' who early event (tape ++ ops) (length (tape ++ ops))) where
+      -- where no role is taken by an entry, none is missing
+      whole : IsReliable (world_in given (tape ++ ops) scope first) (entries ++ entries_of who (length (tape ++ ops)) (early ++ event ∷ []))
+          → AreToldGone (world_in given (tape ++ ops) scope first) (entries ++ entries_of who (length (tape ++ ops)) (early ++ event ∷ [])) new
+          → AreWhole new ⊎ OpensFit (world_in given tape scope first)
+      whole right all_gone = elim right.fills [
+        | inl none ↦ inl (λ role lt. told-whole role lt (is_missing (reading_of new) role) refl (all_gone role lt) (none role))
+        | inr fit ↦ inr (subst (λ (p : Type 0). p) (fit-grown (world_in given tape scope first) ops (was.recorded t).begun) fit)
+      ]
+        where
+          told-whole : (role : ℕ) → role < role_count new.newest → (b : Bool) → is_missing (reading_of new) role ≡ b
+              → (is_missing (reading_of new) role ≡ true → is_gone_after (world_in given (tape ++ ops) scope first) (entries ++ entries_of who (length (tape ++ ops)) (early ++ event ∷ [])) role ≡ true)
+              → list_any (loses (world_in given (tape ++ ops) scope first) role) (entries ++ entries_of who (length (tape ++ ops)) (early ++ event ∷ [])) ≡ false
+              → is_missing (reading_of new) role ≡ false
+          told-whole role lt false is gone none = is
+          told-whole role lt true is gone none = absurd (not-gone (world_in given (tape ++ ops) scope first) (entries ++ entries_of who (length (tape ++ ops)) (early ++ event ∷ [])) role none (gone is))
+
+      newest : (x : ℕ) → x < list_length old.newest
+          → IsIn (values_of (opening_list (world_in given tape scope first)) (entries ++ entries_of who (length (tape ++ ops)) (early ++ event ∷ [])) x)
+          (now (opening_list (world_in given tape scope first)) (entries ++ entries_of who (length (tape ++ ops)) (early ++ event ∷ [])) x)
+      newest x lt = newest-in (opening_list (world_in given tape scope first)) (entries ++ entries_of who (length (tape ++ ops)) (early ++ event ∷ [])) x
+          (let size = length-adding (length (opening_list (world_in given tape scope first))) entries (entries_of who (length (tape ++ ops)) (early ++ event ∷ []))
+          (are.adds who (length (tape ++ ops)) (event ∷ []) (and-true (adds_only event) true adding.adds refl)) in let sized_so = (was.recorded t).sized in omega (arith, lt, size, sized_so))
+
+      changes : ChangesEarly given tape scope first entries old new carried true who early event (tape ++ ops) (length (tape ++ ops))
+      changes = record {
+        rise = call_to.rise;
+        keeps = λ told right all_gone fills more values room told_gone told_unclean unsettled before.
+            call_to.keeps told fills (whole right all_gone) more values (λ x lt. values x (now (opening_list (world_in given tape scope first)) (entries ++ entries_of who (length (tape ++ ops)) (early ++ event ∷ [])) x) (newest x lt))
+            room told_gone told_unclean (λ is. unsettled (unsettled-last who (length (tape ++ ops)) early event is)) before;
+        legal = call_to.legal;
+      }
+
+    leaves : tells → IsLeftBehind given tape scope first entries (entries ++ entries_of who end (early ++ event ∷ [])) new carried true tape'
     leaves t =
         let g = grows.more t in
         subst (λ (l : List Operation). Then l end) (sym g.1)
         (subst (Then (tape ++ g.0)) (sym (at_end t ∙ ap (λ (l : List Operation). length l) g.1))
-<<<<<<< HEAD
-        (λ call_to. adding-leaves given tape scope first entries old new carried true who roles spares event g.0 goes caller adding few missing sized clean was.sizes_are
-        (was.gone t) (was.unclean t) (was.recorded t) (was.safe t) (was.now_safe t) (record { rise = call_to.rise; keeps = λ told all gone. call_to.keeps told; legal = call_to.legal })))
-=======
-        (λ adding_call. adding-leaves given tape scope first entries old new carried course' buffer' who early IsTaken event g.0 are goes caller adding few missing sized (clean t) was.sizes_are
-        (was.gone t) (was.unclean t) (was.recorded t) (was.safe t) (was.now_safe t) adding_call))
->>>>>>> c64cd3e8db71265673e694f63f5282ad8c5af497
+        (λ call_to. changing-leaves given tape scope first entries old new carried true who early IsTaken event g.0 are goes caller adding few missing sized
+        (λ dirty. elim (clean t dirty) [
+          | inl before ↦ inl before
+          | inr wrote ↦ inr (unsettled-last who (length (tape ++ g.0)) early event wrote)
+        ]) was.sizes_are
+        (was.gone t) (was.unclean t) (was.recorded t) (was.safe t) (was.now_safe t) (changes t g.0 g.1 call_to)))
         (call t)
 
 -- And so does a call that enters losses before its event.
@@ -338,7 +186,7 @@ pub adding-moves : (tells : Type 0) (given : Given) (tape tape' : List Operation
 adding-moves tells given tape tape' scope first entries old new carried course course' buffer buffer' left left' who end roles spares event was goes caller at_end grows adding members few missing sized level clean
     course_is stored told call =
     behind-moves tells given tape tape' scope first entries old new carried course course' buffer buffer' left left' who end (losses_of roles spares) (IsAmong roles) event was goes caller at_end grows adding members few
-    (first-early (early-losses roles spares)) missing sized level
+    (first-of (early-losses roles spares)) missing sized level
     (λ t dirty. elim (clean dirty) [
       | inl before ↦ inl (was.unclean t before)
       | inr wrote ↦ inr wrote

@@ -71,8 +71,7 @@ use Rattle.course_kept.proofs.Writes.{writes-go-on}
 use Rattle.history_calls.specs.Reliable.{IsReliable, AreToldGone}
 use Rattle.moving_kept.specs.Moving.{HasListInCourse, IsMoving}
 use Rattle.moving_kept.proofs.Adding.{behind-moves}
-use Rattle.history_calls.proofs.Behind.{IsAmong, early-losses, legal-losses}
-use Rattle.moving_kept.proofs.Behind.{first-early, first-more}
+use Rattle.history_calls.proofs.Behind.{IsAmong, early-losses, legal-losses, first-of, first-more}
 use Rattle.moving_kept.proofs.MembersMove.{reshaping-moved}
 use Rattle.moving_kept.proofs.Refusals.{lacking-right}
 use Rattle.moving_kept.proofs.Staying.{course-moved}
@@ -268,7 +267,7 @@ module _ (tells : Type 0) (given : Given) (tape tape' : List Operation) (scope :
   written-moves done =
       behind-moves tells given tape tape' scope first entries old new carried course course buffer buffer left left who end (losses_of roles spares) (IsAmong roles) (Wrote at (sectors_of from))
       was goes caller at_end grows (record { adds = refl; gives = refl; ends = refl; level = λ n. refl })
-      (reshaping-moved scope given old new did.moved was.members_are) did.few (first-early (early-losses roles spares)) (missing-moved roles did.moved did.since) list-same level-same (λ t dirty. inr refl)
+      (reshaping-moved scope given old new did.moved was.members_are) did.few (first-of (early-losses roles spares)) (missing-moved roles did.moved did.since) list-same level-same (λ t dirty. inr refl)
       (course-moved given old new course did.moved was.course_is)
       (λ t. stored-moves scope given old new course.window buffer (disk given.start tape) (disk given.start tape') did.moved (did.backup t) (was.stored t))
       (left-more left entries who end (losses_of roles spares ++ Wrote at (sectors_of from) ∷ []) was.left_told
@@ -332,7 +331,7 @@ module _ (tells : Type 0) (given : Given) (tape tape' : List Operation) (scope :
         behind-moves tells given tape tape' scope first entries old new carried course course buffer buffer left left who end (losses_of roles spares ++ Torn at (sectors_of from) ∷ []) (IsAmong roles) (Refused refusal)
         was goes caller at_end grows (record { adds = refl; gives = refl; ends = refl; level = λ n. refl })
         (reshaping-moved scope given old new did.moved was.members_are) did.few
-        (first-more (losses_of roles spares) (IsAmong roles) (Torn at (sectors_of from)) (first-early (early-losses roles spares)) refl refl refl (λ n. refl))
+        (first-more (losses_of roles spares) (IsAmong roles) (Torn at (sectors_of from)) (first-of (early-losses roles spares)) refl refl refl (λ n. refl))
         (missing-moved roles did.moved did.since) list-same level-same (λ t dirty. inr (torn-unsettles at (at + length from / 512) new refusal (undone.torn is)))
         (course-moved given old new course did.moved was.course_is)
         (λ t. stored-moves scope given old new course.window buffer (disk given.start tape) (disk given.start tape') did.moved (did.backup t) (was.stored t))
@@ -384,7 +383,7 @@ module _ (tells : Type 0) (given : Given) (tape tape' : List Operation) (scope :
     unbegun-moves is =
         behind-moves tells given tape tape' scope first entries old new carried course course buffer buffer left left who end (losses_of roles spares) (IsAmong roles) (Refused refusal)
         was goes caller at_end grows (record { adds = refl; gives = refl; ends = refl; level = λ n. refl })
-        (reshaping-moved scope given old new did.moved was.members_are) did.few (first-early (early-losses roles spares)) (missing-moved roles did.moved did.since) list-same level-same
+        (reshaping-moved scope given old new did.moved was.members_are) did.few (first-of (early-losses roles spares)) (missing-moved roles did.moved did.since) list-same level-same
         (λ t dirty. clean t undone.refused) (course-moved given old new course did.moved was.course_is)
         (λ t. stored-moves scope given old new course.window buffer (disk given.start tape) (disk given.start tape') did.moved (did.backup t) (was.stored t))
         (left-more left entries who end (losses_of roles spares ++ Refused refusal ∷ []) was.left_told (left-behind left who end (losses_of roles spares) (Refused refusal ∷ []) (losses-are roles spares) (λ told is. is)))

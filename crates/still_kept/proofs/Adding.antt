@@ -69,6 +69,10 @@ changing-stands tells given tape tape' scope first entries old new work left lef
         subst (λ (l : List Operation). Then l end) (sym g.1)
         (subst (Then (tape ++ g.0)) (sym (at_end t ∙ ap (λ (l : List Operation). length l) g.1))
         (λ call_to marked. changing-leaves given tape scope first entries old new (is_carried work) false who early IsTaken event g.0 are goes caller adding (few-roles new.newest moved.placed.fit.valid) missing
-        (list-alike old.newest new.newest moved.reshape moved.shape moved.size) marked was.sizes_are
+        (list-alike old.newest new.newest moved.reshape moved.shape moved.size)
+        (λ is. elim (marked is) [
+          | inl before ↦ inl (was.unclean t before)
+          | inr wrote ↦ inr wrote
+        ]) was.sizes_are
         (was.gone t) (was.unclean t) (was.recorded t) (was.safe t) (safe-now was live t) call_to))
         (call t) clean

@@ -224,7 +224,7 @@ module _ (tells : Type 0) (given : Given) (tape tape' : List Operation) (scope :
         rise = did.rise t;
         keeps = λ told_so reliable all_gone fills more allowed room gone unclean unsettles_so safe.
             did.safe t (world_in given tape scope first) told_so room gone unclean current (under t fills) (rows-under t fills)
-            (λ x lt. allowed x (current x) lt (held t x lt)) safe;
+            (λ x lt. allowed x (current x) (held t x lt)) safe;
         legal = λ fills gone level. legal-losses (world_in given tape' scope first) entries who end (losses_of roles spares) (Refused refusal ∷ []) (losses-are roles spares) (
           refused-right (world_in given tape' scope first) (entries ++ entries_of who end (losses_of roles spares)) given new did.moved.placed work.resync gone
               (ap tolerance_of level ∙ was.levelled t fills ∙ ap tolerance (sym did.moved.shape))

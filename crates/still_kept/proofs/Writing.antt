@@ -244,7 +244,7 @@ module _ (tells : Type 0) (given : Given) (tape tape' : List Operation) (scope :
           rise = did.rise t;
           keeps = λ told right all_gone fills more allowed room gone unclean unsettled safe.
               keeps t wrote list' written told right all_gone fills
-              (λ is x lt. allowed x (list' x) lt (newest-in (opening_list (world_in given tape scope first)) (all_of wrote) x
+              (λ is x lt. allowed x (list' x) (newest-in (opening_list (world_in given tape scope first)) (all_of wrote) x
               (let size = length-adding (length (opening_list (world_in given tape scope first))) entries (entries_of who end wrote) ((first-of (early-losses roles spares)).adds who end (Wrote at (sectors_of from) ∷ []) refl) ∙ (was.recorded t).sized in
               omega (arith, lt, size)))) room gone
               (unsettled (unsettled-behind who end roles spares (Wrote at (sectors_of from)) refl)) safe;
@@ -306,8 +306,8 @@ module _ (tells : Type 0) (given : Given) (tape tape' : List Operation) (scope :
         keeps = λ told right all_gone fills more allowed room gone unclean unsettles_so safe.
             keeps t ((losses_of roles spares ++ Torn at (sectors_of from) ∷ []) ++ Refused refusal ∷ []) (list-with current at from) (list-with-is current at from) told right all_gone fills
             (λ is. written-allowed (list_length old.newest) at from current (list-with current at from) told.values (list-with-is current at from)
-            (λ x lt. allowed x (current x) lt (subst (λ (l : List Sector). IsIn l (current x)) (sym (values-torn x)) (torn-adds at (sectors_of from) x (values_of (opening_list (world_in given tape scope first)) entries x) (current x) (held t x lt))))
-            (λ x lt covered. allowed x (sector_at at (sectors_of from) x) lt
+            (λ x lt. allowed x (current x) (subst (λ (l : List Sector). IsIn l (current x)) (sym (values-torn x)) (torn-adds at (sectors_of from) x (values_of (opening_list (world_in given tape scope first)) entries x) (current x) (held t x lt))))
+            (λ x lt covered. allowed x (sector_at at (sectors_of from) x)
             (subst (λ (l : List Sector). IsIn l (sector_at at (sectors_of from) x)) (sym (values-torn x))
             (torn-in at (sectors_of from) x (values_of (opening_list (world_in given tape scope first)) entries x) (held t x lt) covered))))
             room gone (unsettles_so unsettled) safe;
