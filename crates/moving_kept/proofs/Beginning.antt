@@ -273,7 +273,7 @@ module _ (given : Given) (tape : List Operation) (scope : Scope) (first : ℕ) (
       kept-call (IsReliable world entries) (IsReliable later all) world ops (list_length old.newest) (list_length new.newest) entries who (Step Begun left ∷ losses_of roles spares) goes was
       right-before caller (λ fills. inl behind)
       (length-adding (length (opening_list world)) entries added adds-all ∙ recorded ∙ sym call.sized) (last_end-call first entries who end (Step Begun left) (losses_of roles spares))
-      (λ fills. begun-legal told) (λ fills. call-ends_none later entries who end (Step Begun left ∷ losses_of roles spares) (begun-ends_none some))
+      (λ fills. begun-legal told) (λ fills fit. call-ends_none later entries who end (Step Begun left ∷ losses_of roles spares) (begun-ends_none some))
 
   -- the level stays
   pub begun-level : level_at later all ≡ level_at world entries
