@@ -49,9 +49,17 @@ use Rattle.kept_history.proofs.KeptCalls.{kept-call}
 use Rattle.kept_history.proofs.Reshapes.{call-ends_none}
 use Rattle.kept_history.proofs.Turned.{begun-old, filled-before}
 use Rattle.kept_history.proofs.Turns.{either-call}
-use Rattle.moving_kept.specs.Moving.{IsReliable, AreToldGone}
+use Rattle.moving_kept.specs.Moving.{IsReliable, AreToldGone, IsStillKept}
 use Rattle.moving_kept.proofs.Behind.{IsAmong, early-losses, inner-of, legal-losses, or-false}
 use Rattle.moving_kept.proofs.ReadShapes.{IsShapeRead}
+
+-- while a live slot is left, no superblocks tell a reshape
+pub safe-over : {tells : Type 0} {given : Given} {tape : List Operation} {scope : Scope} {first : ℕ} {entries : List Entry} {members : Members} {carried : ℕ → Bool}
+    → IsStillKept tells given tape scope first entries members carried → tells → HasLiveSlot members
+    → IsFilledRight (world_in given tape scope first) entries → HasRoomForEvents (world_in given tape scope first) → OpensAlike (world_in given tape scope first)
+    → IsSafeHistory ⊤ (world_in given tape scope first) given members carried false entries
+safe-over {given = given} {tape = tape} {scope = scope} {first = first} {entries = entries} {members = members} {carried = carried} was t live fills room alike =
+    subst (λ (b : Bool). IsSafeHistory ⊤ (world_in given tape scope first) given members carried b entries) (was.over live) (was.safe t fills room alike)
 
 -- what is told before it, of the roles that the old shape has
 abbrev told_before : World → (ℕ → Bool) → List Entry → ℕ → Ledger

@@ -149,6 +149,8 @@ module _ {tells : Type 0} {given : Given} {tape : List Operation} {scope : Scope
     slots = was.slots;
     placed = was.placed;
     still = was.still;
+    reshaping = false;
+    over = λ live. refl;
     sizes_are = was.sizes_are;
     levelled = λ t right. ap tolerance_of (same-level (level_at world []) entries (keep t right.fills)) ∙ (was.recorded t).tolerated;
     gone = λ t right role lt miss. after-gone world role entries (keep t right.fills) ∙ was.told role lt miss;
