@@ -595,9 +595,9 @@ module _ (given : Given) (tape : List Operation) (scope : Scope) (first : ℕ) (
     -- the entries up to the step take no more than all
     gone-early : (role : ℕ) → (is_gone_after later entries role || list_any (loses later role) (entries_of who end early)) ≡ true → is_gone_after later all role ≡ true
     gone-early role is = gone-behind role (
-      ap (λ (l : List Entry). is_gone_after later entries role || list_any (loses later role) l) (ap (λ (l : List Event). entries_of who end l) (sym (append_assoc losses (Step Finished left ∷ []) tail)) ∙ entries-both who end early tail)
-      ∙ ap (λ (b : Bool). is_gone_after later entries role || b) (list_any-append (loses later role) (entries_of who end early) rest)
-      ∙ three (is_gone_after later entries role) (list_any (loses later role) (entries_of who end early)) (list_any (loses later role) rest) is)
+        ap (λ (l : List Entry). is_gone_after later entries role || list_any (loses later role) l) (ap (λ (l : List Event). entries_of who end l) (sym (append_assoc losses (Step Finished left ∷ []) tail)) ∙ entries-both who end early tail)
+        ∙ ap (λ (b : Bool). is_gone_after later entries role || b) (list_any-append (loses later role) (entries_of who end early) rest)
+        ∙ three (is_gone_after later entries role) (list_any (loses later role) (entries_of who end early)) (list_any (loses later role) rest) is)
 
     safe-longer : nat_lt (list_length old.newest) (list_length new.newest) ≡ true → P events
     safe-longer is =
@@ -620,13 +620,13 @@ module _ (given : Given) (tape : List Operation) (scope : Scope) (first : ℕ) (
       size = length-adding (length (opening_list later)) entries flushed adds-first ∙ ap (λ (l : List Sector). length_of (length l) entries) opened ∙ recorded.sized ∙ sym (same-length is) ∙ sym length-later;
       values = λ x lt v may. subst (λ (l : List Entry). IsIn (values_of (opening_list later) l x) v) (sym parts) (values-adding (opening_list later) (entries ++ flushed) (step ∷ rest) (adds-rest is) x v may);
       gone = λ role was_gone. gone-behind role (
-        ap (λ (l : List Entry). is_gone_after later entries role || list_any (loses later role) l) added-parts
-        ∙ ap (λ (b : Bool). is_gone_after later entries role || b) (list_any-append (loses later role) flushed (step ∷ rest))
-        ∙ three (is_gone_after later entries role) (list_any (loses later role) flushed) (list_any (loses later role) (step ∷ rest)) was_gone);
+          ap (λ (l : List Entry). is_gone_after later entries role || list_any (loses later role) l) added-parts
+          ∙ ap (λ (b : Bool). is_gone_after later entries role || b) (list_any-append (loses later role) flushed (step ∷ rest))
+          ∙ three (is_gone_after later entries role) (list_any (loses later role) flushed) (list_any (loses later role) (step ∷ rest)) was_gone);
       unclean = λ dirty. unclean-now later entries added (ending-settles who end roles spares left longer size late late_spares) (
-        ap (λ (l : List Entry). is_unsynced later entries || (is_unsettled entries || list_any (λ e. unsettles e.event) l)) added-parts
-        ∙ ap (λ (b : Bool). is_unsynced later entries || (is_unsettled entries || b)) (list_any-append (λ e. unsettles e.event) flushed (step ∷ rest))
-        ∙ four (is_unsynced later entries) (is_unsettled entries) (list_any (λ e. unsettles e.event) flushed) (list_any (λ e. unsettles e.event) (step ∷ rest)) dirty);
+          ap (λ (l : List Entry). is_unsynced later entries || (is_unsettled entries || list_any (λ e. unsettles e.event) l)) added-parts
+          ∙ ap (λ (b : Bool). is_unsynced later entries || (is_unsettled entries || b)) (list_any-append (λ e. unsettles e.event) flushed (step ∷ rest))
+          ∙ four (is_unsynced later entries) (is_unsettled entries) (list_any (λ e. unsettles e.event) flushed) (list_any (λ e. unsettles e.event) (step ∷ rest)) dirty);
       reshaping = λ on. goes_on none;
       carried = call.numbers;
     }

@@ -39,9 +39,9 @@ pub keeps-last : (world : World) (ops : List Operation) (entries : List Entry) (
     → HasLastStep world entries size → HasLastStep (grown world ops) (entries ++ entries_of who (length (world.tape ++ ops)) (xs ++ event ∷ ys)) size'
 keeps-last world ops entries size size' who xs event ys begun ends other losses none was = record {
   last = ap (λ (o : Option Entry). option_map_or (λ e. e.end) o world.first) (
-    ap (λ (l : List Entry). last_but_losses l) parts
-    ∙ last-behind ((entries ++ entries_of who end xs) ++ entry_of who end event ∷ []) who end ys losses
-    ∙ last-step (entries ++ entries_of who end xs) (entry_of who end event) other);
+      ap (λ (l : List Entry). last_but_losses l) parts
+      ∙ last-behind ((entries ++ entries_of who end xs) ++ entry_of who end event ∷ []) who end ys losses
+      ∙ last-step (entries ++ entries_of who end xs) (entry_of who end event) other);
   past = λ fills x past.
       ap (λ (l : List Sector). values_of l (entries ++ added) x) (opening-grown world ops begun) ∙ values-more (opening_list world) entries added x
       ∙ none x (values_of (opening_list world) entries x) past (was.past (filled-before world ops entries added begun ends fills) x);
