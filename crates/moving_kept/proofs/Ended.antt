@@ -80,7 +80,7 @@ use Rattle.moving_kept.proofs.Behind.{IsAmong, inner-of, legal-losses}
 use Rattle.moving_kept.proofs.Consistent.{consistent-at}
 use Rattle.moving_kept.proofs.EndedRows.{HaveEnded, ended-short, listed-still}
 use Rattle.moving_kept.proofs.Ending.{length_by, grown_to, ending_events, only-adds, only-gives, only-lost, ending-gives, ending-settles, ending-level, ending-values, ending-length, ending-lost, ending-late, ending-last, ending-comes, ending-ends, behind-all, comes-more, last-behind, last-step, before-step, ArePlannedTo, plans-behind, plans-done, told-longer}
-use Rattle.moving_kept.proofs.LastStep.{HasLastStep}
+use Rattle.moving_kept.proofs.LastStep.{IsNonePast, HasLastStep}
 use Rattle.moving_kept.proofs.ReadShapes.{HasShapesOf, IsEitherRead}
 use Rattle.moving_kept.proofs.Steps.{told-behind}
 
@@ -281,6 +281,20 @@ module _ (given : Given) (tape : List Operation) (scope : Scope) (first : ℕ) (
       values-all x
       ∙ ap (λ (b : Bool). cond b (resized (nat_lt x size) (values_of (opening_list world) entries x)) (values_of (opening_list world) entries x)) (less-is (list_length old.newest) (list_length new.newest) (omega (arith, le, lt)))
       ∙ ap (λ (c : Bool). resized c (values_of (opening_list world) entries x)) (less-is x (list_length new.newest) lt) ∙ ap (λ (l : List Sector). resized true l) (at_last.stands.past fills x le)
+
+  -- past its end it tells nothing
+  pub ended-past : IsNonePast later all (list_length new.newest)
+  ended-past fills x le =
+      values-all x
+      ∙ ap (λ (c : Bool). cond longer (resized c (values_of (opening_list world) entries x)) (values_of (opening_list world) entries x)) (not-below x (list_length new.newest) le)
+      ∙ ap (λ (l : List Sector). cond longer [] l) (at_last.stands.past (filled-before world ops entries added begun recorded.ends fills) x (omega (arith, le, no-shorter))) ∙ of longer
+    where
+      not-below : (a b : ℕ) → b ≤ a → nat_lt a b ≡ false
+      not-below a b h = grind (arith, nat_tests, h)
+
+      of : (b : Bool) → ◌≡◌ {A = List Sector} (cond b [] []) []
+      of true = refl
+      of false = refl
 
   -- ---- what is gone
 

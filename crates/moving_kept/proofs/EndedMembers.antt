@@ -27,9 +27,10 @@ use Rattle.kept_history.specs.Recorded.{IsHistoryKept, IsCallGoing}
 use Rattle.kept_history.specs.Safe.{world_in, IsFilledRight, IsSafeHistory}
 use Rattle.course_kept.specs.Laws.{closed}
 use Rattle.moving_kept.specs.Moving.{IsReliable, AreToldGone, HasListStill, IsStillKept, IsMoving}
-use Rattle.moving_kept.proofs.Ended.{IsAtLastStep, IsStepped, IsEndingCall, ended-before, ended-gone, ended-unclean, ended-level, ended-listed, ended-safe, ended-recorded}
+use Rattle.moving_kept.proofs.Ended.{IsAtLastStep, IsStepped, IsEndingCall, ended-before, ended-gone, ended-unclean, ended-level, ended-listed, ended-past, ended-safe, ended-recorded}
 use Rattle.moving_kept.proofs.EndedCall.{IsEndedBy, ended-call}
 use Rattle.moving_kept.proofs.Ending.{grown_to, ending_events}
+use Rattle.moving_kept.proofs.LastStep.{IsNonePast}
 
 -- Whether superblocks may tell the reshape still: where no live slot is left.
 record IsToldStill (m : Members) : Type 0 where
@@ -50,6 +51,7 @@ record IsStillLeft (given : Given) (tape : List Operation) (scope : Scope) (firs
   pub gone : IsReliable (world_in given tape' scope first) all → AreToldGone (world_in given tape' scope first) all new
   pub unclean : (is_unsynced (world_in given tape scope first) entries || is_unsettled entries) ≡ true → (is_unsynced (world_in given tape' scope first) all || is_unsettled all) ≡ true
   pub recorded : IsHistoryKept (IsReliable (world_in given tape' scope first) all) (world_in given tape' scope first) (list_length new.newest) all
+  pub past : IsNonePast (world_in given tape' scope first) all (list_length new.newest)
   pub listed : IsFilledRight (world_in given tape' scope first) all → HasListStill (OpensFit (world_in given tape' scope first)) new (present given tape') (now (opening_list (world_in given tape' scope first)) all)
   pub safe : IsFilledRight (world_in given tape' scope first) all → HasRoomForEvents (world_in given tape' scope first) → OpensAlike (world_in given tape' scope first)
       → IsSafeHistory ⊤ (world_in given tape' scope first) given new carried' reshaping all
@@ -75,6 +77,7 @@ module _ (tells : Type 0) (given : Given) (tape tape' : List Operation) (scope :
     gone = ended-gone given tape scope first entries old new carried carried' buffer zeroed steps left who roles spares late late_spares ops tells was t few all_zeroed stepped (at_last t) call;
     unclean = ended-unclean given tape scope first entries old new carried carried' buffer zeroed steps left who roles spares late late_spares ops tells was t few all_zeroed stepped (at_last t) call;
     recorded = ended-recorded given tape scope first entries old new carried carried' buffer zeroed steps left who roles spares late late_spares ops tells was t few all_zeroed stepped (at_last t) call goes caller;
+    past = ended-past given tape scope first entries old new carried carried' buffer zeroed steps left who roles spares late late_spares ops tells was t few all_zeroed stepped (at_last t) call;
     listed = ended-listed given tape scope first entries old new carried carried' buffer zeroed steps left who roles spares late late_spares ops tells was t few all_zeroed stepped (at_last t) call;
     safe = ended-safe given tape scope first entries old new carried carried' buffer zeroed steps left who roles spares late late_spares ops tells was t few all_zeroed stepped (at_last t) call
         (told-still new).reshaping (told-still new).goes_on;
@@ -106,3 +109,7 @@ module _ (tells : Type 0) (given : Given) (tape tape' : List Operation) (scope :
     listed = λ t does fills. (leaves t).listed fills;
     safe = λ t. (leaves t).safe;
   }
+
+  -- and past the list's end its history tells nothing
+  pub none-past-end : tells → IsNonePast (world_in given tape' scope first) (entries ++ entries_of who end (ending_events roles spares left (grown_to (list_length old.newest) (list_length new.newest)) late late_spares)) (list_length new.newest)
+  none-past-end t = (leaves t).past

@@ -38,8 +38,10 @@ use Rattle.array_kept.specs.Kept.{AreRebuildsRight, IsKept}
 use Rattle.array_kept.proofs.ReadyLaws.{kept-legal}
 use Rattle.kept_history.specs.Recorded.{IsHistoryKept}
 use Rattle.kept_history.specs.Safe.{world_in, IsFilledRight}
+use Rattle.kept_history.proofs.Lists.{past-none}
 use Rattle.one_shape_history.proofs.Kept.{safe-alike, recorded-alike}
 use Rattle.moving_kept.specs.Moving.{IsReliable, HasListStill, IsStillKept}
+use Rattle.moving_kept.proofs.LastStep.{IsNonePast}
 
 -- ---- entries
 
@@ -97,6 +99,12 @@ module _ {tells : Type 0} {given : Given} {tape : List Operation} {scope : Scope
         ends = r.ends;
         ended = r.ended;
       }
+
+  -- past the list's end the history tells nothing
+  pub kept-past : tells → IsNonePast world entries (list_length members.newest)
+  kept-past t right x le =
+      let legal = (one_shape-legal world (opening_in world) entries (found-in world) (kept-legal was t (fills right))).0 in
+      past-none world entries legal x (let n = (recorded t).sized in omega (arith, le, n))
 
   -- ---- the list, with zeros behind its end
 

@@ -33,17 +33,21 @@ use Rattle.kept_history.proofs.Turned.{filled-before}
 use Rattle.kept_history.proofs.Tests.{neither}
 use Rattle.moving_kept.proofs.Ending.{last-behind, last-step, plans-end, planned-grown, ArePlannedTo}
 
--- the last entry but for losses ended with the tape, and past the end of a list of this size no sector has a value
+-- past the end of a list of this size no sector has a value
+abbrev pub IsNonePast : World → List Entry → ℕ → Type 0
+IsNonePast world entries size = IsFilledRight world entries → (x : ℕ) → size ≤ x → values_of (opening_list world) entries x ≡ []
+
+-- So it is, and the last entry but for losses ended with the tape.
 pub record HasLastStep (world : World) (entries : List Entry) (size : ℕ) : Type 0 where
   pub last : end_before world entries ≡ length world.tape
-  pub past : IsFilledRight world entries → (x : ℕ) → size ≤ x → values_of (opening_list world) entries x ≡ []
+  pub past : IsNonePast world entries size
 
 -- A call keeps it that ends with the tape, and enters some event that is no loss, and behind that only losses, if it gives no sector past the list's end a value.
 pub keeps-last : (world : World) (ops : List Operation) (entries : List Entry) (size size' : ℕ) (who : Who) (xs : List Event) (event : Event) (ys : List Event) → world.first ≤ length world.tape → EndBy (length world.tape) entries
     → is_loss event ≡ false → AreLossEvents ys
     → ((x : ℕ) (values : List Sector) → size' ≤ x → (size ≤ x → values ≡ [])
     → fold (λ values e. values_after x values e.event) values (entries_of who (length (world.tape ++ ops)) (xs ++ event ∷ ys)) ≡ [])
-    → HasLastStep world entries size → HasLastStep (grown world ops) (entries ++ entries_of who (length (world.tape ++ ops)) (xs ++ event ∷ ys)) size'
+    → IsNonePast world entries size → HasLastStep (grown world ops) (entries ++ entries_of who (length (world.tape ++ ops)) (xs ++ event ∷ ys)) size'
 keeps-last world ops entries size size' who xs event ys begun ends other losses none was = record {
   last = ap (λ (o : Option Entry). option_map_or (λ e. e.end) o world.first) (
       ap (λ (l : List Entry). last_but_losses l) parts
@@ -51,7 +55,7 @@ keeps-last world ops entries size size' who xs event ys begun ends other losses 
       ∙ last-step (entries ++ entries_of who end xs) (entry_of who end event) other);
   past = λ fills x past.
       ap (λ (l : List Sector). values_of l (entries ++ added) x) (opening-grown world ops begun) ∙ values-more (opening_list world) entries added x
-      ∙ none x (values_of (opening_list world) entries x) past (was.past (filled-before world ops entries added begun ends fills) x);
+      ∙ none x (values_of (opening_list world) entries x) past (was (filled-before world ops entries added begun ends fills) x);
 }
   where
     end : ℕ
@@ -107,7 +111,7 @@ none-past size x who end (event ∷ events) le within =
 
 -- So a call keeps it that writes within the list.
 pub stays-last : (world : World) (ops : List Operation) (entries : List Entry) (size : ℕ) (who : Who) (xs : List Event) (event : Event) (ys : List Event) → world.first ≤ length world.tape → EndBy (length world.tape) entries
-    → is_loss event ≡ false → AreLossEvents ys → AreWithin size (xs ++ event ∷ ys) → HasLastStep world entries size
+    → is_loss event ≡ false → AreLossEvents ys → AreWithin size (xs ++ event ∷ ys) → IsNonePast world entries size
     → HasLastStep (grown world ops) (entries ++ entries_of who (length (world.tape ++ ops)) (xs ++ event ∷ ys)) size
 stays-last world ops entries size who xs event ys begun ends other losses within =
     keeps-last world ops entries size size who xs event ys begun ends other losses
