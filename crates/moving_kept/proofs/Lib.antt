@@ -17,10 +17,3 @@ pub mod Begun
 pub mod KeptStill
 pub mod BegunCall
 pub mod BegunMembers
-pub mod Ending
-pub mod LastStep
-pub mod EndedRows
-pub mod Consistent
-pub mod Ended
-pub mod EndedCall
-pub mod EndedMembers

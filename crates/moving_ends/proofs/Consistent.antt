@@ -32,7 +32,7 @@ use Rattle.views.proofs.LiveLeft.{without-left}
 use Rattle.views.proofs.Still.{count-still, without-still}
 use Rattle.kept_history.proofs.Lengths.{now-drawn}
 use Rattle.moving_kept.specs.Moving.{AreToldGone}
-use Rattle.moving_kept.proofs.EndedRows.{rows-still}
+use Rattle.moving_ends.proofs.EndedRows.{rows-still}
 
 -- Where the superblocks are held as members without a reshape say, which lack no more than is tolerated, and whose rows stand, the contents are consistent.
 module _ (sound : Type 0) (scope : Scope) (given : Given) (told : Ledger) (m : Members) (tape : List Operation) (list : ℕ → Sector) (placed : IsPlaced given m) (still : is_reshaping m.newest ≡ false)

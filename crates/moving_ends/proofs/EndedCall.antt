@@ -1,5 +1,9 @@
 -- What `finish` leaves where it isn't refused is what is asked of a call by which a reshape ends.
-use Rattle.std.proofs.Common.{◌≡◌, ◌⊎◌, inl, inr, ℕ, ◌<◌, ◌≤◌, max, Bool, true, Some, List, ◌∙◌, ap, arith}
+use Rattle.std.proofs.Common.{◌≡◌, ◌⊎◌, inl, inr, ℕ, ◌<◌, ◌≤◌, ◌&&◌, ◌||◌, nat_lt, max, Bool, true, false, not, Some, is_some, List, refl, sym, ◌∙◌, ap, arith}
+use Rattle.std.proofs.lemmas.Bool.Decides.{nat_tests}
+use Rattle.md_base.specs.Shapes.{has_slot}
+use Rattle.md_base.specs.declared.status.Role.{Role}
+use Rattle.md_base.specs.declared.status.Role.TheVariants.{Whole, Recovering, Missing}
 use Rattle.md_base.specs.Sectors.{Sector}
 use Rattle.md_base.specs.declared.places.Shape.{Shape}
 use Rattle.bank.specs.declared.bank.Operation.{Operation}
@@ -9,7 +13,7 @@ use Rattle.geometry.specs.Geometry.{zeroed_stripes}
 use Rattle.sb1.specs.declared.sb.Sb.{Sb}
 use Rattle.superblocks.specs.declared.members.Members.{Members}
 use Rattle.superblocks.specs.Held.{AreDrawn}
-use Rattle.superblocks.specs.Reading.{Scope, is_reshaping, is_backward, shape_of, final_shape, role_count, role_state, holder, data_offset_of}
+use Rattle.superblocks.specs.Reading.{Scope, is_reshaping, is_backward, is_whole, shape_of, final_shape, role_count, role_state, holder, data_offset_of}
 use Rattle.superblocks.specs.Updating.{planned_newest}
 use Rattle.superblocks.proofs.ValidFields.{few-roles}
 use Rattle.superblock_reads.proofs.SaidSlots.{below-length}
@@ -31,8 +35,8 @@ use Rattle.shape_changes.proofs.Risen.{room-first, room-then}
 use Rattle.shape_ends.specs.Plans.{HasNoneRecovering}
 use Rattle.reshape_updates.specs.Ending.{ending}
 use Rattle.reshape_updates.proofs.EndedPlan.{dropping, planned-fits-is}
-use Rattle.views.specs.Placed.{IsPlaced}
-use Rattle.views.proofs.HeldRows.{without-before}
+use Rattle.views.specs.Placed.{is_vacant, IsPlaced}
+use Rattle.views.proofs.HeldRows.{vacant-missing, without-before}
 use Rattle.views.proofs.LiveLeft.{left-steady, without-left}
 use Rattle.views.proofs.Still.{count-still}
 use Rattle.reshape_ends.specs.Finished.{IsOver, IsEndedBehind, IsFinishable}
@@ -40,8 +44,8 @@ use Rattle.reshape_ends.proofs.FinishLaws.{active-then, small-then, whole-then}
 use Rattle.kept_history.specs.Safe.{world_in}
 use Rattle.kept_history.proofs.Lengths.{now-drawn}
 use Rattle.moving_kept.proofs.Behind.{IsAmong}
-use Rattle.moving_kept.proofs.Ended.{IsEndingCall}
-use Rattle.moving_kept.proofs.EndedRows.{HaveEnded, ended-stands}
+use Rattle.moving_ends.proofs.Ended.{IsEndingCall}
+use Rattle.moving_ends.proofs.EndedRows.{HaveEnded, ended-stands}
 use Rattle.moving_kept.proofs.ReadShapes.{HasShapesOf, IsEitherRead, either-read_since}
 
 -- What is asked before it, and what it leaves where it isn't refused; what is missing then was missing, or its slot was lost in the flush or in the update.
@@ -61,6 +65,34 @@ pub record IsEndedBy (tells : Type 0) (given : Given) (tape tape' : List Operati
       → IsFinishable (OpensFit world) more old (present given tape) list → AreGoneTold told old → ((role : ℕ) → IsAmong roles role → told.gone role ≡ true) → AreGoneTold more new
       → IsUncleanTold told old → IsUncleanTold more old → ((number : ℕ) → told.carried number ≡ true → more.carried number ≡ true) → IsSafeOver world given told old tape
       → IsSafeChange (OpensFit world) world.scope given told more new tape tape'
+
+-- What is missing then was so, or it is told lost: the late roles are those that no slot holds then, but for those that none held before, and those that were told lost
+-- in the flush.
+module _ (old new : Members) (first roles late : ℕ) (still : is_reshaping new.newest ≡ false) (whole : HasNoneRecovering old)
+    (states : (role slot : ℕ) → holder (role_state (reading_of new) role) ≡ Some slot → role_state (reading_of new) role ≡ role_state (reading_of old) role)
+    (first-is : (role : ℕ) → has_slot first role ≡ true → is_vacant (reading_of old) role ≡ true)
+    (late-is : (role : ℕ) → has_slot late role ≡ ((nat_lt role (shape_of new.newest).disks && is_vacant (reading_of new) role) && not (has_slot first role || has_slot roles role))) where
+  vacant-then : (role : ℕ) → is_missing (reading_of new) role ≡ true → is_vacant (reading_of new) role ≡ true
+  vacant-then role miss = of (role_state (reading_of new) role) refl
+    where
+      of : (state : Role) → role_state (reading_of new) role ≡ state → is_vacant (reading_of new) role ≡ true
+      of (Whole slot) is = absurd (let clash = sym (ap (λ (s : Role). not (is_whole s)) is) ∙ miss in cc)
+      of (Recovering slot) is = absurd (whole role slot (sym (states role slot (ap holder is)) ∙ is))
+      of Missing is = ap (λ (s : Role). not (is_some (holder s))) is
+
+  is-less : (a b : ℕ) → a < b → nat_lt a b ≡ true
+  is-less a b lt = grind (arith, nat_tests, lt)
+
+  pub ended-since : (role : ℕ) → role < role_count new.newest → is_missing (reading_of new) role ≡ true → (is_missing (reading_of old) role ≡ true) ⊎ (IsAmong roles role ⊎ IsAmong late role)
+  ended-since role lt miss = of (has_slot first role) (has_slot roles role) refl refl
+    where
+      below : role < (shape_of new.newest).disks
+      below = let count = count-still new.newest still in omega (arith, lt, count)
+
+      of : (a b : Bool) → has_slot first role ≡ a → has_slot roles role ≡ b → (is_missing (reading_of old) role ≡ true) ⊎ (IsAmong roles role ⊎ IsAmong late role)
+      of true b none has = inl (vacant-missing (reading_of old) role (first-is role none))
+      of false true none has = inr (inl has)
+      of false false none has = inr (inr (late-is role ∙ (λ i. (is-less role (shape_of new.newest).disks below i && vacant-then role miss i) && not (none i || has i))))
 
 module _ (tells : Type 0) (given : Given) (tape tape' : List Operation) (scope : Scope) (first : ℕ) (old new : Members) (roles late : ℕ) (t : tells) (was : IsPlaced given old) (unlost : AreUnlost old)
     (backed : ArePlaced scope given old) (active : is_reshaping old.newest ≡ true) (whole : HasNoneRecovering old) (did : IsEndedBy tells given tape tape' old new roles late) where

@@ -77,10 +77,10 @@ use Rattle.course_kept.specs.Laws.{closed}
 use Rattle.course_kept.proofs.Courses.{zeroes-are-all}
 use Rattle.moving_kept.specs.Moving.{IsReliable, AreToldGone, HasListInCourse, HasListStill, IsMoving}
 use Rattle.moving_kept.proofs.Behind.{IsAmong, inner-of, legal-losses}
-use Rattle.moving_kept.proofs.Consistent.{consistent-at}
-use Rattle.moving_kept.proofs.EndedRows.{HaveEnded, ended-short, listed-still}
-use Rattle.moving_kept.proofs.Ending.{length_by, grown_to, ending_events, only-adds, only-gives, only-lost, ending-gives, ending-settles, ending-level, ending-values, ending-length, ending-lost, ending-late, ending-last, ending-comes, ending-ends, behind-all, comes-more, last-behind, last-step, before-step, ArePlannedTo, plans-behind, plans-done, told-longer}
-use Rattle.moving_kept.proofs.LastStep.{IsNonePast, HasLastStep}
+use Rattle.moving_ends.proofs.Consistent.{consistent-at}
+use Rattle.moving_ends.proofs.EndedRows.{HaveEnded, ended-short, listed-still}
+use Rattle.moving_ends.proofs.Ending.{length_by, grown_to, ending_events, only-adds, only-gives, only-lost, ending-gives, ending-settles, ending-level, ending-values, ending-length, ending-lost, ending-late, ending-last, ending-comes, ending-ends, behind-all, comes-more, last-behind, last-step, before-step, ArePlannedTo, plans-behind, plans-done, told-longer}
+use Rattle.moving_ends.proofs.LastStep.{IsNonePast, HasLastStep}
 use Rattle.moving_kept.proofs.ReadShapes.{HasShapesOf, IsEitherRead}
 use Rattle.moving_kept.proofs.Steps.{told-behind}
 

@@ -27,10 +27,10 @@ use Rattle.kept_history.specs.Recorded.{IsHistoryKept, IsCallGoing}
 use Rattle.kept_history.specs.Safe.{world_in, IsFilledRight, IsSafeHistory}
 use Rattle.course_kept.specs.Laws.{closed}
 use Rattle.moving_kept.specs.Moving.{IsReliable, AreToldGone, HasListStill, IsStillKept, IsMoving}
-use Rattle.moving_kept.proofs.Ended.{IsAtLastStep, IsStepped, IsEndingCall, ended-before, ended-gone, ended-unclean, ended-level, ended-listed, ended-past, ended-safe, ended-recorded}
-use Rattle.moving_kept.proofs.EndedCall.{IsEndedBy, ended-call}
-use Rattle.moving_kept.proofs.Ending.{grown_to, ending_events}
-use Rattle.moving_kept.proofs.LastStep.{IsNonePast}
+use Rattle.moving_ends.proofs.Ended.{IsAtLastStep, IsStepped, IsEndingCall, ended-before, ended-gone, ended-unclean, ended-level, ended-listed, ended-past, ended-safe, ended-recorded}
+use Rattle.moving_ends.proofs.EndedCall.{IsEndedBy, ended-call}
+use Rattle.moving_ends.proofs.Ending.{grown_to, ending_events}
+use Rattle.moving_ends.proofs.LastStep.{IsNonePast}
 
 -- Whether superblocks may tell the reshape still: where no live slot is left.
 record IsToldStill (m : Members) : Type 0 where

@@ -31,7 +31,7 @@ use Rattle.kept_history.proofs.Lists.{past-none}
 use Rattle.kept_history.proofs.Opened.{AreFound, loss_events, opened-kept}
 use Rattle.kept_history.proofs.Turned.{filled-before}
 use Rattle.kept_history.proofs.Tests.{neither}
-use Rattle.moving_kept.proofs.Ending.{last-behind, last-step, plans-end, planned-grown, ArePlannedTo}
+use Rattle.moving_ends.proofs.Ending.{last-behind, last-step, plans-end, planned-grown, ArePlannedTo}
 
 -- past the end of a list of this size no sector has a value
 abbrev pub IsNonePast : World → List Entry → ℕ → Type 0
