@@ -142,7 +142,7 @@ module _ (given : Given) (tape : List Operation) (scope : Scope) (first : ℕ) (
   recorded-all = kept-call (IsReliable world entries) (IsReliable later all) world ops (list_length old.newest) (list_length new.newest) entries who (early ++ event ∷ []) goes recorded behind.right caller
       (λ fills. inr behind.gives_all) (length-adding (length (opening_list world)) entries added adds-all ∙ recorded.sized ∙ sym sized)
       (last_end-behind first entries who end early event) (λ fills. call.legal (behind.right fills) (behind.gone_more fills) behind.level_more)
-      (λ fills. call-ends_none later entries who end (early ++ event ∷ []) (are.ends (event ∷ []) (or-false (ends_reshape event) false adding.ends refl)))
+      (λ fills fit. call-ends_none later entries who end (early ++ event ∷ []) (are.ends (event ∷ []) (or-false (ends_reshape event) false adding.ends refl)))
 
   -- ---- each mark
 

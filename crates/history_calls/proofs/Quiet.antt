@@ -179,7 +179,7 @@ module _ (given : Given) (tape : List Operation) (scope : Scope) (first : ℕ) (
   recorded-all = kept-call (IsReliable world entries) (IsReliable later all) world ops (list_length old.newest) (list_length new.newest) entries who (early ++ tail) goes recorded behind.right caller
       (λ fills. inr behind.gives_all) (length-adding (length (opening_list world)) entries added adds-all ∙ recorded.sized ∙ sym sized)
       ended (λ fills. call.legal fills (behind.right fills) (behind.gone_more fills) behind.level_more)
-      (λ fills. call-ends_none later entries who end (early ++ tail) (are.ends tail quiet.ends))
+      (λ fills fit. call-ends_none later entries who end (early ++ tail) (are.ends tail quiet.ends))
 
   -- ---- each mark
 

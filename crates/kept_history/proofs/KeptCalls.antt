@@ -9,8 +9,10 @@ use Rattle.flat_history.specs.declared.events.Event.{Event}
 use Rattle.flat_history.specs.Flat.{length_of}
 use Rattle.flat_history.specs.Growing.{grown}
 use Rattle.flat_history.specs.Plain.{entries_of}
+use Rattle.flat_history.specs.Sound.{OpensFit}
 use Rattle.flat_history.specs.Transfers.{last_end_from}
 use Rattle.flat_history.specs.World.{World, opening_list}
+use Rattle.flat_history.proofs.SoundLaws.{fit-before}
 use Rattle.kept_history.specs.Recorded.{IsHistoryKept, IsLegalCall, IsReshapedCall, IsCallGoing, MayFollow}
 use Rattle.kept_history.proofs.Growing.{longer-by, opening-grown}
 use Rattle.kept_history.proofs.Marks.{ends-call}
@@ -24,14 +26,14 @@ pub kept-call : (right right' : Type 0) (world : World) (ops : List Operation) (
     → length_of (length (opening_list world)) (entries ++ entries_of who (length (world.tape ++ ops)) events) ≡ size'
     → last_end_from world.first (entries ++ entries_of who (length (world.tape ++ ops)) events) ≡ length (world.tape ++ ops)
     → (right' → IsLegalCall (grown world ops) entries who (length (world.tape ++ ops)) events)
-    → (right' → IsReshapedCall (grown world ops) entries who (length (world.tape ++ ops)) events)
+    → (right' → OpensFit (grown world ops) → IsReshapedCall (grown world ops) entries who (length (world.tape ++ ops)) events)
     → IsHistoryKept right' (grown world ops) size' (entries ++ entries_of who (length (world.tape ++ ops)) events)
 kept-call right right' world ops size size' entries who events goes was before other follows sized ended legal reshaped = record {
   begun = let longer = longer-by world.tape ops in omega (arith, was.begun, longer);
   sized = ap (λ (l : List Sector). length_of (length l) (entries ++ entries_of who (length (world.tape ++ ops)) events)) (opening-grown world ops was.begun) ∙ sized;
   legal = λ so. legal-later world ops entries who events goes other (elim (follows so) [ inl fixed ↦ inl fixed.kept | inr none ↦ inr none ]) was.ends (let at = was.ended in omega (arith, at))
       (was.legal (before so)) (legal so);
-  reshaped = λ so. reshaped-later world ops entries who events goes (elim (follows so) [ inl fixed ↦ inl fixed.steps | inr none ↦ inr none ]) was.ends (was.reshaped (before so)) (reshaped so);
+  reshaped = λ so fit. reshaped-later world ops entries who events goes (elim (follows so) [ inl fixed ↦ inl fixed.steps | inr none ↦ inr none ]) was.ends (was.reshaped (before so) (fit-before world ops was.begun fit)) (reshaped so fit);
   ends = ends-call (length world.tape) entries who (length (world.tape ++ ops)) events (longer-by world.tape ops) was.ends;
   ended = ended;
 }

@@ -107,7 +107,7 @@ opened-kept right world who found caller number first are = record {
   begun = omega (arith, first);
   sized = lengths-stay (length (opening_list world)) (entries_of who (length world.tape) (loss_events found)) (found-adds who (length world.tape) found);
   legal = λ so. found-legal world who caller number [] found are refl (λ event. inr number) (omega (arith, first));
-  reshaped = λ so. call-reshaped world [] who (loss_events found) (found-reshaped world [] who (length world.tape) found);
+  reshaped = λ so fit. call-reshaped world [] who (loss_events found) (found-reshaped world [] who (length world.tape) found);
   ends = ends-at who (length world.tape) (loss_events found);
   ended = subst (λ (n : ℕ). last_end_from world.first (entries_of who n (loss_events found)) ≡ n) first (ends-first world.first [] who found refl);
 }

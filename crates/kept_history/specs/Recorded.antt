@@ -12,17 +12,18 @@ use Rattle.flat_history.specs.Legal.{IsInnerOrLast, IsLegalEvent, IsLegal}
 use Rattle.flat_history.specs.OneShape.{GoesOnBehind, IsOfCall}
 use Rattle.flat_history.specs.Plain.{entries_of}
 use Rattle.flat_history.specs.Reshaped.{is_done, IsReshapedBy, IsReshaped}
+use Rattle.flat_history.specs.Sound.{OpensFit}
 use Rattle.flat_history.specs.Stands.{stands}
 use Rattle.flat_history.specs.Transfers.{last_end_from}
 use Rattle.flat_history.specs.World.{World, contents_at, opening_list}
 
--- Over a bank that tells its contents: the list has this size, the history is legal, and its reshapes end right, where what was filled in is right; and
--- it reaches to the tape's end.
+-- Over a bank that tells its contents: the list has this size, and where what was filled in is right the history is legal, and, if the opening was sound, its
+-- reshapes end right, since rows that were copied before it are only known by that; and it reaches to the tape's end.
 pub record IsHistoryKept (right : Type 0) (world : World) (size : ℕ) (entries : List Entry) : Type 0 where
   pub begun : world.first ≤ length world.tape
   pub sized : length_of (length (opening_list world)) entries ≡ size
   pub legal : right → IsLegal world entries
-  pub reshaped : right → IsReshaped world entries
+  pub reshaped : right → OpensFit world → IsReshaped world entries
   pub ends : EndBy (length world.tape) entries
   pub ended : last_end_from world.first entries ≡ length world.tape
 

@@ -51,7 +51,16 @@ use Rattle.kept_history.proofs.Turned.{begun-old, filled-before}
 use Rattle.kept_history.proofs.Turns.{either-call}
 use Rattle.history_calls.specs.Reliable.{IsReliable, AreToldGone}
 use Rattle.history_calls.proofs.Behind.{IsAmong, early-losses, inner-of, legal-losses, or-false}
+use Rattle.moving_kept.specs.Moving.{IsStillKept}
 use Rattle.moving_kept.proofs.ReadShapes.{IsShapeRead}
+
+-- while a live slot is left, no superblocks tell a reshape
+pub safe-over : {tells : Type 0} {given : Given} {tape : List Operation} {scope : Scope} {first : ℕ} {entries : List Entry} {members : Members} {carried : ℕ → Bool}
+    → IsStillKept tells given tape scope first entries members carried → tells → HasLiveSlot members
+    → IsFilledRight (world_in given tape scope first) entries → HasRoomForEvents (world_in given tape scope first) → OpensAlike (world_in given tape scope first)
+    → IsSafeHistory ⊤ (world_in given tape scope first) given members carried false entries
+safe-over {given = given} {tape = tape} {scope = scope} {first = first} {entries = entries} {members = members} {carried = carried} was t live fills room alike =
+    subst (λ (b : Bool). IsSafeHistory ⊤ (world_in given tape scope first) given members carried b entries) (was.over live) (was.safe t fills room alike)
 
 -- what is told before it, of the roles that the old shape has
 abbrev pub told_before : World → (ℕ → Bool) → List Entry → ℕ → Ledger
@@ -273,7 +282,7 @@ module _ (given : Given) (tape : List Operation) (scope : Scope) (first : ℕ) (
       kept-call (IsReliable world entries) (IsReliable later all) world ops (list_length old.newest) (list_length new.newest) entries who (Step Begun left ∷ losses_of roles spares) goes was
       right-before caller (λ fills. inl behind)
       (length-adding (length (opening_list world)) entries added adds-all ∙ recorded ∙ sym call.sized) (last_end-call first entries who end (Step Begun left) (losses_of roles spares))
-      (λ fills. begun-legal told) (λ fills. call-ends_none later entries who end (Step Begun left ∷ losses_of roles spares) (begun-ends_none some))
+      (λ fills. begun-legal told) (λ fills fit. call-ends_none later entries who end (Step Begun left ∷ losses_of roles spares) (begun-ends_none some))
 
   -- the level stays
   pub begun-level : level_at later all ≡ level_at world entries

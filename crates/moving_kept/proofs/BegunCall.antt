@@ -38,7 +38,7 @@ use Rattle.kept_history.proofs.Growing.{room-now}
 use Rattle.kept_history.proofs.Lengths.{now-drawn}
 use Rattle.history_calls.specs.Reliable.{IsReliable}
 use Rattle.moving_kept.specs.Moving.{IsStillKept}
-use Rattle.moving_kept.proofs.Beginning.{IsBeginningCall}
+use Rattle.moving_kept.proofs.Beginning.{IsBeginningCall, safe-over}
 use Rattle.history_calls.proofs.Behind.{IsAmong}
 use Rattle.moving_kept.proofs.BegunRead.{begun-read}
 use Rattle.moving_kept.proofs.ReadShapes.{IsShapeRead}
@@ -103,7 +103,7 @@ begun-call tells given tape ops scope first entries backup uuid to old new carri
     read : IsReliable (world_in given tape scope first) entries → HasRoomForEvents (world_in given (tape ++ ops) scope first)
         → IsShapeRead scope (contents_at (world_in given (tape ++ ops) scope first) (length (tape ++ ops))) (shape_of old.newest)
     read right room =
-        let safe = was.safe t right.fills right.room right.alike in
+        let safe = safe-over was t did.live right.fills right.room right.alike in
         begun-read tells (OpensFit (world_in given tape scope first)) scope given (told_now (world_in given tape scope first) carried false entries) backup uuid to old new tape (tape ++ ops)
         did.backed.backup did.backed.array did.sixteen was.still same_roles did.in_force did.level did.live (room-now (world_in given tape scope first) ops (was.recorded t).begun old safe.counted room) did.begun t
         (now-live (world_in given tape scope first) did.live safe.now) (contents given.start (tape ++ ops) (length (tape ++ ops))) drawn

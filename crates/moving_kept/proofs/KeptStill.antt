@@ -17,7 +17,7 @@ use Rattle.flat_history.specs.declared.events.Entry.{Entry}
 use Rattle.flat_history.specs.declared.events.Event.{Event}
 use Rattle.flat_history.specs.declared.events.Event.TheVariants.{Lost, Step}
 use Rattle.flat_history.specs.declared.events.StepKind.TheVariants.{TakenOver}
-use Rattle.flat_history.specs.Flat.{now}
+use Rattle.flat_history.specs.Flat.{now, values_of}
 use Rattle.flat_history.specs.Legal.{level_at, level_after}
 use Rattle.flat_history.specs.Losses.{takes, loses}
 use Rattle.flat_history.specs.OneShape.{opening_in, is_lost, is_unsettled, keeps_shape_event, KeepShape}
@@ -38,6 +38,7 @@ use Rattle.array_kept.specs.Kept.{AreRebuildsRight, IsKept}
 use Rattle.array_kept.proofs.ReadyLaws.{kept-legal}
 use Rattle.kept_history.specs.Recorded.{IsHistoryKept}
 use Rattle.kept_history.specs.Safe.{world_in, IsFilledRight}
+use Rattle.kept_history.proofs.Lists.{past-none}
 use Rattle.one_shape_history.proofs.Kept.{safe-alike, recorded-alike}
 use Rattle.history_calls.specs.Reliable.{IsReliable}
 use Rattle.moving_kept.specs.Moving.{HasListStill, IsStillKept}
@@ -94,10 +95,16 @@ module _ {tells : Type 0} {given : Given} {tape : List Operation} {scope : Scope
         begun = r.begun;
         sized = r.sized ∙ sym (length-still members was.still);
         legal = λ right. (one_shape-legal world (opening_in world) entries (found-in world) (kept-legal was t (fills right.fills))).0;
-        reshaped = λ right. (one_shape-legal world (opening_in world) entries (found-in world) (kept-legal was t (fills right.fills))).1;
+        reshaped = λ right fit. (one_shape-legal world (opening_in world) entries (found-in world) (kept-legal was t (fills right.fills))).1;
         ends = r.ends;
         ended = r.ended;
       }
+
+  -- past the list's end the history tells nothing
+  pub kept-past : tells → IsFilledRight world entries → (x : ℕ) → list_length members.newest ≤ x → values_of (opening_list world) entries x ≡ []
+  kept-past t right x le =
+      let legal = (one_shape-legal world (opening_in world) entries (found-in world) (kept-legal was t (fills right))).0 in
+      past-none world entries legal x (let n = (recorded t).sized in omega (arith, le, n))
 
   -- ---- the list, with zeros behind its end
 
@@ -150,6 +157,8 @@ module _ {tells : Type 0} {given : Given} {tape : List Operation} {scope : Scope
     slots = was.slots;
     placed = was.placed;
     still = was.still;
+    reshaping = false;
+    over = λ live. refl;
     sizes_are = was.sizes_are;
     levelled = λ t right. ap tolerance_of (same-level (level_at world []) entries (keep t right.fills)) ∙ (was.recorded t).tolerated;
     gone = λ t right role lt miss. after-gone world role entries (keep t right.fills) ∙ was.told role lt miss;

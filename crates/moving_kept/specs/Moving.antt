@@ -18,6 +18,7 @@ use Rattle.flat_history.specs.Sound.{OpensFit}
 use Rattle.flat_history.specs.World.{opening_list, World}
 use Rattle.shape_views.specs.Regions.{ArePlaced, DoWithout, backup_of}
 use Rattle.shape_views.specs.Windows.{ListStands, RowsStand}
+use Rattle.shape_changes.specs.Safety.{HasLiveSlot}
 use Rattle.shape_changes.specs.Steady.{AreUnlost, IsSafeOver}
 use Rattle.shape_ends.specs.Grown.{IsZeroPast}
 use Rattle.shape_ends.specs.Plans.{HasNoneRecovering}
@@ -57,11 +58,14 @@ pub record HasListStill (sound : Type 0) (members : Members) (c : Contents) (cur
   pub rows : sound → RowsStand None members c list
 
 -- No reshape is active in the array, though some may have been before. What is missing was told so, and a dirty mark; over a bank that tells its contents the
--- history is legal and reaches to the tape's end, the list stands where what is filled in is right, and each mark so far is safe.
+-- history is legal and reaches to the tape's end, the list stands where what is filled in is right, and each mark so far is safe. Superblocks may tell a
+-- reshape still only where no live slot is left: its end was recorded in none then.
 pub record IsStillKept (tells : Type 0) (given : Given) (tape : List Operation) (scope : Scope) (first : ℕ) (entries : List Entry) (members : Members) (carried : ℕ → Bool) : Type 0 where
   pub slots : given.slots ≤ 32
   pub placed : IsPlaced given members
   pub still : is_reshaping members.newest ≡ false
+  pub reshaping : Bool
+  pub over : HasLiveSlot members → reshaping ≡ false
   pub sizes_are : scope.sizes ≡ sizes given
   pub levelled : tells → IsReliable (world_in given tape scope first) entries → tolerance_of (level_at (world_in given tape scope first) entries) ≡ tolerance (shape_of members.newest)
   pub gone : tells → IsReliable (world_in given tape scope first) entries → AreToldGone (world_in given tape scope first) entries members
@@ -70,7 +74,7 @@ pub record IsStillKept (tells : Type 0) (given : Given) (tape : List Operation) 
   pub listed : tells → DoWithout members → IsFilledRight (world_in given tape scope first) entries
       → HasListStill (OpensFit (world_in given tape scope first)) members (present given tape) (now (opening_list (world_in given tape scope first)) entries)
   pub safe : tells → IsFilledRight (world_in given tape scope first) entries → HasRoomForEvents (world_in given tape scope first) → OpensAlike (world_in given tape scope first)
-      → IsSafeHistory ⊤ (world_in given tape scope first) given members carried false entries
+      → IsSafeHistory ⊤ (world_in given tape scope first) given members carried reshaping entries
 
 -- A reshape is active in the array, and this is how far it has come; so many steps are left. What is missing was told so, and a dirty mark; over a bank that
 -- tells its contents the history is legal and reaches to the tape's end, the backup's headers say how far the window has come, the list stands where what is

@@ -103,7 +103,7 @@ recorded-alike {entries = entries} world was sized = record {
   begun = was.begun;
   sized = ap (λ (n : ℕ). length_of n entries) was.opened ∙ sized;
   legal = λ right. (one_shape-legal world (opening_in world) entries (found-in world) (was.legal right)).0;
-  reshaped = λ right. (one_shape-legal world (opening_in world) entries (found-in world) (was.legal right)).1;
+  reshaped = λ right fit. (one_shape-legal world (opening_in world) entries (found-in world) (was.legal right)).1;
   ends = was.ends;
   ended = was.ended;
 }

@@ -11,10 +11,13 @@ use Rattle.superblocks.specs.Reading.{is_clean, is_reshaping, is_backward, shape
 use Rattle.superblocks.specs.Reads.{has_spare}
 use Rattle.row_io.specs.Rows.{reading_of}
 use Rattle.list_io.specs.Full.{RowStands}
+use Rattle.flat_history.specs.World.{World}
 use Rattle.shape_views.specs.Regions.{DoWithout}
 use Rattle.shape_views.specs.Views.{Ledger}
 use Rattle.shape_views.specs.Windows.{ListStands, RowsStand, AreTailsStanding}
 use Rattle.shape_changes.specs.Changing.{IsChanged}
+use Rattle.shape_changes.specs.Safety.{HasRoomLeft, IsRisen}
+use Rattle.shape_changes.specs.Steady.{IsSafeOver, AreGoneTold, IsUncleanTold}
 use Rattle.shape_ends.specs.Grown.{IsZeroPast, IsPastRow}
 use Rattle.reshape_updates.specs.Ending.{ending}
 use Rattle.views.specs.Moving.{IsMoved}
@@ -39,13 +42,16 @@ pub record AreLostInEnd (old new : Members) (roles spares lost : ℕ) (before af
   pub lost_are : (slot : ℕ) → has_slot lost slot ≡ true → IsFaulted slot before after
   pub told : (slot : ℕ) → has_spare old.spares slot ≡ true → (has_spare new.spares slot ≡ true) ⊎ ((has_slot spares slot ≡ true) ⊎ (has_slot lost slot ≡ true))
 
--- Behind the flush, where each slot that holds a role was flushed, the end was recorded.
-pub record IsEndedBehind (tells : Type 0) (given : Given) (old new : Members) (before after : List Operation) : Type 0 where
+-- Behind the flush, where each slot that holds a role was flushed, and the array is as safe as before once these roles are told gone, the end was recorded.
+pub record IsEndedBehind (tells : Type 0) (given : Given) (roles : ℕ) (old new : Members) (before after : List Operation) : Type 0 where
   pub flushed : Members
   pub mid : List Operation
   pub moved : IsMoved given old flushed
   pub holders : tells → AreHoldersFlushed (reading_of flushed) given mid
   pub enough : DoWithout flushed
+  pub rise : IsRisen tells old flushed before mid
+  pub safe : tells → (world : World) → (told : Ledger) → HasRoomLeft old before mid → AreGoneTold told old → ((role : ℕ) → has_slot roles role ≡ true → told.gone role ≡ true)
+      → IsUncleanTold told old → IsSafeOver world given told old before → IsSafeOver world given told flushed mid
   pub update : IsChanged tells given (ending flushed) flushed new mid after
 
 -- ---- what it takes to end a reshape safely

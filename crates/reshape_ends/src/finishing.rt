@@ -65,7 +65,7 @@ pub fn finish<B: Bank>(members: &mut Members, bank: &mut B) -> Finished
     requires whole { HasNoneRecovering members.old }
     ensures answer { MatchOption result.refusal (IsOver members.old.newest members.new.newest) (AreTooMany members.new) }
     ensures refused { (why : Refusal) → result.refusal ≡ Some why → (result.lost ≡ 0) × IsMoved (B.given bank.old) members.old members.new }
-    ensures ended { result.refusal ≡ None → IsEndedBehind B.tells (B.given bank.old) members.old members.new (B.tape bank.old) (B.tape bank.new) }
+    ensures ended { result.refusal ≡ None → IsEndedBehind B.tells (B.given bank.old) result.roles members.old members.new (B.tape bank.old) (B.tape bank.new) }
     ensures placed { IsPlaced (B.given bank.old) members.new }
     ensures unlost { AreUnlost members.new }
     ensures free { AreSparesFree (B.given bank.old) members.new }

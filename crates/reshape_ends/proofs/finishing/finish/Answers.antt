@@ -232,6 +232,11 @@ returns-clause-ended g c = λ none. record {
   moved = moved g c;
   holders = c.flush_naming-spares.ensures.flushed;
   enough = c.in-None.ensures;
+  rise = c.flush_naming-spares.ensures.rise;
+  safe = λ tell world told room gone tells unclean safe.
+      let tells-flushed = gone-then (first_given g c) (m g c) (f g c) (moved g c) c.requires.placed c.requires.whole c.count_roles-count.result c.vacant_roles-before.result c.newly_vacant-roles.result
+      c.count_roles-count.ensures c.vacant_roles-before.ensures c.newly_vacant-roles.ensures told gone tells in
+      (c.flush_naming-spares.ensures.safe tell world told room tells-flushed unclean safe).next;
   update = done g c;
 }
 

@@ -1,0 +1,321 @@
+-- The entries of a call by which a reshape ends: losses, the step, the new length where the list grew, and more losses. What they tell, and what a history says
+-- of the step before them and of its plans.
+use Rattle.std.proofs.Common.{◌≡◌, ℕ, suc, ◌+◌, ◌<◌, ◌≤◌, ◌&&◌, ◌||◌, nat_lt, Bool, true, false, not, cond, Option, Some, option_map, List, [], ◌∷◌, ◌++◌, length, take, fold, MatchOption, refl, sym, ◌∙◌, ap, ap₂, subst, arith, append_assoc, append-nil}
+use Rattle.std.specs.Prelude.{filter, ⊤}
+use Rattle.std.specs.List.{list_any, list_all}
+use Rattle.std.proofs.lemmas.List.Elements.{filter-append}
+use Rattle.std.proofs.lemmas.List.Folds.{list_any-append}
+use Rattle.std.proofs.lemmas.List.Sums.{fold-append}
+use Rattle.md_base.specs.Sectors.{Sector}
+use Rattle.md_base.specs.declared.answers.Who.{Who}
+use Rattle.md_base.specs.declared.places.Shape.{Shape}
+use Rattle.bank.specs.declared.bank.Operation.{Operation}
+use Rattle.bank.specs.Tape.{IsIn}
+use Rattle.superblocks.specs.Reading.{Reading, shape_of}
+use Rattle.grow_plan.specs.Plans.{target}
+use Rattle.flat_history.specs.declared.events.Entry.{Entry}
+use Rattle.flat_history.specs.declared.events.Event.{Event}
+use Rattle.flat_history.specs.declared.events.Event.TheVariants.{Lost, SpareLost, Resized, Planned, Step}
+use Rattle.flat_history.specs.declared.events.LostCause.TheVariants.{Fault}
+use Rattle.flat_history.specs.declared.events.StepKind.TheVariants.{Finished}
+use Rattle.flat_history.specs.Flat.{is_same_call, last_of, length_of, values_after, values_of, resized}
+use Rattle.flat_history.specs.Growing.{grown, EndBy}
+use Rattle.flat_history.specs.Legal.{is_loss, last_but_losses, before_last_step, level_after}
+use Rattle.flat_history.specs.Losses.{loses, is_gone_after, is_unsynced, settles, unsettles}
+use Rattle.flat_history.specs.OneShape.{is_lost, is_unsettled}
+use Rattle.flat_history.specs.Plain.{entries_of, loses_role}
+use Rattle.flat_history.specs.Reshaped.{behind, comes_with_finish, comes_with_step, is_rebuilt, is_done, is_planned, plans_after, open_plans, planned_shape, IsConsistentAt, ArePlansDone}
+use Rattle.flat_history.specs.Transfers.{last_end_from}
+use Rattle.flat_history.specs.World.{World, opening_list}
+use Rattle.flat_history.proofs.OneShapeLegal.{last-snoc}
+use Rattle.history_laws.proofs.OneShapeGrowing.{entries-both}
+use Rattle.call_entries.specs.Losing.{losses_of}
+use Rattle.call_entries.proofs.CallLaws.{AreLossEvents, losses-are, length-losses}
+use Rattle.call_entries.proofs.PlainLaws.{last_end-call}
+use Rattle.kept_history.specs.Recorded.{entry_of, ends_reshape, gives_some}
+use Rattle.kept_history.specs.Told.{told_by}
+use Rattle.kept_history.proofs.Entered.{AreAdding, length-adding, values-adding, settle-none}
+use Rattle.kept_history.proofs.Growing.{reading-grown}
+use Rattle.kept_history.proofs.Records.{same-call}
+use Rattle.shape_changes.specs.Steady.{IsMoreTold}
+use Rattle.kept_history.proofs.Tests.{or-right}
+use Rattle.history_calls.proofs.Behind.{IsAmong, early-losses, and-true}
+
+-- ---- the call
+
+-- the new length, where the list grows
+abbrev pub length_by : Bool → ℕ → List Event
+length_by true n = Resized n ∷ []
+length_by false n = []
+
+abbrev pub grown_to : ℕ → ℕ → List Event
+grown_to old new = length_by (nat_lt old new) new
+
+-- what the call enters: the losses of its flush, the step, the new length, and the losses of its update
+abbrev pub ending_events : ℕ → ℕ → ℕ → List Event → ℕ → ℕ → List Event
+ending_events roles spares left turn late late_spares = losses_of roles spares ++ Step Finished left ∷ (turn ++ losses_of late late_spares)
+
+-- losses alone
+module _ (who : Who) (end roles spares : ℕ) where
+  all-but : (P : List Event → Type 0) → P (losses_of roles spares ++ []) → P (losses_of roles spares)
+  all-but P holds = subst P (append-nil (losses_of roles spares)) holds
+
+  pub only-adds : AreAdding (entries_of who end (losses_of roles spares))
+  only-adds = all-but (λ (l : List Event). AreAdding (entries_of who end l)) ((early-losses roles spares).adds who end [] refl)
+
+  pub only-gives : list_any (λ e. gives_some e.event) (entries_of who end (losses_of roles spares)) ≡ false
+  only-gives = all-but (λ (l : List Event). list_any (λ e. gives_some e.event) (entries_of who end l) ≡ false) ((early-losses roles spares).gives who end [] refl)
+
+  pub only-ends : list_any ends_reshape (losses_of roles spares) ≡ false
+  only-ends = all-but (λ (l : List Event). list_any ends_reshape l ≡ false) ((early-losses roles spares).ends [] refl)
+
+  pub only-lost : (role : ℕ) → role < 16 → IsAmong roles role → is_lost (entries_of who end (losses_of roles spares)) role ≡ true
+  only-lost role lt has = all-but (λ (l : List Event). is_lost (entries_of who end l) role ≡ true) ((early-losses roles spares).lost who end [] role lt has)
+
+  only-level : (n : ℕ) → fold (λ level e. level_after level e.event) n (entries_of who end (losses_of roles spares)) ≡ n
+  only-level n = all-but (λ (l : List Event). fold (λ level e. level_after level e.event) n (entries_of who end l) ≡ n) ((early-losses roles spares).level who end [] n)
+
+  only-values : (x : ℕ) (values : List Sector) → fold (λ values e. values_after x values e.event) values (entries_of who end (losses_of roles spares)) ≡ values
+  only-values x values = all-but (λ (l : List Event). fold (λ values e. values_after x values e.event) values (entries_of who end l) ≡ values) ((early-losses roles spares).values who end [] x values)
+
+  only-length : (n : ℕ) → length_of n (entries_of who end (losses_of roles spares)) ≡ n
+  only-length n = all-but (λ (l : List Event). length_of n (entries_of who end l) ≡ n) (length-losses who end (losses_of roles spares) [] (losses-are roles spares) n)
+
+module _ (who : Who) (end roles spares left : ℕ) (longer : Bool) (n late late_spares : ℕ) where
+  abbrev early : List Event
+  early = losses_of roles spares
+
+  abbrev rest : List Event
+  rest = length_by longer n ++ losses_of late late_spares
+
+  -- it gives no role and settles nothing
+  pub ending-gives : list_any (λ e. gives_some e.event) (entries_of who end (ending_events roles spares left (length_by longer n) late late_spares)) ≡ false
+  ending-gives = (early-losses roles spares).gives who end (Step Finished left ∷ rest) (of longer)
+    where
+      of : (b : Bool) → list_any (λ e. gives_some e.event) (entries_of who end (length_by b n ++ losses_of late late_spares)) ≡ false
+      of true = only-gives who end late late_spares
+      of false = only-gives who end late late_spares
+
+  pub ending-settles : list_any (λ e. settles e.event) (entries_of who end (ending_events roles spares left (length_by longer n) late late_spares)) ≡ false
+  ending-settles =
+      ap (λ (l : List Entry). list_any (λ e. settles e.event) l) (entries-both who end early (Step Finished left ∷ rest))
+      ∙ list_any-append (λ e. settles e.event) (entries_of who end early) (entries_of who end (Step Finished left ∷ rest))
+      ∙ ap₂ (λ (a b : Bool). a || b) (settle-none (entries_of who end early) (only-adds who end roles spares)) (of longer)
+    where
+      of : (b : Bool) → list_any (λ e. settles e.event) (entries_of who end (length_by b n ++ losses_of late late_spares)) ≡ false
+      of true = settle-none (entries_of who end (losses_of late late_spares)) (only-adds who end late late_spares)
+      of false = settle-none (entries_of who end (losses_of late late_spares)) (only-adds who end late late_spares)
+
+  -- the level stays
+  pub ending-level : (level : ℕ) → fold (λ level e. level_after level e.event) level (entries_of who end (ending_events roles spares left (length_by longer n) late late_spares)) ≡ level
+  ending-level level = (early-losses roles spares).level who end (Step Finished left ∷ rest) level ∙ of longer
+    where
+      of : (b : Bool) → fold (λ level e. level_after level e.event) level (entries_of who end (length_by b n ++ losses_of late late_spares)) ≡ level
+      of true = only-level who end late late_spares level
+      of false = only-level who end late late_spares level
+
+  -- each sector has the values that it had, but for the new length
+  pub ending-values : (x : ℕ) (values : List Sector) → fold (λ values e. values_after x values e.event) values (entries_of who end (ending_events roles spares left (length_by longer n) late late_spares))
+      ≡ cond longer (resized (nat_lt x n) values) values
+  ending-values x values = (early-losses roles spares).values who end (Step Finished left ∷ rest) x values ∙ of longer
+    where
+      of : (b : Bool) → fold (λ values e. values_after x values e.event) values (entries_of who end (length_by b n ++ losses_of late late_spares)) ≡ cond b (resized (nat_lt x n) values) values
+      of true = only-values who end late late_spares x (resized (nat_lt x n) values)
+      of false = only-values who end late late_spares x values
+
+  pub ending-length : (m : ℕ) → length_of m (entries_of who end (ending_events roles spares left (length_by longer n) late late_spares)) ≡ cond longer n m
+  ending-length m = length-losses who end early (Step Finished left ∷ rest) (losses-are roles spares) m ∙ of longer
+    where
+      of : (b : Bool) → length_of m (entries_of who end (length_by b n ++ losses_of late late_spares)) ≡ cond b n m
+      of true = only-length who end late late_spares n
+      of false = only-length who end late late_spares m
+
+  -- these roles are told lost
+  pub ending-lost : (role : ℕ) → role < 16 → IsAmong roles role → is_lost (entries_of who end (ending_events roles spares left (length_by longer n) late late_spares)) role ≡ true
+  ending-lost role lt has = (early-losses roles spares).lost who end (Step Finished left ∷ rest) role lt has
+
+  pub ending-late : (role : ℕ) → role < 16 → IsAmong late role → is_lost (entries_of who end (ending_events roles spares left (length_by longer n) late late_spares)) role ≡ true
+  ending-late role lt has =
+      ap (λ (l : List Entry). is_lost l role) (entries-both who end early (Step Finished left ∷ rest))
+      ∙ list_any-append (λ e. loses_role role e.event) (entries_of who end early) (entries_of who end (Step Finished left ∷ rest))
+      ∙ or-right (is_lost (entries_of who end early) role) (is_lost (entries_of who end (Step Finished left ∷ rest)) role) (of longer)
+    where
+      of : (b : Bool) → is_lost (entries_of who end (length_by b n ++ losses_of late late_spares)) role ≡ true
+      of true = only-lost who end late late_spares role lt has
+      of false = only-lost who end late late_spares role lt has
+
+  -- it ends where each of its entries does
+  pub ending-last : (first : ℕ) (entries : List Entry) → last_end_from first (entries ++ entries_of who end (ending_events roles spares left (length_by longer n) late late_spares)) ≡ end
+  ending-last first entries = of (losses_of roles spares)
+    where
+      of : (xs : List Event) → last_end_from first (entries ++ entries_of who end (xs ++ Step Finished left ∷ rest)) ≡ end
+      of [] = last_end-call first entries who end (Step Finished left) rest
+      of (x ∷ xs) = last_end-call first entries who end x (xs ++ Step Finished left ∷ rest)
+
+  -- what stands behind the step comes with it
+  come-losses : (xs : List Event) → AreLossEvents xs → list_all comes_with_finish xs ≡ true
+  come-losses [] are = refl
+  come-losses (Lost role Fault ∷ xs) are = come-losses xs are
+  come-losses (SpareLost slot ∷ xs) are = come-losses xs are
+  come-losses (event ∷ xs) are = absurd are
+
+  pub ending-comes : list_all comes_with_finish (length_by longer n ++ losses_of late late_spares) ≡ true
+  ending-comes = of longer
+    where
+      of : (b : Bool) → list_all comes_with_finish (length_by b n ++ losses_of late late_spares) ≡ true
+      of true = come-losses (losses_of late late_spares) (losses-are late late_spares)
+      of false = come-losses (losses_of late late_spares) (losses-are late late_spares)
+
+  -- and none of it ends a reshape again
+  pub ending-ends : list_any ends_reshape (length_by longer n ++ losses_of late late_spares) ≡ false
+  ending-ends = of longer
+    where
+      of : (b : Bool) → list_any ends_reshape (length_by b n ++ losses_of late late_spares) ≡ false
+      of true = only-ends who end late late_spares
+      of false = only-ends who end late late_spares
+
+-- ---- what comes with a step
+
+both : (a b : Bool) → (a && b) ≡ true → (a ≡ true) × (b ≡ true)
+both true b e = (refl, e)
+both false b e = absurd (cc)
+
+-- all that stands behind it in its call, where all of that sort
+pub behind-all : (sort : Event → Bool) (who : Who) (end : ℕ) (event : Event) (events : List Event) → list_all sort events ≡ true
+    → behind sort (entry_of who end event) (entries_of who end events) ≡ entries_of who end events
+behind-all sort who end event [] all = refl
+behind-all sort who end event (x ∷ events) all =
+    let parts = both (sort x) (list_all sort events) all in
+    ap (λ (b : Bool). cond b (entry_of who end x ∷ behind sort (entry_of who end event) (entries_of who end events)) [])
+    (and-true (sort x) (is_same_call (entry_of who end event) (entry_of who end x)) parts.0 (same-call who (entry_of who end event) (entry_of who end x) (refl, refl) (refl, refl)))
+    ∙ ap (λ (l : List Entry). entry_of who end x ∷ l) (behind-all sort who end event events parts.1)
+
+-- what comes with a finish comes with any step
+pub comes-more : (events : List Event) → list_all comes_with_finish events ≡ true → list_all comes_with_step events ≡ true
+comes-more [] all = refl
+comes-more (x ∷ events) all =
+    let parts = both (comes_with_finish x) (list_all comes_with_finish events) all in
+    and-true (comes_with_step x) (list_all comes_with_step events) (ap (λ (b : Bool). b || is_rebuilt x) parts.0) (comes-more events parts.1)
+
+-- ---- the step before
+
+losses-none : (who : Who) (end : ℕ) (xs : List Event) → AreLossEvents xs → filter (λ e. not (is_loss e.event)) (entries_of who end xs) ≡ []
+losses-none who end [] are = refl
+losses-none who end (Lost role Fault ∷ xs) are = losses-none who end xs are
+losses-none who end (SpareLost slot ∷ xs) are = losses-none who end xs are
+losses-none who end (event ∷ xs) are = absurd are
+
+-- behind losses it is the same
+pub last-behind : (before : List Entry) (who : Who) (end : ℕ) (xs : List Event) → AreLossEvents xs → last_but_losses (before ++ entries_of who end xs) ≡ last_but_losses before
+last-behind before who end xs are =
+    ap last_of (filter-append (λ e. not (is_loss e.event)) before (entries_of who end xs)
+    ∙ ap (λ (l : List Entry). filter (λ e. not (is_loss e.event)) before ++ l) (losses-none who end xs are) ∙ append-nil (filter (λ e. not (is_loss e.event)) before))
+
+-- and behind an entry that is no loss it is that
+pub last-step : (before : List Entry) (e : Entry) → is_loss e.event ≡ false → last_but_losses (before ++ e ∷ []) ≡ Some e
+last-step before e other =
+    ap last_of (filter-append (λ e. not (is_loss e.event)) before (e ∷ [])
+    ∙ ap (λ (b : Bool). filter (λ e. not (is_loss e.event)) before ++ cond (not b) (e ∷ []) []) other) ∙ last-snoc (filter (λ e. not (is_loss e.event)) before) e
+
+and-false : (a : Bool) → (a && false) ≡ false
+and-false true = refl
+and-false false = refl
+
+ends-other : (before : List Entry) (e : Entry) → is_loss e.event ≡ false → list_all (λ e. is_loss e.event) (before ++ e ∷ []) ≡ false
+ends-other [] e other = ap (λ (b : Bool). b && true) other
+ends-other (x ∷ before) e other = ap (λ (b : Bool). is_loss x.event && b) (ends-other before e other) ∙ and-false (is_loss x.event)
+
+step-by : (n : ℕ) (b : Bool) (x : Entry) (entries before : List Entry) → b ≡ false → take n entries ≡ before → take (cond b 0 (1 + n)) (x ∷ entries) ≡ x ∷ before
+step-by n b x entries before other rest =
+    ap (λ (k : ℕ). take k (x ∷ entries)) (ap (λ (c : Bool). cond c 0 (1 + n)) other ∙ next n) ∙ ap (λ (l : List Entry). x ∷ l) rest
+  where
+    next : (k : ℕ) → 1 + k ≡ suc k
+    next k = omega arith
+
+-- before it stands what stood there
+pub before-step : (before : List Entry) (e : Entry) → is_loss e.event ≡ false → before_last_step (before ++ e ∷ []) ≡ before
+before-step [] e other = refl
+before-step (x ∷ before) e other = step-by _ (list_all (λ e. is_loss e.event) (before ++ e ∷ [])) x (before ++ e ∷ []) before (ends-other before e other) (before-step before e other)
+
+-- ---- plans
+
+-- each of these plans goes to this shape
+abbrev pub ArePlannedTo : World → Shape → List Entry → Type 0
+ArePlannedTo world shape [] = ⊤
+ArePlannedTo world shape (plan ∷ plans) = (planned_shape world plan.end plan.event ≡ Some shape) × ArePlannedTo world shape plans
+
+-- losses leave the same plans open
+pub plans-behind : (before : List Entry) (who : Who) (end : ℕ) (xs : List Event) → AreLossEvents xs → open_plans (before ++ entries_of who end xs) ≡ open_plans before
+plans-behind before who end xs are = fold-append plans_after [] before (entries_of who end xs) ∙ of (open_plans before) xs are
+  where
+    of : (plans : List Entry) (xs : List Event) → AreLossEvents xs → fold plans_after plans (entries_of who end xs) ≡ plans
+    of plans [] are = refl
+    of plans (Lost role Fault ∷ xs) are = of plans xs are
+    of plans (SpareLost slot ∷ xs) are = of plans xs are
+    of plans (event ∷ xs) are = absurd are
+
+-- a plan ends where one of the entries does
+pub plans-end : (mark : ℕ) (plans xs : List Entry) → EndBy mark plans → EndBy mark xs → EndBy mark (fold plans_after plans xs)
+plans-end mark plans [] made ends = made
+plans-end mark plans (x ∷ xs) made ends = plans-end mark (plans_after plans x) xs (of (is_done x.event) (is_planned x.event)) ends.1
+  where
+    of : (a b : Bool) → EndBy mark (cond a [] (cond b (x ∷ plans) plans))
+    of true b = tt
+    of false true = (ends.0, made)
+    of false false = made
+
+-- a plan goes to the same shape whatever is done after it
+pub planned-grown : (world : World) (ops : List Operation) (end : ℕ) (event : Event) → end ≤ length world.tape → planned_shape (grown world ops) end event ≡ planned_shape world end event
+planned-grown world ops end (Planned left wish) made = ap (λ (found : Option Reading). option_map (λ r. target (shape_of r.newest) wish) found) (reading-grown world ops end made)
+planned-grown world ops end event made = refl
+
+module _ (world : World) (ops : List Operation) (before : List Entry) (e : Entry) (rest : List Entry) (shape : Shape) (consistent : IsConsistentAt (grown world ops) (before ++ e ∷ rest) e.end shape) where
+  done : (plans : List Entry) → EndBy (length world.tape) plans → ArePlannedTo world shape plans → ArePlansDone (grown world ops) before e rest plans
+  done [] made to = tt
+  done (plan ∷ plans) made to = (
+    subst (λ (o : Option Shape). MatchOption o ⊥ (IsConsistentAt (grown world ops) (before ++ e ∷ rest) e.end)) (sym (planned-grown world ops plan.end plan.event made.0 ∙ to.0)) consistent,
+    done plans made.1 to.1,
+  )
+
+  -- where the open plans go to a shape that is consistent, they are met
+  pub plans-done : (entries : List Entry) → EndBy (length world.tape) entries → ArePlannedTo world shape (open_plans entries) → ArePlansDone (grown world ops) before e rest (open_plans entries)
+  plans-done entries ends to = done (open_plans entries) (plans-end (length world.tape) [] entries tt ends) to
+
+-- ---- what is told
+
+-- A call tells more with more entries that add, whatever numbers are known.
+module _ (world : World) (carried : ℕ → Bool) (entries xs ys : List Entry) (first : AreAdding xs) (second : AreAdding ys) where
+  abbrev opening : List Sector
+  opening = opening_list world
+
+  longer-all : (entries ++ xs) ++ ys ≡ entries ++ (xs ++ ys)
+  longer-all = append_assoc entries xs ys
+
+  longer-length : length_of (length opening) (entries ++ xs) ≡ length_of (length opening) (entries ++ (xs ++ ys))
+  longer-length = sym (length-adding (length opening) (entries ++ xs) ys second) ∙ ap (λ (l : List Entry). length_of (length opening) l) longer-all
+
+  longer-values : (x : ℕ) (v : Sector) → IsIn (values_of opening (entries ++ xs) x) v → IsIn (values_of opening (entries ++ (xs ++ ys)) x) v
+  longer-values x v may = subst (λ (l : List Entry). IsIn (values_of opening l x) v) longer-all (values-adding opening (entries ++ xs) ys second x v may)
+
+  three : (a b c : Bool) → (a || b) ≡ true → (a || (b || c)) ≡ true
+  three true b c is = refl
+  three false true c is = refl
+  three false false c is = absurd (cc)
+
+  four : (a b c d : Bool) → (a || (b || c)) ≡ true → (a || (b || (c || d))) ≡ true
+  four true b c d is = refl
+  four false true c d is = refl
+  four false false true d is = refl
+  four false false false d is = absurd (cc)
+
+  pub told-longer : IsMoreTold (told_by world carried true entries xs) (told_by world (λ number. true) true entries (xs ++ ys))
+  told-longer = record {
+    size = longer-length;
+    values = λ x lt v may. longer-values x v may;
+    gone = λ role is. ap (λ (b : Bool). is_gone_after world entries role || b) (list_any-append (loses world role) xs ys)
+        ∙ three (is_gone_after world entries role) (list_any (loses world role) xs) (list_any (loses world role) ys) is;
+    unclean = λ is. ap (λ (b : Bool). is_unsynced world entries || (is_unsettled entries || b)) (list_any-append (λ e. unsettles e.event) xs ys)
+        ∙ four (is_unsynced world entries) (is_unsettled entries) (list_any (λ e. unsettles e.event) xs) (list_any (λ e. unsettles e.event) ys) is;
+    reshaping = λ is. is;
+    carried = λ number is. refl;
+  }
