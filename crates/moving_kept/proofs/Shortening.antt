@@ -351,4 +351,4 @@ module _ (given : Given) (tape : List Operation) (scope : Scope) (first : ℕ) (
         right-before caller (λ fills. inl behind)
         (turned-length later entries who end (Step Begun left ∷ []) n (losses_of roles spares) faults (length (opening_list world)) ∙ sym call.sized)
         (last_end-call first entries who end (Step Begun left) (Resized n ∷ losses_of roles spares))
-        (λ fills. shortened-legal fills told) (λ fills. call-ends_none later entries who end (Step Begun left ∷ Resized n ∷ losses_of roles spares) (shortened-ends_none some))
+        (λ fills. shortened-legal fills told) (λ fills fit. call-ends_none later entries who end (Step Begun left ∷ Resized n ∷ losses_of roles spares) (shortened-ends_none some))

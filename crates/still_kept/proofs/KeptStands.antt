@@ -83,7 +83,7 @@ module _ {tells : Type 0} {given : Given} {tape : List Operation} {scope : Scope
         begun = r.begun;
         sized = r.sized ∙ sym (length-still members was.still);
         legal = λ right. (one_shape-legal world (opening_in world) entries (found-in world) (kept-legal was t (fills right.fills))).0;
-        reshaped = λ right. (one_shape-legal world (opening_in world) entries (found-in world) (kept-legal was t (fills right.fills))).1;
+        reshaped = λ right fit. (one_shape-legal world (opening_in world) entries (found-in world) (kept-legal was t (fills right.fills))).1;
         ends = r.ends;
         ended = r.ended;
       }
