@@ -241,7 +241,7 @@ module _ (given : Given) (tape : List Operation) (scope : Scope) (first : ℕ) (
   recorded-all = kept-call (IsReliable world entries) (IsReliable later all) world ops (list_length old.newest) (list_length new.newest) entries who (losses ++ event ∷ []) goes recorded behind.right caller
       (λ fills. inr behind.gives_all) (ap (λ (l : List Sector). length_of (length l) all) (sym behind.opened) ∙ length-all ∙ sym sized)
       (last_end-behind first entries who end losses event) legal-call
-      (λ fills. call.reshaped)
+      (λ fills fit. call.reshaped)
 
   -- ---- each mark
 
