@@ -11,10 +11,9 @@ use Rattle.grow_asked.specs.declared.window.Window.TheVariants.{Closed, Entered,
 use Rattle.grow_asked.specs.Left.{stripes_in, zeroed_by}
 use Rattle.course_kept.specs.declared.course.Course.{Course}
 use Rattle.course_kept.specs.Course.{IsCourseOf}
-use Rattle.course_kept.specs.Laws.{entered, closed, unsure}
 use Rattle.moving_state.specs.declared.stepping.Due.{Due}
 use Rattle.moving_state.specs.declared.stepping.Due.TheVariants.{Copy, Record, Enter, Zero, Finish}
-use Rattle.moving_state.specs.Due.{due_between, due_in, due_of, IsDue}
+use Rattle.moving_state.specs.Due.{due_in, due_of, IsDue}
 use Rattle.moving_state.proofs.ReshapeLaws.{through-of}
 
 below : (a b : ℕ) → nat_lt a b ≡ true → a < b
@@ -73,16 +72,24 @@ module _ (newest : Sb) (fit : AreShapesFit newest) (active : is_reshaping newest
   inside : (span : Span) (copied : ℕ) (sectioned : Bool) → IsCourseOf newest (course-at (Entered span copied sectioned) zeroed) → (b : Bool) → nat_lt copied (stripes_in newest span) ≡ b
       → IsDue newest (course-at (Entered span copied sectioned) zeroed) (if b then Copy else Record)
   inside span copied sectioned is true lt =
-      let next : next_window newest ≡ Some span = is.window.0 in
-      (span, copied, sectioned, ap (λ (n : ℕ). course-at (Entered span copied sectioned) n) (none-zeroed newest (course-at (Entered span copied sectioned) zeroed) span is next), next,
-      below copied (stripes_in newest span) lt)
+      let next : next_window newest ≡ Some span = is.window.0 in (
+        span,
+        copied,
+        sectioned,
+        ap (λ (n : ℕ). course-at (Entered span copied sectioned) n) (none-zeroed newest (course-at (Entered span copied sectioned) zeroed) span is next),
+        next,
+        below copied (stripes_in newest span) lt,
+      )
   inside span copied sectioned is false ge =
       let next : next_window newest ≡ Some span = is.window.0 in
       let most : copied ≤ stripes_in newest span = is.window.1 in
-      let all : copied ≡ stripes_in newest span = (let more = above copied (stripes_in newest span) ge in omega (arith, most, more)) in
-      (span, sectioned,
-      ap (λ (k : ℕ). course-at (Entered span k sectioned) zeroed) all
-      ∙ ap (λ (n : ℕ). course-at (Entered span (stripes_in newest span) sectioned) n) (none-zeroed newest (course-at (Entered span copied sectioned) zeroed) span is next), next)
+      let all : copied ≡ stripes_in newest span = (let more = above copied (stripes_in newest span) ge in omega (arith, most, more)) in (
+        span,
+        sectioned,
+        ap (λ (k : ℕ). course-at (Entered span k sectioned) zeroed) all
+            ∙ ap (λ (n : ℕ). course-at (Entered span (stripes_in newest span) sectioned) n) (none-zeroed newest (course-at (Entered span copied sectioned) zeroed) span is next),
+        next,
+      )
 
   window-due : (window : Window) → IsCourseOf newest (course-at window zeroed) → IsDue newest (course-at window zeroed) (due_in newest window zeroed)
   window-due Closed is = between is (next_window newest) refl

@@ -1,8 +1,7 @@
 -- The first refusal of a read or a write of the list, and what it tells.
-use Rattle.std.proofs.Common.{◌≡◌, inl, inr, ℕ, ◌+◌, ◌-◌, ◌*◌, ◌/◌, ◌<◌, ◌≤◌, Bool, true, false, nat_lt, nat_le, if◌then◌else◌, Option, Some, None, option_map, is_some, refl, sym, ◌∙◌, ap, subst, arith}
+use Rattle.std.proofs.Common.{◌≡◌, inl, inr, ℕ, ◌+◌, ◌-◌, ◌*◌, ◌/◌, ◌<◌, ◌≤◌, Bool, true, false, nat_lt, nat_le, if◌then◌else◌, Option, Some, None, option_map, is_some, sym, ◌∙◌, ap, subst, arith}
 use Rattle.std.specs.Prelude.{MatchOption}
 use Rattle.std.proofs.lemmas.Bool.Decides.{nat_tests}
-use Rattle.md_base.specs.Search.{least_below}
 use Rattle.md_base.proofs.Least.{least_below-none}
 use Rattle.md_base.specs.Shapes.{stripe_sectors, tolerance}
 use Rattle.md_base.specs.declared.places.Shape.{Shape}
@@ -112,27 +111,33 @@ module _ (visible first count : ℕ) (m : Members) (fit : AreShapesFit m.newest)
 
   pub read-judged : (found : Option Refusal) → MatchOption found (AreFineTo m first count (first + count)) (IsListTorn first (first + count) m)
       → IsRefusalOf visible (first + count) (IsListUnread (list_length m.newest) first (first + count)) m found
-  read-judged None fine = (within, λ refusal why. elim why.3 [
-    | inl many ↦ never-torn fine refusal (why.0, why.1, why.2, many)
-    | inr un ↦
-        let x = why.0 in
-        let high : x < first + count = why.2 in
-        let lies : IsUnrelied (list_length m.newest) m x = un.1 in
-        relied-never m.newest fit x (omega (arith, high, within, inside)) lies.1
-  ])
+  read-judged None fine = (
+    within,
+    λ refusal why. elim why.3 [
+      | inl many ↦ never-torn fine refusal (why.0, why.1, why.2, many)
+      | inr un ↦
+          let x = why.0 in
+          let high : x < first + count = why.2 in
+          let lies : IsUnrelied (list_length m.newest) m x = un.1 in
+          relied-never m.newest fit x (omega (arith, high, within, inside)) lies.1
+    ],
+  )
   read-judged (Some refusal) torn =
       refused-for visible (first + count) (IsListUnread (list_length m.newest) first (first + count)) m m refusal (unread-of (shape_for m.newest torn.0) 0 0 0 m refusal (inl torn.3)) within
       (torn.0, torn.1, torn.2, inl torn.3)
 
   pub write-judged : (found : Option Refusal) → MatchOption found (AreFineTo m first count (first + count)) (IsListTorn first (first + count) m)
       → IsRefusalOf visible (first + count) (IsListUnwritten (list_length m.newest) first (first + count)) m found
-  write-judged None fine = (within, λ refusal why. elim why [
-    | inl torn ↦ never-torn fine refusal torn
-    | inr un ↦
-        let there = un.1 in
-        let x = there.0 in
-        let high : x < first + count = there.2 in
-        relied-never m.newest fit x (omega (arith, high, within, inside)) there.3
-  ])
+  write-judged None fine = (
+    within,
+    λ refusal why. elim why [
+      | inl torn ↦ never-torn fine refusal torn
+      | inr un ↦
+          let there = un.1 in
+          let x = there.0 in
+          let high : x < first + count = there.2 in
+          relied-never m.newest fit x (omega (arith, high, within, inside)) there.3
+    ],
+  )
   write-judged (Some refusal) torn =
       refused-for visible (first + count) (IsListUnwritten (list_length m.newest) first (first + count)) m m refusal (unread-of (shape_for m.newest torn.0) 0 0 0 m refusal (inl torn.3)) within (inl torn)

@@ -1,29 +1,24 @@
 -- Each step of a reshape takes one of those that are left.
-use Rattle.std.proofs.Common.{◌≡◌, ℕ, ◌+◌, ◌-◌, ◌<◌, ◌≤◌, Bool, true, List, [], Option, Some, None, refl, sym, ◌∙◌, ap, subst, arith}
+use Rattle.std.proofs.Common.{◌≡◌, ℕ, ◌+◌, ◌-◌, ◌<◌, ◌≤◌, true, [], Option, None, refl, sym, ◌∙◌, ap, subst, arith}
 use Rattle.std.specs.Prelude.{MatchOption}
 use Rattle.std.proofs.lemmas.Bool.{cond-true}
 use Rattle.md_base.specs.declared.places.Span.{Span}
-use Rattle.md_base.specs.declared.wishes.Phase.{Phase}
-use Rattle.bank.specs.Given.{Given}
 use Rattle.sb1.specs.declared.sb.Sb.{Sb}
 use Rattle.geometry.specs.Geometry.{stripes, steps_of, window, window_steps, beyond}
 use Rattle.geometry.proofs.GoingOn.{steps_fall}
 use Rattle.grow_plan.specs.Plans.{phases_steps}
-use Rattle.superblocks.specs.declared.members.Members.{Members}
-use Rattle.superblocks.specs.Reading.{is_reshaping, is_backward, shape_of, final_shape, next_window}
+use Rattle.superblocks.specs.Reading.{is_reshaping, is_backward, shape_of, final_shape}
 use Rattle.shape_views.specs.Regions.{AreShapesFit}
 use Rattle.shape_views.specs.Windows.{moved_past}
 use Rattle.views.specs.Placed.{HaveSameReshape}
-use Rattle.views.specs.Moving.{IsMoved}
 use Rattle.grow_asked.specs.declared.window.Window.{Window}
 use Rattle.grow_asked.specs.declared.window.Window.TheVariants.{Closed, Entered, Unsure}
 use Rattle.grow_asked.specs.Left.{steps_from, stripes_in, zeroed_by, reshape_left, grow_left, IsPast, IsWindowRight}
 use Rattle.grow_asked.proofs.LeftLaws.{entering, copying, recording, finishing, zeroing}
-use Rattle.course_kept.specs.declared.course.Course.{Course}
 use Rattle.course_kept.specs.Course.{IsWindowOf}
 use Rattle.course_kept.specs.Laws.{entered, closed}
 use Rattle.window_steps.specs.Zeroing.{IsThrough}
-use Rattle.moving_state.specs.Left.{left_of, LeftStays, EnteringTakesOne, CopyingTakesOne, RecordingTakesOne, FinishingTakesTheRest, ZeroingTakesOne, EndLeavesPlanned, PlansAreCounted}
+use Rattle.moving_state.specs.Left.{LeftStays, EnteringTakesOne, CopyingTakesOne, RecordingTakesOne, FinishingTakesTheRest, ZeroingTakesOne, EndLeavesPlanned, PlansAreCounted}
 use Rattle.moving_state.proofs.ReshapeLaws.{forced, under-way-of, active-of}
 
 -- ---- on members that lost slots
@@ -121,8 +116,8 @@ right-of newest Closed is = tt
 right-of newest (Entered span copied sectioned) is = (is.0, is.1)
 right-of newest (Unsure span) is = tt
 
-at-end : (sum cleared zeroed : ℕ) → zeroed ≤ cleared → 0 < sum + cleared + 1 - zeroed
-at-end sum cleared zeroed few = omega (arith, few)
+at-end : (sum most cleared : ℕ) → cleared ≤ most → 0 < sum + most + 1 - cleared
+at-end sum most cleared few = omega (arith, few)
 
 within : (stripes behind : ℕ) → 0 < stripes + 1 + behind
 within stripes behind = omega arith

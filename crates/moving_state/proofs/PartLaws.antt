@@ -1,5 +1,5 @@
 -- Which sectors of a request lie in a span.
-use Rattle.std.proofs.Common.{◌≡◌, inl, inr, ℕ, ◌<◌, ◌≤◌, ◌&&◌, nat_le, nat_lt, max, min, Bool, true, false, ◌↔◌, Option, Some, None, refl, sym, ◌∙◌, arith}
+use Rattle.std.proofs.Common.{◌≡◌, inl, inr, ℕ, ◌<◌, ◌≤◌, ◌&&◌, nat_le, nat_lt, max, min, Bool, true, false, ◌↔◌, Option, Some, refl, sym, ◌∙◌, arith}
 use Rattle.std.proofs.lemmas.Bool.Decides.{nat_tests}
 use Rattle.md_base.specs.declared.places.Span.{Span}
 use Rattle.geometry.specs.Geometry.{IsIn}

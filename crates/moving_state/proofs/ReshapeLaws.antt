@@ -1,5 +1,5 @@
 -- The reshape that members are in: its windows, and the stripes of its steps.
-use Rattle.std.proofs.Common.{◌≡◌, ℕ, ◌+◌, ◌-◌, ◌*◌, ◌/◌, ◌<◌, ◌≤◌, ◌==◌, nat_le, min, Bool, true, false, cond, if◌then◌else◌, Option, Some, None, IfSome, IfNone, IsTrue, refl, sym, ◌∙◌, ap, subst, arith, eqb-true}
+use Rattle.std.proofs.Common.{◌≡◌, ℕ, ◌+◌, ◌-◌, ◌*◌, ◌/◌, ◌^◌, ◌<◌, ◌≤◌, ◌==◌, nat_le, min, Bool, true, false, cond, if◌then◌else◌, Option, Some, None, IfSome, IfNone, IsTrue, refl, sym, ◌∙◌, ap, subst, arith, eqb-true}
 use Rattle.std.proofs.lemmas.Bool.{cond-true}
 use Rattle.std.proofs.lemmas.Bool.Decides.{nat_tests}
 use Rattle.md_base.specs.declared.places.Shape.{Shape}
@@ -120,8 +120,8 @@ pub copy-of : (first end copied : ℕ) → copied < end - first → (first ≤ f
 copy-of first end copied lt = (omega arith, omega (arith, lt))
 
 pub zero-of : (back : Bool) (all first zeroed : ℕ) → zeroed < (if back then 0 else all - first) → (first ≤ first + zeroed) × (first + zeroed < all)
-zero-of true all first zeroed lt = absurd (omega (arith, lt))
-zero-of false all first zeroed lt = (omega arith, omega (arith, lt))
+zero-of true all first cleared lt = absurd (omega (arith, lt))
+zero-of false all first cleared lt = (omega arith, omega (arith, lt))
 
 -- backward none is zeroed
 pub none-to-zero : (newest : Sb) → is_backward newest ≡ true → 0 ≡ zeroed_by newest

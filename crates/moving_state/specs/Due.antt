@@ -34,9 +34,9 @@ due_between newest zeroed = if is_some (next_window newest) then Enter else if n
 
 -- In an entered window each stripe is copied, and then it is recorded.
 abbrev pub due_in : Sb → Window → ℕ → Due
-due_in newest Closed zeroed = due_between newest zeroed
-due_in newest (Entered span copied sectioned) zeroed = if nat_lt copied (stripes_in newest span) then Copy else Record
-due_in newest (Unsure span) zeroed = due_between newest zeroed
+due_in newest Closed cleared = due_between newest cleared
+due_in newest (Entered span copied sectioned) cleared = if nat_lt copied (stripes_in newest span) then Copy else Record
+due_in newest (Unsure span) cleared = due_between newest cleared
 
 abbrev pub due_of : Sb → Course → Due
 due_of newest course = due_in newest course.window course.zeroed

@@ -24,11 +24,7 @@ pub fn list_sectors(members: &Members) -> u64
     ensures length { result ≡ list_length members.now.newest }
     ensures short { result ≤ 2 ^ 53 }
 {
-    list_end(
-        &shape_in(members),
-        &final_in(members),
-        members.newest.size,
-    )
+    list_end(&shape_in(members), &final_in(members), members.newest.size)
 }
 
 /// The next window; None where the reshape has gone through the list.

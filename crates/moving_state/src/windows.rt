@@ -33,13 +33,7 @@ pub fn hidden_span(course: &Course) -> Option<Span>
             span,
             copied: _,
             sectioned,
-        } => {
-            if sectioned {
-                Some(span)
-            } else {
-                None
-            }
-        }
+        } => { if sectioned { Some(span) } else { None } }
         Window::Closed | Window::Unsure { span: _ } => None,
     }
 }

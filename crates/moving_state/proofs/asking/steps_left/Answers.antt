@@ -1,4 +1,4 @@
-use Rattle.std.proofs.Common.{ap, arith, ◌+◌, ℕ, ◌∙◌}
+use Rattle.std.proofs.Common.{arith}
 use Rattle.moving_state.proofs.ReshapeLaws.{under-way-of}
 use Rattle.moving_state.proofs.LeftLaws.{right-of, some-left}
 use Rattle.moving_state.proofs.asking.steps_left.Goals as goal

@@ -1,4 +1,4 @@
-use Rattle.std.proofs.Common.{◌≡◌, inl, inr, sym, ◌∙◌, arith}
+use Rattle.std.proofs.Common.{inl, inr, sym, ◌∙◌, arith}
 use Rattle.std.proofs.lemmas.Bool.{cases_lt}
 use Rattle.moving_state.proofs.FirstLaws.{found-first, found-torn, none-first, fine-on}
 use Rattle.moving_state.proofs.refusing.lacking_from.Goals as goal

@@ -1,4 +1,4 @@
-use Rattle.std.proofs.Common.{◌≤◌, ◌<◌, ℕ, ap, ◌∙◌, subst, arith}
+use Rattle.std.proofs.Common.{◌<◌, ℕ, ap, ◌∙◌, subst, arith}
 use Rattle.md_base.specs.Shapes.{stripe_sectors}
 use Rattle.md_base.specs.declared.places.Shape.{Shape}
 use Rattle.geometry.proofs.ClosedForms.{rounded_up_at, ceiling_below}
