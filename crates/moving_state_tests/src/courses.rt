@@ -8,9 +8,7 @@ ghost use Rattle.course_kept.specs.Course.{IsCourseOf};
 use course_kept::Course;
 use grow_asked::Window;
 use md_base::Span;
-use moving_state::reshape::{
-    is_window_critical, next_window_of, stripes_to_zero, window_stripes,
-};
+use moving_state::reshape::{is_window_critical, next_window_of, stripes_to_zero, window_stripes};
 use superblocks::Members;
 
 // With so many stripes of the next window copied.

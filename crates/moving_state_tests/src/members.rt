@@ -56,7 +56,8 @@ pub fn members_of(alloc: Global, made: Made) -> Result<Members, Fail> {
     })
 }
 
-/// Whether a forward reshape is active whose shapes fit the size and whose position is on their unit, and each role has a state.
+/// Whether a forward reshape is active whose shapes fit the size and whose position is on their unit or the list's
+/// end, and each role has a state.
 pub fn are_fit(members: &Members) -> bool
     ensures fit { result ≡ true → AreShapesFit members.now.newest }
     ensures active { result ≡ true → is_reshaping members.now.newest ≡ true }
@@ -79,7 +80,7 @@ pub fn are_fit(members: &Members) -> bool
     if position > end || new.level != old.level || old.disks > new.disks {
         return false;
     }
-    if !is_multiple(position, unit(&old, &new) as u32) {
+    if position != end && !is_multiple(position, unit(&old, &new) as u32) {
         return false;
     }
     members.roles.len() as u64 == role_count(newest)

@@ -56,11 +56,7 @@ const REFUSED: [Asked; 12] = [
     ),
     ((6, 48, 6, 0, 0), (143, 1), None),
     ((6, 48, 6, 0, 0), (143, 2), Some(Refusal::PastEnd(144))),
-    (
-        (6, 48, 6, 0, 0b1110),
-        (144, 1),
-        Some(Refusal::PastEnd(144)),
-    ),
+    ((6, 48, 6, 0, 0b1110), (144, 1), Some(Refusal::PastEnd(144))),
     // Level 5, with the first window moved: role 4 is of the new shape alone.
     ((5, 128, 5, 96, 0b10001), (96, 96), None),
     (
