@@ -1,0 +1,11 @@
+use Rattle.std.proofs.Common.{sym, subst}
+use Rattle.moving_state.specs.declared.stepping.Due.{Due}
+use Rattle.moving_state.specs.Due.{IsDue}
+use Rattle.moving_state.proofs.DueLaws.{due-is}
+use Rattle.moving_state.proofs.stepping.due_step.Goals as goal
+
+pub returns-clause-ready : goal.returns-clause-ready
+returns-clause-ready c =
+    let newest = c.args.members.now.newest in
+    let course = c.args.course.now in
+    subst (λ (due : Due). IsDue newest course due) (sym c.due_at.ensures) (due-is newest course c.requires.fit c.requires.active c.requires.course)

@@ -1,0 +1,9 @@
+//! Tests of `moving_state`: the steps of a reshape, what is left of it at each, and what is refused, against tables worked out by hand.
+#![tactic(auto)]
+
+#[cfg(test)]
+mod courses;
+#[cfg(test)]
+mod members;
+#[cfg(test)]
+mod rows;

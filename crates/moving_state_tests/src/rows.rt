@@ -1,0 +1,150 @@
+//! Steps and requests that were worked out by hand.
+
+use crate::courses::course_of;
+use crate::members::{Made, are_fit, members_of};
+use md_base::Refusal;
+use moving_state::asking::{steps_left, visible};
+use moving_state::refusing::{unread_from, unwritten_from};
+use moving_state::reshape::{
+    list_sectors, next_window_of, stripe_to_copy, stripe_to_zero, stripes_to_zero, window_stripes,
+};
+use moving_state::stepping::{Due, due_step};
+use std::alloc::Global;
+use std::process::Abort;
+use std::test::Fail;
+
+/// The position, how many stripes of the next window are copied where it is entered, and how many behind the list are zeroed.
+type Came = (u64, Option<u64>, u64);
+
+// Four disks to five over 128 rows: four windows of 96 sectors, three new stripes each, and then four stripes behind the list.
+const STEPS: [(Came, (Due, u64)); 12] = [
+    ((0, None, 0), (Due::Enter, 25)),
+    ((0, Some(0), 0), (Due::Copy, 24)),
+    ((0, Some(2), 0), (Due::Copy, 22)),
+    ((0, Some(3), 0), (Due::Record, 21)),
+    ((96, None, 0), (Due::Enter, 20)),
+    ((192, None, 0), (Due::Enter, 15)),
+    ((192, Some(0), 0), (Due::Copy, 14)),
+    ((288, Some(3), 0), (Due::Record, 6)),
+    ((384, None, 0), (Due::Zero, 5)),
+    ((384, None, 1), (Due::Zero, 4)),
+    ((384, None, 3), (Due::Zero, 2)),
+    ((384, None, 4), (Due::Finish, 1)),
+];
+
+// Five disks to six at level 6 over 48 rows: a window of 96 sectors and one of 48, and then one stripe.
+const SHORT: [(Came, (Due, u64)); 7] = [
+    ((0, None, 0), (Due::Enter, 11)),
+    ((0, Some(2), 0), (Due::Copy, 8)),
+    ((96, None, 0), (Due::Enter, 6)),
+    ((96, Some(1), 0), (Due::Copy, 4)),
+    ((96, Some(2), 0), (Due::Record, 3)),
+    ((144, None, 0), (Due::Zero, 2)),
+    ((144, None, 1), (Due::Finish, 1)),
+];
+
+/// The members, how many sectors are asked for from which one on, and why they aren't read.
+type Asked = (Made, (u32, u32), Option<Refusal>);
+
+const REFUSED: [Asked; 12] = [
+    // Level 6: two roles missing are done without, three aren't.
+    ((6, 48, 6, 0, 0b110), (0, 128), None),
+    (
+        (6, 48, 6, 0, 0b1110),
+        (0, 1),
+        Some(Refusal::TooManyMissing(3, 2)),
+    ),
+    ((6, 48, 6, 0, 0), (143, 1), None),
+    ((6, 48, 6, 0, 0), (143, 2), Some(Refusal::PastEnd(144))),
+    ((6, 48, 6, 0, 0b1110), (144, 1), Some(Refusal::PastEnd(144))),
+    // Level 5, with the first window moved: role 4 is of the new shape alone.
+    ((5, 128, 5, 96, 0b10001), (96, 96), None),
+    (
+        (5, 128, 5, 96, 0b10001),
+        (95, 1),
+        Some(Refusal::TooManyMissing(2, 1)),
+    ),
+    (
+        (5, 128, 5, 96, 0b10001),
+        (95, 2),
+        Some(Refusal::TooManyMissing(2, 1)),
+    ),
+    ((5, 128, 5, 96, 0b10000), (0, 128), None),
+    // Three roles, of which two are of the old shape.
+    (
+        (5, 128, 5, 96, 0b10011),
+        (96, 1),
+        Some(Refusal::TooManyMissing(2, 1)),
+    ),
+    (
+        (5, 128, 5, 96, 0b10011),
+        (95, 2),
+        Some(Refusal::TooManyMissing(3, 1)),
+    ),
+    ((5, 128, 5, 96, 0b10011), (100, 0), None),
+];
+
+// The step that is next, and the steps that are left, with none planned behind.
+fn told(
+    rt: &impl Abort,
+    alloc: Global,
+    (level, size, disks): (u32, u64, u32),
+    (position, copied, zeroed): Came,
+) -> Result<(Due, u64), Fail> {
+    let members = members_of(alloc, (level, size, disks, position, 0))?;
+    assert!(rt; are_fit(&members));
+    let course = course_of(&members, copied, zeroed);
+    assert!(rt; course.is_some());
+    match course {
+        None => Ok((Due::Finish, 0)),
+        Some(course) => Ok((
+            due_step(&members, &course),
+            steps_left(&members, &course, 0),
+        )),
+    }
+}
+
+#[test]
+fn steps_in_turn(rt: HostRuntime) -> Result<(), Fail> {
+    for (came, wanted) in &STEPS {
+        let told = told(&rt, rt.alloc(), (5, 128, 5), *came)?;
+        assert!(rt; told == *wanted);
+    }
+    for (came, wanted) in &SHORT {
+        let told = told(&rt, rt.alloc(), (6, 48, 6), *came)?;
+        assert!(rt; told == *wanted);
+    }
+    Ok(())
+}
+
+#[test]
+fn refused_requests(rt: HostRuntime) -> Result<(), Fail> {
+    for (made, (at, count), wanted) in &REFUSED {
+        let members = members_of(rt.alloc(), *made)?;
+        assert!(rt; are_fit(&members));
+        let visible = visible(&members, None);
+        let (at, count) = (u64::from(*at), u64::from(*count));
+        assert!(rt; unread_from(&members, visible, at, count) == *wanted);
+        assert!(rt; unwritten_from(&members, visible, at, count) == *wanted);
+    }
+    Ok(())
+}
+
+#[test]
+fn stripes_in_turn(rt: HostRuntime) -> Result<(), Fail> {
+    let members = members_of(rt.alloc(), (5, 128, 5, 96, 0))?;
+    assert!(rt; are_fit(&members));
+    assert!(rt; list_sectors(&members) == 384);
+    assert!(rt; visible(&members, Some(100)) == 100);
+    assert!(rt; stripes_to_zero(&members) == 4);
+    assert!(rt; stripe_to_zero(&members, 3) == 15);
+    match next_window_of(&members) {
+        None => assert!(rt; false),
+        Some(span) => {
+            assert!(rt; span.lo == 96 && span.hi == 192);
+            assert!(rt; window_stripes(&members, &span) == 3);
+            assert!(rt; stripe_to_copy(&members, &span, 2) == 5);
+        }
+    }
+    Ok(())
+}
