@@ -1,10 +1,10 @@
 -- A call whose events add to the list's values, behind what it tells lost: a write, or one that was torn.
-use Rattle.std.proofs.Common.{◌≡◌, ◌⊎◌, ℕ, ◌<◌, ◌≤◌, ◌==◌, Bool, true, false, List, [], ◌∷◌, ◌++◌, length, refl, sym, ◌∙◌, ap, subst, inl, inr, ◌||◌, arith, append-nil}
+use Rattle.std.proofs.Common.{◌≡◌, ◌⊎◌, ℕ, ◌<◌, ◌≤◌, ◌==◌, Bool, true, false, List, [], ◌∷◌, ◌++◌, length, refl, sym, ◌∙◌, ap, subst, inl, inr, ◌||◌, arith}
 use Rattle.std.specs.Prelude.{IsFalse, IfSome, ⊤}
 use Rattle.md_base.specs.Shapes.{tolerance_of}
 use Rattle.md_base.specs.declared.answers.Who.{Who}
 use Rattle.bank.specs.declared.bank.Operation.{Operation}
-use Rattle.bank.specs.Given.{Given, sizes}
+use Rattle.bank.specs.Given.{Given}
 use Rattle.bank.specs.Tape.{IsIn, disk}
 use Rattle.superblocks.specs.declared.members.Members.{Members}
 use Rattle.superblocks.specs.Reading.{Scope, is_clean, shape_of, list_length, role_count}
@@ -12,7 +12,7 @@ use Rattle.row_io.specs.Rows.{present, reading_of, is_missing}
 use Rattle.flat_history.specs.declared.events.Entry.{Entry}
 use Rattle.flat_history.specs.declared.events.Event.{Event}
 use Rattle.flat_history.specs.Flat.{now, values_of}
-use Rattle.flat_history.specs.Legal.{told_left, level_at, IsLegalEvent, level_after}
+use Rattle.flat_history.specs.Legal.{told_left, level_at, IsLegalEvent}
 use Rattle.flat_history.specs.Losses.{unsettles, loses, is_gone_after, is_unsynced}
 use Rattle.flat_history.specs.Plain.{entries_of}
 use Rattle.flat_history.specs.Sound.{OpensFit}
@@ -20,37 +20,29 @@ use Rattle.flat_history.specs.World.{opening_list, World}
 use Rattle.shape_views.specs.Regions.{DoWithout}
 use Rattle.shape_views.specs.Views.{Ledger}
 use Rattle.shape_changes.specs.Safety.{HasRoomLeft, IsRisen}
-use Rattle.shape_changes.specs.Steady.{IsMoreTold, IsSafeOver, KeepsSafe, AreGoneTold, IsUncleanTold, IsSafeNow}
+use Rattle.shape_changes.specs.Steady.{IsMoreTold, IsSafeOver, KeepsSafe, AreGoneTold, IsUncleanTold}
 use Rattle.views.specs.Moving.{Grows}
 use Rattle.call_entries.specs.Losing.{losses_of}
-use Rattle.kept_history.specs.Recorded.{IsCallGoing, entry_of, IsHistoryKept, IsLegalCall, ends_reshape, gives_some}
-use Rattle.kept_history.specs.Safe.{world_in, IsFilledRight, IsSafeHistory}
-use Rattle.kept_history.specs.Told.{told_now, told_by}
+use Rattle.kept_history.specs.Recorded.{IsCallGoing, entry_of, IsHistoryKept, IsLegalCall}
+use Rattle.kept_history.specs.Safe.{world_in, IsFilledRight}
+use Rattle.kept_history.specs.Told.{told_now}
 use Rattle.course_kept.specs.declared.course.Course.{Course}
-use Rattle.course_kept.specs.Course.{IsCourseOf, IsStored, StandsInCourse}
+use Rattle.course_kept.specs.Course.{IsCourseOf, IsStored}
 use Rattle.history_calls.specs.Reliable.{IsReliable, AreToldGone}
 use Rattle.history_calls.proofs.Behind.{AreLostOrMissing, IsAmong, AreFirst, first-of, early-losses, legal-losses, and-true}
 use Rattle.history_calls.proofs.Quiet.{IsLeftBehind}
-use Rattle.history_calls.proofs.Adding.{IsAdding, adding-leaves, changing-leaves, ChangesEarly, unsettled-last}
+use Rattle.history_calls.proofs.Adding.{IsAdding, changing-leaves, ChangesEarly, unsettled-last}
 use Rattle.moving_kept.specs.Moving.{AreReshaping, HasListInCourse, IsMoving}
 use Rattle.moving_kept.proofs.Quiet.{listed-later}
 use Rattle.std.specs.List.{list_any}
-use Rattle.std.proofs.lemmas.List.Folds.{list_any-append}
 use Rattle.md_base.specs.Sectors.{Sector}
-use Rattle.flat_history.specs.Epochs.{HasRoomForEvents, OpensAlike}
 use Rattle.flat_history.specs.OneShape.{is_unsettled}
 use Rattle.views.specs.Placed.{AreWhole}
-use Rattle.views.proofs.SoundViews.{throughout-kept}
-use Rattle.call_entries.proofs.CallLaws.{losses-are, last_end-behind}
-use Rattle.call_entries.proofs.LosingLaws.{entries-both}
-use Rattle.kept_history.proofs.Growing.{fit-grown, now-grown, alike-before, room-before, room-now}
+use Rattle.call_entries.proofs.CallLaws.{losses-are}
+use Rattle.kept_history.proofs.Growing.{fit-grown}
 use Rattle.kept_history.proofs.Ledgers.{gone-any}
 use Rattle.kept_history.proofs.Lists.{newest-in}
-use Rattle.kept_history.proofs.Seen.{now-more}
-use Rattle.kept_history.proofs.Calls.{safe-called}
-use Rattle.kept_history.proofs.KeptCalls.{kept-call}
-use Rattle.kept_history.proofs.Entered.{adds_only, AreAdding, told-adding, told-added, length-adding}
-use Rattle.kept_history.proofs.Reshapes.{call-ends_none}
+use Rattle.kept_history.proofs.Entered.{adds_only, length-adding}
 
 -- What is asked of a call, from this tape to that one with its end there, that enters these events before its last one: it may lose only what it tells, so that what is
 -- filled in is right, where it is by its entries.
@@ -91,6 +83,43 @@ not-gone : (world : World) (entries : List Entry) (role : ℕ) → list_any (los
 unfolding is_gone_after
 not-gone world entries role none is = absurd (let any : list_any (loses world role) entries ≡ true = gone-any world role [] entries is in let both = sym none ∙ any in cc)
 
+-- Over a bank that tells its contents: what such a call says of its marks, where no more is known of what is filled in than its entries say.
+module _ (given : Given) (tape : List Operation) (scope : Scope) (first : ℕ) (entries : List Entry) (old new : Members) (carried : ℕ → Bool) (course' : Course) (buffer' : List ℕ)
+    (who : Who) (early : List Event) (IsTaken : ℕ → Type 0) (event : Event) (ops : List Operation) (are : AreFirst early IsTaken) (adding : IsAdding event)
+    (recorded : IsHistoryKept (IsReliable (world_in given tape scope first) entries) (world_in given tape scope first) (list_length old.newest) entries)
+    (call_to : IsAddingBehind given tape scope first entries old new carried course' buffer' who early event (tape ++ ops) (length (tape ++ ops))) where
+  -- where no role is taken by an entry, none is missing
+  whole : IsReliable (world_in given (tape ++ ops) scope first) (entries ++ entries_of who (length (tape ++ ops)) (early ++ event ∷ []))
+      → AreToldGone (world_in given (tape ++ ops) scope first) (entries ++ entries_of who (length (tape ++ ops)) (early ++ event ∷ [])) new
+      → AreWhole new ⊎ OpensFit (world_in given tape scope first)
+  whole right all_gone = elim right.fills [
+    | inl none ↦ inl (λ role lt. told-whole role lt (is_missing (reading_of new) role) refl (all_gone role lt) (none role))
+    | inr fit ↦ inr (subst (λ (p : Type 0). p) (fit-grown (world_in given tape scope first) ops recorded.begun) fit)
+  ]
+    where
+      told-whole : (role : ℕ) → role < role_count new.newest → (b : Bool) → is_missing (reading_of new) role ≡ b
+          → (is_missing (reading_of new) role ≡ true → is_gone_after (world_in given (tape ++ ops) scope first) (entries ++ entries_of who (length (tape ++ ops)) (early ++ event ∷ [])) role ≡ true)
+          → list_any (loses (world_in given (tape ++ ops) scope first) role) (entries ++ entries_of who (length (tape ++ ops)) (early ++ event ∷ [])) ≡ false
+          → is_missing (reading_of new) role ≡ false
+      told-whole role lt false is gone none = is
+      told-whole role lt true is gone none = absurd (not-gone (world_in given (tape ++ ops) scope first) (entries ++ entries_of who (length (tape ++ ops)) (early ++ event ∷ [])) role none (gone is))
+
+  newest : (x : ℕ) → x < list_length old.newest
+      → IsIn (values_of (opening_list (world_in given tape scope first)) (entries ++ entries_of who (length (tape ++ ops)) (early ++ event ∷ [])) x)
+      (now (opening_list (world_in given tape scope first)) (entries ++ entries_of who (length (tape ++ ops)) (early ++ event ∷ [])) x)
+  newest x lt = newest-in (opening_list (world_in given tape scope first)) (entries ++ entries_of who (length (tape ++ ops)) (early ++ event ∷ [])) x
+      (let size = length-adding (length (opening_list (world_in given tape scope first))) entries (entries_of who (length (tape ++ ops)) (early ++ event ∷ []))
+      (are.adds who (length (tape ++ ops)) (event ∷ []) (and-true (adds_only event) true adding.adds refl)) in let sized_so = recorded.sized in omega (arith, lt, size, sized_so))
+
+  changes : ChangesEarly given tape scope first entries old new carried true who early event (tape ++ ops) (length (tape ++ ops))
+  changes = record {
+    rise = call_to.rise;
+    keeps = λ told right all_gone fills more values room told_gone told_unclean unsettled before.
+        call_to.keeps told fills (whole right all_gone) more values (λ x lt. values x (now (opening_list (world_in given tape scope first)) (entries ++ entries_of who (length (tape ++ ops)) (early ++ event ∷ [])) x) (newest x lt))
+        room told_gone told_unclean (λ is. unsettled (unsettled-last who (length (tape ++ ops)) early event is)) before;
+    legal = call_to.legal;
+  }
+
 -- ---- what is kept
 
 -- The call keeps the record, by the list that it leaves.
@@ -127,39 +156,6 @@ behind-moves tells given tape tape' scope first entries old new carried course c
     Then l e = IsAddingBehind given tape scope first entries old new carried course' buffer' who early event l e
         → IsLeftBehind given tape scope first entries (entries ++ entries_of who e (early ++ event ∷ [])) new carried true l
 
-    module _ (t : tells) (ops : List Operation) (grown : tape' ≡ tape ++ ops) (call_to : IsAddingBehind given tape scope first entries old new carried course' buffer' who early event (tape ++ ops) (length (tape ++ ops))) where
-      -- where no role is taken by an entry, none is missing
-      whole : IsReliable (world_in given (tape ++ ops) scope first) (entries ++ entries_of who (length (tape ++ ops)) (early ++ event ∷ []))
-          → AreToldGone (world_in given (tape ++ ops) scope first) (entries ++ entries_of who (length (tape ++ ops)) (early ++ event ∷ [])) new
-          → AreWhole new ⊎ OpensFit (world_in given tape scope first)
-      whole right all_gone = elim right.fills [
-        | inl none ↦ inl (λ role lt. told-whole role lt (is_missing (reading_of new) role) refl (all_gone role lt) (none role))
-        | inr fit ↦ inr (subst (λ (p : Type 0). p) (fit-grown (world_in given tape scope first) ops (was.recorded t).begun) fit)
-      ]
-        where
-          told-whole : (role : ℕ) → role < role_count new.newest → (b : Bool) → is_missing (reading_of new) role ≡ b
-              → (is_missing (reading_of new) role ≡ true → is_gone_after (world_in given (tape ++ ops) scope first) (entries ++ entries_of who (length (tape ++ ops)) (early ++ event ∷ [])) role ≡ true)
-              → list_any (loses (world_in given (tape ++ ops) scope first) role) (entries ++ entries_of who (length (tape ++ ops)) (early ++ event ∷ [])) ≡ false
-              → is_missing (reading_of new) role ≡ false
-          told-whole role lt false is gone none = is
-          told-whole role lt true is gone none = absurd (not-gone (world_in given (tape ++ ops) scope first) (entries ++ entries_of who (length (tape ++ ops)) (early ++ event ∷ [])) role none (gone is))
-
-      newest : (x : ℕ) → x < list_length old.newest
-          → IsIn (values_of (opening_list (world_in given tape scope first)) (entries ++ entries_of who (length (tape ++ ops)) (early ++ event ∷ [])) x)
-          (now (opening_list (world_in given tape scope first)) (entries ++ entries_of who (length (tape ++ ops)) (early ++ event ∷ [])) x)
-      newest x lt = newest-in (opening_list (world_in given tape scope first)) (entries ++ entries_of who (length (tape ++ ops)) (early ++ event ∷ [])) x
-          (let size = length-adding (length (opening_list (world_in given tape scope first))) entries (entries_of who (length (tape ++ ops)) (early ++ event ∷ []))
-          (are.adds who (length (tape ++ ops)) (event ∷ []) (and-true (adds_only event) true adding.adds refl)) in let sized_so = (was.recorded t).sized in omega (arith, lt, size, sized_so))
-
-      changes : ChangesEarly given tape scope first entries old new carried true who early event (tape ++ ops) (length (tape ++ ops))
-      changes = record {
-        rise = call_to.rise;
-        keeps = λ told right all_gone fills more values room told_gone told_unclean unsettled before.
-            call_to.keeps told fills (whole right all_gone) more values (λ x lt. values x (now (opening_list (world_in given tape scope first)) (entries ++ entries_of who (length (tape ++ ops)) (early ++ event ∷ [])) x) (newest x lt))
-            room told_gone told_unclean (λ is. unsettled (unsettled-last who (length (tape ++ ops)) early event is)) before;
-        legal = call_to.legal;
-      }
-
     leaves : tells → IsLeftBehind given tape scope first entries (entries ++ entries_of who end (early ++ event ∷ [])) new carried true tape'
     leaves t =
         let g = grows.more t in
@@ -170,7 +166,7 @@ behind-moves tells given tape tape' scope first entries old new carried course c
           | inl before ↦ inl before
           | inr wrote ↦ inr (unsettled-last who (length (tape ++ g.0)) early event wrote)
         ]) was.sizes_are
-        (was.gone t) (was.unclean t) (was.recorded t) (was.safe t) (was.now_safe t) (changes t g.0 g.1 call_to)))
+        (was.gone t) (was.unclean t) (was.recorded t) (was.safe t) (was.now_safe t) (changes given tape scope first entries old new carried course' buffer' who early IsTaken event g.0 are adding (was.recorded t) call_to)))
         (call t)
 
 -- And so does a call that enters losses before its event.

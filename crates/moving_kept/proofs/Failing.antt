@@ -31,7 +31,7 @@ use Rattle.kept_history.specs.Safe.{world_in}
 use Rattle.course_kept.specs.declared.course.Course.{Course}
 use Rattle.course_kept.proofs.Courses.{courses-move}
 use Rattle.moving_kept.specs.Moving.{IsMoving}
-use Rattle.history_calls.proofs.Behind.{AreLostOrMissing, AreEarly, IsAmong, early-losses, inner-of, legal-losses}
+use Rattle.history_calls.proofs.Behind.{AreLostOrMissing}
 use Rattle.history_calls.proofs.Failed.{IsFailedOrAmong, early-failed, legal-failed}
 use Rattle.moving_kept.proofs.BackupKept.{stored-kept}
 use Rattle.moving_kept.proofs.MembersMove.{reshaping-moved}

@@ -27,15 +27,14 @@ use Rattle.shape_views.specs.Windows.{HasNoSection, moved_past}
 use Rattle.shape_changes.specs.Safety.{HasRoomLeft, IsRisen}
 use Rattle.shape_changes.specs.Steady.{IsSafeOver, KeepsSafe, AreGoneTold, IsUncleanTold}
 use Rattle.views.specs.Placed.{IsPlaced}
+use Rattle.safe_updates.specs.Unused.{IsUnusedKept}
 use Rattle.views.specs.Moving.{Grows, IsMoved}
 use Rattle.views.specs.Lacking.{AreTooMany, AreOtherRowsKept}
 use Rattle.window_rows.specs.Copies.{tail_of, IsCopied}
 use Rattle.window_calls.specs.Finishing.{IsOfRest, AreStripesCopied, IsOpenWindow}
 use Rattle.call_entries.specs.Losing.{losses_of}
 use Rattle.kept_history.specs.Recorded.{IsCallGoing, MayGoOn}
-use Rattle.grow_asked.specs.declared.window.Window.TheVariants.{Entered}
 use Rattle.course_kept.specs.declared.course.Course.{Course}
-use Rattle.course_kept.specs.Course.{IsBackupKept}
 use Rattle.course_kept.specs.Laws.{closed, entered}
 use Rattle.moving_kept.specs.Moving.{IsMoving}
 use Rattle.moving_kept.proofs.Steps.{AreMissingSince}
@@ -73,6 +72,7 @@ pub record IsFinishedBy (tells : Type 0) (given : Given) (tape tape' : List Oper
   pub plain : refusal ≡ None → tells → (scope : Scope) → ArePlaced scope given old → AreHeadersFit scope old (disk given.start tape)
       → HasNoSection scope new (disk given.start tape') × AreHeadersFit scope new (disk given.start tape')
   pub rise : IsRisen tells old new tape tape'
+  pub unused : tells → IsUnusedKept old (disk given.start tape) (disk given.start tape')
   pub since : AreMissingSince old new roles
   pub safe : tells → (world : World) → (told : Ledger) → HasRoomLeft old tape tape' → AreGoneTold told new → IsUncleanTold told old → (list : ℕ → Sector)
       → IsOpenWindow (OpensFit world) world.scope told old span buffer copied list (present given tape) (disk given.start tape)
@@ -87,6 +87,7 @@ module _ (tells : Type 0) (given : Given) (tape tape' : List Operation) (scope :
     since = did.since;
     enough = enough;
     clean = did.clean;
+    unused = did.unused;
     rise = λ t. record { left = did.rise.left; events = λ one live. did.rise.events t live };
     others = λ t. subst (λ (s : Shape). AreOtherRowsKept (IsOfRest s span copied) (reading_of new) (present given tape) (present given tape')) did.final (did.others t);
     safe = did.safe;
@@ -95,16 +96,15 @@ module _ (tells : Type 0) (given : Given) (tape tape' : List Operation) (scope :
   -- The call keeps the record, where the shapes in force did without what was missing before it.
   pub finish-moves : (refusal : Option Refusal) (former left : ℕ) → IsMoving tells given tape scope first entries old carried (entered span copied sectioned) buffer former → left ≢ 0
       → IsFinishedBy tells given tape tape' old new shape span copied done buffer roles refusal
-      → (tells → MatchOption refusal ⊤ (λ refusal. IsBackupKept scope (Entered span copied sectioned) (disk given.start tape) (disk given.start tape')))
       → IsMoving tells given tape' scope first (entries ++ entries_of who end (losses_of roles spares ++ finish_event refusal left ∷ [])) new carried (finish_course refusal span copied sectioned) buffer (finish_left refusal former left)
-  finish-moves None former left was some did backup =
+  finish-moves None former left was some did =
       finished-moves tells given tape tape' scope first entries old new carried span copied sectioned buffer who end roles spares goes caller at_end grows (rest None did.moved.placed did) former left was some did.moved
       (λ t list buffered written. subst (λ (s : Shape). AreStripesCopied s span (stripes s span.lo span.hi) new (present given tape') list) did.final
       (subst (λ (n : ℕ). AreStripesCopied shape span n new (present given tape') list) (did.all refl)
       (did.stands t list buffered (subst (λ (s : Shape). AreStripesCopied s span copied old (present given tape) list) (sym did.final) written))))
       (λ t headers. did.plain refl t scope was.members_are.backed headers)
-  finish-moves (Some refusal) former left was some did backup =
-      unfinished-moves tells given tape tape' scope first entries old new carried span copied sectioned buffer who end roles spares goes caller at_end grows (rest (Some refusal) did.moved.placed did) former refusal was did.moved did.refused backup
+  finish-moves (Some refusal) former left was some did =
+      unfinished-moves tells given tape tape' scope first entries old new carried span copied sectioned buffer who end roles spares goes caller at_end grows (rest (Some refusal) did.moved.placed did) former refusal was did.moved did.refused
 
   -- And it goes on behind these entries.
   pub finish-goes : (refusal : Option Refusal) (left : ℕ) → IsCallGoing (entries ++ entries_of who end (losses_of roles spares ++ finish_event refusal left ∷ [])) who

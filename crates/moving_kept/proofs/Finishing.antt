@@ -25,6 +25,7 @@ use Rattle.shape_views.specs.Views.{AreHeadersFit, Ledger}
 use Rattle.shape_views.specs.Windows.{HasNoSection, moved_past}
 use Rattle.shape_changes.specs.Safety.{HasRoomLeft, IsRisen}
 use Rattle.shape_changes.specs.Steady.{IsMoreTold, IsSafeOver, KeepsSafe, AreGoneTold, IsUncleanTold}
+use Rattle.safe_updates.specs.Unused.{IsUnusedKept}
 use Rattle.views.specs.Moving.{Grows, IsMoved}
 use Rattle.views.specs.Lacking.{AreTooMany, AreOtherRowsKept}
 use Rattle.views.proofs.Fit.{list-alike}
@@ -36,8 +37,6 @@ use Rattle.kept_history.specs.Recorded.{IsCallGoing}
 use Rattle.kept_history.specs.Safe.{world_in}
 use Rattle.kept_history.specs.Told.{told_now}
 use Rattle.kept_history.proofs.Lists.{newest-in}
-use Rattle.grow_asked.specs.declared.window.Window.TheVariants.{Entered}
-use Rattle.course_kept.specs.Course.{IsBackupKept}
 use Rattle.course_kept.specs.Laws.{closed, entered}
 use Rattle.course_kept.proofs.Courses.{courses-copied, list-beside, rows-beside}
 use Rattle.course_kept.proofs.Finishes.{rests-go-on, finishes-close}
@@ -80,6 +79,7 @@ pub record IsRestWritten (tells : Type 0) (given : Given) (tape tape' : List Ope
   pub enough : DoWithout old
   pub clean : is_clean new.newest ≡ is_clean old.newest
   pub rise : tells → IsRisen ⊤ old new tape tape'
+  pub unused : tells → IsUnusedKept old (disk given.start tape) (disk given.start tape')
   pub others : tells → AreOtherRowsKept (IsOfRest (final_shape old.newest) span copied) (reading_of new) (present given tape) (present given tape')
   pub safe : tells → (world : World) → (told : Ledger) → HasRoomLeft old tape tape' → AreGoneTold told new → IsUncleanTold told old → (list : ℕ → Sector)
       → IsOpenWindow (OpensFit world) world.scope told old span buffer copied list (present given tape) (disk given.start tape)
@@ -124,10 +124,9 @@ module _ (tells : Type 0) (given : Given) (tape tape' : List Operation) (scope :
 
   -- It is refused: the window is open as before, and what was copied of it in the call is copied again.
   pub unfinished-moves : (left : ℕ) (refusal : Refusal) → IsMoving tells given tape scope first entries old carried (entered span copied sectioned) buffer left → IsMoved given old new → AreTooMany new refusal
-      → (tells → IsBackupKept scope (Entered span copied sectioned) (disk given.start tape) (disk given.start tape'))
       → IsMoving tells given tape' scope first (entries ++ entries_of who end (losses_of roles spares ++ Refused refusal ∷ [])) new carried (entered span copied sectioned) buffer left
-  unfinished-moves left refusal was moved many backup =
-      refused-moves tells given tape tape' scope first entries old new carried (entered span copied sectioned) buffer left who end roles spares refusal was goes caller at_end grows moved did.few did.since did.clean (inr many) did.rise backup
+  unfinished-moves left refusal was moved many =
+      refused-moves tells given tape tape' scope first entries old new carried (entered span copied sectioned) buffer left who end roles spares refusal was goes caller at_end grows moved did.few did.since did.clean (inr many) did.rise did.unused
       (λ t sound list stands. (rests-go-on sound given old new span copied sectioned buffer (present given tape) (present given tape') list was.members_are.placed moved was.course_is.window.0
       (plain-of old.newest span copied sectioned was.course_is.window) (did.others t) stands).0)
       (λ t told fills more room gone unclean here.

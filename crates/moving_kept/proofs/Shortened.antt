@@ -62,6 +62,7 @@ use Rattle.moving_kept.proofs.Begun.{AreBegun}
 use Rattle.moving_kept.proofs.BegunCall.{IsBegunBy}
 use Rattle.moving_kept.proofs.BegunMembers.{begun-members, begun-rows}
 use Rattle.moving_kept.proofs.BegunRead.{begun-read}
+use Rattle.moving_kept.proofs.Beginning.{safe-over}
 use Rattle.moving_kept.proofs.Quiet.{IsLeftBy}
 use Rattle.moving_kept.proofs.ReadShapes.{IsShapeRead}
 use Rattle.moving_kept.proofs.Shortening.{IsShorteningCall, shortened-gone, shortened-recorded, shortened-level, shortened-unclean, shortened-values, shortened-safe, shortened-now}
@@ -122,10 +123,10 @@ module _ (given : Given) (tape : List Operation) (scope : Scope) (first : ℕ) (
     levelled = shortened-level given tape scope first entries old plan new carried carried' who left n roles spares ops was.sizes_are recorded.begun recorded.ends recorded.sized (was.gone t) call;
     gone = shortened-gone given tape scope first entries old plan new carried carried' who left n roles spares ops was.sizes_are recorded.begun recorded.ends recorded.sized (was.gone t) call;
     unclean = λ dirty. shortened-unclean given tape scope first entries old plan new carried carried' who left n roles spares ops was.sizes_are recorded.begun recorded.ends recorded.sized (was.gone t) call (was.unclean t (sym are.clean ∙ dirty));
-    recorded = shortened-recorded given tape scope first entries old plan new carried carried' who left n roles spares ops was.sizes_are recorded.begun recorded.ends recorded.sized (was.gone t) call (was.safe t) recorded goes caller behind told some;
+    recorded = shortened-recorded given tape scope first entries old plan new carried carried' who left n roles spares ops was.sizes_are recorded.begun recorded.ends recorded.sized (was.gone t) call (safe-over was t call.live) recorded goes caller behind told some;
     listed = listed;
-    safe = shortened-safe given tape scope first entries old plan new carried carried' who left n roles spares ops was.sizes_are recorded.begun recorded.ends recorded.sized (was.gone t) call (was.safe t);
-    now_safe = shortened-now given tape scope first entries old plan new carried carried' who left n roles spares ops was.sizes_are recorded.begun recorded.ends recorded.sized (was.gone t) call (was.safe t);
+    safe = shortened-safe given tape scope first entries old plan new carried carried' who left n roles spares ops was.sizes_are recorded.begun recorded.ends recorded.sized (was.gone t) call (safe-over was t call.live);
+    now_safe = shortened-now given tape scope first entries old plan new carried carried' who left n roles spares ops was.sizes_are recorded.begun recorded.ends recorded.sized (was.gone t) call (safe-over was t call.live);
   }
 
 -- So the array is in its reshape, with the shorter list.
@@ -230,7 +231,7 @@ module _ (tells : Type 0) (given : Given) (scope : Scope) (first : ℕ) (entries
       read : IsReliable (world_in given tape scope first) entries → HasRoomForEvents (world_in given (tape ++ ops) scope first)
           → IsShapeRead scope (contents_at (world_in given (tape ++ ops) scope first) (length (tape ++ ops))) (shape_of old.newest)
       read right room =
-          let safe = was.safe t right.fills right.room right.alike in
+          let safe = safe-over was t did.live right.fills right.room right.alike in
           begun-read tells (OpensFit (world_in given tape scope first)) scope given (told_now (world_in given tape scope first) carried false entries) backup uuid to old new tape (tape ++ ops)
           did.backed.backup did.backed.array did.sixteen was.still same_roles did.in_force did.level did.live (room-now (world_in given tape scope first) ops (was.recorded t).begun old safe.counted room) did.begun t
           (now-live (world_in given tape scope first) did.live safe.now) (contents given.start (tape ++ ops) (length (tape ++ ops))) drawn

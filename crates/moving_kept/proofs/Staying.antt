@@ -41,8 +41,7 @@ use Rattle.kept_history.specs.Told.{told_now}
 use Rattle.course_kept.specs.declared.course.Course.{Course}
 use Rattle.grow_asked.specs.declared.window.Window.{Window}
 use Rattle.grow_asked.specs.declared.window.Window.TheVariants.{Closed, Entered, Unsure}
-use Rattle.course_kept.specs.Course.{IsBackupKept, IsWindowOf, IsCourseOf, StandsInCourse}
-use Rattle.course_kept.proofs.Courses.{stored-moves}
+use Rattle.course_kept.specs.Course.{IsWindowOf, IsCourseOf, StandsInCourse}
 use Rattle.history_calls.specs.Reliable.{IsReliable, AreToldGone}
 use Rattle.moving_kept.specs.Moving.{IsMoving}
 use Rattle.moving_kept.proofs.BackupKept.{stored-kept}

@@ -15,7 +15,7 @@ use Rattle.flat_history.specs.Legal.{told_left, level_at}
 use Rattle.flat_history.specs.Losses.{is_unsynced}
 use Rattle.flat_history.specs.OneShape.{is_unsettled}
 use Rattle.flat_history.specs.Sound.{OpensFit}
-use Rattle.flat_history.specs.World.{opening_list, World}
+use Rattle.flat_history.specs.World.{opening_list}
 use Rattle.shape_views.specs.Regions.{ArePlaced, DoWithout, backup_of}
 use Rattle.shape_views.specs.Windows.{ListStands, RowsStand}
 use Rattle.shape_changes.specs.Safety.{HasLiveSlot}
