@@ -1,5 +1,5 @@
 -- A call behind which the list may have changed: a write, or one that is refused once it was begun.
-use Rattle.std.proofs.Common.{◌≡◌, ◌⊎◌, ℕ, ◌==◌, true, false, List, [], ◌∷◌, ◌++◌, length, refl, sym, ◌∙◌, ap, subst}
+use Rattle.std.proofs.Common.{◌≡◌, ◌⊎◌, inl, inr, ℕ, ◌==◌, true, false, List, [], ◌∷◌, ◌++◌, length, refl, sym, ◌∙◌, ap, subst}
 use Rattle.std.specs.Prelude.{IsFalse, IfSome, IsSome}
 use Rattle.std.specs.List.{list_any}
 use Rattle.md_base.specs.declared.answers.Who.{Who}

@@ -17,6 +17,7 @@ use Rattle.flat_history.specs.Losses.{is_unsynced}
 use Rattle.flat_history.specs.Sound.{OpensFit}
 use Rattle.flat_history.specs.World.{opening_list}
 use Rattle.shape_views.specs.Regions.{DoWithout}
+use Rattle.shape_changes.specs.Safety.{HasLiveSlot}
 use Rattle.shape_changes.specs.Steady.{AreUnlost}
 use Rattle.shape_ends.specs.Plans.{HasNoneRecovering}
 use Rattle.shape_ends.proofs.GrownLaws.{row-list}
@@ -27,6 +28,7 @@ use Rattle.views.specs.Rebuilding.{AreSparesFree}
 use Rattle.views.specs.Status.{stripes_of}
 use Rattle.views.proofs.Fit.{valid}
 use Rattle.kept_history.specs.Safe.{world_in, IsFilledRight, IsSafeHistory}
+use Rattle.moving_kept.proofs.Beginning.{safe-over}
 use Rattle.moving_kept.specs.Moving.{HasListStill, IsStillKept}
 use Rattle.still_kept.specs.Still.{AreAtRest, HasListStood, IsStill}
 use Rattle.still_kept.proofs.Stood.{list-shown, shown-list, rows-shown, shown-rows, sector-inside}
@@ -78,16 +80,18 @@ module _ (tells : Type 0) (given : Given) (tape : List Operation) (scope : Scope
     unclean = was.unclean;
     recorded = was.recorded;
     listed = listed;
+    reshaping = false;
+    over = λ live. refl;
     safe = was.safe;
   }
 
--- ---- and the other way
+-- ---- and the other way, where a live slot is left
 
 pub kept-again : (tells : Type 0) (given : Given) (tape : List Operation) (scope : Scope) (first : ℕ) (entries : List Entry) (m : Members) (carried : ℕ → Bool) (work : Work) (left : ℕ)
-    → IsStillKept tells given tape scope first entries m carried → AreUnlost m → AreSparesFree given m → length m.spares ≤ 32 → HasNoneRecovering m → work.resync ≡ None → is_carried work ≡ carried
+    → IsStillKept tells given tape scope first entries m carried → HasLiveSlot m → AreUnlost m → AreSparesFree given m → length m.spares ≤ 32 → HasNoneRecovering m → work.resync ≡ None → is_carried work ≡ carried
     → IfSome (told_left entries) (λ n. n ≡ left) → (tells → is_unsynced (world_in given tape scope first) entries ≡ false)
     → IsStill tells given tape scope first entries m work left
-kept-again tells given tape scope first entries m carried work left was unlost free spares whole none carries told synced = record {
+kept-again tells given tape scope first entries m carried work left was live unlost free spares whole none carries told synced = record {
   slots = was.slots;
   members_are = rest;
   sizes_are = was.sizes_are;
@@ -101,7 +105,7 @@ kept-again tells given tape scope first entries m carried work left was unlost f
   recorded = was.recorded;
   listed = listed;
   safe = subst (λ (c : ℕ → Bool). tells → IsFilledRight (world_in given tape scope first) entries → HasRoomForEvents (world_in given tape scope first) → OpensAlike (world_in given tape scope first)
-      → IsSafeHistory ⊤ (world_in given tape scope first) given m c false entries) (sym carries) was.safe;
+      → IsSafeHistory ⊤ (world_in given tape scope first) given m c false entries) (sym carries) (λ t. safe-over was t live);
 }
   where
     rest : AreAtRest given m

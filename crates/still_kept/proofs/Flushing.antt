@@ -49,7 +49,7 @@ use Rattle.kept_history.proofs.Entered.{values-more}
 use Rattle.kept_history.proofs.Lists.{newest-in}
 use Rattle.history_calls.proofs.Behind.{IsAmong, first-of, early-losses, legal-losses}
 use Rattle.history_calls.proofs.Quiet.{IsLeftBehind}
-use Rattle.history_calls.proofs.Adding.{unsettled-behind}
+use Rattle.history_calls.proofs.Adding.{unsettled-last}
 use Rattle.history_calls.proofs.Settling.{IsSettlement, SettlesList, takes-newest, settling-leaves, settled-same}
 use Rattle.still_kept.specs.Still.{HasListStood, IsStill}
 use Rattle.still_kept.proofs.Adding.{changing-stands}
@@ -216,7 +216,7 @@ module _ (tells : Type 0) (given : Given) (tape tape' : List Operation) (scope :
   unflushed-stands left' refusal many alike =
       changing-stands tells given tape tape' scope first entries old new work left left' who end (losses_of roles spares) (IsAmong roles) (Refused refusal) was live goes caller at_end did.grows
       (record { adds = refl; gives = refl; ends = refl; level = λ n. refl }) did.moved (first-of (early-losses roles spares)) (missing-since did.moved did.since)
-      (λ dirty. inr (unsettled-behind who end roles spares (Refused refusal) (unsettled refusal many)))
+      (λ dirty. inr (unsettled-last who end (losses_of roles spares) (Refused refusal) (unsettled refusal many)))
       (λ does. absurd (never-both new refusal does many))
       (left-lost left left' entries who end (losses_of roles spares) (Refused refusal ∷ []) (losses-are roles spares) alike was.left_told (λ told is. is))
       (λ t does. absurd (never-both new refusal does many))

@@ -99,7 +99,7 @@ module _ (tells : Type 0) (given : Given) (tape : List Operation) (scope : Scope
             (λ all. inr behind.gives_all)
             (length-adding (length (opening_list (world_in given tape scope first))) entries (entries_of who (length (tape ++ [])) (event ∷ [])) (adds (length (tape ++ []))) ∙ (was.recorded t).sized)
             (last_end-behind first entries who (length (tape ++ [])) [] event) (λ all. (right (behind.right all), tt, tt))
-            (λ all. (ends-right (world_in given (tape ++ []) scope first) entries (entry_of who (length (tape ++ [])) event) free, tt));
+            (λ all fit. (ends-right (world_in given (tape ++ []) scope first) entries (entry_of who (length (tape ++ [])) event) free, tt));
       }
 
   rested : tells → IsRested given tape scope first entries (entries ++ entries_of who end (event ∷ [])) m tape

@@ -65,7 +65,7 @@ use Rattle.kept_history.proofs.Ledgers.{unsynced-still}
 use Rattle.kept_history.proofs.Lists.{newest-in}
 use Rattle.history_calls.specs.Reliable.{IsReliable, AreToldGone}
 use Rattle.history_calls.proofs.Behind.{AreFirst, IsAmong, first-of, early-losses, legal-losses, inner-of}
-use Rattle.history_calls.proofs.Adding.{unsettled-behind}
+use Rattle.history_calls.proofs.Adding.{unsettled-last}
 use Rattle.still_kept.specs.Still.{AreAtRest, relied_list, HasListStood, IsStill}
 use Rattle.still_kept.proofs.Adding.{changing-stands}
 use Rattle.still_kept.proofs.Leaving.{list-later, unsynced-later, fit-earlier, rest-moved}
@@ -238,7 +238,7 @@ module _ (tells : Type 0) (given : Given) (tape tape' : List Operation) (scope :
     wrote-stands =
         changing-stands tells given tape tape' scope first entries old new work left left' who end (losses_of roles spares) (IsAmong roles) (Wrote at (sectors_of from)) was
         (without-left given old was.members_are.placed was.members_are.unlost does) goes caller at_end did.grows (record { adds = refl; gives = refl; ends = refl; level = λ n. refl }) did.moved
-        (first-of (early-losses roles spares)) (missing-since did.moved did.since) (λ dirty. inr (unsettled-behind who end roles spares (Wrote at (sectors_of from)) refl)) (λ can pending. done.dirty)
+        (first-of (early-losses roles spares)) (missing-since did.moved did.since) (λ dirty. inr (unsettled-last who end (losses_of roles spares) (Wrote at (sectors_of from)) refl)) (λ can pending. done.dirty)
         (left-lost left left' entries who end (losses_of roles spares) (Wrote at (sectors_of from) ∷ []) (losses-are roles spares) alike was.left_told (λ told is. is)) listed
         (λ t. record {
           rise = did.rise t;
@@ -247,7 +247,7 @@ module _ (tells : Type 0) (given : Given) (tape tape' : List Operation) (scope :
               (λ is x lt. allowed x (list' x) (newest-in (opening_list (world_in given tape scope first)) (all_of wrote) x
               (let size = length-adding (length (opening_list (world_in given tape scope first))) entries (entries_of who end wrote) ((first-of (early-losses roles spares)).adds who end (Wrote at (sectors_of from) ∷ []) refl) ∙ (was.recorded t).sized in
               omega (arith, lt, size)))) room gone
-              (unsettled (unsettled-behind who end roles spares (Wrote at (sectors_of from)) refl)) safe;
+              (unsettled (unsettled-last who end (losses_of roles spares) (Wrote at (sectors_of from)) refl)) safe;
           legal = λ fills gone level. legal-losses (world_in given tape' scope first) entries who end (losses_of roles spares) (Wrote at (sectors_of from) ∷ []) (losses-are roles spares)
               (within t (length (sectors_of from)) (length-sectors_of from), tt, tt);
         })
@@ -263,7 +263,7 @@ module _ (tells : Type 0) (given : Given) (tape tape' : List Operation) (scope :
       (without-left given old was.members_are.placed was.members_are.unlost does) goes caller at_end did.grows (record { adds = refl; gives = refl; ends = refl; level = λ n. refl }) did.moved
       (first-of (early-losses roles spares)) (missing-since did.moved did.since) (λ marked. elim dirty [
         | inl former ↦ inl former
-        | inr is ↦ inr (unsettled-behind who end roles spares (Refused refusal) is)
+        | inr is ↦ inr (unsettled-last who end (losses_of roles spares) (Refused refusal) is)
       ]) (λ can pending. did.stays (was.dirty (without-before given old new did.moved can) pending))
       (left-lost left left' entries who end (losses_of roles spares) (Refused refusal ∷ []) (losses-are roles spares) alike was.left_told (λ told is. is))
       (λ t can fills. subst (λ (l : ℕ → Sector). HasListStood (OpensFit (world_in given tape scope first)) work new (present given tape') l) (λ i x. sym (same x) i)
@@ -275,7 +275,7 @@ module _ (tells : Type 0) (given : Given) (tape tape' : List Operation) (scope :
             (λ is. absurd (let no = sym not_begun ∙ is in cc)) room gone
             (elim dirty [
               | inl former ↦ unclean former
-              | inr is ↦ unsettled (unsettled-behind who end roles spares (Refused refusal) is)
+              | inr is ↦ unsettled (unsettled-last who end (losses_of roles spares) (Refused refusal) is)
             ]) safe;
         legal = λ fills gone level. legal-losses (world_in given tape' scope first) entries who end (losses_of roles spares) (Refused refusal ∷ []) (losses-are roles spares) (
           refused-right (world_in given tape' scope first) (entries ++ entries_of who end (losses_of roles spares)) given new did.moved.placed work.resync gone
@@ -336,7 +336,7 @@ module _ (tells : Type 0) (given : Given) (tape tape' : List Operation) (scope :
           ap (λ (l : List Entry). list_any (λ e. unsettles e.event) l) (entries-both who end (losses_of roles spares ++ Torn at (sectors_of from) ∷ []) (Refused refusal ∷ []))
           ∙ list_any-append (λ e. unsettles e.event) (entries_of who end (losses_of roles spares ++ Torn at (sectors_of from) ∷ [])) (entries_of who end (Refused refusal ∷ []))
           ∙ unsettled-more (list_any (λ e. unsettles e.event) (entries_of who end (losses_of roles spares ++ Torn at (sectors_of from) ∷ []))) (list_any (λ e. unsettles e.event) (entries_of who end (Refused refusal ∷ [])))
-          (unsettled-behind who end roles spares (Torn at (sectors_of from)) refl)
+          (unsettled-last who end (losses_of roles spares) (Torn at (sectors_of from)) refl)
 
       -- what each sector may have behind it
       values-torn : (x : ℕ) → values_of (opening_list (world_in given tape scope first)) (entries ++ entries_of who end ((losses_of roles spares ++ Torn at (sectors_of from) ∷ []) ++ Refused refusal ∷ [])) x
