@@ -3,3 +3,4 @@ pub mod Quiet
 pub mod Adding
 pub mod Settling
 pub mod Failed
+pub mod Giving

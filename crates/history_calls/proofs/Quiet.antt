@@ -232,17 +232,31 @@ pub record LeavesList (given : Given) (tape : List Operation) (scope : Scope) (f
       → level_at (world_in given tape' scope first) (entries ++ entries_of who end early) ≡ level_at (world_in given tape scope first) entries
       → IsLegalCall (world_in given tape' scope first) entries who end (early ++ event ∷ [])
 
+-- marks that are safe by any ledger that tells enough are so with no more numbers
+pub numbers-kept : (given : Given) (tape : List Operation) (scope : Scope) (first : ℕ) (entries : List Entry) (old new : Members) (carried : ℕ → Bool) (reshaping : Bool)
+    (who : Who) (early tail : List Event) (tape' : List Operation) (at : ℕ) → IsRisen ⊤ old new tape tape'
+    → ((told : Ledger) → IsReliable (world_in given tape scope first) entries → IsMoreTold (told_now (world_in given tape scope first) carried reshaping entries) told
+    → HasRoomLeft old tape tape' → AreGoneTold told new → IsUncleanTold told old
+    → IsSafeOver (world_in given tape scope first) given told old tape → KeepsSafe (world_in given tape scope first) given told new tape tape')
+    → (IsReliable (world_in given tape' scope first) (entries ++ entries_of who at (early ++ tail)) → IsReliable (world_in given tape scope first) entries
+    → AreToldGone (world_in given tape' scope first) (entries ++ entries_of who at early) new
+    → level_at (world_in given tape' scope first) (entries ++ entries_of who at early) ≡ level_at (world_in given tape scope first) entries
+    → IsLegalCall (world_in given tape' scope first) entries who at (early ++ tail))
+    → LeavesNumbers given tape scope first entries old new carried carried reshaping who early tail tape' at
+numbers-kept given tape scope first entries old new carried reshaping who early tail tape' at rise keeps legal = record {
+  rise = rise;
+  keeps = λ was told right more less same know room told_gone told_unclean before. keeps told right
+      (more-then (told_now (world_in given tape scope first) carried reshaping entries) was told more less) room (λ role lt miss. less.gone role (told_gone role lt miss)) (λ dirty. less.unclean (told_unclean dirty))
+      (now-more (OpensFit (world_in given tape scope first)) scope given was told old (disk given.start tape) less before);
+  legal = legal;
+}
+
 -- it is such a call
 pub numbers-of : (given : Given) (tape : List Operation) (scope : Scope) (first : ℕ) (entries : List Entry) (old new : Members) (carried : ℕ → Bool) (reshaping : Bool)
     (who : Who) (early : List Event) (event : Event) (tape' : List Operation) (at : ℕ)
     → LeavesList given tape scope first entries old new carried reshaping who early event tape' at → LeavesNumbers given tape scope first entries old new carried carried reshaping who early (event ∷ []) tape' at
-numbers-of given tape scope first entries old new carried reshaping who early event tape' at call = record {
-  rise = call.rise;
-  keeps = λ was told right more less same know room told_gone told_unclean before. call.keeps told right.fills
-      (more-then (told_now (world_in given tape scope first) carried reshaping entries) was told more less) room (λ role lt miss. less.gone role (told_gone role lt miss)) (λ dirty. less.unclean (told_unclean dirty))
-      (now-more (OpensFit (world_in given tape scope first)) scope given was told old (disk given.start tape) less before);
-  legal = call.legal;
-}
+numbers-of given tape scope first entries old new carried reshaping who early event tape' at call =
+    numbers-kept given tape scope first entries old new carried reshaping who early (event ∷ []) tape' at call.rise (λ told right. call.keeps told right.fills) call.legal
 
 module _ (given : Given) (tape : List Operation) (scope : Scope) (first : ℕ) (entries : List Entry) (old new : Members) (carried : ℕ → Bool) (reshaping : Bool)
     (who : Who) (early : List Event) (IsTaken : ℕ → Type 0) (event : Event) (ops : List Operation) (are : AreEarly early IsTaken)

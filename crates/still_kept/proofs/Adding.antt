@@ -32,7 +32,7 @@ use Rattle.history_calls.proofs.Behind.{AreFirst, AreLostOrMissing, and-true}
 use Rattle.history_calls.proofs.Quiet.{IsLeftBehind}
 use Rattle.history_calls.proofs.Adding.{IsAdding, ChangesEarly, changing-leaves}
 use Rattle.still_kept.specs.Still.{HasListStood, IsStill}
-use Rattle.still_kept.proofs.Leaving.{safe-now, rest-moved, leaves-stands}
+use Rattle.still_kept.proofs.Leaving.{safe-now, rest-moved, none-taken, leaves-stands}
 use Rattle.still_kept.proofs.Staying.{progress-same}
 
 pub changing-stands : (tells : Type 0) (given : Given) (tape tape' : List Operation) (scope : Scope) (first : ℕ) (entries : List Entry) (old new : Members) (work : Work) (left left' : ℕ)
@@ -50,7 +50,10 @@ changing-stands tells given tape tape' scope first entries old new work left lef
     leaves-stands tells given tape tape' scope first entries (entries ++ added) old new work work left left' was grows (rest-moved given old new moved was.members_are) (ap (λ (s : Shape). s.level) moved.shape) told
     (progress-same moved work.resync was.progress)
     (λ t. unsynced-still (world_in given tape scope first) entries added ends ∙ was.pending t)
-    dirty listed leaves
+    dirty listed
+    (none-taken tells given tape tape' scope first entries old new who end (early ++ event ∷ []) IsTaken grows (λ u. (was.recorded u).ends) (few-roles new.newest moved.placed.fit.valid) missing
+    (λ role lt has. are.lost who end (event ∷ []) role lt has) was.full)
+    leaves
   where
     added : List Entry
     added = entries_of who end (early ++ event ∷ [])

@@ -54,7 +54,7 @@ use Rattle.history_calls.proofs.Settling.{IsSettlement, SettlesList, takes-newes
 use Rattle.still_kept.specs.Still.{HasListStood, IsStill}
 use Rattle.still_kept.proofs.Adding.{changing-stands}
 use Rattle.still_kept.proofs.Ends.{EndsNothing, reshaped-behind}
-use Rattle.still_kept.proofs.Leaving.{safe-now, rest-moved, leaves-stands}
+use Rattle.still_kept.proofs.Leaving.{safe-now, rest-moved, none-taken, leaves-stands}
 use Rattle.still_kept.proofs.Refusals.{too-many-refused, refused-right, unsynced-behind}
 use Rattle.still_kept.proofs.Staying.{missing-since, progress-same}
 use Rattle.still_kept.proofs.Stood.{stood-moved}
@@ -149,6 +149,8 @@ module _ (tells : Type 0) (given : Given) (tape tape' : List Operation) (scope :
       (λ does is. done.stays (pends ∙ is) ∙ was.dirty (without-before given old new did.moved does) (waits (pends ∙ is)))
       (λ t does fills. subst (λ (l : ℕ → Sector). HasListStood (OpensFit (world_in given tape scope first)) work' new (present given tape') l) (sym same)
       (again (OpensFit (world_in given tape scope first)) (present given tape') current (still-listed t does fills)))
+      (none-taken tells given tape tape' scope first entries old new who end (losses_of roles spares ++ event ∷ []) (IsAmong roles) did.grows (λ u. (was.recorded u).ends) (few-roles new.newest did.moved.placed.fit.valid)
+      (missing-since did.moved did.since) (λ role lt has. (early-losses roles spares).lost who end (event ∷ []) role lt has) was.full)
       (λ t. subst (λ (c : ℕ → Bool). IsLeftBehind given tape scope first entries (entries ++ added) new c false tape') (sym carries) (leaves t))
     where
       added : List Entry

@@ -29,6 +29,11 @@ use Rattle.views.proofs.Still.{length-still}
 use Rattle.array_kept.specs.Kept.{AreRebuildsRight, IsKept}
 use Rattle.array_kept.proofs.ReadyLaws.{kept-legal}
 use Rattle.kept_history.specs.Recorded.{IsHistoryKept}
+use Rattle.std.proofs.Common.{◌<◌, append-nil, subst, []}
+use Rattle.row_io.specs.Rows.{reading_of, is_missing}
+use Rattle.calls_kept.proofs.RebuildEnded.{role-lost}
+use Rattle.kept_history.specs.Safe.{TakesNone}
+use Rattle.still_kept.specs.Still.{AreNoneMissing}
 use Rattle.kept_history.specs.Safe.{world_in, IsFilledRight}
 use Rattle.one_shape_history.proofs.Kept.{safe-alike, recorded-alike}
 use Rattle.history_calls.specs.Reliable.{IsReliable}
@@ -100,6 +105,13 @@ module _ {tells : Type 0} {given : Given} {tape : List Operation} {scope : Scope
     rebuilt = was.rebuilt t does;
   }
 
+  full : tells → TakesNone world entries → AreNoneMissing members
+  full t none role lt = by (is_missing (reading_of members) role) refl
+    where
+      by : (b : Bool) → is_missing (reading_of members) role ≡ b → is_missing (reading_of members) role ≡ false
+      by false is = is
+      by true is = role-lost role entries [] (was.told role lt is) (λ r. subst (λ (l : List Entry). is_lost l r ≡ false) (sym (append-nil entries)) (none-lost world r entries (none r)))
+
   pub kept-stands : IsStill tells given tape scope first entries members work (left_of work members)
   kept-stands = record {
     slots = was.slots;
@@ -111,6 +123,7 @@ module _ {tells : Type 0} {given : Given} {tape : List Operation} {scope : Scope
     dirty = was.dirty;
     levelled = λ t right. ap tolerance_of (same-level (level_at world []) entries (keep t right.fills)) ∙ (was.recorded t).tolerated;
     gone = λ t right role lt miss. after-gone world role entries (keep t right.fills) ∙ was.told role lt miss;
+    full = full;
     unclean = λ t dirty. ap (λ (b : Bool). b || is_unsettled entries) (was.recorded t).dirty ∙ was.unclean dirty;
     recorded = recorded;
     listed = listed;

@@ -23,6 +23,24 @@ use Rattle.views.specs.declared.work.Work.{Work}
 use Rattle.views.specs.Moving.{Grows, IsMoved}
 use Rattle.views.specs.Numbers.{is_carried}
 use Rattle.views.specs.Status.{stripes_of}
+use Rattle.std.specs.List.{list_any}
+use Rattle.std.proofs.lemmas.List.Folds.{list_any-append}
+use Rattle.md_base.specs.declared.answers.Who.{Who}
+use Rattle.superblocks.specs.Reading.{role_count}
+use Rattle.row_io.specs.Rows.{reading_of, is_missing}
+use Rattle.flat_history.specs.declared.events.Event.{Event}
+use Rattle.flat_history.specs.Growing.{EndBy}
+use Rattle.flat_history.specs.Losses.{loses}
+use Rattle.flat_history.specs.OneShape.{is_lost}
+use Rattle.flat_history.specs.Plain.{entries_of}
+use Rattle.flat_history.specs.World.{World}
+use Rattle.kept_history.proofs.Tests.{neither, none-before}
+use Rattle.kept_history.proofs.Entered.{lost-taken}
+use Rattle.kept_history.proofs.Growing.{takes-grown}
+use Rattle.history_calls.proofs.Behind.{AreLostOrMissing}
+use Rattle.std.proofs.Common.{inl, inr, ◌<◌, ◌++◌, Bool, true, arith, refl}
+use Rattle.kept_history.specs.Safe.{TakesNone}
+use Rattle.still_kept.specs.Still.{AreNoneMissing}
 use Rattle.kept_history.specs.Safe.{world_in, IsFilledRight}
 use Rattle.kept_history.specs.Told.{told_now}
 use Rattle.kept_history.proofs.Calls.{now-live}
@@ -70,6 +88,32 @@ rest-moved given old new moved was = record {
   spares = moved.spares was.spares;
 }
 
+-- where no role is told lost by a call, nor was before, none is missing behind it
+pub none-taken : (tells : Type 0) (given : Given) (tape tape' : List Operation) (scope : Scope) (first : ℕ) (entries : List Entry) (old new : Members) (who : Who) (end : ℕ) (events : List Event) (IsTaken : ℕ → Type 0)
+    → Grows tells tape tape' → (tells → EndBy (length tape) entries) → role_count new.newest ≤ 16 → AreLostOrMissing old new IsTaken
+    → ((role : ℕ) → role < 16 → IsTaken role → is_lost (entries_of who end events) role ≡ true) → (tells → TakesNone (world_in given tape scope first) entries → AreNoneMissing old)
+    → tells → TakesNone (world_in given tape' scope first) (entries ++ entries_of who end events) → AreNoneMissing new
+none-taken tells given tape tape' scope first entries old new who end events IsTaken grows ends few missing lost full t none role lt = by (is_missing (reading_of new) role) refl
+  where
+    later : World
+    later = world_in given tape' scope first
+
+    earlier : TakesNone (world_in given tape scope first) entries
+    earlier r =
+        let g = grows.more t in
+        sym (takes-grown (world_in given tape scope first) g.0 entries r (ends t))
+        ∙ subst (λ (l : List Operation). list_any (loses (world_in given l scope first) r) entries ≡ false) g.1 (none-before (loses later r) entries (entries_of who end events) (none r))
+
+    none-here : list_any (loses later role) (entries_of who end events) ≡ false
+    none-here = (neither (list_any (loses later role) entries) (list_any (loses later role) (entries_of who end events)) (sym (list_any-append (loses later role) entries (entries_of who end events)) ∙ none role)).1
+
+    by : (b : Bool) → is_missing (reading_of new) role ≡ b → is_missing (reading_of new) role ≡ false
+    by false is = is
+    by true is = elim (missing role lt is) [
+      | inl before ↦ absurd (let clash : true ≡ false = sym before.1 ∙ full t earlier role before.0 in cc)
+      | inr taken ↦ absurd (let clash : true ≡ false = sym (lost-taken later role (entries_of who end events) (lost role (omega (arith, lt, few)) taken)) ∙ none-here in cc)
+    ]
+
 -- ---- the record
 
 pub leaves-stands : (tells : Type 0) (given : Given) (tape tape' : List Operation) (scope : Scope) (first : ℕ) (entries all : List Entry) (old new : Members) (work work' : Work) (left left' : ℕ)
@@ -78,9 +122,10 @@ pub leaves-stands : (tells : Type 0) (given : Given) (tape tape' : List Operatio
     → (tells → is_unsynced (world_in given tape scope first) all ≡ is_some work'.resync) → (DoWithout new → IsSome work'.resync → is_clean new.newest ≡ false)
     → (tells → DoWithout new → IsFilledRight (world_in given tape scope first) entries
     → HasListStood (OpensFit (world_in given tape scope first)) work' new (present given tape') (now (opening_list (world_in given tape scope first)) all))
+    → (tells → TakesNone (world_in given tape' scope first) all → AreNoneMissing new)
     → (tells → IsLeftBehind given tape scope first entries all new (is_carried work') false tape')
     → IsStill tells given tape' scope first all new work' left'
-leaves-stands tells given tape tape' scope first entries all old new work work' left left' was grows members level told progress pending dirty listed leaves = record {
+leaves-stands tells given tape tape' scope first entries all old new work work' left left' was grows members level told progress pending dirty listed full leaves = record {
   slots = was.slots;
   members_are = members;
   sizes_are = was.sizes_are;
@@ -90,6 +135,7 @@ leaves-stands tells given tape tape' scope first entries all old new work work' 
   dirty = dirty;
   levelled = λ t right. ap tolerance_of (leaves t).levelled ∙ was.levelled t ((leaves t).right right) ∙ sym (ap tolerance_of level);
   gone = λ t. (leaves t).gone;
+  full = full;
   unclean = λ t. (leaves t).unclean;
   recorded = λ t. (leaves t).recorded;
   listed = λ t does fills.

@@ -37,7 +37,7 @@ use Rattle.kept_history.proofs.Ledgers.{unsynced-still, none-ends}
 use Rattle.history_calls.proofs.Behind.{AreEarly, AreLostOrMissing}
 use Rattle.history_calls.proofs.Quiet.{IsQuiet, AreQuietLast, quiet-last, LeavesNumbers, LeavesList, IsLeftBehind, numbers-leaves, numbers-of, last-now}
 use Rattle.still_kept.specs.Still.{AreAtRest, HasListStood, IsStill}
-use Rattle.still_kept.proofs.Leaving.{safe-now, rest-moved, leaves-stands}
+use Rattle.still_kept.proofs.Leaving.{safe-now, rest-moved, none-taken, leaves-stands}
 
 -- The call keeps the record, with no event behind those or one: its members are at rest, in the same shape, what is missing of them is told, and the list stands on them. What is under way then has a
 -- resync pending just so, and knows no fewer device numbers.
@@ -57,6 +57,7 @@ tail-stands tells given tape tape' scope first entries old new work work' left l
     (λ t. unsynced-still (world_in given tape scope first) entries added ends ∙ was.pending t ∙ sym pends)
     (λ does pending. clean ∙ was.dirty (before does) (sym pends ∙ pending))
     (λ t does fills. subst (λ (l : ℕ → Sector). HasListStood (OpensFit (world_in given tape scope first)) work' new (present given tape') l) (sym same) (listed t does fills))
+    (none-taken tells given tape tape' scope first entries old new who end (early ++ tail) IsTaken grows (λ u. (was.recorded u).ends) (few-roles new.newest rest.placed.fit.valid) missing (λ role lt has. are.lost who end tail role lt has) was.full)
     leaves
   where
     added : List Entry

@@ -1,5 +1,5 @@
 -- Steps of a rebuild: a spare takes a role, from what `give_role` leaves; a stripe is rebuilt, or isn't, from what `fill` leaves.
-use Rattle.std.proofs.Common.{◌≡◌, ◌≢◌, inl, inr, ℕ, ◌+◌, ◌*◌, ◌/◌, ◌<◌, ◌≤◌, ◌==◌, true, false, not, Option, Some, None, List, [], ◌∷◌, ◌++◌, length, refl, sym, ◌∙◌, ap, subst, arith}
+use Rattle.std.proofs.Common.{◌≡◌, ◌≢◌, inl, inr, ℕ, ◌+◌, ◌*◌, ◌/◌, ◌<◌, ◌≤◌, ◌==◌, true, false, not, Option, Some, None, List, [], ◌∷◌, ◌++◌, length, append-nil, refl, sym, ◌∙◌, ap, subst, arith}
 use Rattle.std.specs.Prelude.{IsFalse, IfSome, ⊤}
 use Rattle.md_base.specs.Sectors.{Sector}
 use Rattle.md_base.specs.Shapes.{tolerance, tolerance_of}
@@ -18,6 +18,23 @@ use Rattle.list_io.specs.Writing.{HasFull}
 use Rattle.flat_history.specs.declared.events.Entry.{Entry}
 use Rattle.flat_history.specs.declared.events.Event.TheVariants.{Step, Refused}
 use Rattle.flat_history.specs.declared.events.StepKind.TheVariants.{RebuildTaken, RebuildStripe}
+use Rattle.std.specs.List.{Contains}
+use Rattle.superblocks.proofs.ValidFields.{few-roles}
+use Rattle.array_kept.proofs.DegradedLaws.{count-moved}
+use Rattle.array_kept.proofs.ToldLosses.{role-told}
+use Rattle.call_entries.proofs.CallLaws.{last_end-behind}
+use Rattle.calls_kept.proofs.RebuildLaws.{losses-end, some-lost}
+use Rattle.calls_kept.proofs.RebuildFilled.{not-vacant}
+use Rattle.kept_history.specs.Recorded.{IsLegalCall}
+use Rattle.history_calls.proofs.Quiet.{AreQuietLast, quiet-last, quiet-none, numbers-kept}
+use Rattle.flat_history.specs.Transfers.{last_end_from}
+use Rattle.flat_history.specs.Legal.{told_left}
+use Rattle.still_kept.proofs.Quiet.{tail-stands}
+use Rattle.still_kept.proofs.Leaving.{rest-moved}
+use Rattle.views.proofs.HeldRows.{without-before}
+use Rattle.flat_history.specs.declared.events.Event.{Event}
+use Rattle.flat_history.specs.declared.events.Event.TheVariants.{Lost}
+use Rattle.flat_history.specs.declared.events.LostCause.TheVariants.{Fault}
 use Rattle.flat_history.specs.Flat.{now}
 use Rattle.flat_history.specs.Plain.{entries_of}
 use Rattle.flat_history.specs.Sound.{OpensFit}
@@ -186,37 +203,70 @@ module _ (tells : Type 0) (given : Given) (tape tape' : List Operation) (scope :
   abbrev held : ℕ → Sector
   held = now (opening_list (world_in given tape scope first)) entries
 
-  -- where it was, no resync is pending, so that all rows stand
-  pub filled-stands : work.resync ≡ None → role < length work.rebuilt → (losses_of roles spares ≡ [] → left' + 1 ≡ left) → left' ≢ 0
-      → (role_state (reading_of new) role ≡ Recovering slot → tells → (list : ℕ → Sector) → DataStandsAmong shape (IsOfStripe shape (rebuilt_of work role)) old (present given tape) list
+  -- what was filled: each of its rows on the slot, where that recovers the role yet
+  abbrev IsFullAs : Type 0
+  IsFullAs = role_state (reading_of new) role ≡ Recovering slot → tells → (list : ℕ → Sector) → DataStandsAmong shape (IsOfStripe shape (rebuilt_of work role)) old (present given tape) list
       → RowsStandAmong shape (IsOfStripe shape (rebuilt_of work role)) old (present given tape) list
-      → (row : ℕ) → IsOfStripe shape (rebuilt_of work role) row → rows_held (reading_of old) (Recovering slot) ≤ row → HasFull (reading_of new) (present given tape') shape list row role slot)
+      → (row : ℕ) → IsOfStripe shape (rebuilt_of work role) row → rows_held (reading_of old) (Recovering slot) ≤ row → HasFull (reading_of new) (present given tape') shape list row role slot
+
+  filled-list : role < length work.rebuilt → work.resync ≡ None → IsFullAs → (t : tells) → HasListStood (OpensFit (world_in given tape scope first)) work old (present given tape) (now (opening_list (world_in given tape scope first)) entries)
+      → HasListStood (OpensFit (world_in given tape scope first)) (with_rebuilt role (rebuilt_of work role + 1) work) new (present given tape') (now (opening_list (world_in given tape scope first)) entries)
+  filled-list few synced filled t l = record {
+    stands = list-filled work did.moved was.members_are.placed role slot did.recovers shape same_shape (present given tape) (present given tape') held (did.others t) l.stands;
+    whole = λ fit x lt. l.whole fit x (subst (λ (n : ℕ). x < n) (list-alike old.newest new.newest did.moved.reshape did.moved.shape did.moved.size) lt);
+    rows = λ fit. subst (λ (n : ℕ). RowsStandBelow n new (present given tape') held) (sym (mended-moved did.moved work.resync))
+        (good-filled work did.moved was.members_are.placed role slot did.recovers shape same_shape (present given tape) (present given tape') held (did.others t) (mended_rows work.resync old) (l.rows fit));
+    rebuilt = λ fit. rebuilt-filled work did.moved was.members_are.placed role slot did.recovers shape same_shape (present given tape) (present given tape') held (did.others t) few
+        (λ recovers. full-filled given old new did.moved was.members_are.placed shape same_shape (rebuilt_of work role) tape tape' role slot (filled recovers) t held l.stands
+        (λ row low. l.rows fit row (subst (λ (o : Option ℕ). row < mended_rows o old) (sym synced) low) low))
+        (l.rebuilt fit);
+  }
+
+  -- the call enters its losses, and a step or nothing
+  filled-tail : (tail : List Event) → AreQuietLast who end tail → last_end_from first (entries ++ entries_of who end (losses_of roles spares ++ tail)) ≡ end
+      → IfSome (told_left (entries ++ entries_of who end (losses_of roles spares ++ tail))) (λ n. n ≡ left')
+      → (tells → IsLegalCall (world_in given tape' scope first) (entries ++ entries_of who end (losses_of roles spares)) who end tail)
+      → role < length work.rebuilt → work.resync ≡ None → IsFullAs
+      → IsStill tells given tape' scope first (entries ++ entries_of who end (losses_of roles spares ++ tail)) new (with_rebuilt role (rebuilt_of work role + 1) work) left'
+  filled-tail tail quiet ended told legal few synced filled =
+      tail-stands tells given tape tape' scope first entries old new work (with_rebuilt role (rebuilt_of work role + 1) work) left left' who end (losses_of roles spares) (IsAmong roles) tail was
+      (without-left given old was.members_are.placed was.members_are.unlost does) goes caller at_end did.grows quiet (rest-moved given old new did.moved was.members_are) did.moved.shape did.moved.size
+      (without-before given old new did.moved) (early-losses roles spares) (missing-since did.moved did.since) did.clean
+      (λ number is. is) refl (progress-same did.moved work.resync was.progress) ended told
+      (λ t can fills. filled-list few synced filled t (was.listed t does fills))
+      (λ t. numbers-kept given tape scope first entries old new (is_carried work) false who (losses_of roles spares) tail tape' end (did.rise t)
+      (λ told right more room gone unclean began. did.safe t (world_in given tape scope first) told room gone unclean began)
+      (λ all right gone level. legal-losses (world_in given tape' scope first) entries who end (losses_of roles spares) tail (losses-are roles spares) (legal t)))
+
+  -- where it was, no resync is pending, so that all rows stand
+  pub filled-stands : work.resync ≡ None → role < length work.rebuilt → (losses_of roles spares ≡ [] → left' + 1 ≡ left) → left' ≢ 0 → IsFullAs
       → IsStill tells given tape' scope first (entries ++ entries_of who end (losses_of roles spares ++ Step RebuildStripe left' ∷ [])) new (with_rebuilt role (rebuilt_of work role + 1) work) left'
-  filled-stands synced few less some filled =
-      early-stands tells given tape tape' scope first entries old new work (with_rebuilt role (rebuilt_of work role + 1) work) left left' who end (losses_of roles spares) (IsAmong roles) (Step RebuildStripe left') was
-      (without-left given old was.members_are.placed was.members_are.unlost does) goes caller at_end did.grows
-      (record { adds = refl; gives = refl; ends = not-zero left' some; still = λ x values. refl; level = λ n. refl }) did.moved (early-losses roles spares) (missing-since did.moved did.since) did.clean
-      refl refl (progress-same did.moved work.resync was.progress) (told-step entries who end roles spares RebuildStripe left')
-      (λ t can fills. listed t (was.listed t does fills))
-      (λ t. record {
-        rise = did.rise t;
-        keeps = λ told fills more room gone unclean began. did.safe t (world_in given tape scope first) told room gone unclean began;
-        legal = λ all fills gone level. legal-losses (world_in given tape' scope first) entries who end (losses_of roles spares) (Step RebuildStripe left' ∷ []) (losses-are roles spares)
-            (step-behind (world_in given tape' scope first) entries who end roles spares RebuildStripe left left' was.left_told less, tt, tt);
-      })
+  filled-stands synced few less some =
+      filled-tail (Step RebuildStripe left' ∷ []) (quiet-last who end (Step RebuildStripe left') (record { adds = refl; gives = refl; ends = not-zero left' some; still = λ x values. refl; level = λ n. refl }))
+      (last_end-behind first entries who end (losses_of roles spares) (Step RebuildStripe left')) (told-step entries who end roles spares RebuildStripe left')
+      (λ t. (step-behind (world_in given tape' scope first) entries who end roles spares RebuildStripe left left' was.left_told less, tt, tt)) few synced
+
+  -- where its slot was lost in this, only the losses are entered
+  pub gone-stands : work.resync ≡ None → role < length work.rebuilt → role < (shape_of old.newest).disks → is_vacant (reading_of new) role ≡ true
+      → IsStill tells given tape' scope first (entries ++ entries_of who end (losses_of roles spares)) new (with_rebuilt role (rebuilt_of work role + 1) work) left'
+  gone-stands synced few below vacant =
+      subst (λ (l : List Event). IsStill tells given tape' scope first (entries ++ entries_of who end l) new (with_rebuilt role (rebuilt_of work role + 1) work) left') (append-nil (losses_of roles spares))
+      (filled-tail [] (quiet-none who end) (subst (λ (l : List Event). last_end_from first (entries ++ entries_of who end l) ≡ end) (sym (append-nil (losses_of roles spares)))
+      (losses-end first entries who end (losses_of roles spares) (Lost role Fault) among))
+      (left-lost left left' entries who end (losses_of roles spares) [] (losses-are roles spares) (λ none. absurd (some-lost (losses_of roles spares) (Lost role Fault) among none)) was.left_told (λ told is. is))
+      (λ t. tt) few synced not-held)
     where
-      listed : (t : tells) → HasListStood (OpensFit (world_in given tape scope first)) work old (present given tape) (now (opening_list (world_in given tape scope first)) entries)
-          → HasListStood (OpensFit (world_in given tape scope first)) (with_rebuilt role (rebuilt_of work role + 1) work) new (present given tape') (now (opening_list (world_in given tape scope first)) entries)
-      listed t l = record {
-        stands = list-filled work did.moved was.members_are.placed role slot did.recovers shape same_shape (present given tape) (present given tape') held (did.others t) l.stands;
-        whole = λ fit x lt. l.whole fit x (subst (λ (n : ℕ). x < n) (list-alike old.newest new.newest did.moved.reshape did.moved.shape did.moved.size) lt);
-        rows = λ fit. subst (λ (n : ℕ). RowsStandBelow n new (present given tape') held) (sym (mended-moved did.moved work.resync))
-            (good-filled work did.moved was.members_are.placed role slot did.recovers shape same_shape (present given tape) (present given tape') held (did.others t) (mended_rows work.resync old) (l.rows fit));
-        rebuilt = λ fit. rebuilt-filled work did.moved was.members_are.placed role slot did.recovers shape same_shape (present given tape) (present given tape') held (did.others t) few
-            (λ recovers. full-filled given old new did.moved was.members_are.placed shape same_shape (rebuilt_of work role) tape tape' role slot (filled recovers) t held l.stands
-            (λ row low. l.rows fit row (subst (λ (o : Option ℕ). row < mended_rows o old) (sym synced) low) low))
-            (l.rebuilt fit);
-      }
+      counted : role < role_count new.newest
+      counted = let same = count-moved did.moved in let n = was.members_are.placed.roles in omega (arith, below, same, n)
+
+      among : Contains (losses_of roles spares) (Lost role Fault)
+      among = elim (did.since.vacant role counted vacant) [
+        | inl former ↦ not-vacant old role slot did.recovers former
+        | inr has ↦ role-told roles spares role (let few = few-roles new.newest did.moved.placed.fit.valid in omega (arith, counted, few)) has
+      ]
+
+      not-held : IsFullAs
+      not-held recovers = not-vacant new role slot recovers vacant
 
   -- one that isn't, since too many are missing
   pub unfilled-stands : (refusal : Refusal) → (losses_of roles spares ≡ [] → left' ≡ left) → LacksTooMany shape new refusal

@@ -23,6 +23,8 @@ use Rattle.views.specs.declared.work.Work.{Work}
 use Rattle.views.specs.Numbers.{is_carried}
 use Rattle.call_entries.proofs.CallLaws.{last_end-behind}
 use Rattle.kept_history.specs.Recorded.{IsHistoryKept, IsCallGoing, entry_of, gives_some}
+use Rattle.kept_history.proofs.Tests.{none-before}
+use Rattle.flat_history.specs.Losses.{loses}
 use Rattle.kept_history.specs.Safe.{world_in, IsFilledRight, IsSafeHistory}
 use Rattle.kept_history.specs.Told.{told_now}
 use Rattle.kept_history.proofs.Entered.{adds_only, AreAdding, values-more, length-adding, settle-none}
@@ -139,6 +141,7 @@ module _ (tells : Type 0) (given : Given) (tape : List Operation) (scope : Scope
     dirty = was.dirty;
     levelled = λ t right. ap tolerance_of (rested t).levelled ∙ was.levelled t ((rested t).right right);
     gone = λ t. (rested t).gone;
+    full = λ t none. was.full t (λ role. none-before (loses (world_in given tape scope first) role) entries added (none role));
     unclean = λ t dirty. unclean t (was.unclean t dirty);
     recorded = λ t. (rested t).recorded;
     listed = λ t does fills. subst (λ (l : ℕ → Sector). HasListStood (OpensFit (world_in given tape scope first)) work m (present given tape) l)

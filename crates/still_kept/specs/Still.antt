@@ -1,13 +1,13 @@
 -- What an array keeps without an active reshape, also behind one that ended, over plain data.
-use Rattle.std.specs.Prelude.{◌≡◌, ℕ, ◌*◌, ◌≤◌, ◌||◌, true, false, List, length, Option, IfSome, IsSome, is_some, ⊤}
+use Rattle.std.specs.Prelude.{◌≡◌, ℕ, ◌*◌, ◌<◌, ◌≤◌, ◌||◌, true, false, List, length, Option, IfSome, IsSome, is_some, ⊤}
 use Rattle.md_base.specs.Sectors.{Sector}
 use Rattle.md_base.specs.Shapes.{data_disks, tolerance, tolerance_of}
 use Rattle.bank.specs.declared.bank.Operation.{Operation}
 use Rattle.bank.specs.Given.{Given, sizes}
 use Rattle.bank.specs.Tape.{Contents}
 use Rattle.superblocks.specs.declared.members.Members.{Members}
-use Rattle.superblocks.specs.Reading.{Scope, is_reshaping, is_clean, shape_of, list_length}
-use Rattle.row_io.specs.Rows.{present}
+use Rattle.superblocks.specs.Reading.{Scope, is_reshaping, is_clean, shape_of, list_length, role_count}
+use Rattle.row_io.specs.Rows.{reading_of, present, is_missing}
 use Rattle.flat_history.specs.declared.events.Entry.{Entry}
 use Rattle.flat_history.specs.Epochs.{HasRoomForEvents, OpensAlike}
 use Rattle.flat_history.specs.Flat.{now}
@@ -26,7 +26,7 @@ use Rattle.views.specs.Rebuilding.{AreSparesFree, AreRebuilt}
 use Rattle.views.specs.Status.{stripes_of}
 use Rattle.array_kept.specs.Kept.{AreSectorsWhole}
 use Rattle.kept_history.specs.Recorded.{IsHistoryKept}
-use Rattle.kept_history.specs.Safe.{world_in, IsFilledRight, IsSafeHistory}
+use Rattle.kept_history.specs.Safe.{world_in, TakesNone, IsFilledRight, IsSafeHistory}
 use Rattle.history_calls.specs.Reliable.{IsReliable, AreToldGone}
 
 -- The members of an array without an active reshape: each has its place, no slot that holds a role was lost, and each spare is free.
@@ -49,8 +49,12 @@ pub record HasListStood (sound : Type 0) (work : Work) (members : Members) (c : 
 abbrev pub relied_list : Option ℕ → Members → ℕ
 relied_list resync members = data_disks (shape_of members.newest) * mended_rows resync members
 
+-- no role is missing
+abbrev pub AreNoneMissing : Members → Type 0
+AreNoneMissing members = (role : ℕ) → role < role_count members.newest → is_missing (reading_of members) role ≡ false
+
 -- No reshape is active in the array, whether some were before or not; this is under way in it, and so many steps are left. What is missing was told so, and a
--- dirty mark, and a pending resync; over a bank that tells its contents the history is legal and reaches to the tape's end, the list stands where what is filled
+-- dirty mark, and a pending resync; where no role was told lost, each is whole; over a bank that tells its contents the history is legal and reaches to the tape's end, the list stands where what is filled
 -- in is right, as long as the members suffice, and each mark so far is safe.
 pub record IsStill (tells : Type 0) (given : Given) (tape : List Operation) (scope : Scope) (first : ℕ) (entries : List Entry) (members : Members) (work : Work) (left : ℕ) : Type 0 where
   pub slots : given.slots ≤ 32
@@ -62,6 +66,7 @@ pub record IsStill (tells : Type 0) (given : Given) (tape : List Operation) (sco
   pub dirty : DoWithout members → IsSome work.resync → is_clean members.newest ≡ false
   pub levelled : tells → IsReliable (world_in given tape scope first) entries → tolerance_of (level_at (world_in given tape scope first) entries) ≡ tolerance (shape_of members.newest)
   pub gone : tells → IsReliable (world_in given tape scope first) entries → AreToldGone (world_in given tape scope first) entries members
+  pub full : tells → TakesNone (world_in given tape scope first) entries → AreNoneMissing members
   pub unclean : tells → is_clean members.newest ≡ false → (is_unsynced (world_in given tape scope first) entries || is_unsettled entries) ≡ true
   pub recorded : tells → IsHistoryKept (IsReliable (world_in given tape scope first) entries) (world_in given tape scope first) (list_length members.newest) entries
   pub listed : tells → DoWithout members → IsFilledRight (world_in given tape scope first) entries

@@ -1,0 +1,235 @@
+-- A call that gives a role back to a slot behind all else that it enters, as the end of a rebuild does.
+use Rattle.std.proofs.Common.{◌≡◌, ◌≢◌, inl, inr, ℕ, ◌≤◌, ◌==◌, ◌&&◌, ◌||◌, Bool, true, false, not, List, [], ◌∷◌, ◌++◌, length, refl, sym, ◌∙◌, ap, subst, arith, append_assoc, append-nil}
+use Rattle.std.specs.Prelude.{IsFalse, fold, ⊤}
+use Rattle.std.specs.List.{list_any, list_all}
+use Rattle.std.specs.Option.{option_map_or}
+use Rattle.std.proofs.lemmas.Bool.Decides.{nat_tests}
+use Rattle.std.proofs.lemmas.List.Sums.{fold-append}
+use Rattle.md_base.specs.Sectors.{Sector}
+use Rattle.md_base.specs.declared.answers.Who.{Who}
+use Rattle.bank.specs.declared.bank.Operation.{Operation}
+use Rattle.bank.specs.Given.{Given, sizes}
+use Rattle.bank.specs.Tape.{disk}
+use Rattle.superblocks.specs.declared.members.Members.{Members}
+use Rattle.superblocks.specs.Reading.{Scope, is_clean, list_length, role_count}
+use Rattle.row_io.specs.Rows.{reading_of, is_missing}
+use Rattle.flat_history.specs.declared.events.Entry.{Entry}
+use Rattle.flat_history.specs.declared.events.Event.{Event}
+use Rattle.flat_history.specs.declared.events.Event.TheVariants.{Rebuilt}
+use Rattle.flat_history.specs.Epochs.{HasRoomForEvents, OpensAlike}
+use Rattle.flat_history.specs.Flat.{values_after}
+use Rattle.flat_history.specs.Legal.{level_at, level_after}
+use Rattle.flat_history.specs.Losses.{loses, is_gone_after, is_unsynced}
+use Rattle.flat_history.specs.OneShape.{is_lost, is_unsettled}
+use Rattle.flat_history.specs.Plain.{entries_of}
+use Rattle.flat_history.specs.Sound.{OpensFit}
+use Rattle.flat_history.specs.World.{World, reading_at, opening_list}
+use Rattle.shape_views.specs.Views.{Ledger}
+use Rattle.shape_changes.specs.Safety.{HasRoomLeft, IsRisen}
+use Rattle.shape_changes.specs.Steady.{IsMoreTold, IsSafeNow, IsSafeOver, KeepsSafe, AreGoneTold, IsUncleanTold, given_back}
+use Rattle.views.proofs.SoundViews.{throughout-kept}
+use Rattle.call_entries.proofs.CallLaws.{last_end-behind}
+use Rattle.call_entries.proofs.LosingLaws.{entries-both}
+use Rattle.kept_history.specs.Recorded.{IsHistoryKept, IsLegalCall, IsCallGoing, IsOpenBehind, entry_of, ends_reshape, gives_some}
+use Rattle.kept_history.specs.Safe.{world_in, IsFilledRight, IsSafeHistory}
+use Rattle.kept_history.specs.Told.{told_now, told_by}
+use Rattle.kept_history.proofs.Growing.{fit-grown, now-grown, alike-before, room-before, room-now}
+use Rattle.kept_history.proofs.Seen.{now-more}
+use Rattle.kept_history.proofs.Calls.{safe-called}
+use Rattle.kept_history.proofs.KeptCalls.{kept-call}
+use Rattle.kept_history.proofs.Entered.{adds_only, AreAdding, told-adding, length-adding}
+use Rattle.kept_history.proofs.Reshapes.{call-ends_none}
+use Rattle.kept_history.proofs.Tests.{none-before}
+use Rattle.kept_history.proofs.Turned.{told-rebuilt, filled-before}
+use Rattle.history_calls.specs.Reliable.{IsReliable, AreToldGone}
+use Rattle.history_calls.proofs.Behind.{AreEarly, first-of, AreLostOrMissing, IsBehind, is-behind, or-false, and-true}
+use Rattle.history_calls.proofs.Quiet.{IsQuiet, IsLeftBehind}
+
+-- what may stand before an event may with a quiet one behind it
+pub early-then : {early : List Event} {IsTaken : ℕ → Type 0} (event : Event) → AreEarly early IsTaken → IsQuiet event → AreEarly (early ++ event ∷ []) IsTaken
+early-then {early = early} event are quiet = record {
+  adds = λ who end tail adds. subst (λ (l : List Event). AreAdding (entries_of who end l)) (sym (append_assoc early (event ∷ []) tail))
+      (are.adds who end (event ∷ tail) (and-true (adds_only event) (list_all (λ e. adds_only e.event) (entries_of who end tail)) quiet.adds adds));
+  gives = λ who end tail none. subst (λ (l : List Event). list_any (λ e. gives_some e.event) (entries_of who end l) ≡ false) (sym (append_assoc early (event ∷ []) tail))
+      (are.gives who end (event ∷ tail) (or-false (gives_some event) (list_any (λ e. gives_some e.event) (entries_of who end tail)) quiet.gives none));
+  lost = λ who end tail role lt has. subst (λ (l : List Event). is_lost (entries_of who end l) role ≡ true) (sym (append_assoc early (event ∷ []) tail)) (are.lost who end (event ∷ tail) role lt has);
+  ends = λ tail none. subst (λ (l : List Event). list_any ends_reshape l ≡ false) (sym (append_assoc early (event ∷ []) tail))
+      (are.ends (event ∷ tail) (or-false (ends_reshape event) (list_any ends_reshape tail) quiet.ends none));
+  level = λ who end tail n. ap (λ (l : List Event). fold (λ level e. level_after level e.event) n (entries_of who end l)) (append_assoc early (event ∷ []) tail)
+      ∙ are.level who end (event ∷ tail) n ∙ ap (λ (m : ℕ). fold (λ level e. level_after level e.event) m (entries_of who end tail)) (quiet.level n);
+  values = λ who end tail x values. ap (λ (l : List Event). fold (λ values e. values_after x values e.event) values (entries_of who end l)) (append_assoc early (event ∷ []) tail)
+      ∙ are.values who end (event ∷ tail) x values ∙ ap (λ (vs : List Sector). fold (λ values e. values_after x values e.event) vs (entries_of who end tail)) (quiet.still x values);
+}
+
+-- What is asked of a call, from this tape to that one with its end there, that enters these events and gives this role back: up to its end its marks are judged
+-- with the role gone, and what a stop leaves there without, too.
+pub record GivesRole (given : Given) (tape : List Operation) (scope : Scope) (first : ℕ) (entries : List Entry) (old new : Members) (carried : ℕ → Bool) (reshaping : Bool)
+    (who : Who) (early : List Event) (role : ℕ) (tape' : List Operation) (end : ℕ) : Type 0 where
+  pub rise : IsRisen ⊤ old new tape tape'
+  pub keeps : (told : Ledger) → IsReliable (world_in given tape scope first) entries → IsMoreTold (told_now (world_in given tape scope first) carried reshaping entries) told
+      → HasRoomLeft old tape tape' → AreGoneTold told new → IsUncleanTold told old
+      → IsSafeOver (world_in given tape scope first) given told old tape → KeepsSafe (world_in given tape scope first) given told new tape tape'
+  pub back : (told : Ledger) → IsReliable (world_in given tape scope first) entries → IsMoreTold (told_now (world_in given tape scope first) carried reshaping entries) told
+      → HasRoomLeft old tape tape' → AreGoneTold told new → IsUncleanTold told old
+      → IsSafeOver (world_in given tape scope first) given told old tape → IsSafeOver (world_in given tape scope first) given (given_back role told) new tape'
+  pub legal : IsReliable (world_in given tape' scope first) (entries ++ entries_of who end (early ++ Rebuilt role ∷ [])) → IsReliable (world_in given tape scope first) entries
+      → IsLegalCall (world_in given tape' scope first) entries who end (early ++ Rebuilt role ∷ [])
+
+module _ (given : Given) (tape : List Operation) (scope : Scope) (first : ℕ) (entries : List Entry) (old new : Members) (carried : ℕ → Bool) (reshaping : Bool)
+    (who : Who) (early : List Event) (IsTaken : ℕ → Type 0) (role : ℕ) (ops : List Operation) (are : AreEarly early IsTaken)
+    (goes : IsCallGoing entries who) (caller : IsFalse (who.caller == 254)) (few : role_count new.newest ≤ 16)
+    (open_behind : IsReliable (world_in given (tape ++ ops) scope first) (entries ++ entries_of who (length (tape ++ ops)) (early ++ Rebuilt role ∷ [])) → IsOpenBehind (world_in given (tape ++ ops) scope first) goes.call)
+    (missing : AreLostOrMissing old new IsTaken) (whole_is : is_missing (reading_of new) role ≡ false)
+    (sized : list_length new.newest ≡ list_length old.newest) (clean : is_clean new.newest ≡ is_clean old.newest) (sizes_are : scope.sizes ≡ sizes given)
+    (gone : IsReliable (world_in given tape scope first) entries → AreToldGone (world_in given tape scope first) entries old)
+    (unclean : is_clean old.newest ≡ false → (is_unsynced (world_in given tape scope first) entries || is_unsettled entries) ≡ true)
+    (recorded : IsHistoryKept (IsReliable (world_in given tape scope first) entries) (world_in given tape scope first) (list_length old.newest) entries)
+    (safe : IsFilledRight (world_in given tape scope first) entries → HasRoomForEvents (world_in given tape scope first) → OpensAlike (world_in given tape scope first)
+    → IsSafeHistory ⊤ (world_in given tape scope first) given old carried reshaping entries)
+    (now_safe : IsFilledRight (world_in given tape scope first) entries → HasRoomForEvents (world_in given tape scope first) → OpensAlike (world_in given tape scope first)
+    → IsSafeOver (world_in given tape scope first) given (told_now (world_in given tape scope first) carried reshaping entries) old tape)
+    (call : GivesRole given tape scope first entries old new carried reshaping who early role (tape ++ ops) (length (tape ++ ops))) where
+  abbrev world : World
+  world = world_in given tape scope first
+
+  abbrev later : World
+  later = world_in given (tape ++ ops) scope first
+
+  abbrev end : ℕ
+  end = length (tape ++ ops)
+
+  abbrev given_at : Entry
+  given_at = entry_of who (length (tape ++ ops)) (Rebuilt role)
+
+  abbrev more : List Entry
+  more = entries_of who (length (tape ++ ops)) (early)
+
+  abbrev added : List Entry
+  added = entries_of who (length (tape ++ ops)) (early ++ Rebuilt role ∷ [])
+
+  abbrev all : List Entry
+  all = entries ++ entries_of who (length (tape ++ ops)) (early ++ Rebuilt role ∷ [])
+
+  both : entries ++ entries_of who (length (tape ++ ops)) (early ++ Rebuilt role ∷ []) ≡ entries ++ (entries_of who (length (tape ++ ops)) early ++ entry_of who (length (tape ++ ops)) (Rebuilt role) ∷ [])
+  both = ap (λ (l : List Entry). entries ++ l) (entries-both who end early (Rebuilt role ∷ []))
+
+  whole : entries ++ entries_of who (length (tape ++ ops)) (early ++ Rebuilt role ∷ []) ≡ (entries ++ entries_of who (length (tape ++ ops)) early) ++ entry_of who (length (tape ++ ops)) (Rebuilt role) ∷ []
+  whole = both ∙ sym (append_assoc entries more (given_at ∷ []))
+
+  behind : IsBehind (world_in given tape scope first) (world_in given (tape ++ ops) scope first) entries new who (length (tape ++ ops)) early []
+  behind = is-behind given tape scope first entries old new who early IsTaken [] ops (first-of are) refl (λ n. refl) few missing gone recorded
+
+  begun : first ≤ length tape
+  begun = recorded.begun
+
+  none-nil : entries ++ entries_of who (length (tape ++ ops)) (early ++ []) ≡ entries ++ entries_of who (length (tape ++ ops)) early
+  none-nil = ap (λ (l : List Event). entries ++ entries_of who end l) (append-nil early)
+
+  -- it can be relied on without the last entry, and before the call
+  fills-early : IsFilledRight later all → IsFilledRight (world_in given (tape ++ ops) scope first) (entries ++ entries_of who (length (tape ++ ops)) (early ++ []))
+  fills-early (inl none) = inl (λ r. subst (λ (l : List Entry). list_any (loses later r) l ≡ false) (sym none-nil)
+      (none-before (loses later r) (entries ++ more) (given_at ∷ []) (subst (λ (l : List Entry). list_any (loses later r) l ≡ false) whole (none r))))
+  fills-early (inr fit) = inr fit
+
+  right-early : IsReliable later all → IsReliable (world_in given (tape ++ ops) scope first) (entries ++ entries_of who (length (tape ++ ops)) (early ++ []))
+  right-early right = record { fills = fills-early right.fills; room = right.room; alike = right.alike }
+
+  fills-before : IsFilledRight later all → IsFilledRight (world_in given tape scope first) entries
+  fills-before = filled-before world ops entries added begun recorded.ends
+
+  right-before : IsReliable later all → IsReliable (world_in given tape scope first) entries
+  right-before right = behind.right (right-early right)
+
+  adds-last : AreAdding (entries_of who (length (tape ++ ops)) (Rebuilt role ∷ []))
+  adds-last = refl
+
+  adds-all : AreAdding added
+  adds-all = are.adds who end (Rebuilt role ∷ []) refl
+
+  -- ---- what is told
+
+  abbrev told : Ledger
+  told = told_by later carried reshaping entries more
+
+  told-first : IsMoreTold (told_now world carried reshaping entries) told
+  told-first = subst (λ (l : Ledger). IsMoreTold l told) (now-grown world ops begun carried reshaping entries recorded.ends)
+      (told-adding later carried carried reshaping reshaping entries more behind.adds_more (λ number is. is) (λ is. is))
+
+  told-last : IsMoreTold (given_back role told) (told_now later carried reshaping all)
+  told-last = subst (λ (l : List Entry). IsMoreTold (given_back role told) (told_now later carried reshaping l)) (sym both)
+      (told-rebuilt later carried reshaping entries more given_at role refl behind.adds_more behind.gives_more)
+
+  unclean-all : is_clean new.newest ≡ false → (is_unsynced later all || is_unsettled all) ≡ true
+  unclean-all dirty = told-last.unclean (told-first.unclean (unclean (sym clean ∙ dirty)))
+
+  gone-all : IsReliable later all → AreToldGone later all new
+  gone-all right r lt miss = told-last.gone r (but (is_gone_after later entries r || list_any (loses later r) more) (r == role) (behind.counts_more (right-early right) r lt miss) (other r (λ same. (
+      let clash : true ≡ false = sym miss ∙ ap (is_missing (reading_of new)) same ∙ whole_is in
+      cc
+      ))))
+    where
+      but : (a b : Bool) → a ≡ true → b ≡ false → (a && not b) ≡ true
+      but true false is apart = refl
+      but true true is apart = absurd (cc)
+      but false b is apart = absurd (cc)
+
+      other : (r : ℕ) → r ≢ role → (r == role) ≡ false
+      other r apart = ne r role apart
+        where
+          ne : (a b : ℕ) → a ≢ b → (a == b) ≡ false
+          ne a b apart = grind (arith, nat_tests, apart)
+
+  -- ---- the history
+
+  recorded-all : IsHistoryKept (IsReliable later all) later (list_length new.newest) all
+  recorded-all = kept-call (IsReliable world entries) (IsReliable later all) world ops (list_length old.newest) (list_length new.newest) entries who (early ++ Rebuilt role ∷ []) goes recorded right-before caller
+      (λ right. inl (open_behind right)) (length-adding (length (opening_list world)) entries added adds-all ∙ recorded.sized ∙ sym sized)
+      (last_end-behind first entries who end early (Rebuilt role)) (λ right. call.legal right (right-before right))
+      (λ right. call-ends_none later entries who end (early ++ Rebuilt role ∷ []) (are.ends (Rebuilt role ∷ []) refl))
+
+  -- ---- each mark
+
+  module _ (fills : IsFilledRight later all) (room : HasRoomForEvents later) (alike : OpensAlike later) where
+    abbrev right : IsReliable later all
+    right = record { fills = fills; room = room; alike = alike }
+
+    abbrev was : IsSafeHistory ⊤ (world_in given tape scope first) given old carried reshaping entries
+    was = safe (fills-before fills) (room-before world ops begun room) (alike-before world ops begun alike)
+
+    before : IsSafeOver (world_in given tape scope first) given told old tape
+    before = now-more (OpensFit world) scope given (told_now world carried reshaping entries) told old (disk given.start tape) told-first (now_safe (fills-before fills) (room-before world ops begun room) (alike-before world ops begun alike))
+
+    stretch : KeepsSafe (world_in given tape scope first) given told new tape (tape ++ ops)
+    stretch = call.keeps told (right-before right) told-first (room-now world ops begun old was.counted room)
+        (λ role lt miss. behind.counts_more (right-early right) role lt miss) (λ dirty. told-first.unclean (unclean dirty)) before
+
+    last : IsSafeOver (world_in given tape scope first) given (told_now later carried reshaping all) new (tape ++ ops)
+    last = now-more (OpensFit world) scope given (given_back role told) (told_now later carried reshaping all) new (disk given.start (tape ++ ops)) told-last
+        (call.back told (right-before right) told-first (room-now world ops begun old was.counted room)
+        (λ role lt miss. behind.counts_more (right-early right) role lt miss) (λ dirty. told-first.unclean (unclean dirty)) before)
+
+    safe-all : IsSafeHistory ⊤ later given new carried reshaping all
+    safe-all = safe-called ⊤ given tape scope first entries old new carried carried reshaping reshaping who early (Rebuilt role ∷ []) told ops (tape ++ ops) end refl refl sizes_are begun recorded.ends was
+        fills call.rise (λ claimed opened mark low high. throughout-kept world given told new ops refl begun stretch (was.sound tt) opened mark (omega (arith, begun, low)) high) (record { size = refl; values = λ x lt v may. may; gone = λ role is. is; unclean = λ is. is; reshaping = λ is. refl; carried = λ number is. refl }) stretch last
+
+    now-all : IsSafeOver later given (told_now later carried reshaping all) new (tape ++ ops)
+    now-all = subst (λ (fit : Type 0). IsSafeNow fit scope given (told_now later carried reshaping all) new (disk given.start (tape ++ ops))) (sym (fit-grown world ops begun)) last
+
+  level-all : level_at later all ≡ level_at world entries
+  level-all = ap (λ (l : List Entry). level_at later l) whole
+      ∙ fold-append (λ level e. level_after level e.event) (option_map_or (λ r. r.newest.level) (reading_at later later.first) 5) (entries ++ more) (given_at ∷ []) ∙ behind.level_more
+
+  pub giving-leaves : IsLeftBehind given tape scope first entries (entries ++ entries_of who (length (tape ++ ops)) (early ++ Rebuilt role ∷ [])) new carried reshaping (tape ++ ops)
+  giving-leaves = record {
+    right = right-before;
+    fills = fills-before;
+    levelled = level-all;
+    gone = gone-all;
+    unclean = unclean-all;
+    recorded = recorded-all;
+    opened = behind.opened;
+    begun = begun;
+    grown = (ops, refl);
+    safe = safe-all;
+    now_safe = now-all;
+  }
