@@ -1,3 +1,4 @@
 pub mod Frames
+pub mod Spares
 pub mod Courses
 pub mod Under
