@@ -94,6 +94,17 @@ pub record AreEarly (early : List Event) (IsTaken : ℕ → Type 0) : Type 0 whe
   pub values : (who : Who) (end : ℕ) (tail : List Event) (x : ℕ) (values : List Sector)
       → fold (λ values e. values_after x values e.event) values (entries_of who end (early ++ tail)) ≡ fold (λ values e. values_after x values e.event) values (entries_of who end tail)
 
+-- nothing is
+pub early-none : AreEarly [] (λ role. ⊥)
+early-none = record {
+  adds = λ who end tail adds. adds;
+  gives = λ who end tail none. none;
+  lost = λ who end tail role lt taken. absurd taken;
+  ends = λ tail none. none;
+  level = λ who end tail n. refl;
+  values = λ who end tail x values. refl;
+}
+
 -- one of these roles
 abbrev pub IsAmong : ℕ → ℕ → Type 0
 IsAmong roles role = has_slot roles role ≡ true

@@ -10,6 +10,7 @@ pub mod Adding
 pub mod Settling
 pub mod Flushing
 pub mod Failing
+pub mod AddedSpare
 pub mod ReadShapes
 pub mod BegunRead
 pub mod Beginning

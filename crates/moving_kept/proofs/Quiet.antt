@@ -67,6 +67,31 @@ pub record IsEarlyCall (given : Given) (tape : List Operation) (scope : Scope) (
       → level_at (world_in given tape' scope first) (entries ++ entries_of who end early) ≡ level_at (world_in given tape scope first) entries
       → IsLegalCall (world_in given tape' scope first) entries who end (early ++ event ∷ [])
 
+-- The same of a call behind which superblocks may bear these numbers.
+pub record IsCarryingCall (given : Given) (tape : List Operation) (scope : Scope) (first : ℕ) (entries : List Entry) (old new : Members) (carried carried' : ℕ → Bool) (course' : Course) (buffer' : List ℕ)
+    (who : Who) (early : List Event) (event : Event) (tape' : List Operation) (end : ℕ) : Type 0 where
+  pub rise : IsRisen ⊤ old new tape tape'
+  pub keeps : (told : Ledger) → told.carried ≡ carried → IsFilledRight (world_in given tape scope first) entries → IsMoreTold (told_now (world_in given tape scope first) carried true entries) told
+      → HasRoomLeft old tape tape' → AreGoneTold told new → IsUncleanTold told old
+      → IsSafeOver (world_in given tape scope first) given told old tape → KeepsSafe (world_in given tape scope first) given (record told { carried = carried' }) new tape tape'
+  pub listed : DoWithout new → IsFilledRight (world_in given tape scope first) entries
+      → HasListInCourse (OpensFit (world_in given tape scope first)) new course' buffer' (present given tape') (now (opening_list (world_in given tape scope first)) entries)
+  pub legal : IsReliable (world_in given tape scope first) entries → AreToldGone (world_in given tape' scope first) (entries ++ entries_of who end early) new
+      → level_at (world_in given tape' scope first) (entries ++ entries_of who end early) ≡ level_at (world_in given tape scope first) entries
+      → IsLegalCall (world_in given tape' scope first) entries who end (early ++ event ∷ [])
+
+-- as of one behind which they bear no others
+carries-same : (given : Given) (tape tape' : List Operation) (scope : Scope) (first : ℕ) (entries : List Entry) (old new : Members) (carried : ℕ → Bool) (course' : Course) (buffer' : List ℕ)
+    (who : Who) (early : List Event) (event : Event) (end : ℕ) → IsEarlyCall given tape scope first entries old new carried course' buffer' who early event tape' end
+    → IsCarryingCall given tape scope first entries old new carried carried course' buffer' who early event tape' end
+carries-same given tape tape' scope first entries old new carried course' buffer' who early event end call = record {
+  rise = call.rise;
+  keeps = λ told same fills more room gone unclean safe.
+      subst (λ (numbers : ℕ → Bool). KeepsSafe (world_in given tape scope first) given (record told { carried = numbers }) new tape tape') same (call.keeps told fills more room gone unclean safe);
+  listed = call.listed;
+  legal = call.legal;
+}
+
 -- The same of a call that enters losses before its event.
 pub record IsQuietCall (given : Given) (tape : List Operation) (scope : Scope) (first : ℕ) (entries : List Entry) (old new : Members) (carried : ℕ → Bool) (course' : Course) (buffer' : List ℕ)
     (who : Who) (roles spares : ℕ) (event : Event) (tape' : List Operation) (end : ℕ) : Type 0 where
@@ -95,7 +120,7 @@ pub record IsLeftBy (given : Given) (tape : List Operation) (scope : Scope) (fir
   pub now_safe : IsFilledRight (world_in given tape' scope first) all → HasRoomForEvents (world_in given tape' scope first) → OpensAlike (world_in given tape' scope first)
       → IsSafeOver (world_in given tape' scope first) given (told_now (world_in given tape' scope first) carried true all) new tape'
 
-module _ (given : Given) (tape : List Operation) (scope : Scope) (first : ℕ) (entries : List Entry) (old new : Members) (carried : ℕ → Bool) (course' : Course) (buffer' : List ℕ)
+module _ (given : Given) (tape : List Operation) (scope : Scope) (first : ℕ) (entries : List Entry) (old new : Members) (carried carried' : ℕ → Bool) (course' : Course) (buffer' : List ℕ)
     (who : Who) (early : List Event) (IsTaken : ℕ → Type 0) (event : Event) (ops : List Operation) (are : AreEarly early IsTaken)
     (goes : IsCallGoing entries who) (caller : IsFalse (who.caller == 254)) (quiet : IsQuiet event) (few : role_count new.newest ≤ 16)
     (missing : AreLostOrMissing old new IsTaken)
@@ -107,7 +132,7 @@ module _ (given : Given) (tape : List Operation) (scope : Scope) (first : ℕ) (
     → IsSafeHistory ⊤ (world_in given tape scope first) given old carried true entries)
     (now_safe : IsFilledRight (world_in given tape scope first) entries → HasRoomForEvents (world_in given tape scope first) → OpensAlike (world_in given tape scope first)
     → IsSafeOver (world_in given tape scope first) given (told_now (world_in given tape scope first) carried true entries) old tape)
-    (call : IsEarlyCall given tape scope first entries old new carried course' buffer' who early event (tape ++ ops) (length (tape ++ ops))) where
+    (call : IsCarryingCall given tape scope first entries old new carried carried' course' buffer' who early event (tape ++ ops) (length (tape ++ ops))) where
   abbrev world : World
   world = world_in given tape scope first
 
@@ -147,13 +172,17 @@ module _ (given : Given) (tape : List Operation) (scope : Scope) (first : ℕ) (
   told-first = subst (λ (l : Ledger). IsMoreTold l told) (now-grown world ops begun carried true entries recorded.ends)
       (told-adding later carried carried true true entries more behind.adds_more (λ number is. is) (λ is. is))
 
-  told-last : IsMoreTold told (told_now later carried true all)
-  told-last = subst (λ (l : List Entry). IsMoreTold told (told_now later carried true l)) (append_assoc entries more (entries_of who end (event ∷ [])) ∙ ap (λ (l : List Entry). entries ++ l) (sym (entries-both who end early (event ∷ []))))
-      (more-then told (told_now later carried true (entries ++ more)) (told_now later carried true ((entries ++ more) ++ entries_of who end (event ∷ [])))
-      (told-added later carried true entries more behind.adds_more behind.gives_more)
-      (more-then (told_now later carried true (entries ++ more)) (told_by later carried true (entries ++ more) (entries_of who end (event ∷ []))) (told_now later carried true ((entries ++ more) ++ entries_of who end (event ∷ [])))
-      (told-adding later carried carried true true (entries ++ more) (entries_of who end (event ∷ [])) adds-last (λ number is. is) (λ is. is))
-      (told-added later carried true (entries ++ more) (entries_of who end (event ∷ [])) adds-last (or-false (gives_some event) false quiet.gives refl))))
+  -- with the numbers that are known then
+  abbrev told' : Ledger
+  told' = told_by later carried' true entries more
+
+  told-last : IsMoreTold told' (told_now later carried' true all)
+  told-last = subst (λ (l : List Entry). IsMoreTold told' (told_now later carried' true l)) (append_assoc entries more (entries_of who end (event ∷ [])) ∙ ap (λ (l : List Entry). entries ++ l) (sym (entries-both who end early (event ∷ []))))
+      (more-then told' (told_now later carried' true (entries ++ more)) (told_now later carried' true ((entries ++ more) ++ entries_of who end (event ∷ [])))
+      (told-added later carried' true entries more behind.adds_more behind.gives_more)
+      (more-then (told_now later carried' true (entries ++ more)) (told_by later carried' true (entries ++ more) (entries_of who end (event ∷ []))) (told_now later carried' true ((entries ++ more) ++ entries_of who end (event ∷ [])))
+      (told-adding later carried' carried' true true (entries ++ more) (entries_of who end (event ∷ [])) adds-last (λ number is. is) (λ is. is))
+      (told-added later carried' true (entries ++ more) (entries_of who end (event ∷ [])) adds-last (or-false (gives_some event) false quiet.gives refl))))
 
   unclean-all : is_clean new.newest ≡ false → (is_unsynced later all || is_unsettled all) ≡ true
   unclean-all dirty = told-last.unclean (told-first.unclean (unclean (sym clean ∙ dirty)))
@@ -189,23 +218,23 @@ module _ (given : Given) (tape : List Operation) (scope : Scope) (first : ℕ) (
     abbrev was : IsSafeHistory ⊤ (world_in given tape scope first) given old carried true entries
     was = safe (behind.fills fills) (room-before world ops begun room) (alike-before world ops begun alike)
 
-    stretch : KeepsSafe world given told new tape (tape ++ ops)
-    stretch = call.keeps told (behind.fills fills) told-first (room-now world ops begun old was.counted room)
+    stretch : KeepsSafe world given told' new tape (tape ++ ops)
+    stretch = call.keeps told refl (behind.fills fills) told-first (room-now world ops begun old was.counted room)
         (λ role lt miss. behind.counts_more (record { fills = fills; room = room; alike = alike }) role lt miss)
         (λ dirty. told-first.unclean (unclean dirty))
         (now-more (OpensFit world) scope given (told_now world carried true entries) told old (disk given.start tape) told-first (now_safe (behind.fills fills) (room-before world ops begun room) (alike-before world ops begun alike)))
 
-    last : IsSafeOver world given (told_now later carried true all) new (tape ++ ops)
-    last = now-more (OpensFit world) scope given told (told_now later carried true all) new (disk given.start (tape ++ ops)) told-last stretch.next
+    last : IsSafeOver world given (told_now later carried' true all) new (tape ++ ops)
+    last = now-more (OpensFit world) scope given told' (told_now later carried' true all) new (disk given.start (tape ++ ops)) told-last stretch.next
 
-    safe-all : IsSafeHistory ⊤ later given new carried true all
-    safe-all = safe-called ⊤ given tape scope first entries old new carried carried true true who early (event ∷ []) told ops (tape ++ ops) end refl refl sizes_are begun recorded.ends was
-        fills call.rise (λ claimed opened mark low high. throughout-kept world given told new ops refl begun stretch (was.sound tt) opened mark (omega (arith, begun, low)) high) (record { size = refl; values = λ x lt v may. may; gone = λ role is. is; unclean = λ is. is; reshaping = λ is. is; carried = λ number is. refl }) stretch last
+    safe-all : IsSafeHistory ⊤ later given new carried' true all
+    safe-all = safe-called ⊤ given tape scope first entries old new carried carried' true true who early (event ∷ []) told' ops (tape ++ ops) end refl refl sizes_are begun recorded.ends was
+        fills call.rise (λ claimed opened mark low high. throughout-kept world given told' new ops refl begun stretch (was.sound tt) opened mark (omega (arith, begun, low)) high) (record { size = refl; values = λ x lt v may. may; gone = λ role is. is; unclean = λ is. is; reshaping = λ is. is; carried = λ number is. refl }) stretch last
 
-    now-all : IsSafeOver later given (told_now later carried true all) new (tape ++ ops)
-    now-all = subst (λ (fit : Type 0). IsSafeNow fit scope given (told_now later carried true all) new (disk given.start (tape ++ ops))) (sym (fit-grown world ops begun)) last
+    now-all : IsSafeOver later given (told_now later carried' true all) new (tape ++ ops)
+    now-all = subst (λ (fit : Type 0). IsSafeNow fit scope given (told_now later carried' true all) new (disk given.start (tape ++ ops))) (sym (fit-grown world ops begun)) last
 
-  quiet-leaves : IsLeftBy given tape scope first entries all new carried course' buffer' (tape ++ ops)
+  quiet-leaves : IsLeftBy given tape scope first entries all new carried' course' buffer' (tape ++ ops)
   quiet-leaves = record {
     right = behind.right;
     levelled = behind.level_all;
@@ -219,17 +248,17 @@ module _ (given : Given) (tape : List Operation) (scope : Scope) (first : ℕ) (
 
 -- ---- what is kept
 
--- The call keeps the record: the array is in its reshape still, however far that has come then.
-pub early-moves : (tells : Type 0) (given : Given) (tape tape' : List Operation) (scope : Scope) (first : ℕ) (entries : List Entry) (old new : Members) (carried : ℕ → Bool) (course course' : Course)
+-- The call keeps the record: the array is in its reshape still, however far that has come then, and whatever numbers superblocks may bear besides.
+pub carrying-moves : (tells : Type 0) (given : Given) (tape tape' : List Operation) (scope : Scope) (first : ℕ) (entries : List Entry) (old new : Members) (carried carried' : ℕ → Bool) (course course' : Course)
     (buffer buffer' : List ℕ) (left left' : ℕ) (who : Who) (end : ℕ) (early : List Event) (IsTaken : ℕ → Type 0) (event : Event)
     → IsMoving tells given tape scope first entries old carried course buffer left → IsCallGoing entries who → IsFalse (who.caller == 254) → (tells → end ≡ length tape') → Grows tells tape tape' → IsQuiet event
     → AreReshaping scope given new → role_count new.newest ≤ 16
     → AreEarly early IsTaken → AreLostOrMissing old new IsTaken
     → list_length new.newest ≡ list_length old.newest → (shape_of new.newest).level ≡ (shape_of old.newest).level → is_clean new.newest ≡ is_clean old.newest → IsCourseOf new.newest course' → (tells → IsStored scope new course'.window buffer' (disk given.start tape'))
     → IfSome (told_left (entries ++ entries_of who end (early ++ event ∷ []))) (λ n. n ≡ left')
-    → (tells → IsEarlyCall given tape scope first entries old new carried course' buffer' who early event tape' end)
-    → IsMoving tells given tape' scope first (entries ++ entries_of who end (early ++ event ∷ [])) new carried course' buffer' left'
-early-moves tells given tape tape' scope first entries old new carried course course' buffer buffer' left left' who end early IsTaken event was goes caller at_end grows quiet members few are missing sized level clean
+    → (tells → IsCarryingCall given tape scope first entries old new carried carried' course' buffer' who early event tape' end)
+    → IsMoving tells given tape' scope first (entries ++ entries_of who end (early ++ event ∷ [])) new carried' course' buffer' left'
+carrying-moves tells given tape tape' scope first entries old new carried carried' course course' buffer buffer' left left' who end early IsTaken event was goes caller at_end grows quiet members few are missing sized level clean
     course_is stored told call = record {
       slots = was.slots;
       members_are = members;
@@ -247,17 +276,32 @@ early-moves tells given tape tape' scope first entries old new carried course co
     }
   where
     Then : List Operation → ℕ → Type 0
-    Then l e = IsEarlyCall given tape scope first entries old new carried course' buffer' who early event l e
-        → IsLeftBy given tape scope first entries (entries ++ entries_of who e (early ++ event ∷ [])) new carried course' buffer' l
+    Then l e = IsCarryingCall given tape scope first entries old new carried carried' course' buffer' who early event l e
+        → IsLeftBy given tape scope first entries (entries ++ entries_of who e (early ++ event ∷ [])) new carried' course' buffer' l
 
-    leaves : tells → IsLeftBy given tape scope first entries (entries ++ entries_of who end (early ++ event ∷ [])) new carried course' buffer' tape'
+    leaves : tells → IsLeftBy given tape scope first entries (entries ++ entries_of who end (early ++ event ∷ [])) new carried' course' buffer' tape'
     leaves t =
         let g = grows.more t in
         subst (λ (l : List Operation). Then l end) (sym g.1)
         (subst (Then (tape ++ g.0)) (sym (at_end t ∙ ap (λ (l : List Operation). length l) g.1))
-        (λ call_to. quiet-leaves given tape scope first entries old new carried course' buffer' who early IsTaken event g.0 are goes caller quiet few missing sized clean was.sizes_are
+        (λ call_to. quiet-leaves given tape scope first entries old new carried carried' course' buffer' who early IsTaken event g.0 are goes caller quiet few missing sized clean was.sizes_are
         (was.gone t) (was.unclean t) (was.recorded t) (was.safe t) (was.now_safe t) call_to))
         (call t)
+
+-- And so it does where they bear the same ones.
+pub early-moves : (tells : Type 0) (given : Given) (tape tape' : List Operation) (scope : Scope) (first : ℕ) (entries : List Entry) (old new : Members) (carried : ℕ → Bool) (course course' : Course)
+    (buffer buffer' : List ℕ) (left left' : ℕ) (who : Who) (end : ℕ) (early : List Event) (IsTaken : ℕ → Type 0) (event : Event)
+    → IsMoving tells given tape scope first entries old carried course buffer left → IsCallGoing entries who → IsFalse (who.caller == 254) → (tells → end ≡ length tape') → Grows tells tape tape' → IsQuiet event
+    → AreReshaping scope given new → role_count new.newest ≤ 16
+    → AreEarly early IsTaken → AreLostOrMissing old new IsTaken
+    → list_length new.newest ≡ list_length old.newest → (shape_of new.newest).level ≡ (shape_of old.newest).level → is_clean new.newest ≡ is_clean old.newest → IsCourseOf new.newest course' → (tells → IsStored scope new course'.window buffer' (disk given.start tape'))
+    → IfSome (told_left (entries ++ entries_of who end (early ++ event ∷ []))) (λ n. n ≡ left')
+    → (tells → IsEarlyCall given tape scope first entries old new carried course' buffer' who early event tape' end)
+    → IsMoving tells given tape' scope first (entries ++ entries_of who end (early ++ event ∷ [])) new carried course' buffer' left'
+early-moves tells given tape tape' scope first entries old new carried course course' buffer buffer' left left' who end early IsTaken event was goes caller at_end grows quiet members few are missing sized level clean
+    course_is stored told call =
+    carrying-moves tells given tape tape' scope first entries old new carried carried course course' buffer buffer' left left' who end early IsTaken event was goes caller at_end grows quiet members few are missing sized level
+    clean course_is stored told (λ t. carries-same given tape tape' scope first entries old new carried course' buffer' who early event end (call t))
 
 -- And so does a call that enters losses before its event.
 pub quiet-moves : (tells : Type 0) (given : Given) (tape tape' : List Operation) (scope : Scope) (first : ℕ) (entries : List Entry) (old new : Members) (carried : ℕ → Bool) (course course' : Course)
