@@ -1,4 +1,5 @@
 pub mod Frames
+pub mod Spares
 pub mod Courses
 pub mod Finishes
 pub mod Writes

@@ -8,7 +8,8 @@ use Rattle.bank.specs.Tape.{Contents}
 use Rattle.geometry.specs.Geometry.{stripes, rows, zeroed_stripes, is_critical}
 use Rattle.geometry.specs.Geometry as geometry
 use Rattle.superblocks.specs.declared.members.Members.{Members}
-use Rattle.superblocks.specs.Reading.{Scope, is_reshaping, is_backward, shape_of, final_shape, list_length, next_window}
+use Rattle.superblocks.specs.Reading.{Scope, is_reshaping, is_backward, shape_of, final_shape, list_length, next_window, role_state, holder}
+use Rattle.superblocks.specs.Update.{own_in}
 use Rattle.row_io.specs.Rows.{reading_of}
 use Rattle.list_io.specs.Full.{RowStands}
 use Rattle.list_io.specs.Writing.{IsWritten}
@@ -38,6 +39,17 @@ use Rattle.course_kept.specs.Course.{IsStored, IsBackupKept, IsOfStripes, Stands
 abbrev pub CoursesMove : (sound : Type 0) → Type 0
 CoursesMove sound = (given : Given) (old new : Members) (course : Course) (buffer : List ℕ) (c e : Contents) (list : ℕ → Sector) → IsPlaced given old → IsMoved given old new → AreOthersPresent c e
     → StandsInCourse sound old course buffer c list → StandsInCourse sound new course buffer e list
+
+-- The members say the same of the array, of its roles and of the slots that hold them: they differ in spares at most, and in what is kept of them.
+pub record DifferInSpares (old new : Members) : Type 0 where
+  pub newest : new.newest ≡ old.newest
+  pub roles : new.roles ≡ old.roles
+  pub own : (role slot : ℕ) → holder (role_state (reading_of old) role) ≡ Some slot → own_in new.own slot ≡ own_in old.own slot
+
+-- They stand in the same course then.
+abbrev pub SparesLeaveCourses : (sound : Type 0) → Type 0
+SparesLeaveCourses sound = (old new : Members) (course : Course) (buffer : List ℕ) (c : Contents) (list : ℕ → Sector) → DifferInSpares old new
+    → StandsInCourse sound old course buffer c list → StandsInCourse sound new course buffer c list
 
 -- an entered window, before any stripe behind the list is zeroed
 abbrev pub entered : Span → ℕ → Bool → Course
@@ -160,6 +172,10 @@ WritesGoOn sound = (given : Given) (old new : Members) (course : Course) (buffer
 abbrev pub StoredMove : Type 0
 StoredMove = (scope : Scope) (given : Given) (old new : Members) (window : Window) (buffer : List ℕ) (d e : Disk) → IsMoved given old new → IsBackupKept scope window d e
     → IsStored scope old window buffer d → IsStored scope new window buffer e
+
+-- Members that differ in spares have the same stored.
+abbrev pub SparesLeaveStored : Type 0
+SparesLeaveStored = (scope : Scope) (old new : Members) (window : Window) (buffer : List ℕ) (d : Disk) → DifferInSpares old new → IsStored scope old window buffer d → IsStored scope new window buffer d
 
 -- Headers under each of which the window's section is active fit.
 abbrev pub OpenHeadersFit : Type 0

@@ -1,7 +1,7 @@
 //! Laws of the course of a reshape. Each function's contract is the law.
 
 ghost use Rattle.std.specs.Prelude.{⊤};
-ghost use Rattle.course_kept.specs.Laws.{BeginsStand, EntersStand, CoursesMove, CopiesGoOn, CoursesAreCopied, WindowsAreCopied, RecordsClose, RestsGoOn, FinishesClose, ZeroesGoOn, ZeroesAreAll, CoursesStandUnder, StoredMove, OpenHeadersFit, WritesGoOn};
+ghost use Rattle.course_kept.specs.Laws.{BeginsStand, EntersStand, CoursesMove, CopiesGoOn, CoursesAreCopied, WindowsAreCopied, RecordsClose, RestsGoOn, FinishesClose, ZeroesGoOn, ZeroesAreAll, CoursesStandUnder, StoredMove, OpenHeadersFit, WritesGoOn, SparesLeaveCourses, SparesLeaveStored};
 
 /// A reshape begins.
 pub fn a_begun_reshape_stands()
@@ -16,6 +16,11 @@ pub fn an_entered_window_stands()
 /// Members that lost slots stand in the same course.
 pub fn a_course_moves()
     ensures { CoursesMove ⊤ }
+{}
+
+/// Members that differ in spares stand in the same course.
+pub fn spares_leave_a_course()
+    ensures { SparesLeaveCourses ⊤ }
 {}
 
 /// A stripe of the window is copied.
@@ -71,6 +76,11 @@ pub fn a_course_stands_under_each_header()
 /// The headers that a stop leaves stay as they are.
 pub fn a_stored_window_moves()
     ensures { StoredMove }
+{}
+
+/// They have the same stored.
+pub fn spares_leave_what_is_stored()
+    ensures { SparesLeaveStored }
 {}
 
 /// Headers of an active section fit.

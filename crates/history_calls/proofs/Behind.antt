@@ -121,6 +121,17 @@ first-more early IsTaken event are adds gives ends level = record {
       ∙ ap (λ (m : ℕ). fold (λ level e. level_after level e.event) m (entries_of who end tail)) (level n);
 }
 
+-- nothing is
+pub early-none : AreEarly [] (λ role. ⊥)
+early-none = record {
+  adds = λ who end tail adds. adds;
+  gives = λ who end tail none. none;
+  lost = λ who end tail role lt taken. absurd taken;
+  ends = λ tail none. none;
+  level = λ who end tail n. refl;
+  values = λ who end tail x values. refl;
+}
+
 -- one of these roles
 abbrev pub IsAmong : ℕ → ℕ → Type 0
 IsAmong roles role = has_slot roles role ≡ true

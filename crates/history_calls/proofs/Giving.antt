@@ -185,7 +185,7 @@ module _ (given : Given) (tape : List Operation) (scope : Scope) (first : ℕ) (
   recorded-all = kept-call (IsReliable world entries) (IsReliable later all) world ops (list_length old.newest) (list_length new.newest) entries who (early ++ Rebuilt role ∷ []) goes recorded right-before caller
       (λ right. inl (open_behind right)) (length-adding (length (opening_list world)) entries added adds-all ∙ recorded.sized ∙ sym sized)
       (last_end-behind first entries who end early (Rebuilt role)) (λ right. call.legal right (right-before right))
-      (λ right. call-ends_none later entries who end (early ++ Rebuilt role ∷ []) (are.ends (Rebuilt role ∷ []) refl))
+      (λ right fit. call-ends_none later entries who end (early ++ Rebuilt role ∷ []) (are.ends (Rebuilt role ∷ []) refl))
 
   -- ---- each mark
 

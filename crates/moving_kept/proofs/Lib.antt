@@ -15,6 +15,7 @@ pub mod Writing
 pub mod Settling
 pub mod Flushing
 pub mod Failing
+pub mod AddedSpare
 pub mod ReadShapes
 pub mod BegunRead
 pub mod Beginning

@@ -34,7 +34,7 @@ use Rattle.course_kept.specs.declared.course.Course.{Course}
 use Rattle.course_kept.specs.Course.{IsCourseOf, IsStored, StandsInCourse}
 use Rattle.history_calls.specs.Reliable.{IsReliable, AreToldGone}
 use Rattle.history_calls.proofs.Behind.{AreEarly, AreLostOrMissing, IsAmong, early-losses, legal-losses}
-use Rattle.history_calls.proofs.Quiet.{IsQuiet, IsLeftBehind, fit-later, quiet-leaves, quiet-now}
+use Rattle.history_calls.proofs.Quiet.{IsQuiet, IsLeftBehind, fit-later, quiet-last, numbers-leaves, quiet-leaves, quiet-now}
 use Rattle.moving_kept.specs.Moving.{AreReshaping, HasListInCourse, IsMoving}
 
 -- ---- the call
@@ -46,6 +46,19 @@ pub record IsEarlyCall (given : Given) (tape : List Operation) (scope : Scope) (
   pub keeps : (told : Ledger) → IsFilledRight (world_in given tape scope first) entries → IsMoreTold (told_now (world_in given tape scope first) carried true entries) told
       → HasRoomLeft old tape tape' → AreGoneTold told new → IsUncleanTold told old
       → IsSafeOver (world_in given tape scope first) given told old tape → KeepsSafe (world_in given tape scope first) given told new tape tape'
+  pub listed : DoWithout new → IsFilledRight (world_in given tape scope first) entries
+      → HasListInCourse (OpensFit (world_in given tape scope first)) new course' buffer' (present given tape') (now (opening_list (world_in given tape scope first)) entries)
+  pub legal : IsReliable (world_in given tape scope first) entries → AreToldGone (world_in given tape' scope first) (entries ++ entries_of who end early) new
+      → level_at (world_in given tape' scope first) (entries ++ entries_of who end early) ≡ level_at (world_in given tape scope first) entries
+      → IsLegalCall (world_in given tape' scope first) entries who end (early ++ event ∷ [])
+
+-- The same of a call behind which superblocks may bear these numbers.
+pub record IsCarryingCall (given : Given) (tape : List Operation) (scope : Scope) (first : ℕ) (entries : List Entry) (old new : Members) (carried carried' : ℕ → Bool) (course' : Course) (buffer' : List ℕ)
+    (who : Who) (early : List Event) (event : Event) (tape' : List Operation) (end : ℕ) : Type 0 where
+  pub rise : IsRisen ⊤ old new tape tape'
+  pub keeps : (told : Ledger) → told.carried ≡ carried → IsFilledRight (world_in given tape scope first) entries → IsMoreTold (told_now (world_in given tape scope first) carried true entries) told
+      → HasRoomLeft old tape tape' → AreGoneTold told new → IsUncleanTold told old
+      → IsSafeOver (world_in given tape scope first) given told old tape → KeepsSafe (world_in given tape scope first) given (record told { carried = carried' }) new tape tape'
   pub listed : DoWithout new → IsFilledRight (world_in given tape scope first) entries
       → HasListInCourse (OpensFit (world_in given tape scope first)) new course' buffer' (present given tape') (now (opening_list (world_in given tape scope first)) entries)
   pub legal : IsReliable (world_in given tape scope first) entries → AreToldGone (world_in given tape' scope first) (entries ++ entries_of who end early) new
@@ -135,6 +148,55 @@ early-moves tells given tape tape' scope first entries old new carried course co
         (subst (Then (tape ++ g.0)) (sym (at_end t ∙ ap (λ (l : List Operation). length l) g.1))
         (λ call_to. quiet-leaves given tape scope first entries old new carried true who early IsTaken event g.0 are goes caller quiet few missing sized clean was.sizes_are
         (was.gone t) (was.unclean t) (was.recorded t) (was.safe t) (was.now_safe t) (record { rise = call_to.rise; keeps = call_to.keeps; legal = λ all. call_to.legal })))
+        (call t)
+
+-- And so does a call behind which superblocks may bear more numbers.
+pub carrying-moves : (tells : Type 0) (given : Given) (tape tape' : List Operation) (scope : Scope) (first : ℕ) (entries : List Entry) (old new : Members) (carried carried' : ℕ → Bool) (course course' : Course)
+    (buffer buffer' : List ℕ) (left left' : ℕ) (who : Who) (end : ℕ) (early : List Event) (IsTaken : ℕ → Type 0) (event : Event)
+    → ((number : ℕ) → carried number ≡ true → carried' number ≡ true) → IsMoving tells given tape scope first entries old carried course buffer left → IsCallGoing entries who → IsFalse (who.caller == 254) → (tells → end ≡ length tape') → Grows tells tape tape' → IsQuiet event
+    → AreReshaping scope given new → role_count new.newest ≤ 16
+    → AreEarly early IsTaken → AreLostOrMissing old new IsTaken
+    → list_length new.newest ≡ list_length old.newest → (shape_of new.newest).level ≡ (shape_of old.newest).level → is_clean new.newest ≡ is_clean old.newest → IsCourseOf new.newest course' → (tells → IsStored scope new course'.window buffer' (disk given.start tape'))
+    → IfSome (told_left (entries ++ entries_of who end (early ++ event ∷ []))) (λ n. n ≡ left')
+    → (tells → IsCarryingCall given tape scope first entries old new carried carried' course' buffer' who early event tape' end)
+    → IsMoving tells given tape' scope first (entries ++ entries_of who end (early ++ event ∷ [])) new carried' course' buffer' left'
+carrying-moves tells given tape tape' scope first entries old new carried carried' course course' buffer buffer' left left' who end early IsTaken event carries was goes caller at_end grows quiet members few are missing sized level clean
+    course_is stored told call = record {
+      slots = was.slots;
+      members_are = members;
+      course_is = course_is;
+      sizes_are = was.sizes_are;
+      left_told = told;
+      levelled = λ t fills. ap tolerance_of (leaves t).levelled ∙ was.levelled t ((leaves t).right fills) ∙ sym (ap tolerance_of level);
+      gone = λ t. (leaves t).gone;
+      unclean = λ t. (leaves t).unclean;
+      recorded = λ t. (leaves t).recorded;
+      stored = stored;
+      listed = λ t. listed-later given tape scope first entries (entries ++ entries_of who end (early ++ event ∷ [])) new carried' course' buffer' tape' (now (opening_list (world_in given tape scope first)) entries) (leaves t)
+          (quiet-now (opening_list (world_in given tape scope first)) entries who end early IsTaken event are quiet) (call t).listed;
+      safe = λ t. (leaves t).safe;
+      now_safe = λ t. (leaves t).now_safe;
+    }
+  where
+    Then : List Operation → ℕ → Type 0
+    Then l e = IsCarryingCall given tape scope first entries old new carried carried' course' buffer' who early event l e
+        → IsLeftBehind given tape scope first entries (entries ++ entries_of who e (early ++ event ∷ [])) new carried' true l
+
+    leaves : tells → IsLeftBehind given tape scope first entries (entries ++ entries_of who end (early ++ event ∷ [])) new carried' true tape'
+    leaves t =
+        let g = grows.more t in
+        subst (λ (l : List Operation). Then l end) (sym g.1)
+        (subst (Then (tape ++ g.0)) (sym (at_end t ∙ ap (λ (l : List Operation). length l) g.1))
+        (λ call_to. numbers-leaves given tape scope first entries old new carried carried' true who early IsTaken (event ∷ []) g.0 are carries goes caller (quiet-last who (length (tape ++ g.0)) event quiet)
+        (last_end-behind first entries who (length (tape ++ g.0)) early event) few missing sized clean was.sizes_are
+        (was.gone t) (was.unclean t) (was.recorded t) (was.safe t) (was.now_safe t) (record {
+          rise = call_to.rise;
+          keeps = λ before told right first_more more same_before same_told room gone unclean safe.
+              stretch-more (OpensFit (world_in given tape scope first)) scope given (record before { carried = carried' }) told new tape (tape ++ g.0)
+              (record { size = more.size; values = more.values; gone = more.gone; unclean = more.unclean; reshaping = more.reshaping; carried = λ number is. same_told number ∙ is })
+              (call_to.keeps before (λ i number. same_before number i) right.fills first_more room gone unclean safe);
+          legal = λ all fills gone level. call_to.legal fills gone level;
+        })))
         (call t)
 
 -- And so does a call that enters losses before its event.

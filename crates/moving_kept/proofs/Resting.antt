@@ -20,20 +20,9 @@ use Rattle.kept_history.specs.Safe.{world_in}
 use Rattle.course_kept.specs.declared.course.Course.{Course}
 use Rattle.history_calls.specs.Reliable.{IsReliable}
 use Rattle.moving_kept.specs.Moving.{IsMoving}
-use Rattle.history_calls.proofs.Behind.{AreEarly}
+use Rattle.history_calls.proofs.Behind.{early-none}
 use Rattle.history_calls.proofs.Quiet.{IsQuiet}
 use Rattle.moving_kept.proofs.Quiet.{early-moves}
-
--- nothing stands before its event
-early-none : AreEarly [] (λ role. ⊥)
-early-none = record {
-  adds = λ who end tail adds. adds;
-  gives = λ who end tail none. none;
-  lost = λ who end tail role lt which. absurd which;
-  ends = λ tail none. none;
-  level = λ who end tail n. refl;
-  values = λ who end tail x values. refl;
-}
 
 pub resting-moves : (tells : Type 0) (given : Given) (tape : List Operation) (scope : Scope) (first : ℕ) (entries : List Entry) (m : Members) (carried : ℕ → Bool)
     (course : Course) (buffer : List ℕ) (left : ℕ) (who : Who) (end : ℕ) (event : Event)

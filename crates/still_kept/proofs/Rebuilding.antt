@@ -26,7 +26,7 @@ use Rattle.call_entries.proofs.CallLaws.{last_end-behind}
 use Rattle.calls_kept.proofs.RebuildLaws.{losses-end, some-lost}
 use Rattle.calls_kept.proofs.RebuildFilled.{not-vacant}
 use Rattle.kept_history.specs.Recorded.{IsLegalCall}
-use Rattle.history_calls.proofs.Quiet.{AreQuietLast, quiet-last, quiet-none, numbers-kept}
+use Rattle.history_calls.proofs.Quiet.{AreQuietLast, quiet-last, quiet-none, numbers-kept, numbers-of}
 use Rattle.flat_history.specs.Transfers.{last_end_from}
 use Rattle.flat_history.specs.Legal.{told_left}
 use Rattle.still_kept.proofs.Quiet.{tail-stands}
@@ -68,7 +68,6 @@ use Rattle.calls_kept.proofs.TouchedLaws.{full-filled}
 use Rattle.kept_history.specs.Recorded.{IsCallGoing}
 use Rattle.kept_history.specs.Safe.{world_in, IsFilledRight}
 use Rattle.history_calls.proofs.Behind.{AreLostOrMissing, IsAmong, early-losses, legal-losses}
-use Rattle.history_calls.proofs.Quiet.{numbers-of}
 use Rattle.still_kept.specs.Still.{AreAtRest, HasListStood, IsStill}
 use Rattle.still_kept.proofs.Quiet.{placed-stands, early-stands}
 use Rattle.still_kept.proofs.Refusals.{quiet-refusal, too-many-refused, refused-right, unsynced-behind}

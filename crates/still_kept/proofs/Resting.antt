@@ -32,20 +32,9 @@ use Rattle.kept_history.proofs.Idle.{now-adding, idle-call}
 use Rattle.kept_history.proofs.KeptCalls.{kept-call}
 use Rattle.kept_history.proofs.Ledgers.{unsynced-still, none-ends}
 use Rattle.history_calls.specs.Reliable.{IsReliable, AreToldGone}
-use Rattle.history_calls.proofs.Behind.{AreEarly, first-of, IsBehind, is-behind, and-true, or-false}
+use Rattle.history_calls.proofs.Behind.{first-of, IsBehind, is-behind, and-true, or-false, early-none}
 use Rattle.still_kept.specs.Still.{HasListStood, IsStill}
 use Rattle.still_kept.proofs.Ends.{EndsNothing, ends-right}
-
--- nothing stands before its event
-early-none : AreEarly [] (λ role. ⊥)
-early-none = record {
-  adds = λ who end tail adds. adds;
-  gives = λ who end tail none. none;
-  lost = λ who end tail role lt which. absurd which;
-  ends = λ tail none. none;
-  level = λ who end tail n. refl;
-  values = λ who end tail x values. refl;
-}
 
 -- An event that leaves the list and the level, settles nothing and gives no role.
 pub record IsResting (event : Event) : Type 0 where

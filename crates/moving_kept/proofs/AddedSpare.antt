@@ -1,0 +1,335 @@
+-- A slot that is made a spare in an array in a reshape: it gets no role until that is over.
+use Rattle.std.proofs.Common.{◌≡◌, ◌≢◌, inl, inr, ℕ, ◌<◌, ◌≤◌, ◌==◌, ◌&&◌, ◌||◌, nat_lt, Bool, true, false, Option, Some, List, [], ◌∷◌, ◌++◌, length, refl, sym, ◌∙◌, ap, subst, arith}
+use Rattle.std.specs.Prelude.{IsFalse, ⊤}
+use Rattle.std.specs.List.{list_any}
+use Rattle.std.proofs.lemmas.Bool.Decides.{nat_tests}
+use Rattle.md_base.specs.Sectors.{Sector}
+use Rattle.md_base.specs.Shapes.{tolerance, tolerance_of}
+use Rattle.md_base.specs.declared.answers.Refusal.{Refusal}
+use Rattle.md_base.specs.declared.answers.Refusal.TheVariants.{PastEnd, TooManyMissing, NotResynced, SlotFault}
+use Rattle.md_base.specs.declared.answers.Who.{Who}
+use Rattle.md_base.specs.declared.places.Shape.{Shape}
+use Rattle.bank.specs.declared.bank.Operation.{Operation}
+use Rattle.bank.specs.Given.{Given}
+use Rattle.bank.specs.Tape.{Contents, IsIn, disk}
+use Rattle.bank.proofs.Marks.{each_mark-map}
+use Rattle.sb1.specs.declared.sb.Sb.{Sb}
+use Rattle.superblocks.specs.declared.members.Members.{Members}
+use Rattle.superblocks.specs.Reading.{Scope, is_clean, shape_of, list_length, role_state, holder}
+use Rattle.superblocks.specs.Reads.{has_spare}
+use Rattle.superblocks.specs.Held.{IsSecondHalf}
+use Rattle.superblocks.specs.Update.{is_held_by}
+use Rattle.superblocks.proofs.ValidFields.{few-roles}
+use Rattle.row_io.specs.Rows.{reading_of, present}
+use Rattle.flat_history.specs.declared.events.Entry.{Entry}
+use Rattle.flat_history.specs.declared.events.Event.{Event}
+use Rattle.flat_history.specs.declared.events.Event.TheVariants.{Added, Refused}
+use Rattle.flat_history.specs.Flat.{now}
+use Rattle.flat_history.specs.Legal.{level_at, IsLegalEvent, IsRefusedRight}
+use Rattle.flat_history.specs.Plain.{entries_of}
+use Rattle.flat_history.specs.Sound.{OpensFit}
+use Rattle.flat_history.specs.World.{World, opening_list}
+use Rattle.shape_views.specs.Regions.{backup_of, ArePlaced, DoWithout}
+use Rattle.shape_views.specs.Views.{Disk, Ledger}
+use Rattle.shape_views.specs.Windows.{AreFewer}
+use Rattle.shape_changes.specs.Marking.{AreOthersPresent}
+use Rattle.shape_changes.specs.Safety.{HasLiveSlot, HasRoomLeft, IsRisen}
+use Rattle.shape_changes.specs.Steady.{IsMoreTold, AreViewsRight, IsSafeOver, IsSafeStretch, KeepsSafe, AreGoneTold, IsUncleanTold, with_number}
+use Rattle.shape_changes.proofs.Steady.{views-told}
+use Rattle.shape_changes.proofs.Without.{live-is}
+use Rattle.views.specs.Flushing.{OnlyFlushesAdded}
+use Rattle.views.specs.Moving.{Grows, IsMoved}
+use Rattle.views.specs.Numbers.{IsSpareSb, IsOfScope}
+use Rattle.views.specs.Placed.{IsPlaced}
+use Rattle.views.specs.Rebuilding.{MayHold, with_spare}
+use Rattle.views.specs.Under.{IsRestKept}
+use Rattle.views.proofs.AddedMembers.{placed-with, unlost-roles, free-with, spares-with}
+use Rattle.views.proofs.Fit.{list-alike}
+use Rattle.views.proofs.Flushed.{contents-added}
+use Rattle.views.proofs.LiveLeft.{without-left}
+use Rattle.views.proofs.MarkedSafe.{added-longer, flushed-safe}
+use Rattle.views.proofs.MarkLaws.{few-below}
+use Rattle.views.proofs.MovedLaws.{grows-then, grows-none, moved-same}
+use Rattle.views.proofs.SafeStretch.{safe-then, safe-none}
+use Rattle.safe_updates.specs.Unused.{IsUnused}
+use Rattle.safe_updates.proofs.Under.{flushed-fewer}
+use Rattle.call_entries.specs.Losing.{losses_of}
+use Rattle.call_entries.proofs.CallLaws.{losses-are}
+use Rattle.call_entries.proofs.LeftLaws.{TellLeft, left-behind, left-more}
+use Rattle.array_kept.specs.Calls.{IsUnaddable}
+use Rattle.kept_history.specs.Recorded.{IsCallGoing, entry_of}
+use Rattle.kept_history.specs.Safe.{world_in}
+use Rattle.kept_history.proofs.Seen.{now-more}
+use Rattle.course_kept.specs.declared.course.Course.{Course}
+use Rattle.grow_asked.specs.declared.window.Window.{Window}
+use Rattle.grow_asked.specs.declared.window.Window.TheVariants.{Closed, Entered, Unsure}
+use Rattle.course_kept.specs.Course.{IsStored, IsSectionKept, IsBackupKept, StandsInCourse}
+use Rattle.course_kept.proofs.Courses.{courses-move, stored-moves}
+use Rattle.course_kept.proofs.Spares.{spares-leave, spares-stored, differ-with}
+use Rattle.history_calls.specs.Reliable.{AreToldGone}
+use Rattle.moving_kept.specs.Moving.{AreReshaping, HasListInCourse, IsMoving}
+use Rattle.history_calls.proofs.Behind.{early-losses, early-none, IsAmong, legal-losses}
+use Rattle.moving_kept.proofs.MembersMove.{reshaping-moved}
+use Rattle.history_calls.proofs.Quiet.{IsQuiet}
+use Rattle.moving_kept.proofs.Quiet.{carrying-moves, early-moves}
+use Rattle.moving_kept.proofs.Refusals.{quiet-refusal, refused-right}
+use Rattle.moving_kept.proofs.Staying.{course-moved}
+use Rattle.moving_kept.proofs.Steps.{AreMissingSince, missing-moved}
+
+-- ---- the members with the spare
+
+module _ (scope : Scope) (given : Given) (m : Members) (slot : ℕ) (sb : Sb) (made : IsSpareSb given m.newest slot sb) (few : given.slots ≤ 32) (there : slot < given.slots) (long : length m.own ≡ 32)
+    (untaken : (role : ℕ) → MayHold m role slot → ⊥) (was : AreReshaping scope given m) where
+  unheld : (role : ℕ) → holder (role_state (reading_of m) role) ≡ Some slot → ⊥
+  unheld role held = untaken role (inl held)
+
+  pub with-placed : IsPlaced given (with_spare slot sb m)
+  with-placed = placed-with given m slot sb made was.placed was.unlost was.free few there long unheld
+
+  with-backed : ArePlaced scope given (with_spare slot sb m)
+  with-backed = record {
+    fit = was.backed.fit;
+    roles = was.backed.roles;
+    holders = with-placed.holders;
+    behind = with-placed.behind;
+    members_own = was.backed.members_own;
+    apart = was.backed.apart;
+    backup = was.backed.backup;
+  }
+
+  pub with-reshaping : AreReshaping scope given (with_spare slot sb m)
+  with-reshaping = record {
+    placed = with-placed;
+    backed = with-backed;
+    active = was.active;
+    whole = was.whole;
+    unlost = unlost-roles given m slot sb made was.placed was.unlost was.free few there long unheld;
+    free = free-with given m slot sb made was.placed was.unlost was.free few there long unheld;
+    spares = few-below 32 (λ s. has_spare m.spares s || (slot == s));
+  }
+
+-- ---- the backup
+
+-- a slot that holds no role and is no spare stays so where another is made one
+pub unused-with : (m : Members) (slot : ℕ) (sb : Sb) (s : ℕ) → s ≢ slot → IsUnused m s → IsUnused (with_spare slot sb m) s
+unused-with m slot sb s other was =
+    live-is (with_spare slot sb m) false s
+    ∙ ap (λ (b : Bool). nat_lt s 32 && ((list_any (is_held_by s) m.roles || b) || false)) (spares-with m slot sb s)
+    ∙ of (nat_lt s 32) (list_any (is_held_by s) m.roles) (has_spare m.spares s) (slot == s) (unequal slot s other) (sym (live-is m false s) ∙ was)
+  where
+    unequal : (a b : ℕ) → b ≢ a → (a == b) ≡ false
+    unequal a b apart = grind (arith, nat_tests, apart)
+
+    of : (below role spare same : Bool) → same ≡ false → (below && ((role || spare) || false)) ≡ false → (below && ((role || (below && (spare || same))) || false)) ≡ false
+    of false role spare same none e = refl
+    of true true spare same none e = absurd (cc)
+    of true false true same none e = absurd (cc)
+    of true false false true none e = absurd (cc)
+    of true false false false none e = refl
+
+section-kept : (scope : Scope) (window : Window) (d e : Disk) → ((k : ℕ) (v : Sector) → IsIn (e (backup_of scope) k) v → IsIn (d (backup_of scope) k) v) → IsSectionKept scope window d e
+section-kept scope Closed d e fewer = tt
+section-kept scope (Entered span copied true) d e fewer = fewer
+section-kept scope (Entered span copied false) d e fewer = tt
+section-kept scope (Unsure span) d e fewer = fewer
+
+-- the backup is such a slot, and kept where nothing but superblocks of live slots is written
+rest-backup : (scope : Scope) (m : Members) (window : Window) (d e : Disk) → IsUnused m (backup_of scope) → IsRestKept m d e → IsBackupKept scope window d e
+rest-backup scope m window d e aside rest = record {
+  headers = λ s v may. rest s 0 v (inl (omega arith)) may;
+  section = section-kept scope window d e (λ k v may. rest (backup_of scope) k v (inr (inl aside)) may);
+}
+
+-- and where slots are flushed
+fewer-backup : (scope : Scope) (window : Window) (d e : Disk) → AreFewer d e → IsBackupKept scope window d e
+fewer-backup scope window d e fewer = record {
+  headers = λ s v may. fewer s 0 v may;
+  section = section-kept scope window d e (λ k v may. fewer (backup_of scope) k v may);
+}
+
+-- ---- what is told with the new number
+
+-- more is told of a stretch
+stretch-more : (sound : Type 0) (scope : Scope) (given : Given) (told more : Ledger) (m : Members) (before after : List Operation) → IsMoreTold told more
+    → IsSafeStretch sound scope given told m before after → IsSafeStretch sound scope given more m before after
+stretch-more sound scope given told more m before after is stretch = record {
+  marks = each_mark-map (AreViewsRight sound scope given more) (λ t d. views-told sound given told more is scope d) stretch.marks;
+  next = now-more sound scope given told more m (disk given.start after) is stretch.next;
+}
+
+-- these numbers are told instead, which are no fewer
+more-carried : (told : Ledger) (carried : ℕ → Bool) → ((number : ℕ) → told.carried number ≡ true → carried number ≡ true) → IsMoreTold told (record told { carried = carried })
+more-carried told carried more = record { size = refl; values = λ x lt v may. may; gone = λ role is. is; unclean = λ is. is; reshaping = λ is. is; carried = more }
+
+-- ---- the call
+
+-- A slot without a part in the array was flushed and looked at, up to the tape `mid`, and then made a spare with this superblock, or lost in this. Others may
+-- have been lost; these roles are told of them. The superblock's number is one more that is known then.
+pub record IsSpareMade (tells : Type 0) (given : Given) (tape mid tape' : List Operation) (scope : Scope) (old new : Members) (carried carried' : ℕ → Bool) (slot : ℕ) (sb : Sb) (roles : ℕ) : Type 0 where
+  pub there : slot < given.slots
+  pub apart : backup_of scope ≢ slot
+  pub untaken : (role : ℕ) → MayHold old role slot → ⊥
+  pub does : DoWithout old
+  pub made : IsSpareSb given old.newest slot sb
+  pub own : length old.own ≡ 32
+  pub of_scope : IsOfScope scope given slot sb
+  pub unknown : carried sb.dev_number ≡ false
+  pub carries : (number : ℕ) → carried number ≡ true → carried' number ≡ true
+  pub known : carried' sb.dev_number ≡ true
+  pub looked : tells → OnlyFlushesAdded tape mid
+  pub second : tells → (sector : Sector) → IsIn (disk given.start mid slot 9) sector → IsSecondHalf sb sector
+  pub moved : IsMoved given (with_spare slot sb old) new
+  pub since : AreMissingSince (with_spare slot sb old) new roles
+  pub clean : is_clean new.newest ≡ is_clean old.newest
+  pub grows : Grows tells mid tape'
+  pub others : tells → AreOthersPresent (present given mid) (present given tape')
+  pub rest : tells → IsRestKept (with_spare slot sb old) (disk given.start mid) (disk given.start tape')
+  pub rise : IsRisen tells (with_spare slot sb old) new mid tape'
+  pub safe : tells → (world : World) → (told : Ledger) → HasRoomLeft old mid tape' → AreGoneTold told new → IsUncleanTold told old → IsOfScope world.scope given slot sb → told.carried sb.dev_number ≡ false
+      → ((sector : Sector) → IsIn (disk given.start mid slot 9) sector → IsSecondHalf sb sector) → HasLiveSlot old
+      → IsSafeOver world given told old mid → KeepsSafe world given (with_number sb.dev_number told) new mid tape'
+
+module _ (tells : Type 0) (given : Given) (tape mid tape' : List Operation) (scope : Scope) (first : ℕ) (entries : List Entry) (old new : Members) (carried carried' : ℕ → Bool)
+    (course : Course) (buffer : List ℕ) (left : ℕ) (who : Who) (end slot : ℕ) (sb : Sb) (roles spares : ℕ)
+    (was : IsMoving tells given tape scope first entries old carried course buffer left) (goes : IsCallGoing entries who) (caller : IsFalse (who.caller == 254)) (at_end : tells → end ≡ length tape')
+    (aside : IsUnused old (backup_of scope)) (did : IsSpareMade tells given tape mid tape' scope old new carried carried' slot sb roles) where
+  abbrev with_it : Members
+  with_it = with_spare slot sb old
+
+  reshaping : AreReshaping scope given with_it
+  reshaping = with-reshaping scope given old slot sb did.made was.slots did.there did.own did.untaken was.members_are
+
+  unheld-it : (role : ℕ) → holder (role_state (reading_of old) role) ≡ Some slot → ⊥
+  unheld-it role held = did.untaken role (inl held)
+
+  list-same : list_length new.newest ≡ list_length old.newest
+  list-same = list-alike old.newest new.newest did.moved.reshape did.moved.shape did.moved.size
+
+  live : HasLiveSlot old
+  live = without-left given old was.members_are.placed was.members_are.unlost did.does
+
+  others-all : tells → AreOthersPresent (present given tape) (present given tape')
+  others-all t s k other = did.others t s k other ∙ (λ i. contents-added given.start tape mid (did.looked t) i s k)
+
+  rise-all : tells → IsRisen ⊤ old new tape tape'
+  rise-all t = record {
+    left = λ more. live;
+    events = λ u more. let risen = did.rise.events t more in let longer = added-longer tape mid (did.looked t) in omega (arith, risen, longer);
+  }
+
+  -- ---- what stands
+
+  backup-all : tells → IsBackupKept scope course.window (disk given.start tape) (disk given.start tape')
+  backup-all t = rest-backup scope with_it course.window (disk given.start tape) (disk given.start tape') (unused-with old slot sb (backup_of scope) did.apart aside)
+      (λ s k v which may. flushed-fewer given.start tape mid (did.looked t) s k v (did.rest t s k v which may))
+
+  stored-all : tells → IsStored scope new course.window buffer (disk given.start tape')
+  stored-all t = stored-moves scope given with_it new course.window buffer (disk given.start tape) (disk given.start tape') did.moved (backup-all t)
+      (spares-stored scope old with_it course.window buffer (disk given.start tape) (differ-with old slot sb unheld-it) (was.stored t))
+
+  stands-all : tells → (sound : Type 0) (list : ℕ → Sector) → StandsInCourse sound old course buffer (present given tape) list → StandsInCourse sound new course buffer (present given tape') list
+  stands-all t sound list stands = courses-move sound given with_it new course buffer (present given tape) (present given tape') list reshaping.placed did.moved (others-all t)
+      (spares-leave sound old with_it course buffer (present given tape) list (differ-with old slot sb unheld-it) stands)
+
+  -- ---- each mark
+
+  both-carried : (told : Ledger) → told.carried ≡ carried → IsMoreTold (with_number sb.dev_number told) (record told { carried = carried' })
+  both-carried told same = more-carried (with_number sb.dev_number told) carried' (λ number is. by number (told.carried number) (number == sb.dev_number) refl refl is)
+    where
+      same-as : (a b : ℕ) → (a == b) ≡ true → a ≡ b
+      same-as a b e = grind (arith, nat_tests, e)
+
+      by : (number : ℕ) (a b : Bool) → told.carried number ≡ a → (number == sb.dev_number) ≡ b → (a || b) ≡ true → carried' number ≡ true
+      by number true b here there is = did.carries number (sym (ap (λ (c : ℕ → Bool). c number) same) ∙ here)
+      by number false true here there is = ap carried' (same-as number sb.dev_number there) ∙ did.known
+      by number false false here there is = absurd (cc)
+
+  keeps-all : tells → (told : Ledger) → told.carried ≡ carried → HasRoomLeft old tape tape' → AreGoneTold told new → IsUncleanTold told old
+      → IsSafeOver (world_in given tape scope first) given told old tape → KeepsSafe (world_in given tape scope first) given (record told { carried = carried' }) new tape tape'
+  keeps-all t told same room gone unclean before =
+      let world = world_in given tape scope first in
+      let more = record told { carried = carried' } in
+      let longer = added-longer tape mid (did.looked t) in
+      let flushed = flushed-safe (OpensFit world) scope given told old tape mid (did.looked t) before in
+      let done = did.safe t world told (λ some. let r = room some in omega (arith, r, longer)) gone unclean did.of_scope (ap (λ (c : ℕ → Bool). c sb.dev_number) same ∙ did.unknown) (did.second t) live flushed.next in
+      safe-then (OpensFit world) scope given more old new tape mid tape'
+      (stretch-more (OpensFit world) scope given told more old tape mid (more-carried told carried' (λ number is. did.carries number (sym (ap (λ (c : ℕ → Bool). c number) same) ∙ is))) flushed)
+      (stretch-more (OpensFit world) scope given (with_number sb.dev_number told) more new mid tape' (both-carried told same) done)
+
+  -- ---- what is kept
+
+  module _ (event : Event) (quiet : IsQuiet event) (tell : TellLeft left who end (event ∷ [])) (legal : (world : World) (before : List Entry) (e : Entry) → IsLegalEvent world before e [] event) where
+    spare-moves : IsMoving tells given tape' scope first (entries ++ entries_of who end (losses_of roles spares ++ event ∷ [])) new carried' course buffer left
+    spare-moves =
+        carrying-moves tells given tape tape' scope first entries old new carried carried' course course buffer buffer left left who end (losses_of roles spares) (IsAmong roles) event did.carries was goes caller at_end
+        (grows-then (record { more = λ t. ((did.looked t).0, (did.looked t).2) }) did.grows) quiet (reshaping-moved scope given with_it new did.moved reshaping) (few-roles new.newest did.moved.placed.fit.valid)
+        (early-losses roles spares) (missing-moved {old = with_it} roles did.moved did.since) list-same (ap (λ (s : Shape). s.level) did.moved.shape) did.clean
+        (course-moved given with_it new course did.moved was.course_is) stored-all
+        (left-more left entries who end (losses_of roles spares ++ event ∷ []) was.left_told (left-behind left who end (losses_of roles spares) (event ∷ []) (losses-are roles spares) tell))
+        (λ t. record {
+          rise = rise-all t;
+          keeps = λ told same fills more room gone unclean before. keeps-all t told same room gone unclean before;
+          listed = λ does fills. on t (was.listed t did.does fills);
+          legal = λ fills gone level. legal-losses (world_in given tape' scope first) entries who end (losses_of roles spares) (event ∷ []) (losses-are roles spares)
+              (legal (world_in given tape' scope first) (entries ++ entries_of who end (losses_of roles spares)) (entry_of who end event), tt, tt);
+        })
+      where
+        on : tells → HasListInCourse (OpensFit (world_in given tape scope first)) old course buffer (present given tape) (now (opening_list (world_in given tape scope first)) entries)
+            → HasListInCourse (OpensFit (world_in given tape scope first)) new course buffer (present given tape') (now (opening_list (world_in given tape scope first)) entries)
+        on t l = record {
+          list = l.list;
+          is = λ x lt. l.is x (subst (λ (n : ℕ). x < n) list-same lt);
+          stands = stands-all t (OpensFit (world_in given tape scope first)) l.list l.stands;
+        }
+
+  -- It is a spare: how many steps are left isn't told then.
+  pub added-moves : IsMoving tells given tape' scope first (entries ++ entries_of who end (losses_of roles spares ++ Added slot ∷ [])) new carried' course buffer left
+  added-moves = spare-moves (Added slot) (record { adds = refl; gives = refl; ends = refl; still = λ x values. refl; level = λ n. refl }) (λ told is. tt) (λ world before e. tt)
+
+  -- It was lost in this.
+  pub added-lost-moves : IsMoving tells given tape' scope first (entries ++ entries_of who end (losses_of roles spares ++ Refused (SlotFault slot) ∷ [])) new carried' course buffer left
+  added-lost-moves = spare-moves (Refused (SlotFault slot)) (quiet-refusal (SlotFault slot)) (λ told is. is) (λ world before e. tt)
+
+-- ---- a slot that isn't made a spare
+
+-- It failed at the first look, behind flushes alone.
+pub looked-moves : (tells : Type 0) (given : Given) (tape tape' : List Operation) (scope : Scope) (first : ℕ) (entries : List Entry) (m : Members) (carried : ℕ → Bool)
+    (course : Course) (buffer : List ℕ) (left : ℕ) (who : Who) (end slot : ℕ)
+    → IsMoving tells given tape scope first entries m carried course buffer left → IsCallGoing entries who → IsFalse (who.caller == 254) → (tells → end ≡ length tape') → (tells → OnlyFlushesAdded tape tape')
+    → IsMoving tells given tape' scope first (entries ++ entries_of who end (Refused (SlotFault slot) ∷ [])) m carried course buffer left
+looked-moves tells given tape tape' scope first entries m carried course buffer left who end slot was goes caller at_end looked =
+    early-moves tells given tape tape' scope first entries m m carried course course buffer buffer left left who end [] (λ role. ⊥) (Refused (SlotFault slot)) was goes caller at_end
+    (record { more = λ t. ((looked t).0, (looked t).2) }) (quiet-refusal (SlotFault slot)) was.members_are (few-roles m.newest was.members_are.placed.fit.valid) early-none (λ role lt gone. inl (lt, gone)) refl refl refl was.course_is
+    (λ t. stored-moves scope given m m course.window buffer (disk given.start tape) (disk given.start tape') (moved-same given given m m refl refl was.members_are.placed was.members_are.unlost)
+    (fewer-backup scope course.window (disk given.start tape) (disk given.start tape') (flushed-fewer given.start tape tape' (looked t))) (was.stored t))
+    (left-more left entries who end (Refused (SlotFault slot) ∷ []) was.left_told (λ told is. is))
+    (λ t. record {
+      rise = record { left = λ live. live; events = λ u live. let longer = added-longer tape tape' (looked t) in omega (arith, longer) };
+      keeps = λ told fills more room gone unclean before. flushed-safe (OpensFit (world_in given tape scope first)) scope given told m tape tape' (looked t) before;
+      listed = λ does fills. subst (λ (c : Contents). HasListInCourse (OpensFit (world_in given tape scope first)) m course buffer c (now (opening_list (world_in given tape scope first)) entries))
+          (sym (contents-added given.start tape tape' (looked t))) (was.listed t does fills);
+      legal = λ fills gone level. (tt, tt, tt);
+    })
+
+-- What it is refused for before it is touched is right by the history.
+pub unadded-right : (world : World) (before : List Entry) (given : Given) (backup : Option ℕ) (slot : ℕ) (m : Members) → IsPlaced given m → AreToldGone world before m
+    → tolerance_of (level_at world before) ≡ tolerance (shape_of m.newest) → (refusal : Refusal) → IsUnaddable given backup slot m refusal → IsRefusedRight world before refusal
+unadded-right world before given backup slot m placed gone level (TooManyMissing count most) why = refused-right world before given m placed gone level (TooManyMissing count most) why.2
+unadded-right world before given backup slot m placed gone level (PastEnd visible) why = absurd why
+unadded-right world before given backup slot m placed gone level (NotResynced role) why = absurd why
+unadded-right world before given backup slot m placed gone level refusal why = tt
+
+pub unadded-moves : (tells : Type 0) (given : Given) (tape : List Operation) (scope : Scope) (first : ℕ) (entries : List Entry) (m : Members) (carried : ℕ → Bool)
+    (course : Course) (buffer : List ℕ) (left : ℕ) (who : Who) (end : ℕ) (backup : Option ℕ) (slot : ℕ) (refusal : Refusal)
+    → IsMoving tells given tape scope first entries m carried course buffer left → IsCallGoing entries who → IsFalse (who.caller == 254) → (tells → end ≡ length tape) → IsUnaddable given backup slot m refusal
+    → IsMoving tells given tape scope first (entries ++ entries_of who end (Refused refusal ∷ [])) m carried course buffer left
+unadded-moves tells given tape scope first entries m carried course buffer left who end backup slot refusal was goes caller at_end why =
+    early-moves tells given tape tape scope first entries m m carried course course buffer buffer left left who end [] (λ role. ⊥) (Refused refusal) was goes caller at_end
+    (grows-none (λ t. refl)) (quiet-refusal refusal) was.members_are (few-roles m.newest was.members_are.placed.fit.valid) early-none (λ role lt gone. inl (lt, gone)) refl refl refl was.course_is was.stored
+    (left-more left entries who end (Refused refusal ∷ []) was.left_told (λ told is. is))
+    (λ t. record {
+      rise = record { left = λ live. live; events = λ u live. omega arith };
+      keeps = λ told fills more room gone unclean before. safe-none (OpensFit (world_in given tape scope first)) scope given told m tape before;
+      listed = was.listed t;
+      legal = λ fills gone level. (unadded-right (world_in given tape scope first) entries given backup slot m was.members_are.placed (was.gone t fills) (was.levelled t fills) refusal why, tt, tt);
+    })
