@@ -22,10 +22,12 @@ use Rattle.flat_history.specs.Sound.{OpensFit}
 use Rattle.flat_history.specs.World.{World, opening_list}
 use Rattle.shape_views.specs.Views.{Ledger}
 use Rattle.shape_changes.specs.Safety.{HasRoomLeft, IsRisen}
-use Rattle.shape_changes.specs.Steady.{IsMoreTold, IsSafeNow, IsSafeOver, KeepsSafe, AreGoneTold, IsUncleanTold}
+use Rattle.shape_changes.specs.Steady.{IsMoreTold, IsSafeNow, IsSafeOver, KeepsSafe, AreGoneTold, IsUncleanTold, AreViewsRight, IsSafeStretch}
 use Rattle.views.proofs.SoundViews.{throughout-kept}
 use Rattle.call_entries.proofs.CallLaws.{last_end-behind}
 use Rattle.call_entries.proofs.LosingLaws.{entries-both}
+use Rattle.bank.proofs.Marks.{each_mark-map}
+use Rattle.shape_changes.proofs.Steady.{views-told}
 use Rattle.kept_history.specs.Recorded.{IsHistoryKept, IsLegalCall, IsCallGoing, ends_reshape, gives_some}
 use Rattle.kept_history.specs.Safe.{world_in, IsFilledRight, IsSafeHistory}
 use Rattle.kept_history.specs.Told.{told_now, told_by}
@@ -66,6 +68,14 @@ quiet-last who end event quiet = record {
 
 pub quiet-none : (who : Who) (end : ℕ) → AreQuietLast who end []
 quiet-none who end = record { adds = refl; gives = refl; ends = refl; still = λ x values. refl; level = λ n. refl }
+
+-- more is told of a stretch
+pub stretch-more : (sound : Type 0) (scope : Scope) (given : Given) (told more : Ledger) (m : Members) (before after : List Operation) → IsMoreTold told more
+    → IsSafeStretch sound scope given told m before after → IsSafeStretch sound scope given more m before after
+stretch-more sound scope given told more m before after is stretch = record {
+  marks = each_mark-map (AreViewsRight sound scope given more) (λ t d. views-told sound given told more is scope d) stretch.marks;
+  next = now-more sound scope given told more m (disk given.start after) is stretch.next;
+}
 
 -- ---- the call
 

@@ -70,7 +70,7 @@ use Rattle.history_calls.specs.Reliable.{AreToldGone}
 use Rattle.moving_kept.specs.Moving.{AreReshaping, HasListInCourse, IsMoving}
 use Rattle.history_calls.proofs.Behind.{early-losses, early-none, IsAmong, legal-losses}
 use Rattle.moving_kept.proofs.MembersMove.{reshaping-moved}
-use Rattle.history_calls.proofs.Quiet.{IsQuiet}
+use Rattle.history_calls.proofs.Quiet.{IsQuiet, stretch-more}
 use Rattle.moving_kept.proofs.Quiet.{carrying-moves, early-moves}
 use Rattle.moving_kept.proofs.Refusals.{quiet-refusal, refused-right}
 use Rattle.moving_kept.proofs.Staying.{course-moved}
@@ -148,14 +148,6 @@ fewer-backup scope window d e fewer = record {
 }
 
 -- ---- what is told with the new number
-
--- more is told of a stretch
-stretch-more : (sound : Type 0) (scope : Scope) (given : Given) (told more : Ledger) (m : Members) (before after : List Operation) → IsMoreTold told more
-    → IsSafeStretch sound scope given told m before after → IsSafeStretch sound scope given more m before after
-stretch-more sound scope given told more m before after is stretch = record {
-  marks = each_mark-map (AreViewsRight sound scope given more) (λ t d. views-told sound given told more is scope d) stretch.marks;
-  next = now-more sound scope given told more m (disk given.start after) is stretch.next;
-}
 
 -- these numbers are told instead, which are no fewer
 more-carried : (told : Ledger) (carried : ℕ → Bool) → ((number : ℕ) → told.carried number ≡ true → carried number ≡ true) → IsMoreTold told (record told { carried = carried })

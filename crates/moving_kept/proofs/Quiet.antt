@@ -34,7 +34,7 @@ use Rattle.course_kept.specs.declared.course.Course.{Course}
 use Rattle.course_kept.specs.Course.{IsCourseOf, IsStored, StandsInCourse}
 use Rattle.history_calls.specs.Reliable.{IsReliable, AreToldGone}
 use Rattle.history_calls.proofs.Behind.{AreEarly, AreLostOrMissing, IsAmong, early-losses, legal-losses}
-use Rattle.history_calls.proofs.Quiet.{IsQuiet, IsLeftBehind, fit-later, quiet-last, numbers-leaves, quiet-leaves, quiet-now}
+use Rattle.history_calls.proofs.Quiet.{IsQuiet, IsLeftBehind, fit-later, quiet-last, stretch-more, numbers-leaves, quiet-leaves, quiet-now}
 use Rattle.moving_kept.specs.Moving.{AreReshaping, HasListInCourse, IsMoving}
 
 -- ---- the call
