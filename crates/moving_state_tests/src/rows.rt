@@ -2,13 +2,17 @@
 
 use crate::courses::course_of;
 use crate::members::{Made, are_fit, members_of};
-use md_base::Refusal;
-use moving_state::asking::{steps_left, visible};
+use course_kept::Course;
+use grow_asked::Window;
+use md_base::{Refusal, Span};
+use moving_state::asking::{role_count, steps_left, visible};
+use moving_state::holding::slot_of;
 use moving_state::refusing::{unread_from, unwritten_from};
 use moving_state::reshape::{
     list_sectors, next_window_of, stripe_to_copy, stripe_to_zero, stripes_to_zero, window_stripes,
 };
 use moving_state::stepping::{Due, due_step};
+use moving_state::windows::{hidden_span, meets, open_span, part_in, unsure_span};
 use std::alloc::Global;
 use std::process::Abort;
 use std::test::Fail;
@@ -181,5 +185,38 @@ fn stripes_in_turn(rt: HostRuntime) -> Result<(), Fail> {
             assert!(rt; stripe_to_copy(&members, &span, 2) == 5);
         }
     }
+    Ok(())
+}
+
+#[test]
+fn sectors_in_a_window(rt: HostRuntime) -> Result<(), Fail> {
+    let span = Span { lo: 96, hi: 192 };
+    let entered = Course {
+        window: Window::Entered {
+            span,
+            copied: 1,
+            sectioned: false,
+        },
+        zeroed: 0,
+    };
+    assert!(rt; open_span(&entered) == Some(span));
+    assert!(rt; hidden_span(&entered) == None);
+    assert!(rt; unsure_span(&entered) == None);
+    assert!(rt; part_in(Some(span), 100, 300) == Span { lo: 100, hi: 192 });
+    assert!(rt; part_in(Some(span), 192, 300) == Span { lo: 192, hi: 192 });
+    assert!(rt; meets(Some(span), 90, 97));
+    assert!(rt; !meets(Some(span), 90, 96));
+    assert!(rt; !meets(None, 90, 97));
+    Ok(())
+}
+
+#[test]
+fn holders_of_roles(rt: HostRuntime) -> Result<(), Fail> {
+    let members = members_of(rt.alloc(), (5, 128, (5, 1), 96, 0b10000))?;
+    assert!(rt; are_fit(&members));
+    assert!(rt; role_count(&members) == 5);
+    assert!(rt; slot_of(&members, 3) == Some(3));
+    assert!(rt; slot_of(&members, 4) == None);
+    assert!(rt; slot_of(&members, 5) == None);
     Ok(())
 }
