@@ -1,4 +1,4 @@
-//! Members of an array in a reshape to one disk more, left-symmetric, chunk 8, and whether they are fit to be asked.
+//! Members of an array in a reshape to one disk more or fewer, left-symmetric, chunk 8, and whether they are fit to be asked.
 
 ghost use Rattle.std.specs.Prelude.{◌≡◌, true, length};
 ghost use Rattle.superblocks.specs.Reading.{is_reshaping, role_count};
@@ -14,11 +14,11 @@ use std::test::Fail;
 use superblocks::says::{is_reshaping, old_disks, role_count, shape_of};
 use superblocks::{Members, SbList};
 
-/// The level, the rows, the disks in the end, the position, and a bit for each missing role.
-pub type Made = (u32, u64, u32, u64, u32);
+/// The level, the rows, the disks in the end and how many more these are, the position, and a bit for each missing role.
+pub type Made = (u32, u64, (u32, i32), u64, u32);
 
 // The newest superblock.
-fn newest_of((level, size, disks, reshape_position, _): Made) -> Sb {
+fn newest_of((level, size, (disks, delta_disks), reshape_position, _): Made) -> Sb {
     let blank: Sb = fields_of(&[0; 1024]);
     Sb {
         feature_map: 4,
@@ -30,7 +30,7 @@ fn newest_of((level, size, disks, reshape_position, _): Made) -> Sb {
         new_level: level,
         new_layout: 2,
         new_chunk: 8,
-        delta_disks: 1,
+        delta_disks,
         reshape_position,
         ..blank
     }
@@ -38,9 +38,14 @@ fn newest_of((level, size, disks, reshape_position, _): Made) -> Sb {
 
 /// Each role that isn't missing is on the slot of its number.
 pub fn members_of(alloc: Global, made: Made) -> Result<Members, Fail> {
-    let (_, _, disks, _, missing) = made;
+    let (_, _, (disks, more), _, missing) = made;
+    let count = if more < 0 {
+        disks.saturating_add(1)
+    } else {
+        disks
+    };
     let mut roles = RoleList::new(alloc)?;
-    for role in 0..disks.min(16) {
+    for role in 0..count.min(16) {
         if missing >> role & 1 == 1 {
             roles.push(Role::Missing);
         } else {
@@ -56,7 +61,7 @@ pub fn members_of(alloc: Global, made: Made) -> Result<Members, Fail> {
     })
 }
 
-/// Whether a forward reshape is active whose shapes fit the size and whose position is on their unit or the list's
+/// Whether a reshape is active whose shapes fit the size and whose position is on their unit or the list's
 /// end, and each role has a state.
 pub fn are_fit(members: &Members) -> bool
     ensures fit { result ≡ true → AreShapesFit members.now.newest }
@@ -64,7 +69,7 @@ pub fn are_fit(members: &Members) -> bool
     ensures roles { result ≡ true → length members.now.roles ≡ role_count members.now.newest }
 {
     let newest = &members.newest;
-    if !is_reshaping(newest) || is_backward(newest) || old_disks(newest) > 16 {
+    if !is_reshaping(newest) || old_disks(newest) > 16 {
         return false;
     }
     let old = shape_of(newest);
@@ -77,7 +82,12 @@ pub fn are_fit(members: &Members) -> bool
     }
     let position = newest.reshape_position;
     let end = list_end(&old, &new, newest.size);
-    if position > end || new.level != old.level || old.disks > new.disks {
+    if position > end || new.level != old.level {
+        return false;
+    }
+    if is_backward(newest) && old.disks < new.disks
+        || !is_backward(newest) && new.disks < old.disks
+    {
         return false;
     }
     if position != end && !is_multiple(position, unit(&old, &new) as u32) {

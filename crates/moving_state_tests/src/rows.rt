@@ -2,13 +2,17 @@
 
 use crate::courses::course_of;
 use crate::members::{Made, are_fit, members_of};
-use md_base::Refusal;
-use moving_state::asking::{steps_left, visible};
+use course_kept::Course;
+use grow_asked::Window;
+use md_base::{Refusal, Span};
+use moving_state::asking::{role_count, steps_left, visible};
+use moving_state::holding::slot_of;
 use moving_state::refusing::{unread_from, unwritten_from};
 use moving_state::reshape::{
     list_sectors, next_window_of, stripe_to_copy, stripe_to_zero, stripes_to_zero, window_stripes,
 };
 use moving_state::stepping::{Due, due_step};
+use moving_state::windows::{hidden_span, meets, open_span, part_in, unsure_span};
 use std::alloc::Global;
 use std::process::Abort;
 use std::test::Fail;
@@ -43,52 +47,83 @@ const SHORT: [(Came, (Due, u64)); 7] = [
     ((144, None, 1), (Due::Finish, 1)),
 ];
 
+// Five disks to four over 128 rows, backward: four windows of 96 sectors, four new stripes each, and no stripe behind the list.
+const BACK: [(Came, (Due, u64)); 6] = [
+    ((384, None, 0), (Due::Enter, 25)),
+    ((384, Some(0), 0), (Due::Copy, 24)),
+    ((384, Some(4), 0), (Due::Record, 20)),
+    ((288, None, 0), (Due::Enter, 19)),
+    ((96, Some(3), 0), (Due::Copy, 3)),
+    ((0, None, 0), (Due::Finish, 1)),
+];
+
 /// The members, how many sectors are asked for from which one on, and why they aren't read.
 type Asked = (Made, (u32, u32), Option<Refusal>);
 
-const REFUSED: [Asked; 12] = [
+const REFUSED: [Asked; 16] = [
     // Level 6: two roles missing are done without, three aren't.
-    ((6, 48, 6, 0, 0b110), (0, 128), None),
+    ((6, 48, (6, 1), 0, 0b110), (0, 128), None),
     (
-        (6, 48, 6, 0, 0b1110),
+        (6, 48, (6, 1), 0, 0b1110),
         (0, 1),
         Some(Refusal::TooManyMissing(3, 2)),
     ),
-    ((6, 48, 6, 0, 0), (143, 1), None),
-    ((6, 48, 6, 0, 0), (143, 2), Some(Refusal::PastEnd(144))),
-    ((6, 48, 6, 0, 0b1110), (144, 1), Some(Refusal::PastEnd(144))),
-    // Level 5, with the first window moved: role 4 is of the new shape alone.
-    ((5, 128, 5, 96, 0b10001), (96, 96), None),
+    ((6, 48, (6, 1), 0, 0), (143, 1), None),
+    ((6, 48, (6, 1), 0, 0), (143, 2), Some(Refusal::PastEnd(144))),
     (
-        (5, 128, 5, 96, 0b10001),
+        (6, 48, (6, 1), 0, 0b1110),
+        (144, 1),
+        Some(Refusal::PastEnd(144)),
+    ),
+    // Level 5, with the first window moved: role 4 is of the new shape alone.
+    ((5, 128, (5, 1), 96, 0b10001), (96, 96), None),
+    (
+        (5, 128, (5, 1), 96, 0b10001),
         (95, 1),
         Some(Refusal::TooManyMissing(2, 1)),
     ),
     (
-        (5, 128, 5, 96, 0b10001),
+        (5, 128, (5, 1), 96, 0b10001),
         (95, 2),
         Some(Refusal::TooManyMissing(2, 1)),
     ),
-    ((5, 128, 5, 96, 0b10000), (0, 128), None),
+    ((5, 128, (5, 1), 96, 0b10000), (0, 128), None),
     // Three roles, of which two are of the old shape.
     (
-        (5, 128, 5, 96, 0b10011),
+        (5, 128, (5, 1), 96, 0b10011),
         (96, 1),
         Some(Refusal::TooManyMissing(2, 1)),
     ),
     (
-        (5, 128, 5, 96, 0b10011),
+        (5, 128, (5, 1), 96, 0b10011),
         (95, 2),
         Some(Refusal::TooManyMissing(3, 1)),
     ),
-    ((5, 128, 5, 96, 0b10011), (100, 0), None),
+    ((5, 128, (5, 1), 96, 0b10011), (100, 0), None),
+    // Backward from five disks to four, with the last window moved: role 4 is of the old shape alone.
+    ((5, 128, (4, -1), 288, 0b10001), (288, 96), None),
+    (
+        (5, 128, (4, -1), 288, 0b10001),
+        (287, 2),
+        Some(Refusal::TooManyMissing(2, 1)),
+    ),
+    (
+        (5, 128, (4, -1), 288, 0b10011),
+        (287, 2),
+        Some(Refusal::TooManyMissing(3, 1)),
+    ),
+    (
+        (5, 128, (4, -1), 288, 0b10011),
+        (288, 1),
+        Some(Refusal::TooManyMissing(2, 1)),
+    ),
 ];
 
 // The step that is next, and the steps that are left, with none planned behind.
 fn told(
     rt: &impl Abort,
     alloc: Global,
-    (level, size, disks): (u32, u64, u32),
+    (level, size, disks): (u32, u64, (u32, i32)),
     (position, copied, zeroed): Came,
 ) -> Result<(Due, u64), Fail> {
     let members = members_of(alloc, (level, size, disks, position, 0))?;
@@ -107,11 +142,15 @@ fn told(
 #[test]
 fn steps_in_turn(rt: HostRuntime) -> Result<(), Fail> {
     for (came, wanted) in &STEPS {
-        let told = told(&rt, rt.alloc(), (5, 128, 5), *came)?;
+        let told = told(&rt, rt.alloc(), (5, 128, (5, 1)), *came)?;
+        assert!(rt; told == *wanted);
+    }
+    for (came, wanted) in &BACK {
+        let told = told(&rt, rt.alloc(), (5, 128, (4, -1)), *came)?;
         assert!(rt; told == *wanted);
     }
     for (came, wanted) in &SHORT {
-        let told = told(&rt, rt.alloc(), (6, 48, 6), *came)?;
+        let told = told(&rt, rt.alloc(), (6, 48, (6, 1)), *came)?;
         assert!(rt; told == *wanted);
     }
     Ok(())
@@ -132,7 +171,7 @@ fn refused_requests(rt: HostRuntime) -> Result<(), Fail> {
 
 #[test]
 fn stripes_in_turn(rt: HostRuntime) -> Result<(), Fail> {
-    let members = members_of(rt.alloc(), (5, 128, 5, 96, 0))?;
+    let members = members_of(rt.alloc(), (5, 128, (5, 1), 96, 0))?;
     assert!(rt; are_fit(&members));
     assert!(rt; list_sectors(&members) == 384);
     assert!(rt; visible(&members, Some(100)) == 100);
@@ -146,5 +185,38 @@ fn stripes_in_turn(rt: HostRuntime) -> Result<(), Fail> {
             assert!(rt; stripe_to_copy(&members, &span, 2) == 5);
         }
     }
+    Ok(())
+}
+
+#[test]
+fn sectors_in_a_window(rt: HostRuntime) -> Result<(), Fail> {
+    let span = Span { lo: 96, hi: 192 };
+    let entered = Course {
+        window: Window::Entered {
+            span,
+            copied: 1,
+            sectioned: false,
+        },
+        zeroed: 0,
+    };
+    assert!(rt; open_span(&entered) == Some(span));
+    assert!(rt; hidden_span(&entered) == None);
+    assert!(rt; unsure_span(&entered) == None);
+    assert!(rt; part_in(Some(span), 100, 300) == Span { lo: 100, hi: 192 });
+    assert!(rt; part_in(Some(span), 192, 300) == Span { lo: 192, hi: 192 });
+    assert!(rt; meets(Some(span), 90, 97));
+    assert!(rt; !meets(Some(span), 90, 96));
+    assert!(rt; !meets(None, 90, 97));
+    Ok(())
+}
+
+#[test]
+fn holders_of_roles(rt: HostRuntime) -> Result<(), Fail> {
+    let members = members_of(rt.alloc(), (5, 128, (5, 1), 96, 0b10000))?;
+    assert!(rt; are_fit(&members));
+    assert!(rt; role_count(&members) == 5);
+    assert!(rt; slot_of(&members, 3) == Some(3));
+    assert!(rt; slot_of(&members, 4) == None);
+    assert!(rt; slot_of(&members, 5) == None);
     Ok(())
 }
