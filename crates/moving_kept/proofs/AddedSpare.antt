@@ -76,10 +76,27 @@ use Rattle.moving_kept.proofs.Refusals.{quiet-refusal, refused-right}
 use Rattle.moving_kept.proofs.Staying.{course-moved}
 use Rattle.moving_kept.proofs.Steps.{AreMissingSince, missing-moved}
 
+-- a slot that holds no role and is no spare stays so where another is made one
+pub unused-with : (m : Members) (slot : ℕ) (sb : Sb) (s : ℕ) → s ≢ slot → IsUnused m s → IsUnused (with_spare slot sb m) s
+unused-with m slot sb s other was =
+    live-is (with_spare slot sb m) false s
+    ∙ ap (λ (b : Bool). nat_lt s 32 && ((list_any (is_held_by s) m.roles || b) || false)) (spares-with m slot sb s)
+    ∙ of (nat_lt s 32) (list_any (is_held_by s) m.roles) (has_spare m.spares s) (slot == s) (unequal slot s other) (sym (live-is m false s) ∙ was)
+  where
+    unequal : (a b : ℕ) → b ≢ a → (a == b) ≡ false
+    unequal a b apart = grind (arith, nat_tests, apart)
+
+    of : (below role spare same : Bool) → same ≡ false → (below && ((role || spare) || false)) ≡ false → (below && ((role || (below && (spare || same))) || false)) ≡ false
+    of false role spare same none e = refl
+    of true true spare same none e = absurd (cc)
+    of true false true same none e = absurd (cc)
+    of true false false true none e = absurd (cc)
+    of true false false false none e = refl
+
 -- ---- the members with the spare
 
 module _ (scope : Scope) (given : Given) (m : Members) (slot : ℕ) (sb : Sb) (made : IsSpareSb given m.newest slot sb) (few : given.slots ≤ 32) (there : slot < given.slots) (long : length m.own ≡ 32)
-    (untaken : (role : ℕ) → MayHold m role slot → ⊥) (was : AreReshaping scope given m) where
+    (untaken : (role : ℕ) → MayHold m role slot → ⊥) (apart : backup_of scope ≢ slot) (was : AreReshaping scope given m) where
   unheld : (role : ℕ) → holder (role_state (reading_of m) role) ≡ Some slot → ⊥
   unheld role held = untaken role (inl held)
 
@@ -101,6 +118,7 @@ module _ (scope : Scope) (given : Given) (m : Members) (slot : ℕ) (sb : Sb) (m
   with-reshaping = record {
     placed = with-placed;
     backed = with-backed;
+    aside = unused-with m slot sb (backup_of scope) apart was.aside;
     active = was.active;
     whole = was.whole;
     unlost = unlost-roles given m slot sb made was.placed was.unlost was.free few there long unheld;
@@ -109,23 +127,6 @@ module _ (scope : Scope) (given : Given) (m : Members) (slot : ℕ) (sb : Sb) (m
   }
 
 -- ---- the backup
-
--- a slot that holds no role and is no spare stays so where another is made one
-pub unused-with : (m : Members) (slot : ℕ) (sb : Sb) (s : ℕ) → s ≢ slot → IsUnused m s → IsUnused (with_spare slot sb m) s
-unused-with m slot sb s other was =
-    live-is (with_spare slot sb m) false s
-    ∙ ap (λ (b : Bool). nat_lt s 32 && ((list_any (is_held_by s) m.roles || b) || false)) (spares-with m slot sb s)
-    ∙ of (nat_lt s 32) (list_any (is_held_by s) m.roles) (has_spare m.spares s) (slot == s) (unequal slot s other) (sym (live-is m false s) ∙ was)
-  where
-    unequal : (a b : ℕ) → b ≢ a → (a == b) ≡ false
-    unequal a b apart = grind (arith, nat_tests, apart)
-
-    of : (below role spare same : Bool) → same ≡ false → (below && ((role || spare) || false)) ≡ false → (below && ((role || (below && (spare || same))) || false)) ≡ false
-    of false role spare same none e = refl
-    of true true spare same none e = absurd (cc)
-    of true false true same none e = absurd (cc)
-    of true false false true none e = absurd (cc)
-    of true false false false none e = refl
 
 section-kept : (scope : Scope) (window : Window) (d e : Disk) → ((k : ℕ) (v : Sector) → IsIn (e (backup_of scope) k) v → IsIn (d (backup_of scope) k) v) → IsSectionKept scope window d e
 section-kept scope Closed d e fewer = tt
@@ -136,14 +137,14 @@ section-kept scope (Unsure span) d e fewer = fewer
 -- the backup is such a slot, and kept where nothing but superblocks of live slots is written
 rest-backup : (scope : Scope) (m : Members) (window : Window) (d e : Disk) → IsUnused m (backup_of scope) → IsRestKept m d e → IsBackupKept scope window d e
 rest-backup scope m window d e aside rest = record {
-  headers = λ s v may. rest s 0 v (inl (omega arith)) may;
+  headers = λ v may. rest (backup_of scope) 0 v (inl (omega arith)) may;
   section = section-kept scope window d e (λ k v may. rest (backup_of scope) k v (inr (inl aside)) may);
 }
 
 -- and where slots are flushed
 fewer-backup : (scope : Scope) (window : Window) (d e : Disk) → AreFewer d e → IsBackupKept scope window d e
 fewer-backup scope window d e fewer = record {
-  headers = λ s v may. fewer s 0 v may;
+  headers = λ v may. fewer (backup_of scope) 0 v may;
   section = section-kept scope window d e (λ k v may. fewer (backup_of scope) k v may);
 }
 
@@ -184,12 +185,12 @@ pub record IsSpareMade (tells : Type 0) (given : Given) (tape mid tape' : List O
 module _ (tells : Type 0) (given : Given) (tape mid tape' : List Operation) (scope : Scope) (first : ℕ) (entries : List Entry) (old new : Members) (carried carried' : ℕ → Bool)
     (course : Course) (buffer : List ℕ) (left : ℕ) (who : Who) (end slot : ℕ) (sb : Sb) (roles spares : ℕ)
     (was : IsMoving tells given tape scope first entries old carried course buffer left) (goes : IsCallGoing entries who) (caller : IsFalse (who.caller == 254)) (at_end : tells → end ≡ length tape')
-    (aside : IsUnused old (backup_of scope)) (did : IsSpareMade tells given tape mid tape' scope old new carried carried' slot sb roles) where
+    (did : IsSpareMade tells given tape mid tape' scope old new carried carried' slot sb roles) where
   abbrev with_it : Members
   with_it = with_spare slot sb old
 
   reshaping : AreReshaping scope given with_it
-  reshaping = with-reshaping scope given old slot sb did.made was.slots did.there did.own did.untaken was.members_are
+  reshaping = with-reshaping scope given old slot sb did.made was.slots did.there did.own did.untaken did.apart was.members_are
 
   unheld-it : (role : ℕ) → holder (role_state (reading_of old) role) ≡ Some slot → ⊥
   unheld-it role held = did.untaken role (inl held)
@@ -212,7 +213,7 @@ module _ (tells : Type 0) (given : Given) (tape mid tape' : List Operation) (sco
   -- ---- what stands
 
   backup-all : tells → IsBackupKept scope course.window (disk given.start tape) (disk given.start tape')
-  backup-all t = rest-backup scope with_it course.window (disk given.start tape) (disk given.start tape') (unused-with old slot sb (backup_of scope) did.apart aside)
+  backup-all t = rest-backup scope with_it course.window (disk given.start tape) (disk given.start tape') reshaping.aside
       (λ s k v which may. flushed-fewer given.start tape mid (did.looked t) s k v (did.rest t s k v which may))
 
   stored-all : tells → IsStored scope new course.window buffer (disk given.start tape')
