@@ -12,7 +12,6 @@ use Rattle.md_base.specs.declared.places.Shape.{Shape}
 use Rattle.bank.specs.declared.bank.Operation.{Operation}
 use Rattle.bank.specs.Given.{Given}
 use Rattle.bank.specs.Tape.{Contents, IsIn, disk}
-use Rattle.bank.proofs.Marks.{each_mark-map}
 use Rattle.sb1.specs.declared.sb.Sb.{Sb}
 use Rattle.superblocks.specs.declared.members.Members.{Members}
 use Rattle.superblocks.specs.Reading.{Scope, is_clean, shape_of, list_length, role_state, holder}
@@ -34,8 +33,7 @@ use Rattle.shape_views.specs.Views.{Disk, Ledger}
 use Rattle.shape_views.specs.Windows.{AreFewer}
 use Rattle.shape_changes.specs.Marking.{AreOthersPresent}
 use Rattle.shape_changes.specs.Safety.{HasLiveSlot, HasRoomLeft, IsRisen}
-use Rattle.shape_changes.specs.Steady.{IsMoreTold, AreViewsRight, IsSafeOver, IsSafeStretch, KeepsSafe, AreGoneTold, IsUncleanTold, with_number}
-use Rattle.shape_changes.proofs.Steady.{views-told}
+use Rattle.shape_changes.specs.Steady.{IsMoreTold, IsSafeOver, KeepsSafe, AreGoneTold, IsUncleanTold, with_number}
 use Rattle.shape_changes.proofs.Without.{live-is}
 use Rattle.views.specs.Flushing.{OnlyFlushesAdded}
 use Rattle.views.specs.Moving.{Grows, IsMoved}
@@ -59,7 +57,6 @@ use Rattle.call_entries.proofs.LeftLaws.{TellLeft, left-behind, left-more}
 use Rattle.array_kept.specs.Calls.{IsUnaddable}
 use Rattle.kept_history.specs.Recorded.{IsCallGoing, entry_of}
 use Rattle.kept_history.specs.Safe.{world_in}
-use Rattle.kept_history.proofs.Seen.{now-more}
 use Rattle.course_kept.specs.declared.course.Course.{Course}
 use Rattle.grow_asked.specs.declared.window.Window.{Window}
 use Rattle.grow_asked.specs.declared.window.Window.TheVariants.{Closed, Entered, Unsure}
