@@ -37,7 +37,7 @@ use Rattle.kept_history.proofs.KeptCalls.{kept-call}
 use Rattle.kept_history.proofs.Entered.{adds_only, AreAdding, told-adding, told-added, values-more, length-adding}
 use Rattle.kept_history.proofs.Reshapes.{call-ends_none}
 use Rattle.history_calls.specs.Reliable.{IsReliable, AreToldGone}
-use Rattle.history_calls.proofs.Behind.{AreEarly, first-of, AreLostOrMissing, IsBehind, is-behind, or-false, and-true}
+use Rattle.history_calls.proofs.Behind.{telling-of, AreEarly, first-of, AreLostOrMissing, IsBehind, is-behind, or-false, and-true}
 
 -- An event that leaves the list and the level, settles nothing and neither ends a reshape nor gives a role.
 pub record IsQuiet (event : Event) : Type 0 where
@@ -138,7 +138,7 @@ module _ (given : Given) (tape : List Operation) (scope : Scope) (first : ℕ) (
   all = entries ++ entries_of who (length (tape ++ ops)) (early ++ tail)
 
   behind : IsBehind (world_in given tape scope first) (world_in given (tape ++ ops) scope first) entries new who (length (tape ++ ops)) early tail
-  behind = is-behind given tape scope first entries old new who early IsTaken tail ops (first-of are) quiet.gives quiet.level few missing gone recorded
+  behind = is-behind given tape scope first entries old new who early IsTaken tail ops (telling-of (first-of are)) quiet.gives quiet.level few missing gone recorded
 
   adds-all : AreAdding added
   adds-all = are.adds who end tail quiet.adds
