@@ -69,7 +69,7 @@ use Rattle.calls_kept.proofs.RebuildEnded.{rows-full, moved-vacant}
 use Rattle.kept_history.specs.Recorded.{IsReshapedCall, IsOpenBehind, entry_of}
 use Rattle.kept_history.specs.Told.{told_now}
 use Rattle.kept_history.proofs.Lists.{newest-in}
-use Rattle.kept_history.proofs.Reshapes.{ends-none, reshaped-losses}
+use Rattle.kept_history.proofs.Reshapes.{call-ends_none, ends-none, reshaped-losses}
 use Rattle.kept_history.proofs.Ledgers.{unsynced-still}
 use Rattle.call_entries.proofs.StepLaws.{faults-are}
 use Rattle.history_calls.specs.Reliable.{IsReliable}
@@ -308,6 +308,7 @@ module _ (tells : Type 0) (given : Given) (tape tape' : List Operation) (scope :
         (without-left given old placed was.members_are.unlost does) goes caller at_end did.grows (quiet-none who end) rest did.moved.shape did.moved.size (λ can. does) (early-losses roles spares) missing did.clean
         (λ number is. is) refl (subst (λ (o : Option ℕ). IfSome o (λ mended. mended ≤ stripes_of new)) (sym synced) tt)
         (subst (λ (l : List Event). last_end_from first (entries ++ entries_of who end l) ≡ end) (sym (append-nil (losses_of roles spares))) (losses-end first entries who end (losses_of roles spares) (Lost role Fault) among))
+        (λ t. call-ends_none (world_in given tape' scope first) entries who end (losses_of roles spares ++ []) ((early-losses roles spares).ends [] refl))
         (left-lost left left' entries who end (losses_of roles spares) [] (losses-are roles spares) (λ none. absurd (some-lost (losses_of roles spares) (Lost role Fault) among none)) was.left_told (λ told is. is))
         (λ t can fills. stood-moved (OpensFit (world_in given tape scope first)) work given old new (present given tape) (present given tape') current moved-lost placed (did.others t) (was.listed t does fills))
         (λ t. numbers-kept given tape scope first entries old new (is_carried work) false who (losses_of roles spares) [] tape' end (did.rise t) (keeps t)
