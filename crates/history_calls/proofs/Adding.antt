@@ -38,7 +38,7 @@ use Rattle.kept_history.proofs.KeptCalls.{kept-call}
 use Rattle.kept_history.proofs.Entered.{adds_only, AreAdding, told-adding, told-added, length-adding}
 use Rattle.kept_history.proofs.Reshapes.{call-ends_none}
 use Rattle.history_calls.specs.Reliable.{IsReliable, AreToldGone}
-use Rattle.history_calls.proofs.Behind.{AreFirst, first-of, AreLostOrMissing, IsAmong, IsBehind, early-losses, is-behind, legal-losses, or-false, and-true}
+use Rattle.history_calls.proofs.Behind.{telling-of, AreFirst, first-of, AreLostOrMissing, IsAmong, IsBehind, early-losses, is-behind, legal-losses, or-false, and-true}
 use Rattle.history_calls.proofs.Quiet.{IsLeftBehind}
 
 -- An event that only adds to what is told: it settles nothing, keeps the length and the level, and neither ends a reshape nor gives a role.
@@ -98,7 +98,7 @@ module _ (given : Given) (tape : List Operation) (scope : Scope) (first : ℕ) (
   all = entries ++ entries_of who (length (tape ++ ops)) (early ++ event ∷ [])
 
   behind : IsBehind (world_in given tape scope first) (world_in given (tape ++ ops) scope first) entries new who (length (tape ++ ops)) early (event ∷ [])
-  behind = is-behind given tape scope first entries old new who early IsTaken (event ∷ []) ops are (or-false (gives_some event) false adding.gives refl) adding.level few missing gone recorded
+  behind = is-behind given tape scope first entries old new who early IsTaken (event ∷ []) ops (telling-of are) (or-false (gives_some event) false adding.gives refl) adding.level few missing gone recorded
 
   adds-all : AreAdding added
   adds-all = are.adds who end (event ∷ []) (and-true (adds_only event) true adding.adds refl)

@@ -83,7 +83,14 @@ and-true false b e f = absurd (cc)
 
 -- ---- what stands before the event
 
--- What stands before the event of a call only adds to what is told, and tells these roles lost; it leaves the level, gives no role and ends no reshape.
+-- What stands before the last events of a call only adds to what is told, and tells these roles lost; it leaves the level and gives no role.
+pub record AreTelling (early : List Event) (IsTaken : ℕ → Type 0) : Type 0 where
+  pub adds : (who : Who) (end : ℕ) (tail : List Event) → AreAdding (entries_of who end tail) → AreAdding (entries_of who end (early ++ tail))
+  pub gives : (who : Who) (end : ℕ) (tail : List Event) → list_any (λ e. gives_some e.event) (entries_of who end tail) ≡ false → list_any (λ e. gives_some e.event) (entries_of who end (early ++ tail)) ≡ false
+  pub lost : (who : Who) (end : ℕ) (tail : List Event) (role : ℕ) → role < 16 → IsTaken role → is_lost (entries_of who end (early ++ tail)) role ≡ true
+  pub level : (who : Who) (end : ℕ) (tail : List Event) (n : ℕ) → fold (λ level e. level_after level e.event) n (entries_of who end (early ++ tail)) ≡ fold (λ level e. level_after level e.event) n (entries_of who end tail)
+
+-- The same, and it ends no reshape.
 pub record AreFirst (early : List Event) (IsTaken : ℕ → Type 0) : Type 0 where
   pub adds : (who : Who) (end : ℕ) (tail : List Event) → AreAdding (entries_of who end tail) → AreAdding (entries_of who end (early ++ tail))
   pub gives : (who : Who) (end : ℕ) (tail : List Event) → list_any (λ e. gives_some e.event) (entries_of who end tail) ≡ false → list_any (λ e. gives_some e.event) (entries_of who end (early ++ tail)) ≡ false
@@ -132,6 +139,9 @@ early-none = record {
   values = λ who end tail x values. refl;
 }
 
+pub telling-of : {early : List Event} {IsTaken : ℕ → Type 0} → AreFirst early IsTaken → AreTelling early IsTaken
+telling-of are = record { adds = are.adds; gives = are.gives; lost = are.lost; level = are.level }
+
 -- one of these roles
 abbrev pub IsAmong : ℕ → ℕ → Type 0
 IsAmong roles role = has_slot roles role ≡ true
@@ -170,7 +180,7 @@ pub record IsBehind (world later : World) (entries : List Entry) (new : Members)
   pub opened : opening_list later ≡ opening_list world
 
 module _ (given : Given) (tape : List Operation) (scope : Scope) (first : ℕ) (entries : List Entry) (old new : Members) (who : Who) (early : List Event) (IsTaken : ℕ → Type 0) (tail : List Event) (ops : List Operation)
-    (are : AreFirst early IsTaken) (gives : list_any (λ e. gives_some e.event) (entries_of who (length (tape ++ ops)) tail) ≡ false)
+    (are : AreTelling early IsTaken) (gives : list_any (λ e. gives_some e.event) (entries_of who (length (tape ++ ops)) tail) ≡ false)
     (level : (n : ℕ) → fold (λ level e. level_after level e.event) n (entries_of who (length (tape ++ ops)) tail) ≡ n) (few : role_count new.newest ≤ 16) (missing : AreLostOrMissing old new IsTaken)
     (gone : IsReliable (world_in given tape scope first) entries → AreToldGone (world_in given tape scope first) entries old)
     (recorded : IsHistoryKept (IsReliable (world_in given tape scope first) entries) (world_in given tape scope first) (list_length old.newest) entries) where

@@ -5,7 +5,6 @@ use Rattle.std.specs.List.{list_any, list_all}
 use Rattle.std.specs.Option.{option_map_or}
 use Rattle.std.proofs.lemmas.Bool.Decides.{nat_tests}
 use Rattle.std.proofs.lemmas.List.Sums.{fold-append}
-use Rattle.md_base.specs.Sectors.{Sector}
 use Rattle.md_base.specs.declared.answers.Who.{Who}
 use Rattle.bank.specs.declared.bank.Operation.{Operation}
 use Rattle.bank.specs.Given.{Given, sizes}
@@ -17,7 +16,6 @@ use Rattle.flat_history.specs.declared.events.Entry.{Entry}
 use Rattle.flat_history.specs.declared.events.Event.{Event}
 use Rattle.flat_history.specs.declared.events.Event.TheVariants.{Rebuilt}
 use Rattle.flat_history.specs.Epochs.{HasRoomForEvents, OpensAlike}
-use Rattle.flat_history.specs.Flat.{values_after}
 use Rattle.flat_history.specs.Legal.{level_at, level_after}
 use Rattle.flat_history.specs.Losses.{loses, is_gone_after, is_unsynced}
 use Rattle.flat_history.specs.OneShape.{is_lost, is_unsettled}
@@ -30,7 +28,7 @@ use Rattle.shape_changes.specs.Steady.{IsMoreTold, IsSafeNow, IsSafeOver, KeepsS
 use Rattle.views.proofs.SoundViews.{throughout-kept}
 use Rattle.call_entries.proofs.CallLaws.{last_end-behind}
 use Rattle.call_entries.proofs.LosingLaws.{entries-both}
-use Rattle.kept_history.specs.Recorded.{IsHistoryKept, IsLegalCall, IsCallGoing, IsOpenBehind, entry_of, ends_reshape, gives_some}
+use Rattle.kept_history.specs.Recorded.{IsHistoryKept, IsLegalCall, IsReshapedCall, IsCallGoing, IsOpenBehind, entry_of, gives_some}
 use Rattle.kept_history.specs.Safe.{world_in, IsFilledRight, IsSafeHistory}
 use Rattle.kept_history.specs.Told.{told_now, told_by}
 use Rattle.kept_history.proofs.Growing.{fit-grown, now-grown, alike-before, room-before, room-now}
@@ -38,27 +36,22 @@ use Rattle.kept_history.proofs.Seen.{now-more}
 use Rattle.kept_history.proofs.Calls.{safe-called}
 use Rattle.kept_history.proofs.KeptCalls.{kept-call}
 use Rattle.kept_history.proofs.Entered.{adds_only, AreAdding, told-adding, length-adding}
-use Rattle.kept_history.proofs.Reshapes.{call-ends_none}
 use Rattle.kept_history.proofs.Tests.{none-before}
 use Rattle.kept_history.proofs.Turned.{told-rebuilt, filled-before}
 use Rattle.history_calls.specs.Reliable.{IsReliable, AreToldGone}
-use Rattle.history_calls.proofs.Behind.{AreEarly, first-of, AreLostOrMissing, IsBehind, is-behind, or-false, and-true}
-use Rattle.history_calls.proofs.Quiet.{IsQuiet, IsLeftBehind}
+use Rattle.history_calls.proofs.Behind.{AreTelling, AreLostOrMissing, IsBehind, is-behind, or-false, and-true}
+use Rattle.history_calls.proofs.Quiet.{IsLeftBehind}
 
--- what may stand before an event may with a quiet one behind it
-pub early-then : {early : List Event} {IsTaken : ℕ → Type 0} (event : Event) → AreEarly early IsTaken → IsQuiet event → AreEarly (early ++ event ∷ []) IsTaken
-early-then {early = early} event are quiet = record {
+-- what may stand first may with an event behind it that leaves the level and gives no role
+pub telling-then : {early : List Event} {IsTaken : ℕ → Type 0} (event : Event) → AreTelling early IsTaken → adds_only event ≡ true → gives_some event ≡ false → ((n : ℕ) → level_after n event ≡ n) → AreTelling (early ++ event ∷ []) IsTaken
+telling-then {early = early} event are adding giving level = record {
   adds = λ who end tail adds. subst (λ (l : List Event). AreAdding (entries_of who end l)) (sym (append_assoc early (event ∷ []) tail))
-      (are.adds who end (event ∷ tail) (and-true (adds_only event) (list_all (λ e. adds_only e.event) (entries_of who end tail)) quiet.adds adds));
+      (are.adds who end (event ∷ tail) (and-true (adds_only event) (list_all (λ e. adds_only e.event) (entries_of who end tail)) adding adds));
   gives = λ who end tail none. subst (λ (l : List Event). list_any (λ e. gives_some e.event) (entries_of who end l) ≡ false) (sym (append_assoc early (event ∷ []) tail))
-      (are.gives who end (event ∷ tail) (or-false (gives_some event) (list_any (λ e. gives_some e.event) (entries_of who end tail)) quiet.gives none));
+      (are.gives who end (event ∷ tail) (or-false (gives_some event) (list_any (λ e. gives_some e.event) (entries_of who end tail)) giving none));
   lost = λ who end tail role lt has. subst (λ (l : List Event). is_lost (entries_of who end l) role ≡ true) (sym (append_assoc early (event ∷ []) tail)) (are.lost who end (event ∷ tail) role lt has);
-  ends = λ tail none. subst (λ (l : List Event). list_any ends_reshape l ≡ false) (sym (append_assoc early (event ∷ []) tail))
-      (are.ends (event ∷ tail) (or-false (ends_reshape event) (list_any ends_reshape tail) quiet.ends none));
   level = λ who end tail n. ap (λ (l : List Event). fold (λ level e. level_after level e.event) n (entries_of who end l)) (append_assoc early (event ∷ []) tail)
-      ∙ are.level who end (event ∷ tail) n ∙ ap (λ (m : ℕ). fold (λ level e. level_after level e.event) m (entries_of who end tail)) (quiet.level n);
-  values = λ who end tail x values. ap (λ (l : List Event). fold (λ values e. values_after x values e.event) values (entries_of who end l)) (append_assoc early (event ∷ []) tail)
-      ∙ are.values who end (event ∷ tail) x values ∙ ap (λ (vs : List Sector). fold (λ values e. values_after x values e.event) vs (entries_of who end tail)) (quiet.still x values);
+      ∙ are.level who end (event ∷ tail) n ∙ ap (λ (m : ℕ). fold (λ level e. level_after level e.event) m (entries_of who end tail)) (level n);
 }
 
 -- What is asked of a call, from this tape to that one with its end there, that enters these events and gives this role back: up to its end its marks are judged
@@ -74,9 +67,10 @@ pub record GivesRole (given : Given) (tape : List Operation) (scope : Scope) (fi
       → IsSafeOver (world_in given tape scope first) given told old tape → IsSafeOver (world_in given tape scope first) given (given_back role told) new tape'
   pub legal : IsReliable (world_in given tape' scope first) (entries ++ entries_of who end (early ++ Rebuilt role ∷ [])) → IsReliable (world_in given tape scope first) entries
       → IsLegalCall (world_in given tape' scope first) entries who end (early ++ Rebuilt role ∷ [])
+  pub reshaped : IsReshapedCall (world_in given tape' scope first) entries who end (early ++ Rebuilt role ∷ [])
 
 module _ (given : Given) (tape : List Operation) (scope : Scope) (first : ℕ) (entries : List Entry) (old new : Members) (carried : ℕ → Bool) (reshaping : Bool)
-    (who : Who) (early : List Event) (IsTaken : ℕ → Type 0) (role : ℕ) (ops : List Operation) (are : AreEarly early IsTaken)
+    (who : Who) (early : List Event) (IsTaken : ℕ → Type 0) (role : ℕ) (ops : List Operation) (are : AreTelling early IsTaken)
     (goes : IsCallGoing entries who) (caller : IsFalse (who.caller == 254)) (few : role_count new.newest ≤ 16)
     (open_behind : IsReliable (world_in given (tape ++ ops) scope first) (entries ++ entries_of who (length (tape ++ ops)) (early ++ Rebuilt role ∷ [])) → IsOpenBehind (world_in given (tape ++ ops) scope first) goes.call)
     (missing : AreLostOrMissing old new IsTaken) (whole_is : is_missing (reading_of new) role ≡ false)
@@ -117,7 +111,7 @@ module _ (given : Given) (tape : List Operation) (scope : Scope) (first : ℕ) (
   whole = both ∙ sym (append_assoc entries more (given_at ∷ []))
 
   behind : IsBehind (world_in given tape scope first) (world_in given (tape ++ ops) scope first) entries new who (length (tape ++ ops)) early []
-  behind = is-behind given tape scope first entries old new who early IsTaken [] ops (first-of are) refl (λ n. refl) few missing gone recorded
+  behind = is-behind given tape scope first entries old new who early IsTaken [] ops are refl (λ n. refl) few missing gone recorded
 
   begun : first ≤ length tape
   begun = recorded.begun
@@ -185,7 +179,7 @@ module _ (given : Given) (tape : List Operation) (scope : Scope) (first : ℕ) (
   recorded-all = kept-call (IsReliable world entries) (IsReliable later all) world ops (list_length old.newest) (list_length new.newest) entries who (early ++ Rebuilt role ∷ []) goes recorded right-before caller
       (λ right. inl (open_behind right)) (length-adding (length (opening_list world)) entries added adds-all ∙ recorded.sized ∙ sym sized)
       (last_end-behind first entries who end early (Rebuilt role)) (λ right. call.legal right (right-before right))
-      (λ right fit. call-ends_none later entries who end (early ++ Rebuilt role ∷ []) (are.ends (Rebuilt role ∷ []) refl))
+      (λ right fit. call.reshaped)
 
   -- ---- each mark
 

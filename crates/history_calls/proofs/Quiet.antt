@@ -28,7 +28,7 @@ use Rattle.call_entries.proofs.CallLaws.{last_end-behind}
 use Rattle.call_entries.proofs.LosingLaws.{entries-both}
 use Rattle.bank.proofs.Marks.{each_mark-map}
 use Rattle.shape_changes.proofs.Steady.{views-told}
-use Rattle.kept_history.specs.Recorded.{IsHistoryKept, IsLegalCall, IsCallGoing, ends_reshape, gives_some}
+use Rattle.kept_history.specs.Recorded.{IsHistoryKept, IsLegalCall, IsCallGoing, ends_reshape, gives_some, IsReshapedCall}
 use Rattle.kept_history.specs.Safe.{world_in, IsFilledRight, IsSafeHistory}
 use Rattle.kept_history.specs.Told.{told_now, told_by}
 use Rattle.kept_history.proofs.Growing.{fit-grown, now-grown, alike-before, room-before, room-now}
@@ -39,7 +39,7 @@ use Rattle.kept_history.proofs.KeptCalls.{kept-call}
 use Rattle.kept_history.proofs.Entered.{adds_only, AreAdding, told-adding, told-added, values-more, length-adding}
 use Rattle.kept_history.proofs.Reshapes.{call-ends_none}
 use Rattle.history_calls.specs.Reliable.{IsReliable, AreToldGone}
-use Rattle.history_calls.proofs.Behind.{AreEarly, first-of, AreLostOrMissing, IsBehind, is-behind, or-false, and-true}
+use Rattle.history_calls.proofs.Behind.{telling-of, AreEarly, first-of, AreLostOrMissing, IsBehind, is-behind, or-false, and-true}
 
 -- An event that leaves the list and the level, settles nothing and neither ends a reshape nor gives a role.
 pub record IsQuiet (event : Event) : Type 0 where
@@ -53,7 +53,6 @@ pub record IsQuiet (event : Event) : Type 0 where
 pub record AreQuietLast (who : Who) (end : ℕ) (tail : List Event) : Type 0 where
   pub adds : AreAdding (entries_of who end tail)
   pub gives : list_any (λ e. gives_some e.event) (entries_of who end tail) ≡ false
-  pub ends : list_any ends_reshape tail ≡ false
   pub still : (x : ℕ) (values : List Sector) → fold (λ values e. values_after x values e.event) values (entries_of who end tail) ≡ values
   pub level : (n : ℕ) → fold (λ level e. level_after level e.event) n (entries_of who end tail) ≡ n
 
@@ -61,13 +60,12 @@ pub quiet-last : (who : Who) (end : ℕ) (event : Event) → IsQuiet event → A
 quiet-last who end event quiet = record {
   adds = and-true (adds_only event) true quiet.adds refl;
   gives = or-false (gives_some event) false quiet.gives refl;
-  ends = or-false (ends_reshape event) false quiet.ends refl;
   still = quiet.still;
   level = quiet.level;
 }
 
 pub quiet-none : (who : Who) (end : ℕ) → AreQuietLast who end []
-quiet-none who end = record { adds = refl; gives = refl; ends = refl; still = λ x values. refl; level = λ n. refl }
+quiet-none who end = record { adds = refl; gives = refl; still = λ x values. refl; level = λ n. refl }
 
 -- more is told of a stretch
 pub stretch-more : (sound : Type 0) (scope : Scope) (given : Given) (told more : Ledger) (m : Members) (before after : List Operation) → IsMoreTold told more
@@ -118,7 +116,8 @@ fit-later {given = given} {tape = tape} {scope = scope} {first = first} left =
 module _ (given : Given) (tape : List Operation) (scope : Scope) (first : ℕ) (entries : List Entry) (old new : Members) (carried carried' : ℕ → Bool) (reshaping : Bool)
     (who : Who) (early : List Event) (IsTaken : ℕ → Type 0) (tail : List Event) (ops : List Operation) (are : AreEarly early IsTaken) (carries : (number : ℕ) → carried number ≡ true → carried' number ≡ true)
     (goes : IsCallGoing entries who) (caller : IsFalse (who.caller == 254)) (quiet : AreQuietLast who (length (tape ++ ops)) tail)
-    (ended : last_end_from first (entries ++ entries_of who (length (tape ++ ops)) (early ++ tail)) ≡ length (tape ++ ops)) (few : role_count new.newest ≤ 16)
+    (ended : last_end_from first (entries ++ entries_of who (length (tape ++ ops)) (early ++ tail)) ≡ length (tape ++ ops))
+    (reshaped : IsReshapedCall (world_in given (tape ++ ops) scope first) entries who (length (tape ++ ops)) (early ++ tail)) (few : role_count new.newest ≤ 16)
     (missing : AreLostOrMissing old new IsTaken)
     (sized : list_length new.newest ≡ list_length old.newest) (clean : is_clean new.newest ≡ is_clean old.newest) (sizes_are : scope.sizes ≡ sizes given)
     (gone : IsReliable (world_in given tape scope first) entries → AreToldGone (world_in given tape scope first) entries old)
@@ -148,7 +147,7 @@ module _ (given : Given) (tape : List Operation) (scope : Scope) (first : ℕ) (
   all = entries ++ entries_of who (length (tape ++ ops)) (early ++ tail)
 
   behind : IsBehind (world_in given tape scope first) (world_in given (tape ++ ops) scope first) entries new who (length (tape ++ ops)) early tail
-  behind = is-behind given tape scope first entries old new who early IsTaken tail ops (first-of are) quiet.gives quiet.level few missing gone recorded
+  behind = is-behind given tape scope first entries old new who early IsTaken tail ops (telling-of (first-of are)) quiet.gives quiet.level few missing gone recorded
 
   adds-all : AreAdding added
   adds-all = are.adds who end tail quiet.adds
@@ -189,7 +188,7 @@ module _ (given : Given) (tape : List Operation) (scope : Scope) (first : ℕ) (
   recorded-all = kept-call (IsReliable world entries) (IsReliable later all) world ops (list_length old.newest) (list_length new.newest) entries who (early ++ tail) goes recorded behind.right caller
       (λ fills. inr behind.gives_all) (length-adding (length (opening_list world)) entries added adds-all ∙ recorded.sized ∙ sym sized)
       ended (λ fills. call.legal fills (behind.right fills) (behind.gone_more fills) behind.level_more)
-      (λ fills fit. call-ends_none later entries who end (early ++ tail) (are.ends tail quiet.ends))
+      (λ fills fit. reshaped)
 
   -- ---- each mark
 
@@ -283,7 +282,8 @@ module _ (given : Given) (tape : List Operation) (scope : Scope) (first : ℕ) (
     (call : LeavesList given tape scope first entries old new carried reshaping who early event (tape ++ ops) (length (tape ++ ops))) where
   pub quiet-leaves : IsLeftBehind given tape scope first entries (entries ++ entries_of who (length (tape ++ ops)) (early ++ event ∷ [])) new carried reshaping (tape ++ ops)
   quiet-leaves = numbers-leaves given tape scope first entries old new carried carried reshaping who early IsTaken (event ∷ []) ops are (λ number is. is) goes caller
-      (quiet-last who (length (tape ++ ops)) event quiet) (last_end-behind first entries who (length (tape ++ ops)) early event) few missing sized clean sizes_are gone unclean recorded safe now_safe
+      (quiet-last who (length (tape ++ ops)) event quiet) (last_end-behind first entries who (length (tape ++ ops)) early event)
+      (call-ends_none (world_in given (tape ++ ops) scope first) entries who (length (tape ++ ops)) (early ++ event ∷ []) (are.ends (event ∷ []) (or-false (ends_reshape event) false quiet.ends refl))) few missing sized clean sizes_are gone unclean recorded safe now_safe
       (numbers-of given tape scope first entries old new carried reshaping who early event (tape ++ ops) (length (tape ++ ops)) call)
 
 -- the newest value of each sector is what it was

@@ -41,7 +41,7 @@ use Rattle.kept_history.proofs.KeptCalls.{kept-call}
 use Rattle.kept_history.proofs.Entered.{told-adding, values-more, length-more, length-adding, all-stay, settled-now}
 use Rattle.kept_history.proofs.Reshapes.{call-ends_none}
 use Rattle.history_calls.specs.Reliable.{IsReliable, AreToldGone}
-use Rattle.history_calls.proofs.Behind.{first-of, AreLostOrMissing, IsAmong, IsBehind, early-losses, is-behind, legal-losses, or-false}
+use Rattle.history_calls.proofs.Behind.{telling-of, first-of, AreLostOrMissing, IsAmong, IsBehind, early-losses, is-behind, legal-losses, or-false}
 use Rattle.history_calls.proofs.Quiet.{IsLeftBehind}
 
 -- ---- the event
@@ -174,7 +174,7 @@ module _ (given : Given) (tape : List Operation) (scope : Scope) (first : ℕ) (
   both = entries-both who end losses (event ∷ [])
 
   behind : IsBehind (world_in given tape scope first) (world_in given (tape ++ ops) scope first) entries new who (length (tape ++ ops)) (losses_of roles spares) (event ∷ [])
-  behind = is-behind given tape scope first entries old new who (losses_of roles spares) (IsAmong roles) (event ∷ []) ops (first-of (early-losses roles spares)) (or-false (gives_some event) false settling.gives refl) settling.level few missing gone recorded
+  behind = is-behind given tape scope first entries old new who (losses_of roles spares) (IsAmong roles) (event ∷ []) ops (telling-of (first-of (early-losses roles spares))) (or-false (gives_some event) false settling.gives refl) settling.level few missing gone recorded
 
   -- ---- what is told
 

@@ -8,7 +8,7 @@ use Rattle.flat_history.specs.declared.events.Event.TheVariants.{Lost, SpareLost
 use Rattle.flat_history.specs.declared.events.LostCause.TheVariants.{Fault}
 use Rattle.flat_history.specs.declared.events.StepKind.TheVariants.{Finished}
 use Rattle.flat_history.specs.Plain.{entries_of}
-use Rattle.flat_history.specs.Reshaped.{IsFinishedRight, is_done, plans_after, open_plans, IsReshapedBy}
+use Rattle.flat_history.specs.Reshaped.{behind, comes_with_finish, comes_with_step, IsFinishedRight, is_done, plans_after, open_plans, IsReshapedBy}
 use Rattle.flat_history.specs.World.{World}
 use Rattle.call_entries.specs.Losing.{losses_of}
 use Rattle.call_entries.proofs.CallLaws.{AreLossEvents, losses-are}
@@ -28,9 +28,9 @@ free-finish : (world : World) (before : List Entry) (e : Entry) (rest : List Ent
 free-finish world before e rest (Step Finished left) none = absurd (cc)
 free-finish world before e rest event none = tt
 
-pub ends-right : (world : World) (before : List Entry) (e : Entry) → EndsNothing before e.event → IsReshapedBy world before e []
-ends-right world before e (inl none) = ends-none world before e [] none
-ends-right world before e (inr free) = record { finished = free-finish world before e [] e.event free.1; plans = unplanned world before e [] (is_done e.event) free.0 }
+pub ends-right : (world : World) (before : List Entry) (e : Entry) (rest : List Entry) → EndsNothing before e.event → IsReshapedBy world before e rest
+ends-right world before e rest (inl none) = ends-none world before e rest none
+ends-right world before e rest (inr free) = record { finished = free-finish world before e (behind comes_with_finish e rest) e.event free.1; plans = unplanned world before e (behind comes_with_step e rest) (is_done e.event) free.0 }
 
 -- losses leave the plans that are open
 plans-kept : (who : Who) (end : ℕ) (xs : List Event) (plans : List Entry) → AreLossEvents xs → fold plans_after plans (entries_of who end xs) ≡ plans
@@ -42,12 +42,13 @@ plans-kept who end (event ∷ xs) plans are = absurd are
 plans-behind : (entries : List Entry) (who : Who) (end : ℕ) (xs : List Event) → AreLossEvents xs → open_plans (entries ++ entries_of who end xs) ≡ open_plans entries
 plans-behind entries who end xs are = fold-append plans_after [] entries (entries_of who end xs) ∙ plans-kept who end xs (open_plans entries) are
 
+-- so it does behind losses
+pub ends-behind : (entries : List Entry) (who : Who) (end roles spares : ℕ) (event : Event) → EndsNothing entries event → EndsNothing (entries ++ entries_of who end (losses_of roles spares)) event
+ends-behind entries who end roles spares event (inl none) = inl none
+ends-behind entries who end roles spares event (inr none) = inr (plans-behind entries who end (losses_of roles spares) (losses-are roles spares) ∙ none.0, none.1)
+
 -- so it is of a call that enters losses before it
 pub reshaped-behind : (world : World) (entries : List Entry) (who : Who) (end roles spares : ℕ) (event : Event) → EndsNothing entries event → IsReshapedCall world entries who end (losses_of roles spares ++ event ∷ [])
 reshaped-behind world entries who end roles spares event free =
     reshaped-losses world entries who end (losses_of roles spares) (event ∷ []) (faults-are (losses_of roles spares) (losses-are roles spares))
-    (ends-right world (entries ++ entries_of who end (losses_of roles spares)) (entry_of who end event) (behind free), tt)
-  where
-    behind : EndsNothing entries event → EndsNothing (entries ++ entries_of who end (losses_of roles spares)) event
-    behind (inl none) = inl none
-    behind (inr none) = inr (plans-behind entries who end (losses_of roles spares) (losses-are roles spares) ∙ none.0, none.1)
+    (ends-right world (entries ++ entries_of who end (losses_of roles spares)) (entry_of who end event) [] (ends-behind entries who end roles spares event free), tt)

@@ -16,3 +16,4 @@ pub mod Resync
 pub mod Sparing
 pub mod Bridges
 pub mod Rebuilding
+pub mod Ending

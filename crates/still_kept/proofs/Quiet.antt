@@ -1,5 +1,5 @@
 -- A call that leaves the list as it is, and enters losses, or more, and one event behind them.
-use Rattle.std.proofs.Common.{◌≡◌, ℕ, ◌*◌, ◌≤◌, ◌==◌, Bool, true, false, List, [], ◌∷◌, ◌++◌, length, sym, ◌∙◌, ap, subst}
+use Rattle.std.proofs.Common.{◌≡◌, ℕ, ◌*◌, ◌≤◌, ◌==◌, Bool, true, false, List, [], ◌∷◌, ◌++◌, length, refl, sym, ◌∙◌, ap, subst}
 use Rattle.std.specs.Prelude.{IsFalse, IfSome, is_some}
 use Rattle.std.specs.List.{list_any}
 use Rattle.md_base.specs.Sectors.{Sector}
@@ -30,11 +30,12 @@ use Rattle.views.specs.Numbers.{is_carried}
 use Rattle.views.specs.Status.{stripes_of}
 use Rattle.views.proofs.HeldRows.{without-before}
 use Rattle.call_entries.proofs.CallLaws.{last_end-behind}
-use Rattle.kept_history.specs.Recorded.{IsCallGoing}
+use Rattle.kept_history.proofs.Reshapes.{call-ends_none}
+use Rattle.kept_history.specs.Recorded.{IsCallGoing, IsReshapedCall, ends_reshape}
 use Rattle.kept_history.specs.Safe.{world_in, IsFilledRight}
 use Rattle.kept_history.proofs.Entered.{settle-none}
 use Rattle.kept_history.proofs.Ledgers.{unsynced-still, none-ends}
-use Rattle.history_calls.proofs.Behind.{AreEarly, AreLostOrMissing}
+use Rattle.history_calls.proofs.Behind.{or-false, AreEarly, AreLostOrMissing}
 use Rattle.history_calls.proofs.Quiet.{IsQuiet, AreQuietLast, quiet-last, LeavesNumbers, LeavesList, IsLeftBehind, numbers-leaves, numbers-of, last-now}
 use Rattle.still_kept.specs.Still.{AreAtRest, HasListStood, IsStill}
 use Rattle.still_kept.proofs.Leaving.{safe-now, rest-moved, none-taken, leaves-stands}
@@ -47,12 +48,13 @@ pub tail-stands : (tells : Type 0) (given : Given) (tape tape' : List Operation)
     → AreAtRest given new → shape_of new.newest ≡ shape_of old.newest → new.newest.size ≡ old.newest.size → (DoWithout new → DoWithout old)
     → AreEarly early IsTaken → AreLostOrMissing old new IsTaken → is_clean new.newest ≡ is_clean old.newest
     → ((number : ℕ) → is_carried work number ≡ true → is_carried work' number ≡ true) → is_some work'.resync ≡ is_some work.resync → IfSome work'.resync (λ mended. mended ≤ stripes_of new)
-    → last_end_from first (entries ++ entries_of who end (early ++ tail)) ≡ end → IfSome (told_left (entries ++ entries_of who end (early ++ tail))) (λ n. n ≡ left')
+    → last_end_from first (entries ++ entries_of who end (early ++ tail)) ≡ end → (tells → IsReshapedCall (world_in given tape' scope first) entries who end (early ++ tail))
+    → IfSome (told_left (entries ++ entries_of who end (early ++ tail))) (λ n. n ≡ left')
     → (tells → DoWithout new → IsFilledRight (world_in given tape scope first) entries
     → HasListStood (OpensFit (world_in given tape scope first)) work' new (present given tape') (now (opening_list (world_in given tape scope first)) entries))
     → (tells → LeavesNumbers given tape scope first entries old new (is_carried work) (is_carried work') false who early tail tape' end)
     → IsStill tells given tape' scope first (entries ++ entries_of who end (early ++ tail)) new work' left'
-tail-stands tells given tape tape' scope first entries old new work work' left left' who end early IsTaken tail was live goes caller at_end grows quiet rest shape size before are missing clean carries pends progress ended told listed call =
+tail-stands tells given tape tape' scope first entries old new work work' left left' who end early IsTaken tail was live goes caller at_end grows quiet rest shape size before are missing clean carries pends progress ended reshaped told listed call =
     leaves-stands tells given tape tape' scope first entries (entries ++ added) old new work work' left left' was grows rest (ap (λ (s : Shape). s.level) shape) told progress
     (λ t. unsynced-still (world_in given tape scope first) entries added ends ∙ was.pending t ∙ sym pends)
     (λ does pending. clean ∙ was.dirty (before does) (sym pends ∙ pending))
@@ -73,7 +75,7 @@ tail-stands tells given tape tape' scope first entries old new work work' left l
     sized = list-still new.newest rest.still ∙ (λ i. data_disks (shape i) * size i) ∙ sym (list-still old.newest was.members_are.still)
 
     Then : List Operation → ℕ → Type 0
-    Then l e = AreQuietLast who e tail → last_end_from first (entries ++ entries_of who e (early ++ tail)) ≡ e
+    Then l e = AreQuietLast who e tail → last_end_from first (entries ++ entries_of who e (early ++ tail)) ≡ e → IsReshapedCall (world_in given l scope first) entries who e (early ++ tail)
         → LeavesNumbers given tape scope first entries old new (is_carried work) (is_carried work') false who early tail l e
         → IsLeftBehind given tape scope first entries (entries ++ entries_of who e (early ++ tail)) new (is_carried work') false l
 
@@ -82,9 +84,9 @@ tail-stands tells given tape tape' scope first entries old new work work' left l
         let g = grows.more t in
         subst (λ (l : List Operation). Then l end) (sym g.1)
         (subst (Then (tape ++ g.0)) (sym (at_end t ∙ ap (λ (l : List Operation). length l) g.1))
-        (λ quiet_here ended_here. numbers-leaves given tape scope first entries old new (is_carried work) (is_carried work') false who early IsTaken tail g.0 are carries goes caller quiet_here ended_here (few-roles new.newest rest.placed.fit.valid) missing
+        (λ quiet_here ended_here reshaped_here. numbers-leaves given tape scope first entries old new (is_carried work) (is_carried work') false who early IsTaken tail g.0 are carries goes caller quiet_here ended_here reshaped_here (few-roles new.newest rest.placed.fit.valid) missing
         sized clean was.sizes_are (was.gone t) (was.unclean t) (was.recorded t) (was.safe t) (safe-now was live t)))
-        quiet ended (call t)
+        quiet ended (reshaped t) (call t)
 
 -- So it is with one event.
 pub placed-stands : (tells : Type 0) (given : Given) (tape tape' : List Operation) (scope : Scope) (first : ℕ) (entries : List Entry) (old new : Members) (work work' : Work) (left left' : ℕ)
@@ -101,6 +103,7 @@ pub placed-stands : (tells : Type 0) (given : Given) (tape tape' : List Operatio
 placed-stands tells given tape tape' scope first entries old new work work' left left' who end early IsTaken event was live goes caller at_end grows quiet rest shape size before are missing clean carries pends progress =
     tail-stands tells given tape tape' scope first entries old new work work' left left' who end early IsTaken (event ∷ []) was live goes caller at_end grows (quiet-last who end event quiet)
     rest shape size before are missing clean carries pends progress (last_end-behind first entries who end early event)
+    (λ t. call-ends_none (world_in given tape' scope first) entries who end (early ++ event ∷ []) (are.ends (event ∷ []) (or-false (ends_reshape event) false quiet.ends refl)))
 
 -- So it is where slots were lost, and no more numbers are known.
 pub early-stands : (tells : Type 0) (given : Given) (tape tape' : List Operation) (scope : Scope) (first : ℕ) (entries : List Entry) (old new : Members) (work work' : Work) (left left' : ℕ)

@@ -32,7 +32,7 @@ use Rattle.kept_history.proofs.Idle.{now-adding, idle-call}
 use Rattle.kept_history.proofs.KeptCalls.{kept-call}
 use Rattle.kept_history.proofs.Ledgers.{unsynced-still, none-ends}
 use Rattle.history_calls.specs.Reliable.{IsReliable, AreToldGone}
-use Rattle.history_calls.proofs.Behind.{first-of, IsBehind, is-behind, and-true, or-false, early-none}
+use Rattle.history_calls.proofs.Behind.{first-of, IsBehind, is-behind, and-true, or-false, early-none, telling-of, AreEarly}
 use Rattle.still_kept.specs.Still.{HasListStood, IsStill}
 use Rattle.still_kept.proofs.Ends.{EndsNothing, ends-right}
 
@@ -77,7 +77,7 @@ module _ (tells : Type 0) (given : Given) (tape : List Operation) (scope : Scope
   unfolding Then
   rested-here t right =
       let behind : IsBehind (world_in given tape scope first) (world_in given (tape ++ []) scope first) entries m who (length (tape ++ [])) [] (event ∷ []) =
-      is-behind given tape scope first entries m m who [] (λ role. ⊥) (event ∷ []) [] (first-of early-none) (none (length (tape ++ []))) rests.level (few-roles m.newest was.members_are.placed.fit.valid) (λ role lt miss. inl (lt, miss))
+      is-behind given tape scope first entries m m who [] (λ role. ⊥) (event ∷ []) [] (telling-of (first-of early-none)) (none (length (tape ++ []))) rests.level (few-roles m.newest was.members_are.placed.fit.valid) (λ role lt miss. inl (lt, miss))
       (was.gone t) (was.recorded t) in
       record {
         right = behind.right;
@@ -90,7 +90,7 @@ module _ (tells : Type 0) (given : Given) (tape : List Operation) (scope : Scope
             (λ all. inr behind.gives_all)
             (length-adding (length (opening_list (world_in given tape scope first))) entries (entries_of who (length (tape ++ [])) (event ∷ [])) (adds (length (tape ++ []))) ∙ (was.recorded t).sized)
             (last_end-behind first entries who (length (tape ++ [])) [] event) (λ all. (right (behind.right all), tt, tt))
-            (λ all fit. (ends-right (world_in given (tape ++ []) scope first) entries (entry_of who (length (tape ++ [])) event) free, tt));
+            (λ all fit. (ends-right (world_in given (tape ++ []) scope first) entries (entry_of who (length (tape ++ [])) event) [] free, tt));
       }
 
   rested : tells → IsRested given tape scope first entries (entries ++ entries_of who end (event ∷ [])) m tape

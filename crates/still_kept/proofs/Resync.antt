@@ -70,25 +70,29 @@ pub not-zero : (n : ℕ) → n ≢ 0 → (n == 0) ≡ false
 not-zero n ne = grind (arith, nat_tests, ne)
 
 -- a step that is one less is legal
-step-is : (world : World) (before : List Entry) (e : Entry) (kind : StepKind) (left : ℕ) → IfSome (told_left before) (λ n. n ≡ left + 1) → IsStep world before e [] kind left
-step-is world before e kind left told = free (is_free_step world before kind) (known (list_any (λ e. disturbs e.event) (call_before before e ++ [])) (told_left before) told)
+step-is : (world : World) (before : List Entry) (e : Entry) (rest : List Entry) (kind : StepKind) (left : ℕ) → IfSome (told_left before) (λ n. n ≡ left + 1) → IsStep world before e rest kind left
+step-is world before e rest kind left told = free (is_free_step world before kind) (known (list_any (λ e. disturbs e.event) (call_before before e ++ rest)) (told_left before) told)
   where
     known : (b : Bool) (o : Option ℕ) → IfSome o (λ n. n ≡ left + 1) → IfSome (cond b None o) (λ n. left + 1 ≡ n)
     known true o is = tt
     known false None is = tt
     known false (Some n) is = sym is
 
-    free : (b : Bool) → IfSome (known_left before e []) (λ n. left + 1 ≡ n) → MatchBool b ⊤ (IfSome (known_left before e []) (λ n. left + 1 ≡ n))
+    free : (b : Bool) → IfSome (known_left before e rest) (λ n. left + 1 ≡ n) → MatchBool b ⊤ (IfSome (known_left before e rest) (λ n. left + 1 ≡ n))
     free true is = tt
     free false is = is
 
 -- behind losses too, where without them one step more was left
-pub step-behind : (world : World) (entries : List Entry) (who : Who) (end roles spares : ℕ) (kind : StepKind) (left left' : ℕ) → IfSome (told_left entries) (λ n. n ≡ left) → (losses_of roles spares ≡ [] → left' + 1 ≡ left)
-    → IsStep world (entries ++ entries_of who end (losses_of roles spares)) (entry_of who end (Step kind left')) [] kind left'
-step-behind world entries who end roles spares kind left left' told less =
-    step-is world (entries ++ entries_of who end (losses_of roles spares)) (entry_of who end (Step kind left')) kind left'
+pub step-between : (world : World) (entries : List Entry) (who : Who) (end roles spares : ℕ) (rest : List Entry) (kind : StepKind) (left left' : ℕ) → IfSome (told_left entries) (λ n. n ≡ left) → (losses_of roles spares ≡ [] → left' + 1 ≡ left)
+    → IsStep world (entries ++ entries_of who end (losses_of roles spares)) (entry_of who end (Step kind left')) rest kind left'
+step-between world entries who end roles spares rest kind left left' told less =
+    step-is world (entries ++ entries_of who end (losses_of roles spares)) (entry_of who end (Step kind left')) rest kind left'
     (subst (λ (l : List Event). IfSome (told_left (entries ++ entries_of who end l)) (λ n. n ≡ left' + 1)) (append-nil (losses_of roles spares))
     (left-lost left (left' + 1) entries who end (losses_of roles spares) [] (losses-are roles spares) less told (λ told is. is)))
+
+pub step-behind : (world : World) (entries : List Entry) (who : Who) (end roles spares : ℕ) (kind : StepKind) (left left' : ℕ) → IfSome (told_left entries) (λ n. n ≡ left) → (losses_of roles spares ≡ [] → left' + 1 ≡ left)
+    → IsStep world (entries ++ entries_of who end (losses_of roles spares)) (entry_of who end (Step kind left')) [] kind left'
+step-behind world entries who end roles spares kind left left' = step-between world entries who end roles spares [] kind left left'
 
 -- what is left behind it is what it tells
 pub told-step : (entries : List Entry) (who : Who) (end roles spares : ℕ) (kind : StepKind) (left' : ℕ) → IfSome (told_left (entries ++ entries_of who end (losses_of roles spares ++ Step kind left' ∷ []))) (λ n. n ≡ left')
