@@ -1,5 +1,5 @@
 -- A call that leaves the list as it is, and enters losses and one event behind them.
-use Rattle.std.proofs.Common.{◌≡◌, ℕ, ◌≤◌, ◌==◌, ◌||◌, Bool, true, false, List, [], ◌∷◌, ◌++◌, length, sym, ◌∙◌, ap, subst}
+use Rattle.std.proofs.Common.{◌≡◌, ℕ, ◌≤◌, ◌==◌, ◌||◌, Bool, true, false, List, [], ◌∷◌, ◌++◌, length, refl, sym, ◌∙◌, ap, subst}
 use Rattle.std.specs.Prelude.{IsFalse, IfSome, ⊤}
 use Rattle.md_base.specs.Sectors.{Sector}
 use Rattle.md_base.specs.Shapes.{tolerance_of}
@@ -27,13 +27,14 @@ use Rattle.shape_changes.specs.Steady.{IsMoreTold, IsSafeOver, KeepsSafe, AreGon
 use Rattle.views.specs.Moving.{Grows}
 use Rattle.call_entries.specs.Losing.{losses_of}
 use Rattle.call_entries.proofs.CallLaws.{losses-are, last_end-behind}
-use Rattle.kept_history.specs.Recorded.{IsHistoryKept, IsLegalCall, IsCallGoing, entry_of}
+use Rattle.kept_history.specs.Recorded.{IsHistoryKept, IsLegalCall, IsCallGoing, entry_of, ends_reshape}
 use Rattle.kept_history.specs.Safe.{world_in, IsFilledRight, IsSafeHistory}
 use Rattle.kept_history.specs.Told.{told_now}
 use Rattle.course_kept.specs.declared.course.Course.{Course}
 use Rattle.course_kept.specs.Course.{IsCourseOf, IsStored, StandsInCourse}
+use Rattle.kept_history.proofs.Reshapes.{call-ends_none}
 use Rattle.history_calls.specs.Reliable.{IsReliable, AreToldGone}
-use Rattle.history_calls.proofs.Behind.{AreEarly, AreLostOrMissing, IsAmong, early-losses, legal-losses}
+use Rattle.history_calls.proofs.Behind.{AreEarly, AreLostOrMissing, IsAmong, early-losses, legal-losses, or-false}
 use Rattle.history_calls.proofs.Quiet.{IsQuiet, IsLeftBehind, fit-later, quiet-last, stretch-more, numbers-leaves, quiet-leaves, quiet-now}
 use Rattle.moving_kept.specs.Moving.{AreReshaping, HasListInCourse, IsMoving}
 
@@ -188,7 +189,8 @@ carrying-moves tells given tape tape' scope first entries old new carried carrie
         subst (λ (l : List Operation). Then l end) (sym g.1)
         (subst (Then (tape ++ g.0)) (sym (at_end t ∙ ap (λ (l : List Operation). length l) g.1))
         (λ call_to. numbers-leaves given tape scope first entries old new carried carried' true who early IsTaken (event ∷ []) g.0 are carries goes caller (quiet-last who (length (tape ++ g.0)) event quiet)
-        (last_end-behind first entries who (length (tape ++ g.0)) early event) few missing sized clean was.sizes_are
+        (last_end-behind first entries who (length (tape ++ g.0)) early event)
+        (call-ends_none (world_in given (tape ++ g.0) scope first) entries who (length (tape ++ g.0)) (early ++ event ∷ []) (are.ends (event ∷ []) (or-false (ends_reshape event) false quiet.ends refl))) few missing sized clean was.sizes_are
         (was.gone t) (was.unclean t) (was.recorded t) (was.safe t) (was.now_safe t) (record {
           rise = call_to.rise;
           keeps = λ before told right first_more more same_before same_told room gone unclean safe.
