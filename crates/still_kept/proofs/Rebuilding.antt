@@ -26,7 +26,7 @@ use Rattle.call_entries.proofs.CallLaws.{last_end-behind}
 use Rattle.calls_kept.proofs.RebuildLaws.{losses-end, some-lost}
 use Rattle.calls_kept.proofs.RebuildFilled.{not-vacant}
 use Rattle.kept_history.specs.Recorded.{IsLegalCall}
-use Rattle.history_calls.proofs.Quiet.{AreQuietLast, quiet-last, quiet-none, numbers-kept, numbers-of}
+use Rattle.history_calls.proofs.Quiet.{AreQuietLast, quiet-none, numbers-kept, numbers-of}
 use Rattle.flat_history.specs.Transfers.{last_end_from}
 use Rattle.kept_history.specs.Recorded.{IsReshapedCall}
 use Rattle.kept_history.proofs.Reshapes.{call-ends_none}

@@ -32,7 +32,7 @@ use Rattle.kept_history.proofs.Idle.{now-adding, idle-call}
 use Rattle.kept_history.proofs.KeptCalls.{kept-call}
 use Rattle.kept_history.proofs.Ledgers.{unsynced-still, none-ends}
 use Rattle.history_calls.specs.Reliable.{IsReliable, AreToldGone}
-use Rattle.history_calls.proofs.Behind.{first-of, IsBehind, is-behind, and-true, or-false, early-none, telling-of, AreEarly}
+use Rattle.history_calls.proofs.Behind.{first-of, IsBehind, is-behind, and-true, or-false, early-none, telling-of}
 use Rattle.still_kept.specs.Still.{HasListStood, IsStill}
 use Rattle.still_kept.proofs.Ends.{EndsNothing, ends-right}
 
