@@ -33,10 +33,11 @@ use Rattle.shape_views.specs.Windows.{IsCopyable}
 use Rattle.shape_changes.specs.Safety.{HasRoomLeft, IsRisen}
 use Rattle.shape_changes.specs.Steady.{IsSafeOver, KeepsSafe, AreGoneTold, IsUncleanTold}
 use Rattle.views.specs.Moving.{Grows, IsMoved}
+use Rattle.views.specs.Placed.{is_vacant}
 use Rattle.views.specs.Lacking.{IsOfStripe, AreOtherRowsKept}
 use Rattle.safe_updates.specs.Unused.{IsUnusedKept}
 use Rattle.views.proofs.Fit.{list-alike, count-alike}
-use Rattle.views.proofs.HeldRows.{without-before}
+use Rattle.views.proofs.HeldRows.{without-before, missing-before, vacant-missing}
 use Rattle.call_entries.specs.Losing.{losses_of}
 use Rattle.call_entries.proofs.CallLaws.{AreLossEvents, losses-are}
 use Rattle.call_entries.proofs.LeftLaws.{left-behind, left-more, fold-left}
@@ -120,6 +121,17 @@ pub missing-moved : {given : Given} {old new : Members} (roles : ℕ) → IsMove
 missing-moved {old = old} {new = new} roles moved since role lt gone = elim (since role lt gone) [
   | inl was ↦ inl (subst (λ (n : ℕ). role < n) (count-alike old.newest new.newest moved.reshape moved.shape moved.size) lt, was)
   | inr has ↦ inr has
+]
+
+-- so it is where those that no slot holds now had none before, or were lost
+pub missing-since : {given : Given} {old new : Members} (roles : ℕ) → IsMoved given old new
+    → ((role : ℕ) → role < role_count new.newest → is_vacant (reading_of new) role ≡ true → (is_vacant (reading_of old) role ≡ true) ⊎ (has_slot roles role ≡ true)) → AreMissingSince old new roles
+missing-since {old = old} roles moved vacant role lt gone = elim (missing-before moved role gone) [
+  | inl was ↦ inl was
+  | inr none ↦ elim (vacant role lt none) [
+    | inl was ↦ inl (vacant-missing (reading_of old) role was)
+    | inr has ↦ inr has
+  ]
 ]
 
 -- ---- a stripe is copied
