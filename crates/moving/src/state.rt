@@ -7,9 +7,6 @@ ghost use Rattle.flat_history.specs.Flat.{next_number};
 ghost use Rattle.grow_asked.specs.Left.{phases_of, zeroed_by, IsReshapeUnderWay, IsWindowRight};
 ghost use Rattle.moving.specs.Ready.{left_in};
 
-mod asking;
-mod ending;
-mod failing;
 mod settling;
 
 use bank::Bank;
