@@ -59,11 +59,25 @@ impl<B: Bank> Moving<B> {
         ensures first { result.1.first ≡ self.parts.first }
         ensures last { B.tells → result.1.last ≡ length (B.tape self.parts.bank) }
     {
-        let mut moving = self;
-        moving.steps = 0;
-        check_number(&moving.epoch.entries, who);
-        let end = moving.bank.ops();
-        enter(&mut moving.epoch, who, end, Event::Halted);
-        moving.bank_and_epoch()
+        let Moving {
+            alloc: _,
+            bank,
+            mut epoch,
+            backup: _,
+            members: _,
+            work: _,
+            course: _,
+            ahead: _,
+            steps: _,
+            rows: _,
+            buffer: _,
+            far_rows: _,
+            far_buffer: _,
+            window: _,
+        } = self;
+        check_number(&epoch.entries, who);
+        let end = bank.ops();
+        enter(&mut epoch, who, end, Event::Halted);
+        (bank, epoch)
     }
 }
