@@ -7,6 +7,8 @@ ghost use Rattle.flat_history.specs.Flat.{next_number};
 ghost use Rattle.grow_asked.specs.Left.{phases_of, zeroed_by, IsReshapeUnderWay, IsWindowRight};
 ghost use Rattle.moving.specs.Ready.{left_in};
 
+mod asking;
+mod ending;
 mod settling;
 
 use bank::Bank;
