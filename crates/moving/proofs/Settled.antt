@@ -1,13 +1,10 @@
 -- A flush of an array in a reshape, from what `settle` says of it.
-use Rattle.std.proofs.Common.{◌≡◌, ◌≢◌, inl, inr, ℕ, ◌≤◌, ◌==◌, Bool, true, false, Option, Some, None, List, [], ◌∷◌, ◌++◌, length, refl, sym, ◌∙◌, ap, subst, arith}
+use Rattle.std.proofs.Common.{◌≡◌, ◌≢◌, inl, inr, ℕ, ◌==◌, Option, Some, List, [], ◌∷◌, ◌++◌, sym, ◌∙◌, ap, subst, arith}
 use Rattle.std.specs.Prelude.{IsFalse, MatchOption, ⊤}
 use Rattle.std.proofs.lemmas.Bool.Decides.{nat_tests}
 use Rattle.md_base.specs.declared.answers.Refusal.{Refusal}
 use Rattle.superblocks.specs.declared.members.Members.{Members}
-use Rattle.superblocks.specs.Reading.{Scope}
 use Rattle.bank.specs.declared.bank.Operation.{Operation}
-use Rattle.bank.specs.Given.{Given}
-use Rattle.flat_history.specs.World.{opening_list}
 use Rattle.md_base.specs.declared.answers.Who.{Who}
 use Rattle.std.proofs.lemmas.List.Elements.{All-nil, All-cons}
 use Rattle.flat_history.specs.declared.events.Entry.{Entry}
@@ -18,10 +15,7 @@ use Rattle.history_laws.proofs.OneShapeGrowing.{one}
 use Rattle.views.specs.Rebuilding.{Held}
 use Rattle.shape_changes.specs.Safety.{IsRisen}
 use Rattle.views.specs.Lacking.{AreTooMany}
-use Rattle.views.specs.Moving.{Grows, IsMoved}
 use Rattle.array_kept.specs.Calls.{IsSettling, IsLossBy, AreLossesOf}
-use Rattle.array_kept.proofs.ReadyLaws.{opening-later}
-use Rattle.kept_history.specs.Safe.{world_in}
 use Rattle.moving_kept.proofs.Settling as law
 
 -- a caller that isn't the opening
