@@ -9,6 +9,7 @@ ghost use Rattle.moving.specs.Ready.{left_in};
 
 mod asking;
 mod ending;
+mod failing;
 mod settling;
 
 use bank::Bank;
