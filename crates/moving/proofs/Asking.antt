@@ -1,0 +1,79 @@
+-- What an array in a reshape tells of itself, and what it keeps after that, and after its end.
+use Rattle.std.proofs.Common.{◌≡◌, ◌≢◌, ℕ, ◌++◌, Bool, Option, List, [], ◌∷◌, length, refl, sym, ◌∙◌, arith}
+use Rattle.md_base.specs.declared.answers.Who.{Who}
+use Rattle.md_base.specs.declared.status.Status.{Status}
+use Rattle.bank.specs.declared.bank.Operation.{Operation}
+use Rattle.bank.specs.Given.{Given}
+use Rattle.superblocks.specs.declared.members.Members.{Members}
+use Rattle.superblocks.specs.Reading.{Scope}
+use Rattle.row_io.proofs.Lacks.{unequal}
+use Rattle.flat_history.specs.declared.events.Entry.{Entry}
+use Rattle.flat_history.specs.declared.events.Epoch.{Epoch}
+use Rattle.flat_history.specs.declared.events.Event.TheVariants.{Shown, Halted}
+use Rattle.flat_history.specs.Epochs.{world_of}
+use Rattle.flat_history.specs.Flat.{next_number}
+use Rattle.flat_history.specs.Plain.{entries_of}
+use Rattle.flat_history.proofs.SoundLaws.{stays-throughout}
+use Rattle.history_laws.proofs.NumberLaws.{safe-throughout}
+use Rattle.call_entries.proofs.LeftLaws.{keeps-left}
+use Rattle.array_kept.specs.Kept.{scope_in}
+use Rattle.kept_history.specs.Recorded.{entry_of}
+use Rattle.kept_history.proofs.Records.{begins-going}
+use Rattle.history_calls.specs.Reliable.{IsReliable}
+use Rattle.history_calls.proofs.Quiet.{IsQuiet}
+use Rattle.course_kept.specs.declared.course.Course.{Course}
+use Rattle.moving_kept.specs.Moving.{IsMoving}
+use Rattle.moving_kept.proofs.Resting.{resting-moves}
+use Rattle.moving.specs.Ready.{MovingParts}
+use Rattle.moving.specs.Calls.{IsStatusFor, IsEpochKept}
+
+-- two statuses that tell the same array are the same
+pub status-same : {B : Type 0} (array : MovingParts B) (one other : Status) → IsStatusFor array one → IsStatusFor array other → one ≡ other
+status-same array one other a b i = record {
+  shape = (a.shape ∙ sym b.shape) i;
+  target = (a.target ∙ sym b.target) i;
+  position = (a.position ∙ sym b.position) i;
+  size = (a.size ∙ sym b.size) i;
+  length = (a.length ∙ sym b.length) i;
+  visible = (a.visible ∙ sym b.visible) i;
+  clean = (a.clean ∙ sym b.clean) i;
+  events = (a.events ∙ sym b.events) i;
+  left = (a.left ∙ sym b.left) i;
+  roles = (a.roles ∙ sym b.roles) i;
+  spares = (a.spares ∙ sym b.spares) i;
+}
+
+shown-quiet : (status : Status) → IsQuiet (Shown status)
+shown-quiet status = record { adds = refl; gives = refl; ends = refl; still = λ x values. refl; level = λ n. refl }
+
+halted-quiet : IsQuiet Halted
+halted-quiet = record { adds = refl; gives = refl; ends = refl; still = λ x values. refl; level = λ n. refl }
+
+-- what an array keeps behind a call that makes no device call
+module _ {tells : Type 0} {given : Given} {tape : List Operation} {scope : Scope} {first : ℕ} {entries : List Entry} {members : Members} {carried : ℕ → Bool} {course : Course} {buffer : List ℕ} {left : ℕ}
+    (who : Who) (end : ℕ) (was : IsMoving tells given tape scope first entries members carried course buffer left)
+    (number : who.number ≡ next_number who.caller entries) (caller : who.caller ≢ 254) (at_end : tells → end ≡ length tape) where
+  pub shown-moves : (status : Status) → status.left ≡ left → IsMoving tells given tape scope first (entries ++ entries_of who end (Shown status ∷ [])) members carried course buffer left
+  shown-moves status steps = resting-moves tells given tape scope first entries members carried course buffer left who end (Shown status) was (begins-going entries who number) (unequal who.caller 254 caller) at_end
+      (shown-quiet status) (λ told is. steps) (λ t right. keeps-left left entries (entry_of who end (Shown status)) [] status.left was.left_told steps)
+
+  pub halted-moves : IsMoving tells given tape scope first (entries ++ entries_of who end (Halted ∷ [])) members carried course buffer left
+  halted-moves = resting-moves tells given tape scope first entries members carried course buffer left who end Halted was (begins-going entries who number) (unequal who.caller 254 caller) at_end
+      halted-quiet (λ told is. is) (λ t right. tt)
+
+-- the epoch that is handed out
+pub epoch-kept : {tells : Type 0} {members : Members} {carried : ℕ → Bool} {course : Course} {buffer : List ℕ} {left : ℕ} (given : Given) (tape : List Operation) (backup : Option ℕ) (epoch : Epoch)
+    → IsMoving tells given tape (scope_in given epoch.uuid epoch.given backup) epoch.first epoch.entries.items members carried course buffer left → tells → epoch.last ≡ length tape
+    → IsReliable (world_of given tape backup epoch) epoch.entries.items → IsEpochKept given tape backup epoch
+epoch-kept given tape backup epoch was t last right =
+    let recorded = was.recorded t in
+    let world = world_of given tape backup epoch in
+    let safe = was.safe t right.fills right.room right.alike in
+    record {
+      begins = omega (arith, recorded.begun, last);
+      ends = omega (arith, last);
+      legal = recorded.legal right;
+      safe = safe-throughout world epoch.entries.items epoch.last (omega (arith, last)) safe.past;
+      sound = stays-throughout world epoch.entries.items epoch.last (omega (arith, last)) (safe.sound tt);
+      reshaped = recorded.reshaped right;
+    }

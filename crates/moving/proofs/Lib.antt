@@ -1,0 +1,5 @@
+pub mod Kept
+pub mod Settled
+pub mod Asking
+pub mod Called
+pub mod TakenOut

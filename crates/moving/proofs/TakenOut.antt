@@ -1,0 +1,68 @@
+-- A slot that is taken out of an array in a reshape, and the naming of what is missing then.
+use Rattle.std.proofs.Common.{◌≡◌, ◌⊎◌, inl, inr, ℕ, ◌<◌, ◌==◌, true, Some, List, sym, ◌∙◌}
+use Rattle.md_base.specs.Shapes.{has_slot}
+use Rattle.bank.specs.declared.bank.Operation.{Operation}
+use Rattle.bank.specs.Given.{Given}
+use Rattle.bank.specs.Tape.{disk}
+use Rattle.superblocks.specs.declared.members.Members.{Members}
+use Rattle.superblocks.specs.Reading.{is_clean, role_count, role_state, holder}
+use Rattle.superblocks.proofs.ValidFields.{few-roles}
+use Rattle.row_io.specs.Rows.{reading_of, present, is_missing, members_without}
+use Rattle.shape_changes.specs.Marking.{AreOthersPresent}
+use Rattle.shape_changes.specs.Safety.{IsRisen}
+use Rattle.shape_changes.specs.Steady.{AreUnlost}
+use Rattle.views.specs.Lacking.{HaveFailedSince, AreLostSince}
+use Rattle.views.specs.Moving.{IsMoved}
+use Rattle.views.specs.Placed.{IsPlaced}
+use Rattle.views.specs.Under.{IsRestKept}
+use Rattle.views.proofs.Fit.{count-alike}
+use Rattle.views.proofs.HeldRows.{missing-before, vacant-missing}
+use Rattle.views.proofs.LackingLaws.{AreVacant, AreNewlyVacant, lost-since}
+use Rattle.views.proofs.MovedLaws.{moved-then}
+use Rattle.safe_updates.proofs.Unused.{unused-moved, rest-unused}
+use Rattle.array_kept.proofs.KeptLaws.{NamesSafe}
+use Rattle.calls_kept.proofs.FailedLaws.{placed-out, moved-out, out-only, clean-out, rise-out, named-out}
+use Rattle.history_calls.proofs.Failed.{IsFailedOrAmong}
+use Rattle.moving_kept.proofs.Failing.{IsTakenOut}
+
+module _ (given : Given) (old mid new : Members) (lost slot role : ℕ) (was : IsPlaced given old) (unlost : AreUnlost old) (is : mid ≡ members_without lost old) (alone : (s : ℕ) → has_slot lost s ≡ (slot == s))
+    (held : holder (role_state (reading_of old) role) ≡ Some slot) (moved : IsMoved given mid new) where
+  out : IsMoved given old mid
+  out = moved-out given old mid lost slot role was unlost is alone held
+
+  pub moved-all : IsMoved given old new
+  moved-all = moved-then given old mid new out moved
+
+  module _ (count before_set roles spares : ℕ) (before after : ℕ → ℕ) (failed : HaveFailedSince mid new spares before after) (count_is : count ≡ role_count old.newest)
+      (vacant : AreVacant mid count before_set) (newly : AreNewlyVacant new count before_set roles) where
+    -- what was lost while it was named
+    pub since-out : AreLostSince mid new roles spares before after
+    since-out = lost-since given mid new count before_set roles spares before after (placed-out given old mid lost slot role was unlost is alone held) moved failed
+        (count_is ∙ sym (count-alike old.newest mid.newest out.reshape out.shape out.size)) vacant newly
+
+    -- what is missing was so before, or it is the role that was taken out, or it was lost besides
+    missing-out : (other : ℕ) → other < role_count new.newest → is_missing (reading_of new) other ≡ true → (is_missing (reading_of old) other ≡ true) ⊎ IsFailedOrAmong role roles other
+    missing-out other lt gone = elim (missing-before moved-all other gone) [
+      | inl was_gone ↦ inl was_gone
+      | inr none ↦ elim (since-out.vacant other lt none) [
+        | inl former ↦ elim (out-only given old mid lost slot role was unlost is alone held other former) [
+          | inl first ↦ inl (vacant-missing (reading_of old) other first)
+          | inr same ↦ inr (inl same)
+        ]
+        | inr has ↦ inr (inr has)
+      ]
+    ]
+
+    pub taken-out : (tells : Type 0) (tape tape' : List Operation) → is_clean new.newest ≡ is_clean mid.newest → IsRisen tells mid new tape tape'
+        → (tells → AreOthersPresent (present given tape) (present given tape')) → (tells → IsRestKept mid (disk given.start tape) (disk given.start tape'))
+        → NamesSafe tells given mid new tape tape' → IsTakenOut tells given tape tape' old new role roles
+    taken-out tells tape tape' clean rise others rest safe = record {
+      moved = moved-all;
+      few = few-roles new.newest moved.placed.fit.valid;
+      since = missing-out;
+      clean = clean ∙ clean-out old mid lost is;
+      rise = λ t. let risen = rise-out old mid lost is new tape tape' rise in record { left = risen.left; events = λ always live. risen.events t live };
+      others = others;
+      unused = λ t s k v unused may. rest-unused mid (disk given.start tape) (disk given.start tape') (rest t) s k v (unused-moved given old mid out s unused) may;
+      safe = named-out old mid lost is given new tape tape' safe;
+    }

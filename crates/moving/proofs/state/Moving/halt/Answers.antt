@@ -1,0 +1,30 @@
+use Rattle.std.proofs.Common.{◌≡◌, ℕ, Some, List, [], ◌∷◌, ◌++◌, refl, sym, ◌∙◌, ap, subst}
+use Rattle.superblocks.specs.Reading.{Scope}
+use Rattle.flat_history.specs.declared.events.Entry.{Entry}
+use Rattle.flat_history.specs.declared.events.Event.TheVariants.{Halted}
+use Rattle.flat_history.specs.Flat.{next_number}
+use Rattle.flat_history.specs.Plain.{entries_of}
+use Rattle.views.specs.Numbers.{is_carried}
+use Rattle.array_kept.specs.Kept.{scope_in}
+use Rattle.array_kept.proofs.ReadyLaws.{scope-same}
+use Rattle.moving_kept.specs.Moving.{IsMoving}
+use Rattle.moving.specs.Ready.{left_in, bytes_in}
+use Rattle.moving.proofs.Asking.{halted-moves, epoch-kept}
+use Rattle.moving.proofs.state.Moving.halt.Goals as goal
+
+pub returns-clause-right : goal.returns-clause-right
+returns-clause-right g c =
+    let a = c.self.inside in
+    let epoch = c.enter.new.epoch in
+    let given = g.B.Bank.given a.bank in
+    let tape = g.B.Bank.tape a.bank in
+    let buffer = bytes_in a.course.window a.window.items in
+    let left = left_in a.members a.course a.ahead in
+    let number : c.args.who.number ≡ next_number c.args.who.caller a.epoch.entries.items = c.requires.next ∙ ap (λ p. next_number c.args.who.caller p.parts.entries) (sym c.self.view_is) in
+    let kept = halted-moves c.args.who c.ops-end.result c.self.invariant.kept number c.requires.caller c.ops-end.ensures.count in
+    let same =
+    subst (λ (l : List Entry). IsMoving g.B.Bank.tells given tape (scope_in given epoch.uuid epoch.given (Some a.backup)) epoch.first l a.members (is_carried a.work) a.course buffer left) (sym c.enter.ensures.items)
+    (subst (λ (n : ℕ). IsMoving g.B.Bank.tells given tape (scope_in given epoch.uuid epoch.given (Some a.backup)) n (a.epoch.entries.items ++ entries_of c.args.who c.ops-end.result (Halted ∷ [])) a.members (is_carried a.work) a.course buffer left) (sym c.enter.ensures.first)
+    (subst (λ (s : Scope). IsMoving g.B.Bank.tells given tape s a.epoch.first (a.epoch.entries.items ++ entries_of c.args.who c.ops-end.result (Halted ∷ [])) a.members (is_carried a.work) a.course buffer left)
+    (sym (scope-same given (Some a.backup) refl c.enter.ensures.uuid c.enter.ensures.given)) kept)) in
+    rw (← c.self.view_is) (λ t right. epoch-kept given tape (Some a.backup) epoch same t (c.enter.ensures.last ∙ c.ops-end.ensures.count t) right)

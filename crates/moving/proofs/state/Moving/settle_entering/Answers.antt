@@ -1,0 +1,272 @@
+use Rattle.std.proofs.Common.{◌≡◌, ℕ, false, [], ◌∷◌, ◌++◌, Some, refl, sym, ◌∙◌, ap, subst, arith}
+use Rattle.superblocks.proofs.ValidFields.{few-roles}
+use Rattle.flat_history.specs.declared.events.Event.TheVariants.{Refused}
+use Rattle.flat_history.specs.Flat.{next_number}
+use Rattle.flat_history.specs.Plain.{entries_of}
+use Rattle.views.proofs.LackingLaws.{lost-since}
+use Rattle.views.proofs.MovedLaws.{grows-none}
+use Rattle.call_entries.specs.Losing.{losses_of}
+use Rattle.array_kept.specs.Kept.{scope_in}
+use Rattle.array_kept.proofs.LossLaws.{losses-behind, ended-behind, behind-alone, settling-no-loss}
+use Rattle.array_kept.proofs.ReadyLaws.{scope-same, list-same}
+use Rattle.kept_history.specs.Safe.{world_in}
+use Rattle.kept_history.proofs.Records.{begins-going}
+use Rattle.views.specs.Numbers.{is_carried}
+use Rattle.moving_kept.specs.Moving.{IsMoving}
+use Rattle.moving_kept.proofs.Flushing.{flushed-moves, unflushed-moves, AreFlushed}
+use Rattle.moving_kept.proofs.Refusals.{quiet-refusal, refused-right}
+use Rattle.moving_kept.proofs.Resting.{resting-moves}
+use Rattle.moving_kept.proofs.Steps.{missing-since}
+use Rattle.moving.specs.Ready.{left_in, bytes_in}
+use Rattle.moving.proofs.Kept.{ready, shapes-same, shapes-moved, left-moved}
+use Rattle.moving.proofs.Settled.{other, settles-so, risen-told, many-of, refused-loses}
+use Rattle.moving.proofs.state.Moving.settle_entering.Goals as goal
+
+pub overflow_cast-count : goal.overflow_cast-count
+overflow_cast-count g c =
+    let members = c.self.invariant.kept.members_are in
+    let few = few-roles c.self.inside.members.newest members.placed.fit.valid in
+    let roles = members.backed.roles in
+    let long = c.len-count.ensures in
+    omega (arith, few, roles, long)
+
+pub vacant_roles-before-requires-clause-few : goal.vacant_roles-before-requires-clause-few
+vacant_roles-before-requires-clause-few g c =
+    let members = c.self.invariant.kept.members_are in
+    let few = few-roles c.self.inside.members.newest members.placed.fit.valid in
+    let roles = members.backed.roles in
+    let long = c.len-count.ensures in
+    omega (arith, few, roles, long)
+
+pub newly_vacant-roles-requires-clause-few : goal.newly_vacant-roles-requires-clause-few
+newly_vacant-roles-requires-clause-few g c =
+    let members = c.self.invariant.kept.members_are in
+    let few = few-roles c.self.inside.members.newest members.placed.fit.valid in
+    let roles = members.backed.roles in
+    let long = c.len-count.ensures in
+    omega (arith, few, roles, long)
+
+pub returns-in-Some-clause-answered : goal.returns-in-Some-clause-answered
+returns-in-Some-clause-answered g c =
+    rw (← c.self.view_is) (behind-alone c.args.who c.ops-end.result (Refused c.in-Some.refusal) c.make_room.ensures.items c.enter.ensures.items)
+
+pub invariant_of-self-2 : goal.invariant_of-self-2
+invariant_of-self-2 g c =
+    let was = c.self.invariant in
+    let a = c.self.inside in
+    let given = g.B.Bank.given a.bank in
+    let scope = scope_in given a.epoch.uuid a.epoch.given (Some a.backup) in
+    let number : c.args.who.number ≡ next_number c.args.who.caller a.epoch.entries.items = c.requires.next ∙ ap (λ p. next_number c.args.who.caller p.parts.entries) (sym c.self.view_is) in
+    let m = c.settle-settled.new.members in
+    let did = c.settle-settled.ensures in
+    let tape = g.B.Bank.tape a.bank in
+    let tape' = g.B.Bank.tape c.settle-settled.new.bank in
+    let roles = c.newly_vacant-roles.result in
+    let spares = c.settle-settled.result.spares in
+    let end = c.ops-end-2.result in
+    let since = lost-since given a.members m c.len-count.result c.vacant_roles-before.result roles spares (g.B.Bank.faults_of a.bank) (g.B.Bank.faults_of c.settle-settled.new.bank) was.kept.members_are.placed did.moved did.failed
+    (c.len-count.ensures ∙ was.kept.members_are.backed.roles) c.vacant_roles-before.ensures c.newly_vacant-roles.ensures in
+    let flushed : AreFlushed g.B.Bank.tells given tape tape' scope a.epoch.first a.epoch.entries.items a.members m roles false =
+    record {
+      moved = did.moved;
+      few = few-roles m.newest did.moved.placed.fit.valid;
+      since = missing-since roles did.moved since.vacant;
+      rise = risen-told did.rise;
+      others = did.others;
+      unused = did.unused;
+      pending = was.settled;
+      dirty = λ t does is. absurd (cc);
+      safe = did.safe;
+    } in
+    let kept = flushed-moves g.B.Bank.tells given tape tape' scope a.epoch.first a.epoch.entries.items a.members m (is_carried a.work) a.course (bytes_in a.course.window a.window.items) (left_in a.members a.course a.ahead)
+    c.args.who end roles spares false was.kept (begins-going a.epoch.entries.items c.args.who number) (other c.args.who.caller c.requires.caller) c.ops-end-2.ensures.count did.grows flushed c.args.event (settles-so c.args.event c.requires.event)
+    (record { clean = did.clean c.in_default-refusal.is; settled = did.settled c.in_default-refusal.is }) in
+    ready (entries_of c.args.who end (losses_of roles spares ++ c.args.event ∷ [])) was did.grows (shapes-moved given a.members m did.moved)
+    (subst (λ (left : ℕ). IsMoving g.B.Bank.tells given tape' scope a.epoch.first (a.epoch.entries.items ++ entries_of c.args.who end (losses_of roles spares ++ c.args.event ∷ [])) m (is_carried a.work) a.course (bytes_in a.course.window a.window.items) left)
+    (sym (left-moved given a.members m a.course a.ahead did.moved)) kept)
+    refl did.counts did.given (scope-same given (Some a.backup) did.given c.enter_behind-2.ensures.uuid c.enter_behind-2.ensures.given) c.enter_behind-2.ensures.first c.make_room.ensures.items c.enter_behind-2.ensures.items
+    (omega (arith, c.enter_behind-2.ensures.room, c.in-Ok.ensures.ok))
+
+pub invariant_of-self-in-Some-refusal : goal.invariant_of-self-in-Some-refusal
+invariant_of-self-in-Some-refusal g c =
+    let was = c.self.invariant in
+    let a = c.self.inside in
+    let given = g.B.Bank.given a.bank in
+    let scope = scope_in given a.epoch.uuid a.epoch.given (Some a.backup) in
+    let number : c.args.who.number ≡ next_number c.args.who.caller a.epoch.entries.items = c.requires.next ∙ ap (λ p. next_number c.args.who.caller p.parts.entries) (sym c.self.view_is) in
+    let m = c.settle-settled.new.members in
+    let did = c.settle-settled.ensures in
+    let tape = g.B.Bank.tape a.bank in
+    let tape' = g.B.Bank.tape c.settle-settled.new.bank in
+    let roles = c.newly_vacant-roles.result in
+    let spares = c.settle-settled.result.spares in
+    let end = c.ops-end-2.result in
+    let refusal = c.in-Some-refusal.refusal in
+    let since = lost-since given a.members m c.len-count.result c.vacant_roles-before.result roles spares (g.B.Bank.faults_of a.bank) (g.B.Bank.faults_of c.settle-settled.new.bank) was.kept.members_are.placed did.moved did.failed
+    (c.len-count.ensures ∙ was.kept.members_are.backed.roles) c.vacant_roles-before.ensures c.newly_vacant-roles.ensures in
+    let flushed : AreFlushed g.B.Bank.tells given tape tape' scope a.epoch.first a.epoch.entries.items a.members m roles false =
+    record {
+      moved = did.moved;
+      few = few-roles m.newest did.moved.placed.fit.valid;
+      since = missing-since roles did.moved since.vacant;
+      rise = risen-told did.rise;
+      others = did.others;
+      unused = did.unused;
+      pending = was.settled;
+      dirty = λ t does is. absurd (cc);
+      safe = did.safe;
+    } in
+    let kept = unflushed-moves g.B.Bank.tells given tape tape' scope a.epoch.first a.epoch.entries.items a.members m (is_carried a.work) a.course (bytes_in a.course.window a.window.items) (left_in a.members a.course a.ahead)
+    c.args.who end roles spares false was.kept (begins-going a.epoch.entries.items c.args.who number) (other c.args.who.caller c.requires.caller) c.ops-end-2.ensures.count did.grows flushed refusal
+    (many-of m c.settle-settled.result.refusal refusal c.in-Some-refusal.is did.refused) in
+    ready (entries_of c.args.who end (losses_of roles spares ++ Refused refusal ∷ [])) was did.grows (shapes-moved given a.members m did.moved)
+    (subst (λ (left : ℕ). IsMoving g.B.Bank.tells given tape' scope a.epoch.first (a.epoch.entries.items ++ entries_of c.args.who end (losses_of roles spares ++ Refused refusal ∷ [])) m (is_carried a.work) a.course (bytes_in a.course.window a.window.items) left)
+    (sym (left-moved given a.members m a.course a.ahead did.moved)) kept)
+    refl did.counts did.given (scope-same given (Some a.backup) did.given c.enter_behind.ensures.uuid c.enter_behind.ensures.given) c.enter_behind.ensures.first c.make_room.ensures.items c.enter_behind.ensures.items
+    (omega (arith, c.enter_behind.ensures.room, c.in-Ok.ensures.ok))
+
+pub returns-clause-called : goal.returns-clause-called
+returns-clause-called g c =
+    let was = c.self.invariant in
+    let a = c.self.inside in
+    let given = g.B.Bank.given a.bank in
+    let scope = scope_in given a.epoch.uuid a.epoch.given (Some a.backup) in
+    let m = c.settle-settled.new.members in
+    let did = c.settle-settled.ensures in
+    let before = g.B.Bank.faults_of a.bank in
+    let after = g.B.Bank.faults_of c.settle-settled.new.bank in
+    let roles = c.newly_vacant-roles.result in
+    let spares = c.settle-settled.result.spares in
+    let end = c.ops-end-2.result in
+    let since = lost-since given a.members m c.len-count.result c.vacant_roles-before.result roles spares before after was.kept.members_are.placed did.moved did.failed
+    (c.len-count.ensures ∙ was.kept.members_are.backed.roles) c.vacant_roles-before.ensures c.newly_vacant-roles.ensures in
+    rw (← c.self.view_is) (record {
+      grows = did.grows;
+      ended = ended-behind (g.B.Bank.tape c.settle-settled.new.bank) c.enter_behind-2.new.epoch.first c.make_room.new.self.items c.args.who end (losses_of roles spares) c.args.event c.enter_behind-2.ensures.items c.ops-end-2.ensures.count;
+      held = did.moved.held;
+      spares = did.moved.fewer;
+      losses = losses-behind a.members m before after a.epoch.entries.items c.make_room.new.self.items c.enter_behind-2.new.epoch.entries.items c.args.who end roles spares
+          c.args.event since (settling-no-loss a.members before after c.args.event c.requires.event) c.make_room.ensures.items c.enter_behind-2.ensures.items;
+      never_falls = did.counts;
+      work = refl;
+      same = record {
+        array = record {
+          uuid = c.enter_behind-2.ensures.uuid;
+          given = c.enter_behind-2.ensures.given;
+          first = c.enter_behind-2.ensures.first;
+          backup = refl;
+          shape = did.moved.shape;
+          size = did.moved.size;
+          list = list-same given scope a.epoch.first refl
+              (scope-same given (Some a.backup) refl c.enter_behind-2.ensures.uuid c.enter_behind-2.ensures.given) c.enter_behind-2.ensures.first did.grows (λ t. (was.kept.recorded t).begun);
+        };
+        final = did.moved.reshape.final;
+        backward = did.moved.reshape.backward;
+        ahead = refl;
+      };
+    })
+
+pub returns-clause-others : goal.returns-clause-others
+returns-clause-others g c = rw (← c.self.view_is) c.settle-settled.ensures.others
+
+pub returns-clause-failed : goal.returns-clause-failed
+returns-clause-failed g c = rw (← c.self.view_is) c.settle-settled.ensures.failed.roles
+
+pub returns-clause-flushed : goal.returns-clause-flushed
+returns-clause-flushed g c = rw (← c.self.view_is) c.settle-settled.ensures.flushed
+
+pub returns-in-Some-refusal-clause-others : goal.returns-in-Some-refusal-clause-others
+returns-in-Some-refusal-clause-others g c = rw (← c.self.view_is) c.settle-settled.ensures.others
+
+pub returns-in-Some-refusal-clause-failed : goal.returns-in-Some-refusal-clause-failed
+returns-in-Some-refusal-clause-failed g c = rw (← c.self.view_is) c.settle-settled.ensures.failed.roles
+
+pub invariant_of-self-in-Some : goal.invariant_of-self-in-Some
+invariant_of-self-in-Some g c =
+    let was = c.self.invariant in
+    let a = c.self.inside in
+    let given = g.B.Bank.given a.bank in
+    let scope = scope_in given a.epoch.uuid a.epoch.given (Some a.backup) in
+    let number : c.args.who.number ≡ next_number c.args.who.caller a.epoch.entries.items = c.requires.next ∙ ap (λ p. next_number c.args.who.caller p.parts.entries) (sym c.self.view_is) in
+    let tape = g.B.Bank.tape a.bank in
+    let end = c.ops-end.result in
+    let refusal = c.in-Some.refusal in
+    let kept = resting-moves g.B.Bank.tells given tape scope a.epoch.first a.epoch.entries.items a.members (is_carried a.work) a.course (bytes_in a.course.window a.window.items) (left_in a.members a.course a.ahead)
+    c.args.who end (Refused refusal) was.kept (begins-going a.epoch.entries.items c.args.who number) (other c.args.who.caller c.requires.caller) c.ops-end.ensures.count (quiet-refusal refusal) (λ told is. is)
+    (λ t right. refused-right (world_in given tape scope a.epoch.first) a.epoch.entries.items given a.members was.kept.members_are.placed (was.kept.gone t right) (was.kept.levelled t right) refusal c.in-Some.ensures) in
+    ready (entries_of c.args.who end (Refused refusal ∷ [])) was (grows-none (λ t. refl)) (shapes-same a.members.newest) kept
+    refl (λ slot. omega arith) refl (scope-same given (Some a.backup) refl c.enter.ensures.uuid c.enter.ensures.given) c.enter.ensures.first c.make_room.ensures.items c.enter.ensures.items
+    (omega (arith, c.enter.ensures.room, c.in-Ok.ensures.ok))
+
+pub returns-in-Some-clause-called : goal.returns-in-Some-clause-called
+returns-in-Some-clause-called g c =
+    let was = c.self.invariant in
+    let a = c.self.inside in
+    let given = g.B.Bank.given a.bank in
+    let scope = scope_in given a.epoch.uuid a.epoch.given (Some a.backup) in
+    let end = c.ops-end.result in
+    let refusal = c.in-Some.refusal in
+    rw (← c.self.view_is) (record {
+      grows = grows-none (λ t. refl);
+      ended = ended-behind (g.B.Bank.tape a.bank) c.enter.new.epoch.first c.make_room.new.self.items c.args.who end [] (Refused refusal) c.enter.ensures.items c.ops-end.ensures.count;
+      held = λ role slot held. held;
+      spares = λ slot spare. spare;
+      losses = refused-loses a.members (g.B.Bank.faults_of a.bank) (g.B.Bank.faults_of a.bank) a.epoch.entries.items c.make_room.new.self.items c.enter.new.epoch.entries.items c.args.who end refusal c.make_room.ensures.items c.enter.ensures.items;
+      never_falls = λ slot. omega arith;
+      work = refl;
+      same = record {
+        array = record {
+          uuid = c.enter.ensures.uuid;
+          given = c.enter.ensures.given;
+          first = c.enter.ensures.first;
+          backup = refl;
+          shape = refl;
+          size = refl;
+          list = list-same given scope a.epoch.first refl (scope-same given (Some a.backup) refl c.enter.ensures.uuid c.enter.ensures.given) c.enter.ensures.first (grows-none (λ t. refl)) (λ t. (was.kept.recorded t).begun);
+        };
+        final = refl;
+        backward = refl;
+        ahead = refl;
+      };
+    })
+
+pub returns-in-Some-refusal-clause-called : goal.returns-in-Some-refusal-clause-called
+returns-in-Some-refusal-clause-called g c =
+    let was = c.self.invariant in
+    let a = c.self.inside in
+    let given = g.B.Bank.given a.bank in
+    let scope = scope_in given a.epoch.uuid a.epoch.given (Some a.backup) in
+    let m = c.settle-settled.new.members in
+    let did = c.settle-settled.ensures in
+    let before = g.B.Bank.faults_of a.bank in
+    let after = g.B.Bank.faults_of c.settle-settled.new.bank in
+    let roles = c.newly_vacant-roles.result in
+    let spares = c.settle-settled.result.spares in
+    let end = c.ops-end-2.result in
+    let since = lost-since given a.members m c.len-count.result c.vacant_roles-before.result roles spares before after was.kept.members_are.placed did.moved did.failed
+    (c.len-count.ensures ∙ was.kept.members_are.backed.roles) c.vacant_roles-before.ensures c.newly_vacant-roles.ensures in
+    rw (← c.self.view_is) (record {
+      grows = did.grows;
+      ended = ended-behind (g.B.Bank.tape c.settle-settled.new.bank) c.enter_behind.new.epoch.first c.make_room.new.self.items c.args.who end (losses_of roles spares) (Refused c.in-Some-refusal.refusal) c.enter_behind.ensures.items c.ops-end-2.ensures.count;
+      held = did.moved.held;
+      spares = did.moved.fewer;
+      losses = losses-behind a.members m before after a.epoch.entries.items c.make_room.new.self.items c.enter_behind.new.epoch.entries.items c.args.who end roles spares
+          (Refused c.in-Some-refusal.refusal) since tt c.make_room.ensures.items c.enter_behind.ensures.items;
+      never_falls = did.counts;
+      work = refl;
+      same = record {
+        array = record {
+          uuid = c.enter_behind.ensures.uuid;
+          given = c.enter_behind.ensures.given;
+          first = c.enter_behind.ensures.first;
+          backup = refl;
+          shape = did.moved.shape;
+          size = did.moved.size;
+          list = list-same given scope a.epoch.first refl
+              (scope-same given (Some a.backup) refl c.enter_behind.ensures.uuid c.enter_behind.ensures.given) c.enter_behind.ensures.first did.grows (λ t. (was.kept.recorded t).begun);
+        };
+        final = did.moved.reshape.final;
+        backward = did.moved.reshape.backward;
+        ahead = refl;
+      };
+    })

@@ -1,0 +1,101 @@
+-- What the calls of an array in a reshape tell of it, and what none of them changes.
+use Rattle.std.specs.Prelude.{◌≡◌, ℕ, ◌<◌, ◌≤◌, Bool, List, length, Option, Some, None, Result, Ok, Err}
+use Rattle.md_base.specs.declared.answers.Fault.{Fault}
+use Rattle.md_base.specs.declared.answers.Fault.TheVariants.{Refused as IsRefusedWith, NoMemory}
+use Rattle.md_base.specs.declared.answers.Who.{Who}
+use Rattle.md_base.specs.declared.places.Span.{Span}
+use Rattle.md_base.specs.declared.status.Status.{Status}
+use Rattle.geometry.specs.Geometry.{stripes, zeroed_stripes}
+use Rattle.bank.specs.Given.{Given, NeverFalls}
+use Rattle.bank.specs.declared.bank.Operation.{Operation}
+use Rattle.superblocks.specs.Reading.{is_backward, is_clean, shape_of, final_shape, list_length, next_window}
+use Rattle.flat_history.specs.declared.events.Entry.{Entry}
+use Rattle.flat_history.specs.declared.events.Epoch.{Epoch}
+use Rattle.flat_history.specs.declared.events.Event.TheVariants.{Step, Refused}
+use Rattle.flat_history.specs.declared.events.StepKind.{StepKind}
+use Rattle.flat_history.specs.CrashSafe.{IsCrashSafe}
+use Rattle.flat_history.specs.Epochs.{world_of}
+use Rattle.flat_history.specs.Legal.{IsLegal}
+use Rattle.flat_history.specs.Reshaped.{IsReshaped}
+use Rattle.flat_history.specs.Sound.{OpensFit, StaysSound}
+use Rattle.flat_history.specs.World.{World}
+use Rattle.views.specs.Placed.{AreStillHeld}
+use Rattle.views.specs.Moving.{Grows}
+use Rattle.array_kept.specs.Calls.{world_for, IsBehind, AreSparesFewer, AreLossesOf, IsEndOf, IsSameArray}
+use Rattle.course_kept.specs.Laws.{entered, closed}
+use Rattle.moving.specs.Ready.{MovingParts, left_in}
+
+-- this status tells the array as it is
+pub record IsStatusFor {B : Type 0} (array : MovingParts B) (status : Status) : Type 0 where
+  pub shape : status.shape ≡ shape_of array.parts.members.newest
+  pub target : status.target ≡ Some (final_shape array.parts.members.newest)
+  pub position : status.position ≡ array.parts.members.newest.reshape_position
+  pub size : status.size ≡ array.parts.members.newest.size
+  pub length : status.length ≡ list_length array.parts.members.newest
+  pub visible : status.visible ≡ list_length array.parts.members.newest
+  pub clean : status.clean ≡ is_clean array.parts.members.newest
+  pub events : status.events ≡ array.parts.members.newest.events
+  pub left : status.left ≡ left_in array.parts.members array.course array.ahead
+  pub roles : status.roles ≡ array.parts.members.roles
+  pub spares : status.spares ≡ array.parts.members.spares
+
+-- its world over its bank
+abbrev pub moving_world : {B : Type 0} → Given → List Operation → MovingParts B → World
+moving_world given tape array = world_for given tape array.parts
+
+-- It is the same array in the same reshape, and the same phases are ahead of it.
+pub record IsSameReshape {B : Type 0} (tells : Type 0) (old new : MovingParts B) (before after : World) : Type 0 where
+  pub array : IsSameArray tells old.parts new.parts before after
+  pub final : final_shape new.parts.members.newest ≡ final_shape old.parts.members.newest
+  pub backward : is_backward new.parts.members.newest ≡ is_backward old.parts.members.newest
+  pub ahead : new.ahead ≡ old.ahead
+
+-- What each call leaves that is done or refused: more was done on the bank, and the entries end with that; each role and each spare has the slot that it had, or none;
+-- each loss has its cause; and it is the same array, in the same reshape.
+pub record IsCalled {B : Type 0} (tells : Type 0) (given : Given) (tape tape' : List Operation) (before after : ℕ → ℕ) (old new : MovingParts B) : Type 0 where
+  pub grows : Grows tells tape tape'
+  pub ended : IsEndOf tells new.parts.first new.parts.entries tape'
+  pub held : AreStillHeld old.parts.members new.parts.members
+  pub spares : AreSparesFewer old.parts.members new.parts.members
+  pub losses : AreLossesOf old.parts.members before after old.parts.entries new.parts.entries
+  pub never_falls : NeverFalls before after
+  pub work : new.parts.work ≡ old.parts.work
+  pub same : IsSameReshape tells old new (moving_world given tape old) (moving_world given tape' new)
+
+-- The epoch that is handed out lies within the tape, is legal, safe at each of its marks, stays sound, and where it opened sound its reshapes end right.
+pub record IsEpochKept (given : Given) (tape : List Operation) (backup : Option ℕ) (epoch : Epoch) : Type 0 where
+  pub begins : epoch.first ≤ epoch.last
+  pub ends : epoch.last ≤ length tape
+  pub legal : IsLegal (world_of given tape backup epoch) epoch.entries.items
+  pub safe : IsCrashSafe (world_of given tape backup epoch) epoch.last epoch.entries.items
+  pub sound : StaysSound (world_of given tape backup epoch) epoch.last epoch.entries.items
+  pub reshaped : OpensFit (world_of given tape backup epoch) → IsReshaped (world_of given tape backup epoch) epoch.entries.items
+
+-- ---- steps
+
+-- a step entered what it lost, and behind it that it was done, or why it wasn't; it takes no memory
+abbrev pub IsStepTaken : {T : Type 0} → Who → List Entry → List Entry → StepKind → ℕ → Result T Fault → Type 0
+IsStepTaken who old new kind left (Ok x) = IsBehind who old new (Step kind left)
+IsStepTaken who old new kind left (Err (IsRefusedWith refusal)) = IsBehind who old new (Refused refusal)
+IsStepTaken who old new kind left (Err NoMemory) = ⊥
+
+-- a stripe of the open window is to be copied next
+pub record IsCopyDue {B : Type 0} (array : MovingParts B) : Type 0 where
+  pub span : Span
+  pub copied : ℕ
+  pub sectioned : Bool
+  pub is : array.course ≡ entered span copied sectioned
+  pub more : copied < stripes (final_shape array.parts.members.newest) span.lo span.hi
+
+-- all of them are copied, and the window is to be recorded
+pub record IsRecordDue {B : Type 0} (array : MovingParts B) : Type 0 where
+  pub span : Span
+  pub sectioned : Bool
+  pub is : array.course ≡ entered span (stripes (final_shape array.parts.members.newest) span.lo span.hi) sectioned
+
+-- the reshape has gone through the list, and a stripe behind it is to be zeroed
+pub record IsZeroDue {B : Type 0} (array : MovingParts B) : Type 0 where
+  pub zeroed : ℕ
+  pub is : array.course ≡ closed zeroed
+  pub through : next_window array.parts.members.newest ≡ None
+  pub more : zeroed < zeroed_stripes (shape_of array.parts.members.newest) (final_shape array.parts.members.newest) array.parts.members.newest.size (is_backward array.parts.members.newest)

@@ -1,0 +1,53 @@
+-- What contracts see of an array in a reshape, and what it keeps between its calls.
+use Rattle.std.specs.Prelude.{◌≡◌, ℕ, ◌-◌, ◌*◌, ◌<◌, ◌≤◌, false, List, [], length, take, None}
+use Rattle.md_base.specs.Shapes.{has_slot}
+use Rattle.bank.specs.declared.bank.Operation.{Operation}
+use Rattle.bank.specs.Given.{Given}
+use Rattle.superblocks.specs.declared.members.Members.{Members}
+use Rattle.superblocks.specs.Reading.{Scope, final_shape}
+use Rattle.grow_plan.specs.Plans.{AreSound}
+use Rattle.flat_history.specs.declared.events.Entry.{Entry}
+use Rattle.flat_history.specs.Losses.{is_unsynced}
+use Rattle.flat_history.specs.Stands.{reach_of}
+use Rattle.views.specs.declared.work.Work.{Work}
+use Rattle.views.specs.Numbers.{is_carried}
+use Rattle.views.specs.Parts.{Parts}
+use Rattle.grow_asked.specs.declared.window.Window.{Window}
+use Rattle.grow_asked.specs.declared.window.Window.TheVariants.{Closed, Entered, Unsure}
+use Rattle.grow_asked.specs.declared.window.PhasesLeft.{PhasesLeft}
+use Rattle.grow_asked.specs.Left.{phases_of, grow_left}
+use Rattle.kept_history.specs.Safe.{world_in}
+use Rattle.course_kept.specs.declared.course.Course.{Course}
+use Rattle.moving_kept.specs.Moving.{IsMoving}
+
+-- what is seen of an array of one shape too, how far the reshape has come, and the phases of the plan that are ahead
+pub record MovingParts (B : Type 0) : Type 0 where
+  pub parts : Parts B
+  pub course : Course
+  pub ahead : PhasesLeft
+
+-- the steps that are left, of the reshape and of the phases ahead
+abbrev pub left_in : Members → Course → PhasesLeft → ℕ
+left_in members course ahead = grow_left members.newest course.window course.zeroed (phases_of ahead)
+
+-- the bytes of a buffer that have the window's sectors
+abbrev pub bytes_in : Window → List ℕ → List ℕ
+bytes_in Closed buffer = []
+bytes_in (Entered span copied sectioned) buffer = take (512 * (span.hi - span.lo)) buffer
+bytes_in (Unsure span) buffer = take (512 * (span.hi - span.lo)) buffer
+
+-- The array keeps the record of its reshape. No resync is pending, each slot that wasn't found sound has failed, the window's buffer has room for each window, and
+-- there is room for the entries of so many steps and of its end, and for the rows of one call in two regions.
+pub record IsReady (tells : Type 0) (given : Given) (tape : List Operation) (scope : Scope) (first : ℕ) (entries : List Entry)
+    (members : Members) (work : Work) (course : Course) (ahead : PhasesLeft) (window : List ℕ) (faults : ℕ → ℕ) (steps room rows buffer far_rows far_buffer : ℕ) : Type 0 where
+  pub kept : IsMoving tells given tape scope first entries members (is_carried work) course (bytes_in course.window window) (left_in members course ahead)
+  pub synced : work.resync ≡ None
+  pub settled : tells → is_unsynced (world_in given tape scope first) entries ≡ false
+  pub planned : AreSound (final_shape members.newest) members.newest.size (phases_of ahead)
+  pub wide : 512 * reach_of members.newest ≤ length window
+  pub failed : (slot : ℕ) → slot < given.slots → has_slot scope.given slot ≡ false → 0 < faults slot
+  pub room_left : 50 * steps < room
+  pub rows_fit : 128 ≤ rows
+  pub buffer_fits : 1048576 ≤ buffer
+  pub far_rows_fit : 128 ≤ far_rows
+  pub far_buffer_fits : 1048576 ≤ far_buffer

@@ -1,0 +1,6 @@
+//! An array in a reshape: it is read and written while its windows are moved, and keeps its history.
+#![tactic(auto)]
+
+mod state;
+
+pub use state::Moving;

@@ -1,0 +1,132 @@
+//! An array in a reshape.
+
+ghost use Rattle.std.specs.Prelude.{◌≡◌, ◌≤◌, length};
+ghost use Rattle.grow_plan.specs.Plans.{AreSound};
+ghost use Rattle.superblocks.specs.Reading.{final_shape};
+ghost use Rattle.flat_history.specs.Flat.{next_number};
+ghost use Rattle.grow_asked.specs.Left.{phases_of, zeroed_by, IsReshapeUnderWay, IsWindowRight};
+ghost use Rattle.moving.specs.Ready.{left_in};
+
+mod asking;
+mod ending;
+mod failing;
+mod settling;
+
+use bank::Bank;
+use course_kept::Course;
+use flat_history::Epoch;
+use grow_asked::{PhasesLeft, planned_left, reshape_left};
+use safe_updates::roles::final_in;
+use std::alloc::Global;
+use std::marker::Model;
+use superblocks::Members;
+use views::Work;
+
+/// An array over slots of a bank whose superblocks tell an active reshape. Each sector of its list is placed by the shape of its region,
+/// but those of the open window, which are in the buffer `window`. `ahead` are the phases of the plan behind the reshape.
+#[derive(Drop)]
+pub struct Moving<B: Bank> {
+    alloc: Global,
+    bank: B,
+    epoch: Epoch,
+    backup: u32,
+    members: Members,
+    work: Work,
+    course: Course,
+    ahead: PhasesLeft,
+    steps: u64,
+    rows: Vec<u64>,
+    buffer: Vec<u8>,
+    far_rows: Vec<u64>,
+    far_buffer: Vec<u8>,
+    window: Vec<u8>,
+}
+
+impl<B: Bank> Model for Moving<B> {
+    ghost use Rattle.std.specs.Prelude.{vec_capacity, length, Some};
+    ghost use Rattle.array_kept.specs.Kept.{scope_in};
+    ghost use Rattle.moving.specs.Ready.{MovingParts, IsReady};
+
+    ghost Value = { MovingParts B };
+
+    ghost view = { λ a. record {
+      parts = record {
+        bank = a.bank;
+        uuid = a.epoch.uuid;
+        given = a.epoch.given;
+        first = a.epoch.first;
+        last = a.epoch.last;
+        entries = a.epoch.entries.items;
+        backup = Some a.backup;
+        members = a.members;
+        work = a.work;
+        steps = a.steps;
+      };
+      course = a.course;
+      ahead = a.ahead;
+    } };
+
+    ghost invariant = { λ a. IsReady B.tells (B.given a.bank) (B.tape a.bank) (scope_in (B.given a.bank) a.epoch.uuid a.epoch.given (Some a.backup))
+        a.epoch.first a.epoch.entries.items a.members a.work a.course a.ahead a.window.items (B.faults_of a.bank) a.steps a.epoch.entries.room
+        (vec_capacity a.rows) (length a.buffer.items) (vec_capacity a.far_rows) (length a.far_buffer.items) };
+}
+
+// The steps that are left, of the reshape and of the phases ahead of it.
+fn steps_left(members: &Members, course: &Course, ahead: &PhasesLeft) -> u64
+    requires reshape { IsReshapeUnderWay members.now.newest }
+    requires open { IsWindowRight members.now.newest course.now.window }
+    requires zeroed { course.now.zeroed ≤ zeroed_by members.now.newest }
+    requires sound { AreSound (final_shape members.now.newest) members.now.newest.size (phases_of ahead.now) }
+    ensures { result ≡ left_in members.now course.now ahead.now }
+{
+    let moved = reshape_left(members, &course.window, course.zeroed);
+    moved + planned_left(&final_in(members), members.newest.size, ahead)
+}
+
+impl<B: Bank> Moving<B> {
+    /// The number that the caller's next call bears.
+    pub fn next_number(&self, caller: u32) -> u64
+        ensures { result ≡ next_number caller self.now.parts.entries }
+    {
+        self.epoch.entries.next_number(caller)
+    }
+
+    /// How many operations the bank has made. It takes no memory and makes no device call.
+    pub fn ops(&self) -> u64
+        ensures { B.tells → result ≡ length (B.tape self.now.parts.bank) }
+    {
+        self.bank.ops()
+    }
+
+    /// What happened so far.
+    pub fn epoch(&self) -> &Epoch
+        ensures entries { result.now.entries.items ≡ self.now.parts.entries }
+        ensures uuid { result.now.uuid ≡ self.now.parts.uuid }
+        ensures given { result.now.given ≡ self.now.parts.given }
+        ensures first { result.now.first ≡ self.now.parts.first }
+        ensures last { result.now.last ≡ self.now.parts.last }
+    {
+        &self.epoch
+    }
+
+    /// What is known of the superblocks.
+    pub fn members(&self) -> &Members
+        ensures { result.now ≡ self.now.parts.members }
+    {
+        &self.members
+    }
+
+    /// How far the reshape has come.
+    pub fn course(&self) -> Course
+        ensures { result ≡ self.now.course }
+    {
+        self.course
+    }
+
+    /// How many background steps are left, those of the phases behind the reshape among them.
+    pub fn left(&self) -> u64
+        ensures { result ≡ left_in self.now.parts.members self.now.course self.now.ahead }
+    {
+        steps_left(&self.members, &self.course, &self.ahead)
+    }
+}
