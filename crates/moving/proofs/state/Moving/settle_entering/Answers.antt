@@ -19,7 +19,8 @@ use Rattle.moving_kept.proofs.Resting.{resting-moves}
 use Rattle.moving_kept.proofs.Steps.{missing-since}
 use Rattle.moving.specs.Ready.{left_in, bytes_in}
 use Rattle.moving.proofs.Kept.{ready, shapes-same, shapes-moved, left-moved}
-use Rattle.moving.proofs.Settled.{other, settles-so, risen-told, many-of, refused-loses}
+use Rattle.moving.proofs.Called.{not_254, alone-lossless}
+use Rattle.moving.proofs.Settled.{settles-so, risen-told, many-of}
 use Rattle.moving.proofs.state.Moving.settle_entering.Goals as goal
 
 pub overflow_cast-count : goal.overflow_cast-count
@@ -79,7 +80,7 @@ invariant_of-self-2 g c =
       safe = did.safe;
     } in
     let kept = flushed-moves g.B.Bank.tells given tape tape' scope a.epoch.first a.epoch.entries.items a.members m (is_carried a.work) a.course (bytes_in a.course.window a.window.items) (left_in a.members a.course a.ahead)
-    c.args.who end roles spares false was.kept (begins-going a.epoch.entries.items c.args.who number) (other c.args.who.caller c.requires.caller) c.ops-end-2.ensures.count did.grows flushed c.args.event (settles-so c.args.event c.requires.event)
+    c.args.who end roles spares false was.kept (begins-going a.epoch.entries.items c.args.who number) (not_254 c.args.who.caller c.requires.caller) c.ops-end-2.ensures.count did.grows flushed c.args.event (settles-so c.args.event c.requires.event)
     (record { clean = did.clean c.in_default-refusal.is; settled = did.settled c.in_default-refusal.is }) in
     ready (entries_of c.args.who end (losses_of roles spares ++ c.args.event ∷ [])) was did.grows (shapes-moved given a.members m did.moved)
     (subst (λ (left : ℕ). IsMoving g.B.Bank.tells given tape' scope a.epoch.first (a.epoch.entries.items ++ entries_of c.args.who end (losses_of roles spares ++ c.args.event ∷ [])) m (is_carried a.work) a.course (bytes_in a.course.window a.window.items) left)
@@ -117,7 +118,7 @@ invariant_of-self-in-Some-refusal g c =
       safe = did.safe;
     } in
     let kept = unflushed-moves g.B.Bank.tells given tape tape' scope a.epoch.first a.epoch.entries.items a.members m (is_carried a.work) a.course (bytes_in a.course.window a.window.items) (left_in a.members a.course a.ahead)
-    c.args.who end roles spares false was.kept (begins-going a.epoch.entries.items c.args.who number) (other c.args.who.caller c.requires.caller) c.ops-end-2.ensures.count did.grows flushed refusal
+    c.args.who end roles spares false was.kept (begins-going a.epoch.entries.items c.args.who number) (not_254 c.args.who.caller c.requires.caller) c.ops-end-2.ensures.count did.grows flushed refusal
     (many-of m c.settle-settled.result.refusal refusal c.in-Some-refusal.is did.refused) in
     ready (entries_of c.args.who end (losses_of roles spares ++ Refused refusal ∷ [])) was did.grows (shapes-moved given a.members m did.moved)
     (subst (λ (left : ℕ). IsMoving g.B.Bank.tells given tape' scope a.epoch.first (a.epoch.entries.items ++ entries_of c.args.who end (losses_of roles spares ++ Refused refusal ∷ [])) m (is_carried a.work) a.course (bytes_in a.course.window a.window.items) left)
@@ -192,7 +193,7 @@ invariant_of-self-in-Some g c =
     let end = c.ops-end.result in
     let refusal = c.in-Some.refusal in
     let kept = resting-moves g.B.Bank.tells given tape scope a.epoch.first a.epoch.entries.items a.members (is_carried a.work) a.course (bytes_in a.course.window a.window.items) (left_in a.members a.course a.ahead)
-    c.args.who end (Refused refusal) was.kept (begins-going a.epoch.entries.items c.args.who number) (other c.args.who.caller c.requires.caller) c.ops-end.ensures.count (quiet-refusal refusal) (λ told is. is)
+    c.args.who end (Refused refusal) was.kept (begins-going a.epoch.entries.items c.args.who number) (not_254 c.args.who.caller c.requires.caller) c.ops-end.ensures.count (quiet-refusal refusal) (λ told is. is)
     (λ t right. refused-right (world_in given tape scope a.epoch.first) a.epoch.entries.items given a.members was.kept.members_are.placed (was.kept.gone t right) (was.kept.levelled t right) refusal c.in-Some.ensures) in
     ready (entries_of c.args.who end (Refused refusal ∷ [])) was (grows-none (λ t. refl)) (shapes-same a.members.newest) kept
     refl (λ slot. omega arith) refl (scope-same given (Some a.backup) refl c.enter.ensures.uuid c.enter.ensures.given) c.enter.ensures.first c.make_room.ensures.items c.enter.ensures.items
@@ -211,7 +212,7 @@ returns-in-Some-clause-called g c =
       ended = ended-behind (g.B.Bank.tape a.bank) c.enter.new.epoch.first c.make_room.new.self.items c.args.who end [] (Refused refusal) c.enter.ensures.items c.ops-end.ensures.count;
       held = λ role slot held. held;
       spares = λ slot spare. spare;
-      losses = refused-loses a.members (g.B.Bank.faults_of a.bank) (g.B.Bank.faults_of a.bank) a.epoch.entries.items c.make_room.new.self.items c.enter.new.epoch.entries.items c.args.who end refusal c.make_room.ensures.items c.enter.ensures.items;
+      losses = alone-lossless a.members (g.B.Bank.faults_of a.bank) (g.B.Bank.faults_of a.bank) a.epoch.entries.items c.make_room.new.self.items c.enter.new.epoch.entries.items c.args.who end (Refused refusal) tt c.make_room.ensures.items c.enter.ensures.items;
       never_falls = λ slot. omega arith;
       work = refl;
       same = record {
