@@ -11,6 +11,7 @@ mod asking;
 mod ending;
 mod failing;
 mod settling;
+mod zeroing;
 
 use bank::Bank;
 use course_kept::Course;

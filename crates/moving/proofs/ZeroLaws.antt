@@ -1,0 +1,210 @@
+-- A stripe behind the list is zeroed, from what `zero` of `window_steps` says of it: what is kept, done or refused.
+use Rattle.std.proofs.Common.{◌≡◌, ◌≢◌, inr, ℕ, ◌+◌, ◌<◌, ◌≤◌, ◌==◌, Bool, true, cond, None, List, [], ◌∷◌, ◌++◌, length, sym, ◌∙◌, ap, subst, arith, append-nil}
+use Rattle.std.specs.Prelude.{fold, ⊤}
+use Rattle.std.specs.List.{All}
+use Rattle.std.proofs.lemmas.Bool.Decides.{nat_tests}
+use Rattle.std.proofs.lemmas.List.Elements.{All-head, All-tail}
+use Rattle.std.proofs.lemmas.List.Sums.{fold-append}
+use Rattle.md_base.specs.Sectors.{Sector}
+use Rattle.md_base.specs.declared.answers.Refusal.{Refusal}
+use Rattle.md_base.specs.declared.answers.Who.{Who}
+use Rattle.md_base.specs.declared.places.Shape.{Shape}
+use Rattle.bank.specs.declared.bank.Operation.{Operation}
+use Rattle.bank.specs.Given.{Given}
+use Rattle.bank.specs.Tape.{disk}
+use Rattle.grow_plan.specs.Plans.{phases_steps}
+use Rattle.superblocks.specs.declared.members.Members.{Members}
+use Rattle.superblocks.specs.Reading.{Scope, is_clean, is_reshaping, final_shape, next_window}
+use Rattle.superblocks.proofs.ValidFields.{few-roles}
+use Rattle.row_io.specs.Rows.{reading_of, present}
+use Rattle.list_io.specs.Full.{RowStands}
+use Rattle.flat_history.specs.declared.events.Entry.{Entry}
+use Rattle.flat_history.specs.declared.events.Event.TheVariants.{Step, Refused}
+use Rattle.flat_history.specs.declared.events.StepKind.TheVariants.{Zeroed as ZeroesStripe}
+use Rattle.flat_history.specs.Flat.{next_number, number_after}
+use Rattle.flat_history.specs.OneShape.{IsOfCall}
+use Rattle.flat_history.specs.Plain.{entries_of}
+use Rattle.flat_history.specs.World.{World}
+use Rattle.shape_views.specs.Views.{Ledger}
+use Rattle.shape_changes.specs.Safety.{HasRoomLeft, IsRisen}
+use Rattle.shape_changes.specs.Steady.{IsSafeOver, KeepsSafe, AreGoneTold, IsUncleanTold}
+use Rattle.views.specs.declared.work.Work.{Work}
+use Rattle.views.specs.Moving.{Grows, IsMoved}
+use Rattle.views.specs.Lacking.{AreTooMany, AreLostSince, IsOfStripe, AreOtherRowsKept}
+use Rattle.window_rows.specs.Copies.{tail_of, IsZeroIn}
+use Rattle.safe_updates.specs.Unused.{IsUnusedKept}
+use Rattle.call_entries.specs.Losing.{losses_of}
+use Rattle.grow_asked.specs.declared.window.Window.{Window}
+use Rattle.grow_asked.specs.declared.window.PhasesLeft.{PhasesLeft}
+use Rattle.grow_asked.specs.Left.{zeroed_by, phases_of, grow_left, reshape_left}
+use Rattle.grow_asked.proofs.LeftLaws.{zeroing}
+use Rattle.kept_history.specs.Recorded.{IsCallGoing, MayGoOn}
+use Rattle.kept_history.specs.Safe.{world_in}
+use Rattle.course_kept.specs.declared.course.Course.{Course}
+use Rattle.course_kept.specs.Course.{StandsInCourse, past_stripe}
+use Rattle.course_kept.specs.Laws.{closed}
+use Rattle.course_kept.proofs.Courses.{zeroes-go-on}
+use Rattle.moving_state.proofs.LeftLaws.{plans-counted, some-left}
+use Rattle.moving_state.proofs.ReshapeLaws.{through-of}
+use Rattle.moving_kept.specs.Moving.{IsMoving}
+use Rattle.moving_kept.proofs.MoreSteps.{zeroed-moves}
+use Rattle.moving_kept.proofs.Staying.{refused-moves}
+use Rattle.moving_kept.proofs.Steps.{AreMissingSince, missing-since}
+use Rattle.moving.specs.Ready.{left_in, IsReady}
+use Rattle.moving.proofs.Called.{not_254}
+use Rattle.moving.proofs.Kept.{left-moved}
+use Rattle.moving.proofs.Settled.{risen-told}
+
+-- ---- the number of a call that goes on
+
+-- behind entries of one call the caller's next number is one more than the call's
+own-next : (who : Who) (start : ℕ) (x : Entry) (call : List Entry) → All (λ e. IsOfCall who e × MayGoOn e.event) (x ∷ call)
+    → fold (number_after who.caller) start (x ∷ call) ≡ who.number + 1
+own-next who start x [] own =
+    let mine = (All-head (λ e. IsOfCall who e × MayGoOn e.event) x [] own).0 in
+    last x.caller x.number mine.0 mine.1
+  where
+    last : (c n : ℕ) → c ≡ who.caller → n ≡ who.number → cond (c == who.caller) (n + 1) start ≡ who.number + 1
+    last c n callers numbers = grind (arith, nat_tests, callers, numbers)
+own-next who start x (y ∷ call) own = own-next who (number_after who.caller start x) y call (All-tail (λ e. IsOfCall who e × MayGoOn e.event) x (y ∷ call) own)
+
+pub going-few : (entries : List Entry) (who : Who) → IsCallGoing entries who → next_number who.caller entries ≤ length entries → who.number ≤ length entries
+going-few entries who goes few = by goes.call goes.is goes.own
+  where
+    by : (call : List Entry) → entries ≡ goes.before ++ call → All (λ e. IsOfCall who e × MayGoOn e.event) call → who.number ≤ length entries
+    by [] is own =
+        let same : next_number who.caller entries ≡ next_number who.caller goes.before = ap (next_number who.caller) (is ∙ append-nil goes.before) in
+        let number = goes.number in omega (arith, few, same, number)
+    by (x ∷ call) is own =
+        let next : next_number who.caller entries ≡ who.number + 1 =
+        ap (next_number who.caller) is ∙ fold-append (number_after who.caller) 0 goes.before (x ∷ call) ∙ own-next who (next_number who.caller goes.before) x call own in
+        omega (arith, few, next)
+
+-- ---- the course
+
+-- with one more stripe zeroed
+abbrev pub zeroed_more : Course → Course
+zeroed_more course = record course { zeroed = course.zeroed + 1 }
+
+pub closed-at : (course : Course) (count : ℕ) → course ≡ closed count → course ≡ closed course.zeroed
+closed-at course count is = is ∙ ap closed (sym (ap (λ (k : Course). k.zeroed) is))
+
+pub more-closed : (course : Course) → course ≡ closed course.zeroed → zeroed_more course ≡ closed (course.zeroed + 1)
+more-closed course is = ap (λ (k : Course). record k { zeroed = course.zeroed + 1 }) is
+
+-- ---- the steps that are left
+
+pub zero-left : (given : Given) (old new : Members) (course : Course) (ahead : PhasesLeft) → IsMoved given old new → is_reshaping old.newest ≡ true → course ≡ closed course.zeroed → course.zeroed < zeroed_by old.newest
+    → left_in new (zeroed_more course) ahead + 1 ≡ left_in old course ahead
+zero-left given old new course ahead moved active is lt =
+    ap (λ (n : ℕ). n + 1) (left-moved given old new (zeroed_more course) ahead moved)
+    ∙ subst (λ (w : Window). grow_left old.newest w (course.zeroed + 1) (phases_of ahead) + 1 ≡ grow_left old.newest w course.zeroed (phases_of ahead)) (sym (ap (λ (k : Course). k.window) is))
+    (zeroing old.newest course.zeroed (phases_of ahead) active lt)
+
+-- the end of the reshape is left behind it
+zero-some : (given : Given) (old new : Members) (course : Course) (ahead : PhasesLeft) → IsMoved given old new → is_reshaping old.newest ≡ true → course.zeroed < zeroed_by old.newest → left_in new (zeroed_more course) ahead ≢ 0
+zero-some given old new course ahead moved active lt =
+    some (left_in new (zeroed_more course) ahead) (left_in old (zeroed_more course) ahead) (reshape_left old.newest course.window (course.zeroed + 1)) (phases_steps (final_shape old.newest) old.newest.size (phases_of ahead))
+    (left-moved given old new (zeroed_more course) ahead moved) (plans-counted old.newest (zeroed_more course) (phases_of ahead) active) (some-left old.newest course.window (course.zeroed + 1) (omega (arith, lt)))
+  where
+    some : (x y r p : ℕ) → x ≡ y → r + p ≡ y → 0 < r → x ≢ 0
+    some x y r p same counted more none = absurd (omega (arith, same, counted, more, none))
+
+-- ---- what the call left
+
+-- what is left of an array whose next stripe behind the list is zeroed, or in part where it is refused
+pub record IsZeroStep (tells : Type 0) (given : Given) (old new : Members) (tape tape' : List Operation) (zeroed roles : ℕ) : Type 0 where
+  pub moved : IsMoved given old new
+  pub grows : Grows tells tape tape'
+  pub since : AreMissingSince old new roles
+  pub clean : is_clean new.newest ≡ is_clean old.newest
+  pub rise : tells → IsRisen ⊤ old new tape tape'
+  pub unused : tells → IsUnusedKept old (disk given.start tape) (disk given.start tape')
+  pub others : tells → AreOtherRowsKept (IsOfStripe (final_shape old.newest) (past_stripe old.newest + zeroed)) (reading_of new) (present given tape) (present given tape')
+  pub safe : tells → (world : World) → (told : Ledger) → HasRoomLeft old tape tape' → AreGoneTold told new → IsUncleanTold told old
+      → IsSafeOver world given told old tape → KeepsSafe world given told new tape tape'
+
+pub zero-step : {tells : Type 0} (given : Given) (old new : Members) (tape tape' : List Operation) (shape : Shape) (stripe zeroed roles spares : ℕ) (before after : ℕ → ℕ)
+    → shape ≡ final_shape old.newest → stripe ≡ past_stripe old.newest + zeroed → IsMoved given old new → Grows tells tape tape' → AreLostSince old new roles spares before after
+    → is_clean new.newest ≡ is_clean old.newest → IsRisen tells old new tape tape' → (tells → IsUnusedKept old (disk given.start tape) (disk given.start tape'))
+    → (tells → AreOtherRowsKept (IsOfStripe shape stripe) (reading_of new) (present given tape) (present given tape'))
+    → (tells → (world : World) → (told : Ledger) → HasRoomLeft old tape tape' → AreGoneTold told new → IsUncleanTold told old
+    → IsSafeOver world given told old tape → KeepsSafe world given told new tape tape')
+    → IsZeroStep tells given old new tape tape' zeroed roles
+zero-step given old new tape tape' shape stripe zeroed roles spares before after same at moved grows since clean rise unused others safe = record {
+  moved = moved;
+  grows = grows;
+  since = missing-since roles moved since.vacant;
+  clean = clean;
+  rise = risen-told rise;
+  unused = unused;
+  others = λ t. subst (λ (s : Shape). AreOtherRowsKept (IsOfStripe s (past_stripe old.newest + zeroed)) (reading_of new) (present given tape) (present given tape')) same
+      (subst (λ (n : ℕ). AreOtherRowsKept (IsOfStripe shape n) (reading_of new) (present given tape) (present given tape')) at (others t));
+  safe = safe;
+}
+
+-- its rows stand as zeros
+abbrev pub AreRowsZeroed : Type 0 → Given → Members → Members → List Operation → Shape → ℕ → Type 0
+AreRowsZeroed tells given old new tape' shape stripe = tells → (list : ℕ → Sector) → IsZeroIn (tail_of old.newest) list → (row : ℕ) → IsOfStripe shape stripe row
+    → RowStands (reading_of new) (present given tape') shape list row
+
+pub rows-zeroed : {tells : Type 0} (given : Given) (old new : Members) (tape' : List Operation) (shape : Shape) (stripe zeroed : ℕ) → shape ≡ final_shape old.newest → stripe ≡ past_stripe old.newest + zeroed
+    → AreRowsZeroed tells given old new tape' shape stripe → AreRowsZeroed tells given old new tape' (final_shape old.newest) (past_stripe old.newest + zeroed)
+rows-zeroed {tells = tells} given old new tape' shape stripe zeroed same at stands =
+    subst (λ (s : Shape). AreRowsZeroed tells given old new tape' s (past_stripe old.newest + zeroed)) same (subst (λ (n : ℕ). AreRowsZeroed tells given old new tape' shape n) at stands)
+
+-- ---- what is kept
+
+module _ {tells : Type 0} {given : Given} {tape tape' : List Operation} {scope : Scope} {first : ℕ} {entries : List Entry} {old new : Members} {carried : ℕ → Bool} (course : Course) {buffer : List ℕ} (ahead : PhasesLeft)
+    (who : Who) (end roles spares : ℕ) (is : course ≡ closed course.zeroed) (none : next_window old.newest ≡ None) (was : IsMoving tells given tape scope first entries old carried course buffer (left_in old course ahead))
+    (goes : IsCallGoing entries who) (caller : who.caller ≢ 254) (at_end : tells → end ≡ length tape') (did : IsZeroStep tells given old new tape tape' course.zeroed roles) where
+  -- it is refused: the rows that were written of the stripe are written again
+  pub zero-refused : (refusal : Refusal) → AreTooMany new refusal
+      → IsMoving tells given tape' scope first (entries ++ entries_of who end (losses_of roles spares ++ Refused refusal ∷ [])) new carried course buffer (left_in new course ahead)
+  zero-refused refusal many =
+      subst (λ (n : ℕ). IsMoving tells given tape' scope first (entries ++ entries_of who end (losses_of roles spares ++ Refused refusal ∷ [])) new carried course buffer n) (sym (left-moved given old new course ahead did.moved))
+      (refused-moves tells given tape tape' scope first entries old new carried course buffer (left_in old course ahead) who end roles spares refusal was goes (not_254 who.caller caller) at_end did.grows
+      did.moved (few-roles new.newest did.moved.placed.fit.valid) did.since did.clean (inr many) did.rise did.unused
+      (λ t sound list stands. subst (λ (k : Course). StandsInCourse sound new k buffer (present given tape') list) (sym is)
+      ((zeroes-go-on sound given old new course.zeroed buffer (present given tape) (present given tape') list was.members_are.placed did.moved (through-of old.newest was.members_are.placed.fit was.members_are.active none) (did.others t)
+      (subst (λ (k : Course). StandsInCourse sound old k buffer (present given tape) list) is stands)).0))
+      (λ t told filled more room gone unclean. did.safe t (world_in given tape scope first) told room gone unclean))
+
+  -- it is done
+  pub zero-done : (left : ℕ) → left ≡ left_in new (zeroed_more course) ahead → course.zeroed < zeroed_by old.newest → AreRowsZeroed tells given old new tape' (final_shape old.newest) (past_stripe old.newest + course.zeroed)
+      → IsMoving tells given tape' scope first (entries ++ entries_of who end (losses_of roles spares ++ Step ZeroesStripe left ∷ [])) new carried (zeroed_more course) buffer (left_in new (zeroed_more course) ahead)
+  zero-done left told more stands =
+      subst (λ (n : ℕ). IsMoving tells given tape' scope first (entries ++ entries_of who end (losses_of roles spares ++ Step ZeroesStripe left ∷ [])) new carried (zeroed_more course) buffer n) told
+      (subst (λ (k : Course). IsMoving tells given tape' scope first (entries ++ entries_of who end (losses_of roles spares ++ Step ZeroesStripe left ∷ [])) new carried k buffer left) (sym (more-closed course is))
+      (zeroed-moves tells given tape tape' scope first entries old new carried course.zeroed buffer left who end roles spares before goes (not_254 who.caller caller) at_end did.grows
+      (through-of old.newest was.members_are.placed.fit was.members_are.active none) more some did.moved (few-roles new.newest did.moved.placed.fit.valid) did.since did.clean did.rise did.unused did.others stands did.safe))
+    where
+      falls : left + 1 ≡ left_in old course ahead
+      falls = ap (λ (n : ℕ). n + 1) told ∙ zero-left given old new course ahead did.moved was.members_are.active is more
+
+      before : IsMoving tells given tape scope first entries old carried (closed course.zeroed) buffer (left + 1)
+      before = subst (λ (n : ℕ). IsMoving tells given tape scope first entries old carried (closed course.zeroed) buffer n) (sym falls)
+          (subst (λ (k : Course). IsMoving tells given tape scope first entries old carried k buffer (left_in old course ahead)) is was)
+
+      some : left ≢ 0
+      some zero = absurd (zero-some given old new course ahead did.moved was.members_are.active more (sym told ∙ zero))
+
+-- ---- between the calls
+
+-- a buffer that was written has room as before
+pub buffer-other : {tells : Type 0} {given : Given} {tape : List Operation} {scope : Scope} {first : ℕ} {entries : List Entry} {members : Members} {work : Work} {course : Course} {ahead : PhasesLeft}
+    {window : List ℕ} {faults : ℕ → ℕ} {steps room rows buffer buffer' far_rows far_buffer : ℕ} → IsReady tells given tape scope first entries members work course ahead window faults steps room rows buffer far_rows far_buffer
+    → 1048576 ≤ buffer' → IsReady tells given tape scope first entries members work course ahead window faults steps room rows buffer' far_rows far_buffer
+buffer-other was fits = record {
+  kept = was.kept;
+  synced = was.synced;
+  settled = was.settled;
+  planned = was.planned;
+  wide = was.wide;
+  failed = was.failed;
+  room_left = was.room_left;
+  rows_fit = was.rows_fit;
+  buffer_fits = fits;
+  far_rows_fit = was.far_rows_fit;
+  far_buffer_fits = was.far_buffer_fits;
+}
