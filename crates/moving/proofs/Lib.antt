@@ -3,3 +3,4 @@ pub mod Settled
 pub mod Asking
 pub mod Called
 pub mod TakenOut
+pub mod Copied
