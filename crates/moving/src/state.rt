@@ -10,6 +10,7 @@ ghost use Rattle.moving.specs.Ready.{left_in};
 mod asking;
 mod ending;
 mod failing;
+mod moves;
 mod settling;
 mod zeroing;
 
@@ -73,7 +74,7 @@ impl<B: Bank> Model for Moving<B> {
 }
 
 // The steps that are left, of the reshape and of the phases ahead of it.
-fn steps_left(members: &Members, course: &Course, ahead: &PhasesLeft) -> u64
+pub(crate) fn steps_left(members: &Members, course: &Course, ahead: &PhasesLeft) -> u64
     requires reshape { IsReshapeUnderWay members.now.newest }
     requires open { IsWindowRight members.now.newest course.now.window }
     requires zeroed { course.now.zeroed ≤ zeroed_by members.now.newest }

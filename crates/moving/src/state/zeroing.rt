@@ -10,24 +10,17 @@ ghost use Rattle.course_kept.specs.Laws.{closed};
 ghost use Rattle.moving.specs.Ready.{left_in};
 ghost use Rattle.moving.specs.Calls.{IsCalled, IsStepTaken, IsZeroDue};
 
+use crate::state::moves::check_going;
 use crate::state::{Moving, steps_left};
 use bank::Bank;
 use call_entries::calls::{enter, enter_behind};
-use flat_history::{Entries, Event, StepKind};
+use flat_history::{Event, StepKind};
 use md_base::{Fault, Who};
 use moving_state::reshape::stripe_to_zero;
 use safe_updates::naming::newly_vacant;
 use safe_updates::refusing::too_many;
 use safe_updates::roles::{final_in, vacant_roles};
 use window_steps::zero;
-
-// The number of a call that goes on is at most the number of entries.
-fn check_going(entries: &Entries, who: Who)
-    requires { IsCallGoing entries.now.items who }
-    ensures { who.number ≤ length entries.now.items }
-{
-    let _ = entries.next_number(who.caller);
-}
 
 impl<B: Bank> Moving<B> {
     /// A step of the reshape, which has gone through the list: the next stripe behind it is zeroed. Refusals: `TooManyMissing`. It

@@ -1,0 +1,207 @@
+-- A stripe of the open window is copied: what the array keeps, and what it answers.
+use Rattle.std.proofs.Common.{◌≡◌, ◌≢◌, inr, ℕ, ◌+◌, ◌-◌, ◌*◌, ◌<◌, ◌≤◌, ◌==◌, Bool, true, false, cond, List, [], ◌∷◌, ◌++◌, length, take, drop, sym, ◌∙◌, ap, subst, arith, append-nil, length-append}
+use Rattle.std.specs.Prelude.{IsFalse, fold, ⊤}
+use Rattle.std.specs.List.{All}
+use Rattle.std.proofs.lemmas.Bool.Decides.{nat_tests}
+use Rattle.std.proofs.lemmas.List.{length-take-le, length-drop}
+use Rattle.std.proofs.lemmas.List.Elements.{All-head, All-tail}
+use Rattle.std.proofs.lemmas.List.Sums.{fold-append}
+use Rattle.md_base.specs.Sectors.{Sector}
+use Rattle.md_base.specs.declared.answers.Refusal.{Refusal}
+use Rattle.md_base.specs.declared.answers.Who.{Who}
+use Rattle.md_base.specs.declared.places.Span.{Span}
+use Rattle.bank.specs.declared.bank.Operation.{Operation}
+use Rattle.bank.specs.Given.{Given}
+use Rattle.bank.specs.Tape.{disk}
+use Rattle.geometry.specs.Geometry.{beyond}
+use Rattle.grow_plan.specs.Plans.{phases_steps}
+use Rattle.superblocks.specs.declared.members.Members.{Members}
+use Rattle.superblocks.specs.Reading.{Scope, is_reshaping, is_backward, is_clean, final_shape, role_count}
+use Rattle.superblocks.proofs.ValidFields.{few-roles}
+use Rattle.row_io.specs.Rows.{reading_of, present}
+use Rattle.list_io.specs.Full.{RowStands}
+use Rattle.flat_history.specs.declared.events.Entry.{Entry}
+use Rattle.flat_history.specs.declared.events.Event.TheVariants.{Refused, Step}
+use Rattle.flat_history.specs.declared.events.StepKind.TheVariants.{Copied as CopiesStripe}
+use Rattle.flat_history.specs.Flat.{next_number, number_after}
+use Rattle.flat_history.specs.OneShape.{IsOfCall}
+use Rattle.flat_history.specs.Plain.{entries_of}
+use Rattle.flat_history.specs.World.{World}
+use Rattle.shape_views.specs.Views.{Ledger}
+use Rattle.shape_views.specs.Windows.{IsCopyable}
+use Rattle.shape_changes.specs.Safety.{HasRoomLeft, IsRisen}
+use Rattle.shape_changes.specs.Steady.{IsSafeOver, KeepsSafe, AreGoneTold, IsUncleanTold}
+use Rattle.views.specs.declared.work.Work.{Work}
+use Rattle.views.specs.Moving.{Grows, IsMoved}
+use Rattle.views.specs.Lacking.{AreTooMany, AreOtherRowsKept, IsOfStripe}
+use Rattle.safe_updates.specs.Unused.{IsUnusedKept}
+use Rattle.call_entries.specs.Losing.{losses_of}
+use Rattle.grow_asked.specs.declared.window.Window.TheVariants.{Entered}
+use Rattle.grow_asked.specs.declared.window.PhasesLeft.{PhasesLeft}
+use Rattle.grow_asked.specs.Left.{steps_from, stripes_in, phases_of}
+use Rattle.grow_asked.proofs.LeftLaws.{copying}
+use Rattle.window_rows.specs.Copies.{tail_of, IsCopied}
+use Rattle.kept_history.specs.Recorded.{IsCallGoing, MayGoOn}
+use Rattle.kept_history.specs.Safe.{world_in}
+use Rattle.course_kept.specs.declared.course.Course.{Course}
+use Rattle.course_kept.specs.Laws.{entered, next_stripe}
+use Rattle.course_kept.proofs.Courses.{copies-go-on}
+use Rattle.moving_kept.specs.Moving.{IsMoving}
+use Rattle.moving_kept.proofs.Staying.{refused-moves}
+use Rattle.moving_kept.proofs.Steps.{AreMissingSince, able-kept, plain-of, copied-moves}
+use Rattle.moving.specs.Ready.{MovingParts, left_in, bytes_in, IsReady}
+use Rattle.moving.specs.Calls.{IsCopyDue}
+use Rattle.moving.proofs.Kept.{left-moved}
+
+-- ---- the number of a call that goes on
+
+-- behind entries of one call the caller's next number is one more than the call's
+own-next : (who : Who) (start : ℕ) (x : Entry) (call : List Entry) → All (λ e. IsOfCall who e × MayGoOn e.event) (x ∷ call)
+    → fold (number_after who.caller) start (x ∷ call) ≡ who.number + 1
+own-next who start x [] own =
+    let mine = (All-head (λ e. IsOfCall who e × MayGoOn e.event) x [] own).0 in
+    last x.caller x.number mine.0 mine.1
+  where
+    last : (c n : ℕ) → c ≡ who.caller → n ≡ who.number → cond (c == who.caller) (n + 1) start ≡ who.number + 1
+    last c n callers numbers = grind (arith, nat_tests, callers, numbers)
+own-next who start x (y ∷ call) own = own-next who (number_after who.caller start x) y call (All-tail (λ e. IsOfCall who e × MayGoOn e.event) x (y ∷ call) own)
+
+-- it is at most the number of entries
+pub going-few : (entries : List Entry) (who : Who) → IsCallGoing entries who → next_number who.caller entries ≤ length entries → who.number ≤ length entries
+going-few entries who goes few = by goes.call goes.is goes.own
+  where
+    by : (call : List Entry) → entries ≡ goes.before ++ call → All (λ e. IsOfCall who e × MayGoOn e.event) call → who.number ≤ length entries
+    by [] is own =
+        let same : next_number who.caller entries ≡ next_number who.caller goes.before = ap (next_number who.caller) (is ∙ append-nil goes.before) in
+        let number = goes.number in omega (arith, few, same, number)
+    by (x ∷ call) is own =
+        let next : next_number who.caller entries ≡ who.number + 1 =
+        ap (next_number who.caller) is ∙ fold-append (number_after who.caller) 0 goes.before (x ∷ call) ∙ own-next who (next_number who.caller goes.before) x call own in
+        omega (arith, few, next)
+
+-- ---- the window that is open
+
+same-span : (s t : Span) (m n : ℕ) (a b : Bool) → Entered s m a ≡ Entered t n b → s ≡ t
+same-span s t m n a b e = cc
+
+same-count : (s t : Span) (m n : ℕ) (a b : Bool) → Entered s m a ≡ Entered t n b → m ≡ n
+same-count s t m n a b e = cc
+
+same-flag : (s t : Span) (m n : ℕ) (a b : Bool) → Entered s m a ≡ Entered t n b → a ≡ b
+same-flag s t m n a b e = cc
+
+-- a stripe of the window that is found open is to be copied, and no stripe behind the list is zeroed
+pub due-is : {B : Type 0} (array : MovingParts B) (span : Span) (copied : ℕ) (sectioned : Bool) → IsCopyDue array → array.course.window ≡ Entered span copied sectioned
+    → (array.course ≡ entered span copied sectioned) × (copied < stripes_in array.parts.members.newest span)
+due-is array span copied sectioned due window =
+    let same : Entered due.span due.copied due.sectioned ≡ Entered span copied sectioned = sym (ap (λ (c : Course). c.window) due.is) ∙ window in
+    let spans = same-span due.span span due.copied copied due.sectioned sectioned same in
+    let counts = same-count due.span span due.copied copied due.sectioned sectioned same in
+    let flags = same-flag due.span span due.copied copied due.sectioned sectioned same in (
+      due.is ∙ (λ i. entered (spans i) (counts i) (flags i)),
+      subst (λ (n : ℕ). n < stripes_in array.parts.members.newest span) counts (subst (λ (s : Span). due.copied < stripes_in array.parts.members.newest s) spans due.more),
+    )
+
+-- the course with one more stripe copied
+abbrev pub one_more : Course → Span → ℕ → Bool → Course
+one_more course span copied sectioned = record course { window = Entered span (copied + 1) sectioned }
+
+-- ---- the steps that are left
+
+-- One step fewer is left, and at least one.
+module _ (given : Given) (old new : Members) (course : Course) (ahead : PhasesLeft) (span : Span) (copied : ℕ) (sectioned : Bool) (active : is_reshaping old.newest ≡ true)
+    (is : course ≡ entered span copied sectioned) (more : copied < stripes_in old.newest span) (moved : IsMoved given old new) where
+  more-is : one_more course span copied sectioned ≡ entered span (copied + 1) sectioned
+  more-is = ap (λ (c : Course). one_more c span copied sectioned) is
+
+  -- on the members as they were
+  before-more : left_in new (one_more course span copied sectioned) ahead ≡ left_in old (entered span (copied + 1) sectioned) ahead
+  before-more = ap (λ (c : Course). left_in new c ahead) more-is ∙ left-moved given old new (entered span (copied + 1) sectioned) ahead moved
+
+  pub left-falls : left_in new (one_more course span copied sectioned) ahead + 1 ≡ left_in old course ahead
+  left-falls = ap (λ (n : ℕ). n + 1) before-more ∙ copying old.newest span sectioned copied 0 (phases_of ahead) active more ∙ sym (ap (λ (c : Course). left_in old c ahead) is)
+
+  pub left-some : left_in new (one_more course span copied sectioned) ahead ≢ 0
+  left-some none = some-of (is_reshaping old.newest) (stripes_in old.newest span - (copied + 1)) (steps_from old.newest (beyond (is_backward old.newest) span) - 0)
+      (phases_steps (final_shape old.newest) old.newest.size (phases_of ahead)) active (sym before-more ∙ none)
+    where
+      some-of : (b : Bool) (x y z : ℕ) → b ≡ true → cond b (x + 1 + y) 0 + z ≡ 0 → ⊥
+      some-of true x y z is none = omega (arith, none)
+      some-of false x y z is none = absurd (cc)
+
+-- ---- what is kept
+
+-- what a copy of the next stripe leaves on the members, done or not
+pub record IsStripeTried (tells : Type 0) (given : Given) (tape tape' : List Operation) (old new : Members) (span : Span) (copied roles : ℕ) : Type 0 where
+  pub moved : IsMoved given old new
+  pub since : AreMissingSince old new roles
+  pub clean : is_clean new.newest ≡ is_clean old.newest
+  pub rise : tells → IsRisen ⊤ old new tape tape'
+  pub unused : tells → IsUnusedKept old (disk given.start tape) (disk given.start tape')
+  pub others : tells → AreOtherRowsKept (IsOfStripe (final_shape old.newest) (next_stripe old span copied)) (reading_of new) (present given tape) (present given tape')
+  pub safe : tells → (world : World) → (told : Ledger) → HasRoomLeft old tape tape' → AreGoneTold told new → IsUncleanTold told old → IsCopyable world.scope old span (disk given.start tape)
+      → IsSafeOver world given told old tape → KeepsSafe world given told new tape tape'
+
+module _ (tells : Type 0) (given : Given) (tape tape' : List Operation) (scope : Scope) (first : ℕ) (entries : List Entry) (old new : Members) (carried : ℕ → Bool)
+    (course : Course) (ahead : PhasesLeft) (window : List ℕ) (span : Span) (copied : ℕ) (sectioned : Bool) (who : Who) (end roles spares : ℕ)
+    (was : IsMoving tells given tape scope first entries old carried course (bytes_in course.window window) (left_in old course ahead)) (is : course ≡ entered span copied sectioned)
+    (more : copied < stripes_in old.newest span) (goes : IsCallGoing entries who) (caller : IsFalse (who.caller == 254)) (at_end : tells → end ≡ length tape') (grows : Grows tells tape tape')
+    (did : IsStripeTried tells given tape tape' old new span copied roles) where
+  abbrev bytes : List ℕ
+  bytes = take (512 * (span.hi - span.lo)) window
+
+  opened : IsMoving tells given tape scope first entries old carried (entered span copied sectioned) bytes (left_in old course ahead)
+  opened = subst (λ (c : Course). IsMoving tells given tape scope first entries old carried c (bytes_in c.window window) (left_in old course ahead)) is was
+
+  few : role_count new.newest ≤ 16
+  few = few-roles new.newest did.moved.placed.fit.valid
+
+  -- done
+  pub copied-kept : (left : ℕ) → left ≡ left_in new (one_more course span copied sectioned) ahead
+      → (tells → (list : ℕ → Sector) → IsCopied span bytes (tail_of old.newest) list → (row : ℕ) → IsOfStripe (final_shape old.newest) (next_stripe old span copied) row
+      → RowStands (reading_of new) (present given tape') (final_shape old.newest) list row)
+      → IsMoving tells given tape' scope first (entries ++ entries_of who end (losses_of roles spares ++ Step CopiesStripe left ∷ [])) new carried (one_more course span copied sectioned) bytes
+      (left_in new (one_more course span copied sectioned) ahead)
+  copied-kept left left_is stands =
+      let active = was.members_are.active in
+      let fewer = left-falls given old new course ahead span copied sectioned active is more did.moved in
+      let some = left-some given old new course ahead span copied sectioned active is more did.moved in
+      let one : left_in old course ahead ≡ left + 1 = sym fewer ∙ ap (λ (n : ℕ). n + 1) (sym left_is) in
+      subst (λ (n : ℕ). IsMoving tells given tape' scope first (entries ++ entries_of who end (losses_of roles spares ++ Step CopiesStripe left ∷ [])) new carried (one_more course span copied sectioned) bytes n) left_is
+      (subst (λ (c : Course). IsMoving tells given tape' scope first (entries ++ entries_of who end (losses_of roles spares ++ Step CopiesStripe left ∷ [])) new carried c bytes left)
+      (sym (more-is given old new course ahead span copied sectioned active is more did.moved))
+      (copied-moves tells given tape tape' scope first entries old new carried span copied sectioned bytes left who end roles spares
+      (subst (λ (n : ℕ). IsMoving tells given tape scope first entries old carried (entered span copied sectioned) bytes n) one opened) goes caller at_end grows
+      more (λ none. some (sym left_is ∙ none)) did.moved few did.since did.clean did.rise did.unused did.others stands did.safe))
+
+  -- refused
+  pub uncopied-kept : (refusal : Refusal) → AreTooMany new refusal
+      → IsMoving tells given tape' scope first (entries ++ entries_of who end (losses_of roles spares ++ Refused refusal ∷ [])) new carried course (bytes_in course.window window) (left_in new course ahead)
+  uncopied-kept refusal many =
+      subst (λ (n : ℕ). IsMoving tells given tape' scope first (entries ++ entries_of who end (losses_of roles spares ++ Refused refusal ∷ [])) new carried course (bytes_in course.window window) n)
+      (sym (left-moved given old new course ahead did.moved))
+      (subst (λ (c : Course). IsMoving tells given tape' scope first (entries ++ entries_of who end (losses_of roles spares ++ Refused refusal ∷ [])) new carried c (bytes_in c.window window) (left_in old course ahead)) (sym is)
+      (refused-moves tells given tape tape' scope first entries old new carried (entered span copied sectioned) bytes (left_in old course ahead) who end roles spares refusal
+      opened goes caller at_end grows did.moved few did.since did.clean (inr many) did.rise did.unused
+      (λ t sound list stands.
+      (copies-go-on sound given old new span copied sectioned bytes (present given tape) (present given tape') list was.members_are.placed did.moved opened.course_is.window.0 more
+      (plain-of old.newest span copied sectioned opened.course_is.window) (did.others t) stands).0)
+      (λ t told fills more_told room gone unclean now. did.safe t (world_in given tape scope first) told room gone unclean
+      (able-kept scope given old span copied sectioned (disk given.start tape) opened.course_is.window (opened.stored t).section) now)))
+
+-- ---- the buffer that a copy writes in
+
+-- a vector that is written as a slice stays as long
+pub same-long : (n : ℕ) (items written : List ℕ) → n ≡ length items → length (take n (written ++ drop (length written) items)) ≡ length items
+same-long n items written is =
+    let whole = length-append written (drop (length written) items) in
+    let rest = length-drop (length written) items in
+    length-take-le n (written ++ drop (length written) items) (omega (arith, whole, rest, is)) ∙ is
+
+pub refilled : {tells : Type 0} {given : Given} {tape : List Operation} {scope : Scope} {first : ℕ} {entries : List Entry} {members : Members} {work : Work} {course : Course} {ahead : PhasesLeft}
+    {window : List ℕ} {faults : ℕ → ℕ} {steps room rows buffer buffer' far_rows far_buffer : ℕ} → buffer' ≡ buffer
+    → IsReady tells given tape scope first entries members work course ahead window faults steps room rows buffer far_rows far_buffer
+    → IsReady tells given tape scope first entries members work course ahead window faults steps room rows buffer' far_rows far_buffer
+refilled {tells = tells} {given = given} {tape = tape} {scope = scope} {first = first} {entries = entries} {members = members} {work = work} {course = course} {ahead = ahead} {window = window} {faults = faults}
+    {steps = steps} {room = room} {rows = rows} {far_rows = far_rows} {far_buffer = far_buffer} is was =
+    subst (λ (n : ℕ). IsReady tells given tape scope first entries members work course ahead window faults steps room rows n far_rows far_buffer) (sym is) was

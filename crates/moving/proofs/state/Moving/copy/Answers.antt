@@ -1,0 +1,222 @@
+use Rattle.std.proofs.Common.{◌≤◌, ℕ, ◌-◌, ◌*◌, List, [], ◌∷◌, ◌++◌, take, Some, refl, sym, subst, arith}
+use Rattle.md_base.specs.Shapes.{stripe_sectors}
+use Rattle.geometry.proofs.ClosedForms.{ceiling_below}
+use Rattle.geometry.proofs.Valid.{bounded}
+use Rattle.superblocks.specs.Reading.{final_shape, list_length}
+use Rattle.shape_views.proofs.Stands.{window-inside}
+use Rattle.views.specs.Lacking.{AreTooMany}
+use Rattle.array_kept.proofs.ReplyLaws.{too-many-of, refused-for}
+use Rattle.flat_history.specs.declared.events.Event.TheVariants.{Refused, Step}
+use Rattle.flat_history.specs.declared.events.StepKind.TheVariants.{Copied as CopiesStripe}
+use Rattle.flat_history.specs.Plain.{entries_of}
+use Rattle.views.specs.Numbers.{is_carried}
+use Rattle.views.proofs.MovedLaws.{grows-none, moved-same}
+use Rattle.call_entries.specs.Losing.{losses_of}
+use Rattle.array_kept.specs.Kept.{scope_in}
+use Rattle.array_kept.proofs.LossLaws.{losses-behind, ended-behind, behind-alone}
+use Rattle.array_kept.proofs.ReadyLaws.{scope-same}
+use Rattle.views.proofs.LackingLaws.{never-both}
+use Rattle.window_rows.specs.Copies.{tail_of, IsCopied}
+use Rattle.kept_history.specs.Recorded.{IsCallGoing}
+use Rattle.kept_history.specs.Safe.{world_in}
+use Rattle.course_kept.specs.declared.course.Course.{Course}
+use Rattle.course_kept.specs.Course.{IsWindowOf}
+use Rattle.moving_state.proofs.ReshapeLaws.{window-reach, list-short}
+use Rattle.moving_kept.proofs.Refusals.{quiet-refusal, refused-right}
+use Rattle.moving_kept.proofs.Resting.{resting-moves}
+use Rattle.moving_kept.proofs.Steps.{missing-since}
+use Rattle.moving.specs.Ready.{left_in, bytes_in}
+use Rattle.moving.specs.Calls.{IsCopyDue}
+use Rattle.moving.proofs.Called.{not_254, called, alone-lossless}
+use Rattle.moving.proofs.Copied.{due-is, IsStripeTried, copied-kept, uncopied-kept, refilled, same-long}
+use Rattle.moving.proofs.Kept.{ready, shapes-same, shapes-moved}
+use Rattle.moving.proofs.Settled.{risen-told, many-of}
+use Rattle.moving.proofs.state.Moving.copy.Goals as goal
+
+-- ---- the members lack too many
+
+pub invariant_of-self : goal.invariant_of-self
+invariant_of-self g c =
+    let was = c.self.invariant in
+    let a = c.self.inside in
+    let given = g.B.Bank.given a.bank in
+    let scope = scope_in given a.epoch.uuid a.epoch.given (Some a.backup) in
+    let goes : IsCallGoing a.epoch.entries.items c.args.who = subst (λ p. IsCallGoing p.parts.entries c.args.who) (sym c.self.view_is) c.requires.open in
+    let steps : 1 ≤ a.steps = subst (λ p. 1 ≤ p.parts.steps) (sym c.self.view_is) c.requires.room in
+    let tape = g.B.Bank.tape a.bank in
+    let end = c.ops-end.result in
+    let refusal = c.in-Some.refusal in
+    let kept = resting-moves g.B.Bank.tells given tape scope a.epoch.first a.epoch.entries.items a.members (is_carried a.work) a.course (bytes_in a.course.window a.window.items) (left_in a.members a.course a.ahead)
+    c.args.who end (Refused refusal) was.kept goes (not_254 c.args.who.caller c.requires.caller) c.ops-end.ensures.count (quiet-refusal refusal) (λ told is. is)
+    (λ t right. refused-right (world_in given tape scope a.epoch.first) a.epoch.entries.items given a.members was.kept.members_are.placed (was.kept.gone t right) (was.kept.levelled t right) refusal c.in-Some.ensures) in
+    ready (entries_of c.args.who end (Refused refusal ∷ [])) was (grows-none (λ t. refl)) (shapes-same a.members.newest) kept
+    refl (λ slot. omega arith) refl (scope-same given (Some a.backup) refl c.enter.ensures.uuid c.enter.ensures.given) c.enter.ensures.first refl c.enter.ensures.items
+    (let had = was.room_left in let room = c.enter.ensures.room in omega (arith, room, had, steps))
+
+pub returns-in-Some-clause-called : goal.returns-in-Some-clause-called
+returns-in-Some-clause-called g c =
+    let was = c.self.invariant in
+    let a = c.self.inside in
+    let given = g.B.Bank.given a.bank in
+    let faults = g.B.Bank.faults_of a.bank in
+    let end = c.ops-end.result in
+    let refusal = c.in-Some.refusal in
+    rw (← c.self.view_is) (called (grows-none (λ t. refl)) (moved-same given given a.members a.members refl refl was.kept.members_are.placed was.kept.members_are.unlost)
+    (ended-behind (g.B.Bank.tape a.bank) c.enter.new.epoch.first a.epoch.entries.items c.args.who end [] (Refused refusal) c.enter.ensures.items c.ops-end.ensures.count)
+    (alone-lossless a.members faults faults a.epoch.entries.items a.epoch.entries.items c.enter.new.epoch.entries.items c.args.who end (Refused refusal) tt refl c.enter.ensures.items)
+    (λ slot. omega arith)
+    (record { uuid = c.enter.ensures.uuid; given = c.enter.ensures.given; first = c.enter.ensures.first; backup = refl; work = refl; ahead = refl })
+    (λ t. (was.kept.recorded t).begun))
+
+pub returns-in-Some-clause-entered : goal.returns-in-Some-clause-entered
+returns-in-Some-clause-entered g c =
+    rw (← c.self.view_is) (behind-alone c.args.who c.ops-end.result (Refused c.in-Some.refusal) refl c.enter.ensures.items)
+
+-- ---- the copy is refused
+
+pub invariant_of-self-in-Some-refusal : goal.invariant_of-self-in-Some-refusal
+invariant_of-self-in-Some-refusal g c =
+    let was = c.self.invariant in
+    let a = c.self.inside in
+    let given = g.B.Bank.given a.bank in
+    let scope = scope_in given a.epoch.uuid a.epoch.given (Some a.backup) in
+    let goes : IsCallGoing a.epoch.entries.items c.args.who = subst (λ p. IsCallGoing p.parts.entries c.args.who) (sym c.self.view_is) c.requires.open in
+    let steps : 1 ≤ a.steps = subst (λ p. 1 ≤ p.parts.steps) (sym c.self.view_is) c.requires.room in
+    let m = c.copy_next-moved.new.members in
+    let did = c.copy_next-moved.ensures in
+    let tape = g.B.Bank.tape a.bank in
+    let tape' = g.B.Bank.tape c.copy_next-moved.new.bank in
+    let roles = c.copy_next-moved.result.roles in
+    let spares = c.copy_next-moved.result.spares in
+    let end = c.ops-end-2.result in
+    let refusal = c.in-Some-refusal.refusal in
+    let due = due-is _ c.in-Entered.span c.in-Entered.copied c.in-Entered.sectioned (subst (λ p. IsCopyDue p) (sym c.self.view_is) c.requires.due) c.in-Entered.is in
+    let tried : IsStripeTried g.B.Bank.tells given tape tape' a.members m c.in-Entered.span c.in-Entered.copied roles =
+    record {
+      moved = did.moved;
+      since = missing-since roles did.moved did.since.vacant;
+      clean = did.clean;
+      rise = risen-told did.rise;
+      unused = did.unused;
+      others = did.others;
+      safe = did.safe;
+    } in
+    let kept = uncopied-kept g.B.Bank.tells given tape tape' scope a.epoch.first a.epoch.entries.items a.members m (is_carried a.work) a.course a.ahead a.window.items
+    c.in-Entered.span c.in-Entered.copied c.in-Entered.sectioned c.args.who end roles spares was.kept due.0 due.1 goes (not_254 c.args.who.caller c.requires.caller) c.ops-end-2.ensures.count did.grows tried
+    refusal (many-of m c.copy_next-moved.result.refusal refusal c.in-Some-refusal.is did.refused) in
+    refilled (same-long a.buffer.len a.buffer.items c.copy_next-moved.new.scratch a.buffer.ok.0)
+    (ready (entries_of c.args.who end (losses_of roles spares ++ Refused refusal ∷ [])) was did.grows (shapes-moved given a.members m did.moved) kept
+    refl did.counts did.given (scope-same given (Some a.backup) did.given c.enter_behind.ensures.uuid c.enter_behind.ensures.given) c.enter_behind.ensures.first refl c.enter_behind.ensures.items
+    (let had = was.room_left in let room = c.enter_behind.ensures.room in omega (arith, room, had, steps)))
+
+pub returns-in-Some-refusal-clause-called : goal.returns-in-Some-refusal-clause-called
+returns-in-Some-refusal-clause-called g c =
+    let was = c.self.invariant in
+    let a = c.self.inside in
+    let m = c.copy_next-moved.new.members in
+    let did = c.copy_next-moved.ensures in
+    let before = g.B.Bank.faults_of a.bank in
+    let after = g.B.Bank.faults_of c.copy_next-moved.new.bank in
+    let roles = c.copy_next-moved.result.roles in
+    let spares = c.copy_next-moved.result.spares in
+    let end = c.ops-end-2.result in
+    let event = Refused c.in-Some-refusal.refusal in
+    rw (← c.self.view_is) (called did.grows did.moved
+    (ended-behind (g.B.Bank.tape c.copy_next-moved.new.bank) c.enter_behind.new.epoch.first a.epoch.entries.items c.args.who end (losses_of roles spares) event c.enter_behind.ensures.items c.ops-end-2.ensures.count)
+    (losses-behind a.members m before after a.epoch.entries.items a.epoch.entries.items c.enter_behind.new.epoch.entries.items c.args.who end roles spares event did.since tt refl c.enter_behind.ensures.items)
+    did.counts
+    (record { uuid = c.enter_behind.ensures.uuid; given = c.enter_behind.ensures.given; first = c.enter_behind.ensures.first; backup = refl; work = refl; ahead = refl })
+    (λ t. (was.kept.recorded t).begun))
+
+-- ---- the stripe is copied
+
+pub invariant_of-self-2 : goal.invariant_of-self-2
+invariant_of-self-2 g c =
+    let was = c.self.invariant in
+    let a = c.self.inside in
+    let given = g.B.Bank.given a.bank in
+    let scope = scope_in given a.epoch.uuid a.epoch.given (Some a.backup) in
+    let goes : IsCallGoing a.epoch.entries.items c.args.who = subst (λ p. IsCallGoing p.parts.entries c.args.who) (sym c.self.view_is) c.requires.open in
+    let steps : 1 ≤ a.steps = subst (λ p. 1 ≤ p.parts.steps) (sym c.self.view_is) c.requires.room in
+    let m = c.copy_next-moved.new.members in
+    let did = c.copy_next-moved.ensures in
+    let tape = g.B.Bank.tape a.bank in
+    let tape' = g.B.Bank.tape c.copy_next-moved.new.bank in
+    let roles = c.copy_next-moved.result.roles in
+    let spares = c.copy_next-moved.result.spares in
+    let end = c.ops-end-2.result in
+    let left = c.steps_left-left.result in
+    let span = c.in-Entered.span in
+    let due = due-is _ c.in-Entered.span c.in-Entered.copied c.in-Entered.sectioned (subst (λ p. IsCopyDue p) (sym c.self.view_is) c.requires.due) c.in-Entered.is in
+    let tried : IsStripeTried g.B.Bank.tells given tape tape' a.members m c.in-Entered.span c.in-Entered.copied roles =
+    record {
+      moved = did.moved;
+      since = missing-since roles did.moved did.since.vacant;
+      clean = did.clean;
+      rise = risen-told did.rise;
+      unused = did.unused;
+      others = did.others;
+      safe = did.safe;
+    } in
+    let kept = copied-kept g.B.Bank.tells given tape tape' scope a.epoch.first a.epoch.entries.items a.members m (is_carried a.work) a.course a.ahead a.window.items
+    c.in-Entered.span c.in-Entered.copied c.in-Entered.sectioned c.args.who end roles spares was.kept due.0 due.1 goes (not_254 c.args.who.caller c.requires.caller) c.ops-end-2.ensures.count did.grows tried
+    left c.steps_left-left.ensures (λ t list copied. did.stands c.in_default-refusal.is t list (subst (λ (l : List ℕ). IsCopied span (take (512 * (span.hi - span.lo)) l) (tail_of a.members.newest) list) (sym c.as_slice.ensures.value) copied)) in
+    refilled (same-long a.buffer.len a.buffer.items c.copy_next-moved.new.scratch a.buffer.ok.0)
+    (ready (entries_of c.args.who end (losses_of roles spares ++ Step CopiesStripe left ∷ [])) was did.grows (shapes-moved given a.members m did.moved) kept
+    refl did.counts did.given (scope-same given (Some a.backup) did.given c.enter_behind-2.ensures.uuid c.enter_behind-2.ensures.given) c.enter_behind-2.ensures.first refl c.enter_behind-2.ensures.items
+    (let had = was.room_left in let room = c.enter_behind-2.ensures.room in omega (arith, room, had, steps)))
+
+pub returns-clause-called : goal.returns-clause-called
+returns-clause-called g c =
+    let was = c.self.invariant in
+    let a = c.self.inside in
+    let m = c.copy_next-moved.new.members in
+    let did = c.copy_next-moved.ensures in
+    let before = g.B.Bank.faults_of a.bank in
+    let after = g.B.Bank.faults_of c.copy_next-moved.new.bank in
+    let roles = c.copy_next-moved.result.roles in
+    let spares = c.copy_next-moved.result.spares in
+    let end = c.ops-end-2.result in
+    let event = Step CopiesStripe c.steps_left-left.result in
+    rw (← c.self.view_is) (called did.grows did.moved
+    (ended-behind (g.B.Bank.tape c.copy_next-moved.new.bank) c.enter_behind-2.new.epoch.first a.epoch.entries.items c.args.who end (losses_of roles spares) event c.enter_behind-2.ensures.items c.ops-end-2.ensures.count)
+    (losses-behind a.members m before after a.epoch.entries.items a.epoch.entries.items c.enter_behind-2.new.epoch.entries.items c.args.who end roles spares event did.since tt refl c.enter_behind-2.ensures.items)
+    did.counts
+    (record { uuid = c.enter_behind-2.ensures.uuid; given = c.enter_behind-2.ensures.given; first = c.enter_behind-2.ensures.first; backup = refl; work = refl; ahead = refl })
+    (λ t. (was.kept.recorded t).begun))
+
+pub returns-clause-caused : goal.returns-clause-caused
+returns-clause-caused g c = rw (← c.self.view_is) (omega arith, λ refusal many. never-both c.self.inside.members refusal c.in_default.ensures many)
+
+pub returns-in-Some-refusal-clause-caused : goal.returns-in-Some-refusal-clause-caused
+returns-in-Some-refusal-clause-caused g c =
+    let a = c.self.inside in
+    let m = c.copy_next-moved.new.members in
+    let refusal = c.in-Some-refusal.refusal in
+    let many = many-of m c.copy_next-moved.result.refusal refusal c.in-Some-refusal.is c.copy_next-moved.ensures.refused in
+    rw (← c.self.view_is) (refused-for (list_length a.members.newest) 0 AreTooMany a.members m refusal (too-many-of m refusal many) (omega arith) many)
+
+-- ---- the window
+
+pub copy_next-moved-requires-clause-wide : goal.copy_next-moved-requires-clause-wide
+copy_next-moved-requires-clause-wide g c =
+    let was = c.self.invariant in
+    let a = c.self.inside in
+    let due = due-is _ c.in-Entered.span c.in-Entered.copied c.in-Entered.sectioned (subst (λ p. IsCopyDue p) (sym c.self.view_is) c.requires.due) c.in-Entered.is in
+    let window = (subst (λ (k : Course). IsWindowOf a.members.newest k.window) due.0 was.kept.course_is.window).0 in
+    let reach = window-reach a.members.newest was.kept.members_are.placed.fit c.in-Entered.span window in
+    let wide = was.wide in
+    omega (arith, reach, wide)
+
+pub overflow_add-self : goal.overflow_add-self
+overflow_add-self g c =
+    let a = c.self.inside in
+    let fit = c.self.invariant.kept.members_are.placed.fit in
+    let span = c.in-Entered.span in
+    let due = due-is _ span c.in-Entered.copied c.in-Entered.sectioned (subst (λ p. IsCopyDue p) (sym c.self.view_is) c.requires.due) c.in-Entered.is in
+    let window = (subst (λ (k : Course). IsWindowOf a.members.newest k.window) due.0 c.self.invariant.kept.course_is.window).0 in
+    let below = ceiling_below span.hi (stripe_sectors (final_shape a.members.newest)) (let some = (bounded (final_shape a.members.newest) fit.valid.final).some_stripe in omega (arith, some)) in
+    let inside = window-inside a.members.newest fit span window in
+    let short = list-short a.members.newest fit in
+    let more = due.1 in
+    omega (arith, below, inside, short, more)

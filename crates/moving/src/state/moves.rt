@@ -1,0 +1,172 @@
+//! The steps of a reshape between its begin and its end.
+
+ghost use Rattle.std.specs.Prelude.{◌≡◌, ◌≢◌, ◌+◌, ◌-◌, ◌*◌, ◌<◌, ◌≤◌, ℕ, length, take, None, Some, MatchOption, OnOk, OnErr, ⊤};
+ghost use Rattle.md_base.specs.Sectors.{Sector};
+ghost use Rattle.bank.specs.Given.{NeverFalls};
+ghost use Rattle.bank.specs.Tape.{disk};
+ghost use Rattle.superblocks.specs.Reading.{is_clean, final_shape, list_length, next_window};
+ghost use Rattle.row_io.specs.Rows.{present, reading_of};
+ghost use Rattle.list_io.specs.Full.{RowStands};
+ghost use Rattle.flat_history.specs.World.{World};
+ghost use Rattle.flat_history.specs.declared.events.StepKind.TheVariants.{Copied as CopiesStripe};
+ghost use Rattle.shape_views.specs.Views.{Ledger};
+ghost use Rattle.shape_views.specs.Windows.{IsCopyable};
+ghost use Rattle.shape_changes.specs.Safety.{HasRoomLeft, IsRisen};
+ghost use Rattle.shape_changes.specs.Steady.{AreUnlost, IsSafeOver, KeepsSafe, AreGoneTold, IsUncleanTold};
+ghost use Rattle.views.specs.Placed.{IsPlaced};
+ghost use Rattle.views.specs.Moving.{Grows, IsMoved};
+ghost use Rattle.views.specs.Rebuilding.{AreSparesFree};
+ghost use Rattle.views.specs.Lacking.{AreLostSince, AreTooMany, AreOtherRowsKept, IsOfStripe};
+ghost use Rattle.safe_updates.specs.Unused.{IsUnusedKept};
+ghost use Rattle.grow_asked.specs.Left.{stripes_in};
+ghost use Rattle.window_rows.specs.Copies.{tail_of, IsCopied};
+ghost use Rattle.course_kept.specs.Laws.{next_stripe};
+ghost use Rattle.array_kept.specs.Calls.{IsCausedBy};
+ghost use Rattle.kept_history.specs.Recorded.{IsCallGoing};
+ghost use Rattle.moving.specs.Ready.{left_in};
+ghost use Rattle.moving.specs.Calls.{IsCalled, IsStepTaken, IsCopyDue};
+
+use crate::state::{Moving, steps_left};
+use bank::Bank;
+use call_entries::calls::{enter, enter_behind};
+use flat_history::{Entries, Event, StepKind};
+use grow_asked::Window;
+use md_base::{Fault, Refusal, Span, Who};
+use moving_state::reshape::stripe_to_copy;
+use safe_updates::naming::newly_vacant;
+use safe_updates::refusing::too_many;
+use safe_updates::roles::{final_in, vacant_roles};
+use superblocks::Members;
+use window_steps::copy;
+
+// The number of a call that goes on is at most the number of entries.
+pub(crate) fn check_going(entries: &Entries, who: Who)
+    requires { IsCallGoing entries.now.items who }
+    ensures { who.number ≤ length entries.now.items }
+{
+    let _ = entries.next_number(who.caller);
+}
+
+// The roles and the spares that were lost in a step, and why it wasn't done.
+#[derive(Clone, Copy)]
+pub struct Moved {
+    pub roles: u32,
+    pub spares: u32,
+    pub refusal: Option<Refusal>,
+}
+
+// Copies the next stripe of the window, of which so many are copied, from the buffer that has its sectors first.
+fn copy_next<B: Bank>(
+    members: &mut Members,
+    bank: &mut B,
+    span: &Span,
+    copied: u64,
+    window: &[u8],
+    scratch: &mut [u8],
+) -> Moved
+    requires slots { (B.given bank.old).slots ≤ 32 }
+    requires placed { IsPlaced (B.given bank.old) members.old }
+    requires unlost { AreUnlost members.old }
+    requires free { AreSparesFree (B.given bank.old) members.old }
+    requires next { next_window members.old.newest ≡ Some span.now }
+    requires more { copied < stripes_in members.old.newest span.now }
+    requires wide { 512 * (span.now.hi - span.now.lo) ≤ length window.now }
+    requires scratch { 8192 ≤ length scratch.old }
+    ensures moved { IsMoved (B.given bank.old) members.old members.new }
+    ensures since { AreLostSince members.old members.new result.roles result.spares (B.faults_of bank.old) (B.faults_of bank.new) }
+    ensures refused { MatchOption result.refusal ⊤ (AreTooMany members.new) }
+    ensures grows { Grows B.tells (B.tape bank.old) (B.tape bank.new) }
+    ensures clean { is_clean members.new.newest ≡ is_clean members.old.newest }
+    ensures stands { result.refusal ≡ None → B.tells → (list : ℕ → Sector) → IsCopied span.now (take (512 * (span.now.hi - span.now.lo)) window.now) (tail_of members.old.newest) list
+        → (row : ℕ) → IsOfStripe (final_shape members.old.newest) (next_stripe members.old span.now copied) row
+        → RowStands (reading_of members.new) (present (B.given bank.old) (B.tape bank.new)) (final_shape members.old.newest) list row }
+    ensures others { B.tells → AreOtherRowsKept (IsOfStripe (final_shape members.old.newest) (next_stripe members.old span.now copied)) (reading_of members.new)
+        (present (B.given bank.old) (B.tape bank.old)) (present (B.given bank.old) (B.tape bank.new)) }
+    ensures rise { IsRisen B.tells members.old members.new (B.tape bank.old) (B.tape bank.new) }
+    ensures safe { B.tells → (world : World) → (told : Ledger) → HasRoomLeft members.old (B.tape bank.old) (B.tape bank.new)
+        → AreGoneTold told members.new → IsUncleanTold told members.old
+        → IsCopyable world.scope members.old span.now (disk (B.given bank.old).start (B.tape bank.old))
+        → IsSafeOver world (B.given bank.old) told members.old (B.tape bank.old)
+        → KeepsSafe world (B.given bank.old) told members.new (B.tape bank.old) (B.tape bank.new) }
+    ensures unused { B.tells → IsUnusedKept members.old (disk (B.given bank.old).start (B.tape bank.old)) (disk (B.given bank.old).start (B.tape bank.new)) }
+    ensures given { B.given bank.new ≡ B.given bank.old }
+    ensures counts { NeverFalls (B.faults_of bank.old) (B.faults_of bank.new) }
+{
+    let count = members.roles.len() as u32;
+    let before = vacant_roles(members, count);
+    let shape = final_in(members);
+    let stripe = stripe_to_copy(members, span, copied);
+    let width = 512 * (span.hi - span.lo) as usize;
+    let done = copy(
+        members,
+        bank,
+        &shape,
+        span,
+        stripe,
+        &window[..width],
+        scratch,
+    );
+    Moved {
+        roles: newly_vacant(members, count, before),
+        spares: done.spares,
+        refusal: done.refusal,
+    }
+}
+
+impl<B: Bank> Moving<B> {
+    /// A step of the reshape: the next stripe of the open window is copied. Refusals: `TooManyMissing`. It takes no memory.
+    pub fn copy(&mut self, who: Who) -> Result<(), Fault>
+        requires open { IsCallGoing self.old.parts.entries who }
+        requires caller { who.caller ≢ 254 }
+        requires room { 1 ≤ self.old.parts.steps }
+        requires due { IsCopyDue self.old }
+        ensures entered { IsStepTaken who self.old.parts.entries self.new.parts.entries CopiesStripe (left_in self.new.parts.members self.new.course self.new.ahead) result }
+        ensures called { IsCalled B.tells (B.given self.old.parts.bank) (B.tape self.old.parts.bank) (B.tape self.new.parts.bank) (B.faults_of self.old.parts.bank) (B.faults_of self.new.parts.bank) self.old self.new }
+        ensures clean { is_clean self.new.parts.members.newest ≡ is_clean self.old.parts.members.newest }
+        ensures caused { IsCausedBy (list_length self.old.parts.members.newest) 0 AreTooMany self.old.parts.members self.new.parts.members result }
+        ensures left { OnOk result (left_in self.new.parts.members self.new.course self.new.ahead + 1 ≡ left_in self.old.parts.members self.old.course self.old.ahead) }
+        ensures course { OnErr result (self.new.course ≡ self.old.course) }
+        ensures room { self.new.parts.steps + 1 ≡ self.old.parts.steps }
+        ensures given { B.given self.new.parts.bank ≡ B.given self.old.parts.bank }
+    {
+        self.steps -= 1;
+        check_going(&self.epoch.entries, who);
+        if let Some(refusal) = too_many(&self.members) {
+            let end = self.bank.ops();
+            enter(&mut self.epoch, who, end, Event::Refused { refusal });
+            return Err(Fault::Refused(refusal));
+        }
+        let Window::Entered {
+            span,
+            copied,
+            sectioned,
+        } = self.course.window
+        else {
+            unreachable!()
+        };
+        let moved = copy_next(
+            &mut self.members,
+            &mut self.bank,
+            &span,
+            copied,
+            self.window.as_slice(),
+            self.buffer.as_mut_slice(),
+        );
+        let end = self.bank.ops();
+        if let Some(refusal) = moved.refusal {
+            let event = Event::Refused { refusal };
+            enter_behind(&mut self.epoch, who, end, moved.roles, moved.spares, event);
+            return Err(Fault::Refused(refusal));
+        }
+        self.course.window = Window::Entered {
+            span,
+            copied: copied + 1,
+            sectioned,
+        };
+        let kind = StepKind::Copied;
+        let left = steps_left(&self.members, &self.course, &self.ahead);
+        let event = Event::Step { kind, left };
+        enter_behind(&mut self.epoch, who, end, moved.roles, moved.spares, event);
+        Ok(())
+    }
+}
