@@ -4,3 +4,4 @@ pub mod Asking
 pub mod Called
 pub mod TakenOut
 pub mod ZeroLaws
+pub mod RecordLaws

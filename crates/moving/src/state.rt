@@ -10,6 +10,7 @@ ghost use Rattle.moving.specs.Ready.{left_in};
 mod asking;
 mod ending;
 mod failing;
+mod recording;
 mod settling;
 mod zeroing;
 

@@ -22,7 +22,7 @@ use safe_updates::roles::{final_in, vacant_roles};
 use window_steps::zero;
 
 // The number of a call that goes on is at most the number of entries.
-fn check_going(entries: &Entries, who: Who)
+pub(crate) fn check_going(entries: &Entries, who: Who)
     requires { IsCallGoing entries.now.items who }
     ensures { who.number ≤ length entries.now.items }
 {
