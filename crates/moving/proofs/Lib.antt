@@ -5,3 +5,4 @@ pub mod Called
 pub mod TakenOut
 pub mod ZeroLaws
 pub mod Copied
+pub mod RecordLaws

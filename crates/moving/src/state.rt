@@ -11,6 +11,7 @@ mod asking;
 mod ending;
 mod failing;
 mod moves;
+mod recording;
 mod settling;
 mod zeroing;
 

@@ -1,0 +1,192 @@
+-- A window is recorded, from what `record` of `window_steps` says of it: what is kept, done or refused.
+use Rattle.std.proofs.Common.{◌≡◌, ◌≢◌, inr, ℕ, ◌+◌, ◌<◌, Bool, true, None, Option, Some, List, [], ◌∷◌, ◌++◌, length, sym, ◌∙◌, ap, subst, arith}
+use Rattle.std.specs.Prelude.{MatchOption}
+use Rattle.md_base.specs.Sectors.{Sector, zero_sector}
+use Rattle.md_base.specs.declared.answers.Refusal.{Refusal}
+use Rattle.md_base.specs.declared.answers.Who.{Who}
+use Rattle.md_base.specs.declared.places.Span.{Span}
+use Rattle.bank.specs.declared.bank.Operation.{Operation}
+use Rattle.bank.specs.Given.{Given}
+use Rattle.bank.specs.Tape.{disk}
+use Rattle.grow_plan.specs.Plans.{phases_steps}
+use Rattle.sb1.specs.declared.sb.Sb.{Sb}
+use Rattle.superblocks.specs.declared.members.Members.{Members}
+use Rattle.superblocks.specs.Reading.{Scope, is_clean, is_reshaping, final_shape, next_window, role_count}
+use Rattle.superblocks.proofs.ValidFields.{few-roles}
+use Rattle.row_io.specs.Rows.{present}
+use Rattle.geometry.specs.Geometry.{stripes}
+use Rattle.flat_history.specs.declared.events.Entry.{Entry}
+use Rattle.flat_history.specs.declared.events.Event.TheVariants.{Step, Refused}
+use Rattle.flat_history.specs.declared.events.StepKind.TheVariants.{Checkpointed as RecordsWindow}
+use Rattle.flat_history.specs.Plain.{entries_of}
+use Rattle.flat_history.specs.Sound.{OpensFit}
+use Rattle.flat_history.specs.World.{World}
+use Rattle.shape_views.specs.Regions.{ArePlaced, DoWithout}
+use Rattle.shape_views.specs.Views.{AreHeadersFit, Ledger}
+use Rattle.shape_views.specs.Windows.{HasNoSection, moved_past}
+use Rattle.shape_changes.specs.Marking.{AreOthersPresent}
+use Rattle.shape_changes.specs.Safety.{HasRoomLeft, IsRisen}
+use Rattle.shape_changes.specs.Steady.{IsSafeOver, KeepsSafe, AreGoneTold, IsUncleanTold}
+use Rattle.views.specs.Placed.{IsPlaced}
+use Rattle.views.specs.Moving.{Grows, IsMoved}
+use Rattle.views.specs.Lacking.{AreTooMany, AreLostSince, HaveFailedSince}
+use Rattle.views.proofs.LackingLaws.{AreVacant, AreNewlyVacant, lost-since}
+use Rattle.safe_updates.specs.Unused.{IsUnusedKept}
+use Rattle.call_entries.specs.Losing.{losses_of}
+use Rattle.window_steps.specs.Recording.{IsCopiedWindow}
+use Rattle.window_steps.proofs.PastLaws.{past-placed}
+use Rattle.grow_asked.specs.declared.window.Window.TheVariants.{Closed, Entered}
+use Rattle.grow_asked.specs.declared.window.PhasesLeft.{PhasesLeft}
+use Rattle.grow_asked.specs.Left.{phases_of, reshape_left, IsPast}
+use Rattle.grow_asked.proofs.LeftLaws.{recording}
+use Rattle.kept_history.specs.Recorded.{IsCallGoing}
+use Rattle.kept_history.specs.Safe.{world_in}
+use Rattle.course_kept.specs.declared.course.Course.{Course}
+use Rattle.course_kept.specs.Course.{IsCourseOf}
+use Rattle.course_kept.specs.Laws.{closed, entered}
+use Rattle.course_kept.proofs.Courses.{courses-move}
+use Rattle.moving_state.proofs.LeftLaws.{plans-counted, some-left}
+use Rattle.moving_kept.specs.Moving.{IsMoving}
+use Rattle.moving_kept.proofs.MoreSteps.{recorded-moves}
+use Rattle.moving_kept.proofs.Staying.{refused-moves}
+use Rattle.moving_kept.proofs.Steps.{AreMissingSince, missing-since}
+use Rattle.moving.specs.Ready.{left_in}
+use Rattle.moving.proofs.Called.{not_254}
+use Rattle.moving.proofs.Kept.{AreSameShapes, left-moved}
+use Rattle.moving.proofs.Settled.{risen-told}
+
+-- ---- members whose position moved
+
+-- the entered window with every stripe copied
+abbrev pub all_copied : Members → Span → Bool → Course
+all_copied m span sectioned = entered span (stripes (final_shape m.newest) span.lo span.hi) sectioned
+
+pub shapes-past : (given : Given) (old new : Members) (span : Span) → IsMoved given (moved_past span old) new → AreSameShapes old.newest new.newest
+shapes-past given old new span moved = record { shape = moved.shape; final = moved.reshape.final; size = moved.size }
+
+-- what was lost, by the members before it
+pub since-past : (given : Given) (old new : Members) (span : Span) (disks was roles spares : ℕ) (before after : ℕ → ℕ) → IsPlaced given old → next_window old.newest ≡ Some span → IsMoved given (moved_past span old) new
+    → HaveFailedSince old new spares before after → disks ≡ role_count old.newest → AreVacant old disks was → AreNewlyVacant new disks was roles → AreLostSince old new roles spares before after
+since-past given old new span disks was roles spares before after placed next moved failed same vacant newly =
+    let since = lost-since given (moved_past span old) new disks was roles spares before after (past-placed given old span placed next) moved
+    (record { roles = failed.roles; spares_are = failed.spares_are; told = failed.told }) same vacant newly in
+    record { vacant = since.vacant; gone = since.gone; held = since.held; failed = since.failed; told = since.told }
+
+-- ---- the steps that are left
+
+past-of : (given : Given) (old new : Members) (span : Span) → IsMoved given (moved_past span old) new → IsPast span old.newest new.newest
+past-of given old new span moved = record {
+  active = moved.reshape.reshaping;
+  shape = moved.shape;
+  final = moved.reshape.final;
+  backward = moved.reshape.backward;
+  size = moved.size;
+  position = moved.reshape.position;
+}
+
+pub record-left : (given : Given) (old new : Members) (span : Span) (sectioned : Bool) (ahead : PhasesLeft) → IsMoved given (moved_past span old) new → is_reshaping old.newest ≡ true
+    → left_in new (closed 0) ahead + 1 ≡ left_in old (all_copied old span sectioned) ahead
+record-left given old new span sectioned ahead moved active = recording old.newest new.newest span sectioned 0 (phases_of ahead) active (past-of given old new span moved)
+
+-- the end of the reshape is left behind it
+record-some : (given : Given) (old new : Members) (span : Span) (ahead : PhasesLeft) → IsMoved given (moved_past span old) new → is_reshaping old.newest ≡ true → left_in new (closed 0) ahead ≢ 0
+record-some given old new span ahead moved active =
+    some (left_in new (closed 0) ahead) (reshape_left new.newest Closed 0) (phases_steps (final_shape new.newest) new.newest.size (phases_of ahead))
+    (plans-counted new.newest (closed 0) (phases_of ahead) (moved.reshape.reshaping ∙ active)) (some-left new.newest Closed 0 (omega arith))
+  where
+    some : (x r p : ℕ) → r + p ≡ x → 0 < r → x ≢ 0
+    some x r p counted more none = absurd (omega (arith, counted, more, none))
+
+-- ---- where no window is open, the buffer has nothing
+
+pub closed-bare : {tells : Type 0} {given : Given} {tape : List Operation} {scope : Scope} {first : ℕ} {entries : List Entry} {members : Members} {carried : ℕ → Bool} (count : ℕ) (buffer : List ℕ) (left : ℕ)
+    → IsMoving tells given tape scope first entries members carried (closed count) buffer left → IsMoving tells given tape scope first entries members carried (closed count) [] left
+closed-bare count buffer left was = record {
+  slots = was.slots;
+  members_are = was.members_are;
+  course_is = was.course_is;
+  sizes_are = was.sizes_are;
+  left_told = was.left_told;
+  levelled = was.levelled;
+  gone = was.gone;
+  unclean = was.unclean;
+  recorded = was.recorded;
+  stored = λ t. let stored = was.stored t in record { section = stored.section; sectors = tt; headers = stored.headers };
+  listed = λ t does fills.
+      let l = was.listed t does fills in
+      let stands = l.stands in
+      record {
+        list = l.list;
+        is = l.is;
+        stands = record { stands = stands.stands; window = tt; zeros = stands.zeros; copied = stands.copied; tail = stands.tail; zeroed = stands.zeroed; rows = stands.rows };
+      };
+  safe = was.safe;
+  now_safe = was.now_safe;
+}
+
+-- ---- what is kept
+
+-- what `record` leaves of safety, whether the position moved or not
+abbrev pub IsRecordSafe : Type 0 → Given → Members → Members → List Operation → List Operation → Span → Option Refusal → Type 0
+IsRecordSafe tells given old new tape tape' span refusal = tells → (world : World) → (told : Ledger) → HasRoomLeft old tape tape' → AreGoneTold told new → IsUncleanTold told old → (list : ℕ → Sector)
+    → (refusal ≡ None → IsCopiedWindow (OpensFit world) world.scope told old span list (present given tape) (disk given.start tape))
+    → IsSafeOver world given told old tape → KeepsSafe world given told new tape tape'
+
+module _ {tells : Type 0} {given : Given} {tape tape' : List Operation} {scope : Scope} {first : ℕ} {entries : List Entry} {old new : Members} {carried : ℕ → Bool} (course : Course) {buffer : List ℕ} (ahead : PhasesLeft)
+    (span : Span) (who : Who) (end roles spares : ℕ) (was : IsMoving tells given tape scope first entries old carried course buffer (left_in old course ahead))
+    (goes : IsCallGoing entries who) (caller : who.caller ≢ 254) (at_end : tells → end ≡ length tape') (grows : Grows tells tape tape') {before after : ℕ → ℕ} (since : AreLostSince old new roles spares before after)
+    (clean : is_clean new.newest ≡ is_clean old.newest) (rise : IsRisen tells old new tape tape') (others : tells → AreOthersPresent (present given tape) (present given tape')) where
+  -- it is refused: the window is open as before
+  pub record-refused : (o : Option Refusal) (refusal : Refusal) → o ≡ Some refusal → IsMoved given old new → AreTooMany new refusal → (tells → IsUnusedKept old (disk given.start tape) (disk given.start tape')) → IsRecordSafe tells given old new tape tape' span o
+      → IsMoving tells given tape' scope first (entries ++ entries_of who end (losses_of roles spares ++ Refused refusal ∷ [])) new carried course buffer (left_in new course ahead)
+  record-refused o refusal is moved many unused safe =
+      subst (λ (n : ℕ). IsMoving tells given tape' scope first (entries ++ entries_of who end (losses_of roles spares ++ Refused refusal ∷ [])) new carried course buffer n) (sym (left-moved given old new course ahead moved))
+      (refused-moves tells given tape tape' scope first entries old new carried course buffer (left_in old course ahead) who end roles spares refusal was goes (not_254 who.caller caller) at_end grows
+      moved (few-roles new.newest moved.placed.fit.valid) (missing-since roles moved since.vacant) clean (inr many) (risen-told rise) unused
+      (λ t sound list stands. courses-move sound given old new course buffer (present given tape) (present given tape') list was.members_are.placed moved (others t) stands)
+      (λ t told filled more room gone unclean. safe t (world_in given tape scope first) told room gone unclean (λ x. zero_sector) (λ none. absurd (let both = sym none ∙ is in cc))))
+
+  -- it is done
+  pub record-done : (sectioned : Bool) (left : ℕ) → course ≡ all_copied old span sectioned → left ≡ left_in new (closed 0) ahead → IsMoved given (moved_past span old) new → DoWithout old
+      → (tells → ArePlaced scope given old → AreHeadersFit scope old (disk given.start tape) → HasNoSection scope new (disk given.start tape') × AreHeadersFit scope new (disk given.start tape'))
+      → IsRecordSafe tells given old new tape tape' span None
+      → IsMoving tells given tape' scope first (entries ++ entries_of who end (losses_of roles spares ++ Step RecordsWindow left ∷ [])) new carried (closed 0) [] (left_in new (closed 0) ahead)
+  record-done sectioned left is told moved does plain safe =
+      subst (λ (n : ℕ). IsMoving tells given tape' scope first (entries ++ entries_of who end (losses_of roles spares ++ Step RecordsWindow left ∷ [])) new carried (closed 0) [] n) told
+      (closed-bare 0 buffer left
+      (recorded-moves tells given tape tape' scope first entries old new carried span sectioned buffer left who end roles spares entering goes (not_254 who.caller caller) at_end grows some
+      moved (few-roles new.newest moved.placed.fit.valid) missing does clean (risen-told rise) others (λ t fit. plain t was.members_are.backed fit)
+      (λ t world ledger room gone unclean list copied. safe t world ledger room gone unclean list (λ none. copied))))
+    where
+      falls : left + 1 ≡ left_in old (all_copied old span sectioned) ahead
+      falls = ap (λ (n : ℕ). n + 1) told ∙ record-left given old new span sectioned ahead moved was.members_are.active
+
+      entering : IsMoving tells given tape scope first entries old carried (all_copied old span sectioned) buffer (left + 1)
+      entering = subst (λ (n : ℕ). IsMoving tells given tape scope first entries old carried (all_copied old span sectioned) buffer n) (sym falls)
+          (subst (λ (k : Course). IsMoving tells given tape scope first entries old carried k buffer (left_in old k ahead)) is was)
+
+      missing : AreMissingSince old new roles
+      missing = missing-since {old = moved_past span old} roles moved since.vacant
+
+      some : left ≢ 0
+      some zero = absurd (record-some given old new span ahead moved was.members_are.active (sym told ∙ zero))
+
+-- ---- what the call left, by its answer
+
+pub moved-if : (given : Given) (span : Span) (old new : Members) (o : Option Refusal) (refusal : Refusal) → o ≡ Some refusal → MatchOption o (IsMoved given (moved_past span old) new) (λ refusal. IsMoved given old new) → IsMoved given old new
+moved-if given span old new o refusal is moved = subst (λ (o : Option Refusal). MatchOption o (IsMoved given (moved_past span old) new) (λ refusal. IsMoved given old new)) is moved
+
+pub moved-none : (given : Given) (span : Span) (old new : Members) (o : Option Refusal) → o ≡ None → MatchOption o (IsMoved given (moved_past span old) new) (λ refusal. IsMoved given old new) → IsMoved given (moved_past span old) new
+moved-none given span old new o is moved = subst (λ (o : Option Refusal). MatchOption o (IsMoved given (moved_past span old) new) (λ refusal. IsMoved given old new)) is moved
+
+pub safe-none-of : {tells : Type 0} {given : Given} {old new : Members} {tape tape' : List Operation} {span : Span} (o : Option Refusal) → o ≡ None → IsRecordSafe tells given old new tape tape' span o → IsRecordSafe tells given old new tape tape' span None
+safe-none-of {tells = tells} {given = given} {old = old} {new = new} {tape = tape} {tape' = tape'} {span = span} o is safe = subst (λ (o : Option Refusal). IsRecordSafe tells given old new tape tape' span o) is safe
+
+-- ---- the open window
+
+-- it is the next one
+pub window-next : {newest : Sb} (course : Course) (span : Span) (copied : ℕ) (sectioned : Bool) → course ≡ entered span copied sectioned → IsCourseOf newest course → next_window newest ≡ Some span
+window-next {newest = newest} course span copied sectioned is of = (subst (λ (k : Course). IsCourseOf newest k) is of).window.0
+
+pub same-span : (a b : Span) (copied count : ℕ) (sectioned section : Bool) → Entered a copied sectioned ≡ Entered b count section → a ≡ b
+same-span a b copied count sectioned section is = cc

@@ -1,0 +1,237 @@
+use Rattle.std.proofs.Common.{◌≡◌, ◌≤◌, [], ◌∷◌, ◌++◌, Some, refl, sym, ◌∙◌, ap, subst, arith}
+use Rattle.superblocks.specs.Reading.{list_length, next_window}
+use Rattle.superblocks.proofs.ValidFields.{few-roles}
+use Rattle.flat_history.specs.declared.events.Event.TheVariants.{Refused, Step}
+use Rattle.flat_history.specs.declared.events.StepKind.TheVariants.{Checkpointed as RecordsWindow}
+use Rattle.flat_history.specs.Plain.{entries_of}
+use Rattle.views.specs.Lacking.{AreTooMany}
+use Rattle.views.proofs.LackingLaws.{lost-since, never-both}
+use Rattle.views.proofs.MovedLaws.{grows-none, moved-same}
+use Rattle.call_entries.specs.Losing.{losses_of}
+use Rattle.array_kept.specs.Kept.{scope_in}
+use Rattle.array_kept.proofs.LossLaws.{losses-behind, ended-behind, behind-alone}
+use Rattle.array_kept.proofs.ReadyLaws.{scope-same, list-same}
+use Rattle.array_kept.proofs.ReplyLaws.{refused-for, too-many-of}
+use Rattle.kept_history.specs.Recorded.{IsCallGoing}
+use Rattle.kept_history.specs.Safe.{world_in}
+use Rattle.views.specs.Numbers.{is_carried}
+use Rattle.md_base.specs.declared.places.Span.{Span}
+use Rattle.course_kept.specs.declared.course.Course.{Course}
+use Rattle.moving_kept.proofs.Refusals.{quiet-refusal, refused-right}
+use Rattle.moving_kept.proofs.Resting.{resting-moves}
+use Rattle.moving.specs.Calls.{IsRecordDue}
+use Rattle.moving.specs.Ready.{left_in, bytes_in}
+use Rattle.moving.proofs.Called.{not_254, called, alone-lossless}
+use Rattle.moving.proofs.Kept.{ready, shapes-same, shapes-moved}
+use Rattle.moving.proofs.Settled.{many-of}
+use Rattle.moving.proofs.RecordLaws.{window-next, same-span, all_copied, moved-if, moved-none, safe-none-of, shapes-past, since-past, record-refused, record-done}
+use Rattle.moving.proofs.state.Moving.record.Goals as goal
+
+-- ---- refused before anything is done
+
+pub invariant_of-self : goal.invariant_of-self
+invariant_of-self g c =
+    let was = c.self.invariant in
+    let a = c.self.inside in
+    let given = g.B.Bank.given a.bank in
+    let scope = scope_in given a.epoch.uuid a.epoch.given (Some a.backup) in
+    let goes : IsCallGoing a.epoch.entries.items c.args.who = subst (λ p. IsCallGoing p.parts.entries c.args.who) (sym c.self.view_is) c.requires.open in
+    let some : 1 ≤ a.steps = subst (λ p. 1 ≤ p.parts.steps) (sym c.self.view_is) c.requires.room in
+    let tape = g.B.Bank.tape a.bank in
+    let end = c.ops-end.result in
+    let refusal = c.in-Some.refusal in
+    let kept = resting-moves g.B.Bank.tells given tape scope a.epoch.first a.epoch.entries.items a.members (is_carried a.work) a.course (bytes_in a.course.window a.window.items) (left_in a.members a.course a.ahead)
+    c.args.who end (Refused refusal) was.kept goes (not_254 c.args.who.caller c.requires.caller) c.ops-end.ensures.count (quiet-refusal refusal) (λ told is. is)
+    (λ t right. refused-right (world_in given tape scope a.epoch.first) a.epoch.entries.items given a.members was.kept.members_are.placed (was.kept.gone t right) (was.kept.levelled t right) refusal c.in-Some.ensures) in
+    ready (entries_of c.args.who end (Refused refusal ∷ [])) was (grows-none (λ t. refl)) (shapes-same a.members.newest) kept
+    refl (λ slot. omega arith) refl (scope-same given (Some a.backup) refl c.enter.ensures.uuid c.enter.ensures.given) c.enter.ensures.first refl c.enter.ensures.items
+    (omega (arith, c.enter.ensures.room, was.room_left, some))
+
+pub returns-in-Some-clause-entered : goal.returns-in-Some-clause-entered
+returns-in-Some-clause-entered g c =
+    rw (← c.self.view_is) (behind-alone c.args.who c.ops-end.result (Refused c.in-Some.refusal) refl c.enter.ensures.items)
+
+pub returns-in-Some-clause-called : goal.returns-in-Some-clause-called
+returns-in-Some-clause-called g c =
+    let was = c.self.invariant in
+    let a = c.self.inside in
+    let given = g.B.Bank.given a.bank in
+    let faults = g.B.Bank.faults_of a.bank in
+    let end = c.ops-end.result in
+    let refusal = c.in-Some.refusal in
+    rw (← c.self.view_is) (called (grows-none (λ t. refl)) (moved-same given given a.members a.members refl refl was.kept.members_are.placed was.kept.members_are.unlost)
+    (ended-behind (g.B.Bank.tape a.bank) c.enter.new.epoch.first a.epoch.entries.items c.args.who end [] (Refused refusal) c.enter.ensures.items c.ops-end.ensures.count)
+    (alone-lossless a.members faults faults a.epoch.entries.items a.epoch.entries.items c.enter.new.epoch.entries.items c.args.who end (Refused refusal) tt refl c.enter.ensures.items)
+    (λ slot. omega arith)
+    (record { uuid = c.enter.ensures.uuid; given = c.enter.ensures.given; first = c.enter.ensures.first; backup = refl; work = refl; ahead = refl })
+    (λ t. (was.kept.recorded t).begun))
+
+-- ---- the roles
+
+pub overflow_cast-count : goal.overflow_cast-count
+overflow_cast-count g c =
+    let members = c.self.invariant.kept.members_are in
+    let few = few-roles c.self.inside.members.newest members.placed.fit.valid in
+    let roles = members.backed.roles in
+    let long = c.len-count.ensures in
+    omega (arith, few, roles, long)
+
+pub vacant_roles-before-requires-clause-few : goal.vacant_roles-before-requires-clause-few
+vacant_roles-before-requires-clause-few g c =
+    let members = c.self.invariant.kept.members_are in
+    let few = few-roles c.self.inside.members.newest members.placed.fit.valid in
+    let roles = members.backed.roles in
+    let long = c.len-count.ensures in
+    omega (arith, few, roles, long)
+
+pub newly_vacant-roles-requires-clause-few : goal.newly_vacant-roles-requires-clause-few
+newly_vacant-roles-requires-clause-few g c =
+    let members = c.self.invariant.kept.members_are in
+    let few = few-roles c.self.inside.members.newest members.placed.fit.valid in
+    let roles = members.backed.roles in
+    let long = c.len-count.ensures in
+    omega (arith, few, roles, long)
+
+-- ---- it is refused
+
+pub invariant_of-self-in-Some-refusal : goal.invariant_of-self-in-Some-refusal
+invariant_of-self-in-Some-refusal g c =
+    let was = c.self.invariant in
+    let here = was.kept.members_are in
+    let a = c.self.inside in
+    let given = g.B.Bank.given a.bank in
+    let goes : IsCallGoing a.epoch.entries.items c.args.who = subst (λ p. IsCallGoing p.parts.entries c.args.who) (sym c.self.view_is) c.requires.open in
+    let some : 1 ≤ a.steps = subst (λ p. 1 ≤ p.parts.steps) (sym c.self.view_is) c.requires.room in
+    let m = c.record-done.new.members in
+    let did = c.record-done.ensures in
+    let tape = g.B.Bank.tape a.bank in
+    let tape' = g.B.Bank.tape c.record-done.new.bank in
+    let before = g.B.Bank.faults_of a.bank in
+    let after = g.B.Bank.faults_of c.record-done.new.bank in
+    let roles = c.newly_vacant-roles.result in
+    let spares = c.record-done.result.spares in
+    let end = c.ops-end-2.result in
+    let refusal = c.in-Some-refusal.refusal in
+    let moved = moved-if given c.in-Entered.span a.members m c.record-done.result.refusal refusal c.in-Some-refusal.is did.moved in
+    let since = lost-since given a.members m c.len-count.result c.vacant_roles-before.result roles spares before after here.placed moved did.failed
+    (c.len-count.ensures ∙ here.backed.roles) c.vacant_roles-before.ensures c.newly_vacant-roles.ensures in
+    let kept = record-refused a.course a.ahead c.in-Entered.span c.args.who end roles spares was.kept goes c.requires.caller c.ops-end-2.ensures.count did.grows since did.clean did.rise did.others
+    c.record-done.result.refusal refusal c.in-Some-refusal.is moved (many-of m c.record-done.result.refusal refusal c.in-Some-refusal.is did.refused) did.unused did.safe in
+    ready (entries_of c.args.who end (losses_of roles spares ++ Refused refusal ∷ [])) was did.grows (shapes-moved given a.members m moved) kept
+    refl did.counts did.given (scope-same given (Some a.backup) did.given c.enter_behind.ensures.uuid c.enter_behind.ensures.given) c.enter_behind.ensures.first refl c.enter_behind.ensures.items
+    (omega (arith, c.enter_behind.ensures.room, was.room_left, some))
+
+pub returns-in-Some-refusal-clause-called : goal.returns-in-Some-refusal-clause-called
+returns-in-Some-refusal-clause-called g c =
+    let was = c.self.invariant in
+    let here = was.kept.members_are in
+    let a = c.self.inside in
+    let given = g.B.Bank.given a.bank in
+    let m = c.record-done.new.members in
+    let did = c.record-done.ensures in
+    let before = g.B.Bank.faults_of a.bank in
+    let after = g.B.Bank.faults_of c.record-done.new.bank in
+    let roles = c.newly_vacant-roles.result in
+    let spares = c.record-done.result.spares in
+    let end = c.ops-end-2.result in
+    let refusal = c.in-Some-refusal.refusal in
+    let moved = moved-if given c.in-Entered.span a.members m c.record-done.result.refusal refusal c.in-Some-refusal.is did.moved in
+    let since = lost-since given a.members m c.len-count.result c.vacant_roles-before.result roles spares before after here.placed moved did.failed
+    (c.len-count.ensures ∙ here.backed.roles) c.vacant_roles-before.ensures c.newly_vacant-roles.ensures in
+    rw (← c.self.view_is) (called did.grows moved
+    (ended-behind (g.B.Bank.tape c.record-done.new.bank) c.enter_behind.new.epoch.first a.epoch.entries.items c.args.who end (losses_of roles spares) (Refused refusal) c.enter_behind.ensures.items c.ops-end-2.ensures.count)
+    (losses-behind a.members m before after a.epoch.entries.items a.epoch.entries.items c.enter_behind.new.epoch.entries.items c.args.who end roles spares (Refused refusal) since tt refl c.enter_behind.ensures.items)
+    did.counts
+    (record { uuid = c.enter_behind.ensures.uuid; given = c.enter_behind.ensures.given; first = c.enter_behind.ensures.first; backup = refl; work = refl; ahead = refl })
+    (λ t. (was.kept.recorded t).begun))
+
+pub returns-in-Some-refusal-clause-caused : goal.returns-in-Some-refusal-clause-caused
+returns-in-Some-refusal-clause-caused g c =
+    let a = c.self.inside in
+    let m = c.record-done.new.members in
+    let refusal = c.in-Some-refusal.refusal in
+    let many = many-of m c.record-done.result.refusal refusal c.in-Some-refusal.is c.record-done.ensures.refused in
+    rw (← c.self.view_is) (refused-for (list_length a.members.newest) 0 AreTooMany a.members m refusal (too-many-of m refusal many) (omega arith) many)
+
+-- ---- it is done
+
+pub invariant_of-self-2 : goal.invariant_of-self-2
+invariant_of-self-2 g c =
+    let was = c.self.invariant in
+    let here = was.kept.members_are in
+    let a = c.self.inside in
+    let given = g.B.Bank.given a.bank in
+    let goes : IsCallGoing a.epoch.entries.items c.args.who = subst (λ p. IsCallGoing p.parts.entries c.args.who) (sym c.self.view_is) c.requires.open in
+    let some : 1 ≤ a.steps = subst (λ p. 1 ≤ p.parts.steps) (sym c.self.view_is) c.requires.room in
+    let due = subst (λ p. IsRecordDue p) (sym c.self.view_is) c.requires.due in
+    let same : c.in-Entered.span ≡ due.span = same-span c.in-Entered.span due.span c.in-Entered.copied _ c.in-Entered.sectioned due.sectioned (sym c.in-Entered.is ∙ ap (λ (k : Course). k.window) due.is) in
+    let is : a.course ≡ all_copied a.members c.in-Entered.span due.sectioned = due.is ∙ ap (λ (s : Span). all_copied a.members s due.sectioned) (sym same) in
+    let m = c.record-done.new.members in
+    let did = c.record-done.ensures in
+    let none = c.in_default-refusal.is in
+    let tape = g.B.Bank.tape a.bank in
+    let tape' = g.B.Bank.tape c.record-done.new.bank in
+    let before = g.B.Bank.faults_of a.bank in
+    let after = g.B.Bank.faults_of c.record-done.new.bank in
+    let roles = c.newly_vacant-roles.result in
+    let spares = c.record-done.result.spares in
+    let end = c.ops-end-2.result in
+    let left = c.steps_left-left.result in
+    let moved = moved-none given c.in-Entered.span a.members m c.record-done.result.refusal none did.moved in
+    let next = subst (λ (s : Span). next_window a.members.newest ≡ Some s) (sym same) (window-next a.course due.span _ due.sectioned due.is was.kept.course_is) in
+    let since = since-past given a.members m c.in-Entered.span c.len-count.result c.vacant_roles-before.result roles spares before after here.placed next moved did.failed
+    (c.len-count.ensures ∙ here.backed.roles) c.vacant_roles-before.ensures c.newly_vacant-roles.ensures in
+    let kept = record-done a.course a.ahead c.in-Entered.span c.args.who end roles spares was.kept goes c.requires.caller c.ops-end-2.ensures.count did.grows since did.clean did.rise did.others
+    due.sectioned left is c.steps_left-left.ensures moved c.in_default.ensures (λ t. did.plain none t (scope_in given a.epoch.uuid a.epoch.given (Some a.backup))) (safe-none-of c.record-done.result.refusal none did.safe) in
+    ready (entries_of c.args.who end (losses_of roles spares ++ Step RecordsWindow left ∷ [])) was did.grows (shapes-past given a.members m c.in-Entered.span moved) kept
+    refl did.counts did.given (scope-same given (Some a.backup) did.given c.enter_behind-2.ensures.uuid c.enter_behind-2.ensures.given) c.enter_behind-2.ensures.first refl c.enter_behind-2.ensures.items
+    (omega (arith, c.enter_behind-2.ensures.room, was.room_left, some))
+
+pub returns-clause-called : goal.returns-clause-called
+returns-clause-called g c =
+    let was = c.self.invariant in
+    let here = was.kept.members_are in
+    let a = c.self.inside in
+    let given = g.B.Bank.given a.bank in
+    let scope = scope_in given a.epoch.uuid a.epoch.given (Some a.backup) in
+    let due = subst (λ p. IsRecordDue p) (sym c.self.view_is) c.requires.due in
+    let same : c.in-Entered.span ≡ due.span = same-span c.in-Entered.span due.span c.in-Entered.copied _ c.in-Entered.sectioned due.sectioned (sym c.in-Entered.is ∙ ap (λ (k : Course). k.window) due.is) in
+    let m = c.record-done.new.members in
+    let did = c.record-done.ensures in
+    let before = g.B.Bank.faults_of a.bank in
+    let after = g.B.Bank.faults_of c.record-done.new.bank in
+    let roles = c.newly_vacant-roles.result in
+    let spares = c.record-done.result.spares in
+    let end = c.ops-end-2.result in
+    let event = Step RecordsWindow c.steps_left-left.result in
+    let moved = moved-none given c.in-Entered.span a.members m c.record-done.result.refusal c.in_default-refusal.is did.moved in
+    let next = subst (λ (s : Span). next_window a.members.newest ≡ Some s) (sym same) (window-next a.course due.span _ due.sectioned due.is was.kept.course_is) in
+    let since = since-past given a.members m c.in-Entered.span c.len-count.result c.vacant_roles-before.result roles spares before after here.placed next moved did.failed
+    (c.len-count.ensures ∙ here.backed.roles) c.vacant_roles-before.ensures c.newly_vacant-roles.ensures in
+    rw (← c.self.view_is) (record {
+      grows = did.grows;
+      ended = ended-behind (g.B.Bank.tape c.record-done.new.bank) c.enter_behind-2.new.epoch.first a.epoch.entries.items c.args.who end (losses_of roles spares) event c.enter_behind-2.ensures.items c.ops-end-2.ensures.count;
+      held = moved.held;
+      spares = moved.fewer;
+      losses = losses-behind a.members m before after a.epoch.entries.items a.epoch.entries.items c.enter_behind-2.new.epoch.entries.items c.args.who end roles spares event since tt refl c.enter_behind-2.ensures.items;
+      never_falls = did.counts;
+      work = refl;
+      same = record {
+        array = record {
+          uuid = c.enter_behind-2.ensures.uuid;
+          given = c.enter_behind-2.ensures.given;
+          first = c.enter_behind-2.ensures.first;
+          backup = refl;
+          shape = moved.shape;
+          size = moved.size;
+          list = list-same given scope a.epoch.first refl
+              (scope-same given (Some a.backup) refl c.enter_behind-2.ensures.uuid c.enter_behind-2.ensures.given) c.enter_behind-2.ensures.first did.grows (λ t. (was.kept.recorded t).begun);
+        };
+        final = moved.reshape.final;
+        backward = moved.reshape.backward;
+        ahead = refl;
+      };
+    })
+
+pub returns-clause-caused : goal.returns-clause-caused
+returns-clause-caused g c = rw (← c.self.view_is) (omega arith, λ refusal many. never-both c.self.inside.members refusal c.in_default.ensures many)

@@ -1,0 +1,79 @@
+//! The windows of a reshape are recorded.
+
+ghost use Rattle.std.specs.Prelude.{◌≡◌, ◌≢◌, ◌+◌, ◌≤◌, OnOk, OnErr};
+ghost use Rattle.flat_history.specs.declared.events.StepKind.TheVariants.{Checkpointed as RecordsWindow};
+ghost use Rattle.superblocks.specs.Reading.{is_clean, list_length};
+ghost use Rattle.views.specs.Lacking.{AreTooMany};
+ghost use Rattle.array_kept.specs.Calls.{IsCausedBy};
+ghost use Rattle.kept_history.specs.Recorded.{IsCallGoing};
+ghost use Rattle.course_kept.specs.Laws.{closed};
+ghost use Rattle.moving.specs.Ready.{left_in};
+ghost use Rattle.moving.specs.Calls.{IsCalled, IsStepTaken, IsRecordDue};
+
+use crate::state::moves::check_going;
+use crate::state::{Moving, steps_left};
+use bank::Bank;
+use call_entries::calls::{enter, enter_behind};
+use course_kept::Course;
+use flat_history::{Event, StepKind};
+use grow_asked::Window;
+use md_base::{Fault, Who};
+use safe_updates::naming::newly_vacant;
+use safe_updates::refusing::too_many;
+use safe_updates::roles::vacant_roles;
+use window_steps::record;
+
+impl<B: Bank> Moving<B> {
+    /// A step of the reshape: the open window, whose stripes are all copied, is recorded. Refusals: `TooManyMissing`. It takes no
+    /// memory.
+    pub fn record(&mut self, who: Who) -> Result<(), Fault>
+        requires open { IsCallGoing self.old.parts.entries who }
+        requires caller { who.caller ≢ 254 }
+        requires room { 1 ≤ self.old.parts.steps }
+        requires due { IsRecordDue self.old }
+        ensures entered { IsStepTaken who self.old.parts.entries self.new.parts.entries RecordsWindow (left_in self.new.parts.members self.new.course self.new.ahead) result }
+        ensures called { IsCalled B.tells (B.given self.old.parts.bank) (B.tape self.old.parts.bank) (B.tape self.new.parts.bank) (B.faults_of self.old.parts.bank) (B.faults_of self.new.parts.bank) self.old self.new }
+        ensures clean { is_clean self.new.parts.members.newest ≡ is_clean self.old.parts.members.newest }
+        ensures caused { IsCausedBy (list_length self.old.parts.members.newest) 0 AreTooMany self.old.parts.members self.new.parts.members result }
+        ensures left { OnOk result (left_in self.new.parts.members self.new.course self.new.ahead + 1 ≡ left_in self.old.parts.members self.old.course self.old.ahead) }
+        ensures closed { OnOk result (self.new.course ≡ closed 0) }
+        ensures course { OnErr result (self.new.course ≡ self.old.course) }
+        ensures room { self.new.parts.steps + 1 ≡ self.old.parts.steps }
+        ensures given { B.given self.new.parts.bank ≡ B.given self.old.parts.bank }
+    {
+        self.steps -= 1;
+        check_going(&self.epoch.entries, who);
+        if let Some(refusal) = too_many(&self.members) {
+            let end = self.bank.ops();
+            enter(&mut self.epoch, who, end, Event::Refused { refusal });
+            return Err(Fault::Refused(refusal));
+        }
+        let Window::Entered {
+            span,
+            copied: _,
+            sectioned: _,
+        } = self.course.window
+        else {
+            unreachable!()
+        };
+        let count = self.members.roles.len() as u32;
+        let before = vacant_roles(&self.members, count);
+        let done = record(&mut self.members, &mut self.bank, &span);
+        let roles = newly_vacant(&self.members, count, before);
+        let end = self.bank.ops();
+        if let Some(refusal) = done.refusal {
+            let event = Event::Refused { refusal };
+            enter_behind(&mut self.epoch, who, end, roles, done.spares, event);
+            return Err(Fault::Refused(refusal));
+        }
+        self.course = Course {
+            window: Window::Closed,
+            zeroed: 0,
+        };
+        let kind = StepKind::Checkpointed;
+        let left = steps_left(&self.members, &self.course, &self.ahead);
+        let event = Event::Step { kind, left };
+        enter_behind(&mut self.epoch, who, end, roles, done.spares, event);
+        Ok(())
+    }
+}
