@@ -149,7 +149,7 @@ module _ {tells : Type 0} {given : Given} {tape mid_tape tape' : List Operation}
   }
 
   stays : StayPlaced given members members'
-  stays = stays-added did
+  stays = stays-added did was.still
 
   abbrev work' : Work
   work' = with_carried sb.dev_number work

@@ -9,7 +9,7 @@ use Rattle.bank.specs.declared.bank.Operation.{Operation}
 use Rattle.bank.specs.Given.{Given, NeverFalls, IsFaulted}
 use Rattle.sb1.specs.declared.sb.Sb.{Sb}
 use Rattle.superblocks.specs.declared.members.Members.{Members}
-use Rattle.superblocks.specs.Reading.{shape_of, role_state, holder, is_clean, is_reshaping}
+use Rattle.superblocks.specs.Reading.{shape_of, role_count, role_state, holder, is_clean, is_reshaping}
 use Rattle.superblocks.specs.Reads.{has_spare}
 use Rattle.superblocks.proofs.SlotSets.{none_there, none_above}
 use Rattle.row_io.specs.Rows.{reading_of, present, is_missing}
@@ -42,7 +42,6 @@ use Rattle.views.proofs.MarkLaws.{few-below}
 use Rattle.array_kept.proofs.RecordLaws.{told-more, gone-lately}
 use Rattle.array_kept.proofs.StepsLeft.{recovery-same, left-moved}
 use Rattle.shape_views.specs.Regions.{DoWithout}
-use Rattle.views.proofs.Still.{count-still}
 use Rattle.superblocks.proofs.ValidFields.{few-roles}
 use Rattle.array_kept.proofs.DegradedLaws.{count-moved}
 
@@ -50,7 +49,6 @@ use Rattle.array_kept.proofs.DegradedLaws.{count-moved}
 pub record IsAddDone (tells : Type 0) (given : Given) (slot : ℕ) (sb : Sb) (old new : Members) (lost : ℕ) (tape tape' : List Operation) (before after : ℕ → ℕ) : Type 0 where
   pub slots : given.slots ≤ 32
   pub placed : IsPlaced given old
-  pub still : is_reshaping old.newest ≡ false
   pub unlost : AreUnlost old
   pub free : AreSparesFree given old
   pub there : slot < given.slots
@@ -83,17 +81,16 @@ failed-earlier {old = old} {new = new} {before = before} {mid = mid} {after = af
 
 -- by what was there before the slot was looked at
 pub add-done : {tells : Type 0} {given given' : Given} {slot : ℕ} {sb : Sb} {old new : Members} {lost : ℕ} {tape tape' : List Operation} {before mid after : ℕ → ℕ} → given' ≡ given
-    → given.slots ≤ 32 → IsPlaced given old → is_reshaping old.newest ≡ false → AreUnlost old → AreSparesFree given old → slot < given.slots → ((role : ℕ) → MayHold old role slot → ⊥) → NeverFalls before mid
+    → given.slots ≤ 32 → IsPlaced given old → AreUnlost old → AreSparesFree given old → slot < given.slots → ((role : ℕ) → MayHold old role slot → ⊥) → NeverFalls before mid
     → IsSpareSb given' old.newest slot sb → length old.own ≡ 32 → IsMoved given' (with_spare slot sb old) new → HaveFailedSince (with_spare slot sb old) new lost mid after
     → (has_slot lost slot ≡ true → has_spare new.spares slot ≡ false) → Grows tells tape tape' → (tells → AreOthersPresent (present given' tape) (present given' tape'))
     → is_clean new.newest ≡ is_clean old.newest → IsRisen tells (with_spare slot sb old) new tape tape' → NeverFalls mid after
     → IsAddDone tells given slot sb old new lost tape tape' before after
-add-done {tells = tells} {slot = slot} {sb = sb} {old = old} {new = new} {lost = lost} {tape = tape} {tape' = tape'} {before = before} {after = after} same slots placed still unlost free there untaken rises made own moved failed
+add-done {tells = tells} {slot = slot} {sb = sb} {old = old} {new = new} {lost = lost} {tape = tape} {tape' = tape'} {before = before} {after = after} same slots placed unlost free there untaken rises made own moved failed
     unspare grows others clean rise counts =
     record {
       slots = slots;
       placed = placed;
-      still = still;
       unlost = unlost;
       free = free;
       there = there;
@@ -133,13 +130,19 @@ module _ {tells : Type 0} {given : Given} {slot : ℕ} {sb : Sb} {old new : Memb
   with-free : AreSparesFree given (with_spare slot sb old)
   with-free = free-with given old slot sb did.made did.placed did.unlost did.free did.slots did.there did.own unheld
 
-  pub stays-added : StayPlaced given old new
-  stays-added = record {
+  free-added : AreSparesFree given new
+  free-added = did.moved.free with-free
+
+  few-added : length new.spares ≤ 32
+  few-added = did.moved.spares (few-below 32 (λ s. has_spare old.spares s || (slot == s)))
+
+  pub stays-added : is_reshaping old.newest ≡ false → StayPlaced given old new
+  stays-added still = record {
     placed = did.moved.placed;
-    still = did.moved.reshape.reshaping ∙ did.still;
+    still = did.moved.reshape.reshaping ∙ still;
     unlost = did.moved.unlost;
-    free = did.moved.free with-free;
-    spares = did.moved.spares (few-below 32 (λ s. has_spare old.spares s || (slot == s)));
+    free = free-added;
+    spares = few-added;
     shape = did.moved.shape;
     size = did.moved.size;
   }
@@ -194,9 +197,9 @@ module _ {tells : Type 0} {given : Given} {slot : ℕ} {sb : Sb} {old new : Memb
       first true b e = refl
       first false b e = absurd (cc)
 
-  module _ (disks was roles spares : ℕ) (same : disks ≡ (shape_of old.newest).disks) (vacant : AreVacant old disks was) (newly : AreNewlyVacant new disks was roles) (without : AreOtherLost slot lost spares) where
+  module _ (disks was roles spares : ℕ) (same : disks ≡ role_count old.newest) (vacant : AreVacant old disks was) (newly : AreNewlyVacant new disks was roles) (without : AreOtherLost slot lost spares) where
     all-since : AreLostSince (with_spare slot sb old) new roles lost before after
-    all-since = lost-since given (with_spare slot sb old) new disks was roles lost before after with-placed did.moved did.failed (same ∙ sym (count-still old.newest did.still)) vacant newly
+    all-since = lost-since given (with_spare slot sb old) new disks was roles lost before after with-placed did.moved did.failed same vacant newly
 
     pub since-added : AreLostSince old new roles spares before after
     since-added = record { vacant = all-since.vacant; gone = all-since.gone; held = all-since.held; failed = told-lost spares without; told = told-spares spares without }
@@ -239,9 +242,9 @@ module _ {tells : Type 0} {given : Given} {slot : ℕ} {sb : Sb} {old new : Memb
       held = did.moved.held;
       states = did.moved.states;
       rows = did.moved.rows;
-      spares = λ few. stays-added.spares;
+      spares = λ few. few-added;
       fewer = λ s is. elim (spares-added s is) [ inl was ↦ was | inr same ↦ absurd (let e = sym (subst (λ (n : ℕ). has_spare new.spares n ≡ true) same is) ∙ none in cc) ];
-      free = λ free. stays-added.free;
+      free = λ free. free-added;
       reshape = did.moved.reshape;
       shape = did.moved.shape;
       size = did.moved.size;

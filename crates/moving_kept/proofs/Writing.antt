@@ -41,6 +41,7 @@ use Rattle.shape_changes.specs.Safety.{HasRoomLeft, IsRisen}
 use Rattle.shape_changes.specs.Steady.{IsMoreTold, IsSafeOver, KeepsSafe, AreGoneTold, AreWritesAllowed}
 use Rattle.views.specs.Placed.{AreWhole, IsInForce}
 use Rattle.views.specs.Moving.{Grows, IsMoved}
+use Rattle.safe_updates.specs.Unused.{IsUnusedKept}
 use Rattle.views.specs.Lacking.{LacksTooMany, AreOtherRowsKept, AreBytes}
 use Rattle.views.proofs.Fit.{list-alike, force-disks}
 use Rattle.views.proofs.LackingLists.{row-sector}
@@ -65,13 +66,14 @@ use Rattle.kept_history.proofs.Lists.{newest-in}
 use Rattle.course_kept.specs.declared.course.Course.{Course}
 use Rattle.grow_asked.specs.declared.window.Window.{Window}
 use Rattle.grow_asked.specs.declared.window.Window.TheVariants.{Closed, Entered, Unsure}
-use Rattle.course_kept.specs.Course.{IsBackupKept, IsWindowOf, hidden_in, span_in}
-use Rattle.course_kept.proofs.Courses.{courses-move, stored-moves}
+use Rattle.course_kept.specs.Course.{IsWindowOf, hidden_in, span_in}
+use Rattle.course_kept.proofs.Courses.{courses-move}
 use Rattle.course_kept.proofs.Writes.{writes-go-on}
 use Rattle.history_calls.specs.Reliable.{IsReliable, AreToldGone}
 use Rattle.moving_kept.specs.Moving.{HasListInCourse, IsMoving}
 use Rattle.moving_kept.proofs.Adding.{behind-moves}
 use Rattle.history_calls.proofs.Behind.{IsAmong, early-losses, legal-losses, first-of, first-more}
+use Rattle.moving_kept.proofs.BackupKept.{stored-kept}
 use Rattle.moving_kept.proofs.MembersMove.{reshaping-moved}
 use Rattle.moving_kept.proofs.Refusals.{lacking-right}
 use Rattle.moving_kept.proofs.Staying.{course-moved}
@@ -80,14 +82,14 @@ use Rattle.moving_kept.proofs.Steps.{AreMissingSince, missing-moved}
 -- ---- what a write leaves
 
 -- What a call leaves that was asked to put these sectors into the list from a place on, none of them in the window under way, whether it is done or not.
-pub record ArePut (tells : Type 0) (given : Given) (tape tape' : List Operation) (scope : Scope) (old new : Members) (course : Course) (at : ℕ) (from : List ℕ) (relied roles : ℕ) (begun : Bool) : Type 0 where
+pub record ArePut (tells : Type 0) (given : Given) (tape tape' : List Operation) (old new : Members) (course : Course) (at : ℕ) (from : List ℕ) (relied roles : ℕ) (begun : Bool) : Type 0 where
   pub within : at + length from / 512 ≤ list_length old.newest
   pub beside : (x : ℕ) → at ≤ x → x < at + length from / 512 → covers (span_in course.window) x ≡ false
   pub moved : IsMoved given old new
   pub few : role_count new.newest ≤ 16
   pub since : AreMissingSince old new roles
   pub rise : tells → IsRisen ⊤ old new tape tape'
-  pub backup : tells → IsBackupKept scope course.window (disk given.start tape) (disk given.start tape')
+  pub unused : tells → IsUnusedKept old (disk given.start tape) (disk given.start tape')
   pub safe : tells → (world : World) → (told : Ledger) → HasRoomLeft old tape tape' → AreGoneTold told new → told.unclean ≡ true → (hidden : Option Span) → MayBeHidden old.newest hidden
       → (list list' : ℕ → Sector) → IsWritten list list' at from → ((x : ℕ) → at ≤ x → x < at + length from / 512 → IsShown hidden old.newest x)
       → ListStandsIn (IsShapeOf old.newest at (at + length from / 512)) hidden old (present given tape) list
@@ -200,7 +202,7 @@ module _ (tells : Type 0) (given : Given) (tape tape' : List Operation) (scope :
     (was : IsMoving tells given tape scope first entries old carried course buffer left) (goes : IsCallGoing entries who) (caller : IsFalse (who.caller == 254))
     (at_end : tells → end ≡ length tape') (grows : Grows tells tape tape') (does : DoWithout old)
     (visible : tells → at + length from / 512 ≤ visible_of (length (opening_list (world_in given tape scope first))) entries)
-    (did : ArePut tells given tape tape' scope old new course at from relied roles begun) where
+    (did : ArePut tells given tape tape' old new course at from relied roles begun) where
   list-same : list_length new.newest ≡ list_length old.newest
   list-same = list-alike old.newest new.newest did.moved.reshape did.moved.shape did.moved.size
 
@@ -269,7 +271,7 @@ module _ (tells : Type 0) (given : Given) (tape tape' : List Operation) (scope :
       was goes caller at_end grows (record { adds = refl; gives = refl; ends = refl; level = λ n. refl })
       (reshaping-moved scope given old new did.moved was.members_are) did.few (first-of (early-losses roles spares)) (missing-moved roles did.moved did.since) list-same level-same (λ t dirty. inr refl)
       (course-moved given old new course did.moved was.course_is)
-      (λ t. stored-moves scope given old new course.window buffer (disk given.start tape) (disk given.start tape') did.moved (did.backup t) (was.stored t))
+      (λ t. stored-kept scope given old new course.window buffer (disk given.start tape) (disk given.start tape') was.members_are did.moved (did.unused t) (was.stored t))
       (left-more left entries who end (losses_of roles spares ++ Wrote at (sectors_of from) ∷ []) was.left_told
       (left-behind left who end (losses_of roles spares) (Wrote at (sectors_of from) ∷ []) (losses-are roles spares) (λ told is. is)))
       (λ t. record {
@@ -334,7 +336,7 @@ module _ (tells : Type 0) (given : Given) (tape tape' : List Operation) (scope :
         (first-more (losses_of roles spares) (IsAmong roles) (Torn at (sectors_of from)) (first-of (early-losses roles spares)) refl refl refl (λ n. refl))
         (missing-moved roles did.moved did.since) list-same level-same (λ t dirty. inr (torn-unsettles at (at + length from / 512) new refusal (undone.torn is)))
         (course-moved given old new course did.moved was.course_is)
-        (λ t. stored-moves scope given old new course.window buffer (disk given.start tape) (disk given.start tape') did.moved (did.backup t) (was.stored t))
+        (λ t. stored-kept scope given old new course.window buffer (disk given.start tape) (disk given.start tape') was.members_are did.moved (did.unused t) (was.stored t))
         (left-more left entries who end ((losses_of roles spares ++ Torn at (sectors_of from) ∷ []) ++ Refused refusal ∷ []) was.left_told
         (subst (λ (l : List Event). TellLeft left who end l) (sym torn-assoc)
         (left-behind left who end (losses_of roles spares) (Torn at (sectors_of from) ∷ Refused refusal ∷ []) (losses-are roles spares) (λ told is. is))))
@@ -385,7 +387,7 @@ module _ (tells : Type 0) (given : Given) (tape tape' : List Operation) (scope :
         was goes caller at_end grows (record { adds = refl; gives = refl; ends = refl; level = λ n. refl })
         (reshaping-moved scope given old new did.moved was.members_are) did.few (first-of (early-losses roles spares)) (missing-moved roles did.moved did.since) list-same level-same
         (λ t dirty. clean t undone.refused) (course-moved given old new course did.moved was.course_is)
-        (λ t. stored-moves scope given old new course.window buffer (disk given.start tape) (disk given.start tape') did.moved (did.backup t) (was.stored t))
+        (λ t. stored-kept scope given old new course.window buffer (disk given.start tape) (disk given.start tape') was.members_are did.moved (did.unused t) (was.stored t))
         (left-more left entries who end (losses_of roles spares ++ Refused refusal ∷ []) was.left_told (left-behind left who end (losses_of roles spares) (Refused refusal ∷ []) (losses-are roles spares) (λ told is. is)))
         (λ t. record {
           rise = did.rise t;

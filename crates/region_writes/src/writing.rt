@@ -2,6 +2,7 @@
 
 ghost use Rattle.std.specs.Prelude.{◌≡◌, ◌⊎◌, ◌+◌, ◌-◌, ◌/◌, ◌^◌, ◌<◌, ◌≤◌, ℕ, Bool, true, false, length, slice_index, Contains, vec_capacity, None, Option, MatchOption, ⊤};
 ghost use Rattle.bank.specs.Given.{NeverFalls};
+ghost use Rattle.bank.specs.Tape.{disk};
 ghost use Rattle.md_base.specs.Sectors.{Sector, IsWhole};
 ghost use Rattle.md_base.specs.declared.places.Shape.{Shape};
 ghost use Rattle.md_base.specs.declared.places.Span.{Span};
@@ -23,6 +24,7 @@ ghost use Rattle.views.specs.Rebuilding.{AreSparesFree};
 ghost use Rattle.views.specs.Moving.{Grows, IsMoved};
 ghost use Rattle.views.specs.Lacking.{HaveFailedSince, DoesWithout, AreOtherRowsKept, AreBytes, AreRowsRead};
 ghost use Rattle.safe_updates.specs.First.{write_refusal};
+ghost use Rattle.safe_updates.specs.Unused.{IsUnusedKept};
 ghost use Rattle.region_rows.specs.Stretches.{RowsStandTo};
 ghost use Rattle.region_writes.specs.Runs.{IsShapeOf, ListStandsIn, RowsStandIn, IsRun, AreRowsOf, AreFull, StayRebuilt, IsListTouched, MayBeHidden, IsListTorn, IsListUnwritten, AreRunsTorn, AreRunsUnwritten};
 
@@ -132,6 +134,7 @@ fn prepare_runs<B: Bank>(
     ensures refused { MatchOption result.refusal ⊤ (AreRunsUnwritten low.now high.now members.new) }
     ensures grows { Grows B.tells (B.tape bank.old) (B.tape bank.new) }
     ensures others { B.tells → AreOthersPresent (present (B.given bank.old) (B.tape bank.old)) (present (B.given bank.old) (B.tape bank.new)) }
+    ensures unused { B.tells → IsUnusedKept members.old (disk (B.given bank.old).start (B.tape bank.old)) (disk (B.given bank.old).start (B.tape bank.new)) }
     ensures low { result.refusal ≡ None → B.tells → AreRowsRead low.now.shape low.now.synced members.old members.new (present (B.given bank.old) (B.tape bank.old)) rows.new.items buffer.new.items }
     ensures high { result.refusal ≡ None → B.tells → AreRowsRead high.now.shape high.now.synced members.old members.new (present (B.given bank.old) (B.tape bank.old)) far_rows.new.items far_buffer.new.items }
     ensures low_rows { result.refusal ≡ None → AreRowsOf low.now members.old.newest.size rows.new.items }
@@ -203,6 +206,7 @@ fn write_runs<B: Bank>(
     ensures high { result.refusal ≡ None → B.tells → AreFull members.new (present (B.given bank.old) (B.tape bank.new)) high.now.shape first from.now far_rows.now far_buffer.old.items }
     ensures rebuilt { result.refusal ≡ None → B.tells → StayRebuilt members.new (present (B.given bank.old) (B.tape bank.old)) (present (B.given bank.old) (B.tape bank.new)) low.now.shape first from.now rows.now buffer.old.items }
     ensures others { B.tells → AreOtherRowsKept (λ row. Contains rows.now row ⊎ Contains far_rows.now row) (reading_of members.new) (present (B.given bank.old) (B.tape bank.old)) (present (B.given bank.old) (B.tape bank.new)) }
+    ensures unused { B.tells → IsUnusedKept members.old (disk (B.given bank.old).start (B.tape bank.old)) (disk (B.given bank.old).start (B.tape bank.new)) }
     ensures clean { is_clean members.new.newest ≡ is_clean members.old.newest }
     ensures rise { IsRisen B.tells members.old members.new (B.tape bank.old) (B.tape bank.new) }
     ensures safe { B.tells → (world : World) → (told : Ledger) → HasRoomLeft members.old (B.tape bank.old) (B.tape bank.new)
@@ -280,6 +284,7 @@ pub fn put_list<B: Bank>(
     ensures tail { result.refusal ≡ None → B.tells → (list list' : ℕ → Sector) → IsWritten list list' first from.now
         → AreTailsStanding members.old (present (B.given bank.old) (B.tape bank.old)) list → AreTailsStanding members.new (present (B.given bank.old) (B.tape bank.new)) list' }
     ensures others { B.tells → AreOtherRowsKept (IsListTouched members.old.newest first (first + length from.now / 512)) (reading_of members.new) (present (B.given bank.old) (B.tape bank.old)) (present (B.given bank.old) (B.tape bank.new)) }
+    ensures unused { B.tells → IsUnusedKept members.old (disk (B.given bank.old).start (B.tape bank.old)) (disk (B.given bank.old).start (B.tape bank.new)) }
     ensures good { result.refusal ≡ None → B.tells → (among : Shape → Bool) → (hidden : Option Span) → (list list' : ℕ → Sector) → IsWritten list list' first from.now → AreBytes from.now
         → ((x : ℕ) → first ≤ x → x < first + length from.now / 512 → IsShown hidden members.old.newest x) → (bound : ℕ) → relied ≤ bound
         → RowsStandIn (λ s. among s ≡ true) hidden bound members.old (present (B.given bank.old) (B.tape bank.old)) list

@@ -3,12 +3,14 @@ use Rattle.std.proofs.Common.{◌≡◌, ◌⊎◌, inl, inr, ⊎_elim, ℕ, ◌
 use Rattle.std.specs.Prelude.{pos, ◌-ℤ◌, MatchOption, ⊤}
 use Rattle.std.specs.Option.{option_map_or}
 use Rattle.std.proofs.lemmas.Bool.Decides.{nat_tests}
+use Rattle.md_base.specs.Sectors.{Sector}
 use Rattle.md_base.specs.Shapes.{has_slot}
 use Rattle.sb1.specs.declared.sb.Sb.{Sb}
 use Rattle.sb1.specs.Superblock.{checksum}
 use Rattle.bank.specs.declared.bank.Operation.{Operation}
 use Rattle.bank.specs.Given.{Given}
-use Rattle.bank.specs.Tape.{EachMark, disk}
+use Rattle.bank.specs.Tape.{EachMark, IsIn, disk}
+use Rattle.bank.proofs.Laws.{kept_in}
 use Rattle.superblocks.specs.declared.change.Give.{Give}
 use Rattle.superblocks.specs.declared.change.Give.TheVariants.{Same}
 use Rattle.superblocks.specs.declared.members.Members.{Members}
@@ -28,6 +30,7 @@ use Rattle.views.specs.Lacking.{HaveFailedSince}
 use Rattle.shape_changes.specs.Marking.{adding, marking}
 use Rattle.views.specs.Moving.{IsMoved}
 use Rattle.views.specs.Rebuilding.{AreSparesFree, IfOwn, with_spare}
+use Rattle.views.specs.Under.{IsRestKept}
 use Rattle.shape_changes.specs.Safety.{HasLiveSlot, IsRisen}
 use Rattle.views.proofs.AddedMembers.{own-here, spares-with, live-with}
 use Rattle.views.proofs.HeldRows.{rows-same}
@@ -183,6 +186,18 @@ module _ {tells : Type 0} {given : Given} {slot : ℕ} {sb : Sb} {old new : Memb
       (λ few. subst (λ (l : List ℕ). length l ≤ 32) (sym did.spares) (few-planned old (adding old slot sb) new.lost))
       (λ s is. (spare-left (with_spare slot sb old) false new.lost new.spares (added-spares false) s is).0)
       (λ s is free. lost-spare s is)
+
+  -- nothing but superblocks of live slots and of this one is written
+  pub added-rest : tells → IsRestKept (with_spare slot sb old) (disk given.start before) (disk given.start after)
+  added-rest told s k v which may =
+      let touched = (did.update.end told).touched in
+      elim which [
+        | inl other ↦ kept_in (disk given.start before s k) (disk given.start after s k) v (touched.elsewhere s k other) may
+        | inr idle ↦ elim idle [
+          | inl none ↦ subst (λ (l : List Sector). IsIn l v) (touched.others s k (live-with old slot sb false s ∙ none)) may
+          | inr lost ↦ subst (λ (l : List Sector). IsIn l v) (touched.gone s k lost) may
+        ]
+      ]
 
   -- ---- what failed
 

@@ -17,6 +17,7 @@ ghost use Rattle.views.specs.Flushing.{OnlyFlushesAdded};
 ghost use Rattle.views.specs.Moving.{Grows, IsMoved};
 ghost use Rattle.shape_changes.specs.Safety.{HasLiveSlot, HasRoomLeft, IsRisen};
 ghost use Rattle.views.specs.Lacking.{HaveFailedSince, AreUnnamed};
+ghost use Rattle.views.specs.Under.{IsRestKept};
 ghost use Rattle.sb1.specs.Superblock.{two_by_two};
 ghost use Rattle.views.specs.Numbers.{IsSpareSb, IsOfScope, AreSecondEntries};
 ghost use Rattle.views.specs.Rebuilding.{MayHold, AreSparesFree, IfOwn, with_spare};
@@ -112,6 +113,7 @@ pub fn add_member<B: Bank>(members: &mut Members, bank: &mut B, slot: u32, sb: &
     ensures lost { has_slot result slot ≡ true → has_spare members.new.spares slot ≡ false }
     ensures grows { Grows B.tells (B.tape bank.old) (B.tape bank.new) }
     ensures others { B.tells → AreOthersPresent (present (B.given bank.old) (B.tape bank.old)) (present (B.given bank.old) (B.tape bank.new)) }
+    ensures rest { B.tells → IsRestKept (with_spare slot sb.now members.old) (disk (B.given bank.old).start (B.tape bank.old)) (disk (B.given bank.old).start (B.tape bank.new)) }
     ensures clean { is_clean members.new.newest ≡ is_clean members.old.newest }
     ensures rise { IsRisen B.tells (with_spare slot sb.now members.old) members.new (B.tape bank.old) (B.tape bank.new) }
     ensures stored { has_slot result slot ≡ false → IfOwn members.new slot (λ own. (own.dev_number ≡ sb.now.dev_number) × (own.data_offset ≡ sb.now.data_offset)) }

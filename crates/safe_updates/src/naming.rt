@@ -154,6 +154,7 @@ pub fn raise<B: Bank>(members: &mut Members, bank: &mut B) -> u32
     ensures others { B.tells → AreOthersPresent (present (B.given bank.old) (B.tape bank.old)) (present (B.given bank.old) (B.tape bank.new)) }
     ensures dirty { is_clean members.new.newest ≡ false }
     ensures missing { HasLiveSlot members.new → AreNamedMissing members.new }
+    ensures rest { B.tells → IsRestKept members.old (disk (B.given bank.old).start (B.tape bank.old)) (disk (B.given bank.old).start (B.tape bank.new)) }
     ensures rise { IsRisen B.tells members.old members.new (B.tape bank.old) (B.tape bank.new) }
     ensures safe { B.tells → (world : World) → (told : Ledger) → HasRoomLeft members.old (B.tape bank.old) (B.tape bank.new)
         → AreGoneTold told members.new → told.unclean ≡ true → IsSafeOver world (B.given bank.old) told members.old (B.tape bank.old)

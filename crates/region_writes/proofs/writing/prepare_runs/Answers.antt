@@ -16,6 +16,7 @@ use Rattle.views.proofs.SafeStretch.{safe-then, safe-lost, over-at, keeps-from}
 use Rattle.flat_history.specs.Sound.{OpensFit}
 use Rattle.shape_changes.specs.Marking.{AreOthersPresent}
 use Rattle.shape_changes.proofs.Risen.{risen-then, risen-lost, room-then}
+use Rattle.region_rows.proofs.UnusedReads.{read-unused, named-unused}
 use Rattle.region_writes.proofs.RunLaws.{told-as, told-never, told-no}
 use Rattle.region_writes.proofs.writing.prepare_runs.Goals as goal
 
@@ -163,6 +164,10 @@ returns-then-not-read-clause-safe g c =
     let tape1 = g.B.Bank.tape c.read_runs-read.new.bank in
     λ tell world told room gone unclean now. safe-lost (OpensFit world) world.scope given told m n did.lost.0 tape0 tape1 did.lost.1 (did.tape tell) now
 
+pub returns-then-not-read-clause-unused : goal.returns-then-not-read-clause-unused
+returns-then-not-read-clause-unused g c = λ told.
+    read-unused c.args.members.now (g.B.Bank.given c.args.bank.now).start (g.B.Bank.tape c.args.bank.now) (g.B.Bank.tape c.read_runs-read.new.bank) (c.read_runs-read.ensures.tape told)
+
 pub raise-spares-requires-clause-placed : goal.raise-spares-requires-clause-placed
 raise-spares-requires-clause-placed g c =
     let m = c.args.members.now in
@@ -274,6 +279,12 @@ returns-clause-others g c =
     let two : IsMoved given n p = moved-from given given1 n n p did.given refl named.moved in
     λ told. subst (λ (l : List Operation). AreOthersPresent (present given l) (present given tape2)) (did.tape told)
     (subst (λ (b : Given). AreOthersPresent (present b tape1) (present b tape2)) did.given (named.others told))
+
+pub returns-clause-unused : goal.returns-clause-unused
+returns-clause-unused g c = λ told.
+    let did = c.read_runs-read.ensures in
+    named-unused (g.B.Bank.given c.args.bank.now) (g.B.Bank.given c.read_runs-read.new.bank) c.args.members.now c.read_runs-read.new.members
+    (g.B.Bank.tape c.args.bank.now) (g.B.Bank.tape c.read_runs-read.new.bank) (g.B.Bank.tape c.raise-spares.new.bank) (did.tape told) did.given did.moved (c.raise-spares.ensures.rest told)
 
 pub returns-clause-low : goal.returns-clause-low
 returns-clause-low g c =

@@ -2,6 +2,7 @@ use Rattle.std.proofs.Common.{◌≡◌, ◌⊎◌, inl, inr, ◌+◌, ◌-◌, 
 use Rattle.std.specs.Prelude.{Contains, slice_index, None}
 use Rattle.md_base.specs.declared.places.Shape.{Shape}
 use Rattle.bank.specs.Given.{Given}
+use Rattle.bank.specs.Tape.{disk}
 use Rattle.row_io.specs.Rows.{reading_of, present}
 use Rattle.list_io.specs.Buffers.{buffered, AreStanding}
 use Rattle.list_io.specs.Writing.{AreDataFrom}
@@ -25,6 +26,8 @@ use Rattle.region_writes.specs.Runs.{AreRowsOf, AreFull, StayRebuilt, IsListTouc
 use Rattle.region_writes.proofs.RunLaws.{told-as, high-sector, each-does, runs-apart, runs-torn, runs-unwritten, touched-low, touched-high, run-region}
 use Rattle.region_writes.proofs.RunLists.{list-in-one, rows-in-one, tails-in-one, others-kept, list-written, tails-written, rows-written, rebuilt-written, choose, chosen-allowed}
 use Rattle.region_writes.proofs.WriteLaws.{some-none, runs-alike}
+use Rattle.safe_updates.specs.Unused.{IsUnusedKept}
+use Rattle.safe_updates.proofs.Unused.{unused-then}
 use Rattle.region_writes.proofs.writing.put_list.Goals as goal
 
 pub overflow_add-to : goal.overflow_add-to
@@ -467,6 +470,16 @@ returns-clause-rebuilt g c =
     (elim which [ inl whole ↦ inl whole | inr rows ↦ inr (λ x lt own out. rows x lt out) ]) list' w in
     rebuilt-written given m n p did.moved two c.requires.placed (present given tape0) (present given tape1) (present given tape2) (did.others told) c.args.relied c.args.first c.args.from.now cut.low cut.high are
     rows buffer far_rows far_buffer (did.low_rows none) (did.high_rows none) (did.low none told) (did.high none told) kept still list list' w rebuilt chosen
+
+pub returns-clause-unused : goal.returns-clause-unused
+returns-clause-unused g c = λ told.
+    let given = g.B.Bank.given c.args.bank.now in
+    let n = c.prepare_runs-begun.new.members in
+    let tape1 = g.B.Bank.tape c.prepare_runs-begun.new.bank in
+    let tape2 = g.B.Bank.tape c.write_runs-done.new.bank in
+    let did = c.prepare_runs-begun.ensures in
+    unused-then given c.args.members.now n (disk given.start (g.B.Bank.tape c.args.bank.now)) (disk given.start tape1) (disk given.start tape2) did.moved (did.unused told)
+    (subst (λ (b : Given). IsUnusedKept n (disk b.start tape1) (disk b.start tape2)) did.given (c.write_runs-done.ensures.unused told))
 
 pub returns-clause-others : goal.returns-clause-others
 returns-clause-others g c =

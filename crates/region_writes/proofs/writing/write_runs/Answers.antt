@@ -1,6 +1,7 @@
 use Rattle.std.proofs.Common.{◌⊎◌, inl, inr, ◌<◌, ℕ, refl, sym, ◌∙◌, subst, arith}
 use Rattle.std.specs.Prelude.{Contains, slice_index}
 use Rattle.bank.specs.Given.{Given}
+use Rattle.bank.specs.Tape.{disk}
 use Rattle.row_io.specs.Rows.{reading_of, present}
 use Rattle.list_io.specs.Buffers.{buffered, AreStanding}
 use Rattle.views.specs.Moving.{IsMoved}
@@ -17,6 +18,8 @@ use Rattle.flat_history.specs.Sound.{OpensFit}
 use Rattle.shape_changes.proofs.Risen.{risen-then, room-first, room-then}
 use Rattle.region_writes.proofs.RunLaws.{told-as}
 use Rattle.region_writes.proofs.WriteLaws.{some-none, row-apart, rows-apart, standing-apart, full-done, full-kept, rebuilt-kept}
+use Rattle.safe_updates.specs.Unused.{IsUnusedKept}
+use Rattle.safe_updates.proofs.Unused.{unused-then}
 use Rattle.region_writes.proofs.writing.write_runs.Goals as goal
 
 pub put_rows-near-requires-clause-below : goal.put_rows-near-requires-clause-below
@@ -258,6 +261,16 @@ returns-clause-high g c =
     subst (λ (b : Given). AreRowsWritten high.shape c.args.first c.args.from.now far_rows 0 c.put_rows-far.result.next p (present b tape1) (present b tape2) c.args.far_buffer.now.items c.put_rows-far.new.buffer.items) did.given (did2.written told) in
     full-done high.shape c.args.first c.args.from.now far_rows c.put_rows-far.result.next p (present given tape1) (present given tape2) c.args.far_buffer.now.items c.put_rows-far.new.buffer.items
     far_done (did2.done none)
+
+pub returns-clause-unused : goal.returns-clause-unused
+returns-clause-unused g c = λ told.
+    let given = g.B.Bank.given c.args.bank.now in
+    let n = c.put_rows-near.new.members in
+    let tape1 = g.B.Bank.tape c.put_rows-near.new.bank in
+    let tape2 = g.B.Bank.tape c.put_rows-far.new.bank in
+    let did = c.put_rows-near.ensures in
+    unused-then given c.args.members.now n (disk given.start (g.B.Bank.tape c.args.bank.now)) (disk given.start tape1) (disk given.start tape2) did.moved (did.unused told)
+    (subst (λ (b : Given). IsUnusedKept n (disk b.start tape1) (disk b.start tape2)) did.given (c.put_rows-far.ensures.unused told))
 
 pub returns-clause-others : goal.returns-clause-others
 returns-clause-others g c =

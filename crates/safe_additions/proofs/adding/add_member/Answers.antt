@@ -22,7 +22,7 @@ use Rattle.views.specs.Rebuilding.{with_spare, AreSparesFree}
 use Rattle.views.proofs.AddedMembers.{addable, placed-with, unlost-roles, free-with, spare-with, live-here}
 use Rattle.views.proofs.Fit.{few as few-placed}
 use Rattle.safe_additions.proofs.AddedSafe.{adding-safe}
-use Rattle.safe_additions.proofs.AddedUpdates.{IsAddedBy, told-added, added-moved, added-risen, added-failed, told-spare, told-none, added-stored, lost-spare}
+use Rattle.safe_additions.proofs.AddedUpdates.{IsAddedBy, told-added, added-moved, added-risen, added-failed, told-spare, told-none, added-stored, added-rest, lost-spare}
 use Rattle.views.proofs.LiveLeft.{left-steady}
 use Rattle.shape_changes.proofs.Kept.{give_of-same}
 use Rattle.views.proofs.MarkedLaws.{grows-marks, others-updated}
@@ -147,6 +147,9 @@ returns-clause-lost g c = λ is. told-none (did g c) c.requires.placed (with-unl
 
 pub returns-clause-others : goal.returns-clause-others
 returns-clause-others g c = λ told. others-updated (g.B.Bank.given c.args.bank.now) c.update-lost.ensures.update told
+
+pub returns-clause-rest : goal.returns-clause-rest
+returns-clause-rest g c = λ told. added-rest (did g c) told
 
 pub returns-clause-rise : goal.returns-clause-rise
 returns-clause-rise g c = added-risen (did g c) c.requires.placed

@@ -1,5 +1,6 @@
 use Rattle.std.proofs.Common.{◌<◌, ℕ, refl, sym, ◌∙◌, subst, arith}
 use Rattle.bank.specs.Given.{Given}
+use Rattle.bank.specs.Tape.{disk}
 use Rattle.row_io.specs.Rows.{present}
 use Rattle.views.specs.Moving.{IsMoved}
 use Rattle.views.specs.Rebuilding.{AreSparesFree}
@@ -13,6 +14,8 @@ use Rattle.flat_history.specs.Sound.{OpensFit}
 use Rattle.views.proofs.LackingWrites.{data-later}
 use Rattle.shape_changes.proofs.Risen.{risen-none, risen-then, room-first, room-then}
 use Rattle.views.proofs.SafeStretch.{gone-before, safe-none, safe-then, allowed-later, zeros-later, region-later, grows-longer, over-at, keeps-from}
+use Rattle.safe_updates.specs.Unused.{IsUnusedKept}
+use Rattle.safe_updates.proofs.Unused.{unused-then}
 use Rattle.safe_rows.proofs.putting.put_rows.Goals as goal
 
 pub loop-next-init : goal.loop-next-init
@@ -34,6 +37,7 @@ loop-next-init g c =
       within = omega arith;
       clean = refl;
       kept = λ whole. refl;
+      unused = λ told s k v idle may. may;
       rise = risen-none m tape0 tape0 (λ told. omega arith);
       safe = λ told world ledger room gone unclean dirty region list list' w has allowed zeros safe. safe-none (OpensFit world) world.scope given ledger m tape0 safe;
       given = refl;
@@ -104,6 +108,8 @@ loop-next-preserved g c =
       within = did.within;
       clean = did.clean ∙ was.clean;
       kept = λ whole. did.kept whole ∙ was.kept (moved.whole whole);
+      unused = λ told. unused-then given c.args.members.now c.loop-next.members (disk given.start tape0) (disk given.start tape1) (disk given.start tape2) was.moved (was.unused told)
+          (subst (λ (b : Given). IsUnusedKept c.loop-next.members (disk b.start tape1) (disk b.start tape2)) was.given (did.unused told));
       rise = risen-then was.rise did.rise;
       safe = λ told world ledger room gone unclean dirty region list list' w has allowed zeros safe.
           let was = c.loop-next.invariant in
@@ -152,3 +158,13 @@ returns-then-is_some-clause-safe g c = λ told world ledger room gone unclean di
     (λ told. data-later c.args.shape.now (force-valid m.newest c.requires.placed.fit c.args.shape.now c.requires.shape) c.args.first c.args.from.now c.args.rows.now 0 c.loop-next.next (omega arith)
     n (present given tape0) (present given tape1) c.args.buffer.now.items c.loop-next.buffer.items list (was.written told) (has told))
     (allowed-later given m n was.moved ledger.values list' allowed) (λ fit. zeros-later given m n was.moved list' (zeros fit)) (over-at world given given1 ledger n tape1 was.given one.next)))
+
+pub returns-then-is_some-clause-unused : goal.returns-then-is_some-clause-unused
+returns-then-is_some-clause-unused g c = λ told.
+    let was = c.loop-next.invariant in
+    let given = g.B.Bank.given c.args.bank.now in
+    let n = c.loop-next.members in
+    let tape1 = g.B.Bank.tape c.loop-next.bank in
+    let tape2 = g.B.Bank.tape c.put_stretch-one.new.bank in
+    unused-then given c.args.members.now n (disk given.start (g.B.Bank.tape c.args.bank.now)) (disk given.start tape1) (disk given.start tape2) was.moved (was.unused told)
+    (subst (λ (b : Given). IsUnusedKept n (disk b.start tape1) (disk b.start tape2)) was.given (c.put_stretch-one.ensures.unused told))

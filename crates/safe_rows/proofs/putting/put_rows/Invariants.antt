@@ -1,5 +1,6 @@
 use Rattle.std.proofs.Common.{◌≡◌, ◌-◌, ◌≤◌, ℕ, true, false, length, Contains}
 use Rattle.bank.specs.Given.{NeverFalls}
+use Rattle.bank.specs.Tape.{disk}
 use Rattle.md_base.specs.Sectors.{Sector}
 use Rattle.superblocks.specs.Reading.{is_clean}
 use Rattle.row_io.specs.Rows.{present}
@@ -13,6 +14,7 @@ use Rattle.shape_changes.specs.Safety.{HasRoomLeft, IsRisen}
 use Rattle.shape_views.specs.Views.{Ledger, IsTailZero}
 use Rattle.shape_views.specs.Windows.{IsOfRegion}
 use Rattle.shape_changes.specs.Steady.{IsSafeOver, KeepsSafe, AreGoneTold, AreWritesAllowed}
+use Rattle.safe_updates.specs.Unused.{IsUnusedKept}
 use Rattle.safe_rows.proofs.putting.put_rows.Given as goal
 
 abbrev pub decreases-loop-next : goal.decreases-loop-next
@@ -28,6 +30,7 @@ invariant-loop-next g l = record {
   within : l.next ≤ length l.rows;
   clean : is_clean l.members.newest ≡ is_clean l.fn.members.newest;
   kept : AreWhole l.members → l.members ≡ l.fn.members;
+  unused : g.B.Bank.tells → IsUnusedKept l.fn.members (disk (g.B.Bank.given l.fn.bank).start (g.B.Bank.tape l.fn.bank)) (disk (g.B.Bank.given l.fn.bank).start (g.B.Bank.tape l.bank));
   rise : IsRisen g.B.Bank.tells l.fn.members l.members (g.B.Bank.tape l.fn.bank) (g.B.Bank.tape l.bank);
   safe : g.B.Bank.tells → (world : World) → (told : Ledger) → HasRoomLeft l.fn.members (g.B.Bank.tape l.fn.bank) (g.B.Bank.tape l.bank)
       → AreGoneTold told l.members → told.unclean ≡ true → is_clean l.fn.members.newest ≡ false → IsOfRegion l.fn.members l.shape (Contains l.rows) → (list list' : ℕ → Sector) → IsWritten list list' l.first l.from

@@ -1,14 +1,17 @@
 use Rattle.std.proofs.Common.{refl, sym, ◌∙◌, subst, arith}
 use Rattle.bank.specs.Given.{Given}
+use Rattle.bank.specs.Tape.{disk}
 use Rattle.row_io.specs.Rows.{present}
 use Rattle.shape_changes.specs.Marking.{AreOthersPresent}
 use Rattle.views.specs.Rebuilding.{AreSparesFree}
+use Rattle.views.specs.Under.{IsRestKept}
 use Rattle.views.proofs.MovedLaws.{moved-then, moved-from, grows-then}
 use Rattle.views.proofs.LackingLaws.{since-then, in-second}
 use Rattle.views.proofs.LackingWrites.{written-later}
 use Rattle.flat_history.specs.Sound.{OpensFit}
 use Rattle.shape_changes.proofs.Risen.{risen-then, room-then}
 use Rattle.views.proofs.SafeStretch.{safe-then, over-at, keeps-from}
+use Rattle.safe_updates.proofs.Unused.{rest-unused, unused-then}
 use Rattle.safe_rows.proofs.putting.put_stretch.Goals as goal
 
 pub name_missing-spares-requires-clause-free : goal.name_missing-spares-requires-clause-free
@@ -76,3 +79,15 @@ returns-clause-kept g c = λ whole.
 
 pub returns-clause-counts : goal.returns-clause-counts
 returns-clause-counts g c = λ s. let one = c.write_stretch-next.ensures.counts s in let two = c.name_missing-spares.ensures.counts s in omega (arith, one, two)
+
+pub returns-clause-unused : goal.returns-clause-unused
+returns-clause-unused g c = λ told.
+    let given = g.B.Bank.given c.args.bank.now in
+    let n = c.write_stretch-next.new.members in
+    let tape1 = g.B.Bank.tape c.write_stretch-next.new.bank in
+    let tape2 = g.B.Bank.tape c.name_missing-spares.new.bank in
+    let did = c.write_stretch-next.ensures in
+    let named : IsRestKept n (disk given.start tape1) (disk given.start tape2) =
+    subst (λ (b : Given). IsRestKept n (disk b.start tape1) (disk b.start tape2)) did.given (c.name_missing-spares.ensures.rest told) in
+    unused-then given c.args.members.now n (disk given.start (g.B.Bank.tape c.args.bank.now)) (disk given.start tape1) (disk given.start tape2) did.moved (did.unused told)
+    (rest-unused n (disk given.start tape1) (disk given.start tape2) named)

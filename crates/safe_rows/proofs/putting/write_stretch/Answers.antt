@@ -1,7 +1,10 @@
 use Rattle.std.specs.Prelude.{MatchOption, ⊤, Option}
 use Rattle.md_base.specs.declared.answers.Refusal.{Refusal}
-use Rattle.std.proofs.Common.{sym, subst}
+use Rattle.std.proofs.Common.{inl, inr, List, sym, subst}
 use Rattle.bank.specs.Given.{Given}
+use Rattle.bank.specs.Tape.{IsIn}
+use Rattle.md_base.specs.Sectors.{Sector}
+use Rattle.row_io.proofs.Turns.{marks_last}
 use Rattle.row_io.specs.Rows.{present}
 use Rattle.views.specs.Placed.{AreLost}
 use Rattle.views.specs.Lacking.{AreRowsWritten, LacksTooMany}
@@ -14,6 +17,7 @@ use Rattle.views.proofs.LackingWrites.{list-in, list-in-is, list-with, list-with
 use Rattle.flat_history.specs.Sound.{OpensFit}
 use Rattle.shape_changes.proofs.Risen.{risen-lost}
 use Rattle.views.proofs.SafeStretch.{safe-put}
+use Rattle.safe_updates.proofs.Unused.{unused-role}
 use Rattle.safe_rows.proofs.putting.write_stretch.Goals as goal
 
 pub write_touched-written-requires-clause-rows : goal.write_touched-written-requires-clause-rows
@@ -104,3 +108,15 @@ returns-clause-safe g c = λ told world ledger dirty region list list' w has all
     safe-put (OpensFit world) world.scope given ledger c.args.members.now c.write_touched-written.new.members c.write_touched-written.result.lost c.args.shape.now list' c.args.rows.now tape0 tape1 told
     did.lost.members c.requires.placed dirty c.requires.unlost region allowed zeros
     (did.each_mark list list' w has) safe
+
+-- rows are written to slots that hold roles alone
+pub returns-clause-unused : goal.returns-clause-unused
+returns-clause-unused g c = λ told s k v unused may.
+    let shape = c.args.shape.now in
+    let list = list-in shape c.args.rows.now c.args.buffer.now.items in
+    let kept = marks_last (c.write_touched-written.ensures.each_mark list (list-with list c.args.first c.args.from.now) (list-with-is list c.args.first c.args.from.now)
+    (λ told. list-in-is shape c.args.rows.now c.args.buffer.now.items c.args.start c.requires.once)) told in
+    elim (kept.0 s k) [
+      | inl same ↦ subst (λ (l : List Sector). IsIn l v) same may
+      | inr at ↦ absurd (unused-role (g.B.Bank.given c.args.bank.now) c.args.members.now c.requires.placed s unused at.role at.held)
+    ]

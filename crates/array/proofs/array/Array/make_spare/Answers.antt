@@ -24,6 +24,7 @@ use Rattle.call_entries.proofs.CallLaws.{losses-are}
 use Rattle.views.proofs.Flushed.{contents-added}
 use Rattle.views.proofs.MovedLaws.{grows-then}
 use Rattle.views.proofs.LiveLeft.{without-left}
+use Rattle.views.proofs.Still.{count-still}
 use Rattle.array_kept.proofs.LossLaws.{losses-behind, ended-behind}
 use Rattle.array_kept.proofs.ReadyLaws.{ready, scope-same, list-same}
 use Rattle.array.proofs.array.Array.make_spare.Goals as goal
@@ -157,9 +158,9 @@ invariant_of-self-then-contains g c =
     let given = g.B.Bank.given a.bank in
     let e = c.add_member-lost.ensures in
     let look = c.look_at.ensures in
-    let did = add-done look.given was.kept.slots was.kept.placed was.kept.still was.kept.unlost was.kept.free (slot-there given a.backup c.args.slot a.members was.kept.placed addable)
+    let did = add-done look.given was.kept.slots was.kept.placed was.kept.unlost was.kept.free (slot-there given a.backup c.args.slot a.members was.kept.placed addable)
     (λ role may. slot-free given a.backup c.args.slot a.members was.kept.placed addable (inr (role, may))) look.counts c.spare_for-sb.ensures.made e.own e.moved e.failed e.lost e.grows e.others e.clean e.rise e.counts in
-    let since = since-added did c.shape_in-disks.result.disks c.vacant_roles-before.result c.newly_vacant-roles.result c.without-spares.result (ap (λ (s : Shape). s.disks) c.shape_in-disks.ensures)
+    let since = since-added did c.shape_in-disks.result.disks c.vacant_roles-before.result c.newly_vacant-roles.result c.without-spares.result (ap (λ (s : Shape). s.disks) c.shape_in-disks.ensures ∙ sym (count-still a.members.newest was.kept.still))
     c.vacant_roles-before.ensures c.newly_vacant-roles.ensures
     (others-lost c.args.slot c.add_member-lost.result c.with.result c.without-spares.result c.with.ensures c.without-spares.ensures (omega (arith, c.without-spares.type_inv))) in
     let opens = begins-open c.self.inside.epoch.entries.items c.args.who (c.requires.next ∙ ap (λ p. next_number c.args.who.caller p.entries) (sym c.self.view_is)) in
@@ -196,9 +197,9 @@ returns-then-contains-clause-caused g c =
     let given = g.B.Bank.given a.bank in
     let e = c.add_member-lost.ensures in
     let look = c.look_at.ensures in
-    let did = add-done look.given was.kept.slots was.kept.placed was.kept.still was.kept.unlost was.kept.free (slot-there given a.backup c.args.slot a.members was.kept.placed addable)
+    let did = add-done look.given was.kept.slots was.kept.placed was.kept.unlost was.kept.free (slot-there given a.backup c.args.slot a.members was.kept.placed addable)
     (λ role may. slot-free given a.backup c.args.slot a.members was.kept.placed addable (inr (role, may))) look.counts c.spare_for-sb.ensures.made e.own e.moved e.failed e.lost e.grows e.others e.clean e.rise e.counts in
-    let since = since-added did c.shape_in-disks.result.disks c.vacant_roles-before.result c.newly_vacant-roles.result c.without-spares.result (ap (λ (s : Shape). s.disks) c.shape_in-disks.ensures)
+    let since = since-added did c.shape_in-disks.result.disks c.vacant_roles-before.result c.newly_vacant-roles.result c.without-spares.result (ap (λ (s : Shape). s.disks) c.shape_in-disks.ensures ∙ sym (count-still a.members.newest was.kept.still))
     c.vacant_roles-before.ensures c.newly_vacant-roles.ensures
     (others-lost c.args.slot c.add_member-lost.result c.with.result c.without-spares.result c.with.ensures c.without-spares.ensures (omega (arith, c.without-spares.type_inv))) in
     let gone = sym c.contains.ensures ∙ c.if-contains.true in
@@ -212,9 +213,9 @@ returns-then-contains-clause-spares g c =
     let given = g.B.Bank.given a.bank in
     let e = c.add_member-lost.ensures in
     let look = c.look_at.ensures in
-    let did = add-done look.given was.kept.slots was.kept.placed was.kept.still was.kept.unlost was.kept.free (slot-there given a.backup c.args.slot a.members was.kept.placed addable)
+    let did = add-done look.given was.kept.slots was.kept.placed was.kept.unlost was.kept.free (slot-there given a.backup c.args.slot a.members was.kept.placed addable)
     (λ role may. slot-free given a.backup c.args.slot a.members was.kept.placed addable (inr (role, may))) look.counts c.spare_for-sb.ensures.made e.own e.moved e.failed e.lost e.grows e.others e.clean e.rise e.counts in
-    let since = since-added did c.shape_in-disks.result.disks c.vacant_roles-before.result c.newly_vacant-roles.result c.without-spares.result (ap (λ (s : Shape). s.disks) c.shape_in-disks.ensures)
+    let since = since-added did c.shape_in-disks.result.disks c.vacant_roles-before.result c.newly_vacant-roles.result c.without-spares.result (ap (λ (s : Shape). s.disks) c.shape_in-disks.ensures ∙ sym (count-still a.members.newest was.kept.still))
     c.vacant_roles-before.ensures c.newly_vacant-roles.ensures
     (others-lost c.args.slot c.add_member-lost.result c.with.result c.without-spares.result c.with.ensures c.without-spares.ensures (omega (arith, c.without-spares.type_inv))) in
     rw (← c.self.view_is) (spares-added did)
@@ -232,9 +233,9 @@ returns-then-contains-clause-others g c =
     let given = g.B.Bank.given a.bank in
     let e = c.add_member-lost.ensures in
     let look = c.look_at.ensures in
-    let did = add-done look.given was.kept.slots was.kept.placed was.kept.still was.kept.unlost was.kept.free (slot-there given a.backup c.args.slot a.members was.kept.placed addable)
+    let did = add-done look.given was.kept.slots was.kept.placed was.kept.unlost was.kept.free (slot-there given a.backup c.args.slot a.members was.kept.placed addable)
     (λ role may. slot-free given a.backup c.args.slot a.members was.kept.placed addable (inr (role, may))) look.counts c.spare_for-sb.ensures.made e.own e.moved e.failed e.lost e.grows e.others e.clean e.rise e.counts in
-    let since = since-added did c.shape_in-disks.result.disks c.vacant_roles-before.result c.newly_vacant-roles.result c.without-spares.result (ap (λ (s : Shape). s.disks) c.shape_in-disks.ensures)
+    let since = since-added did c.shape_in-disks.result.disks c.vacant_roles-before.result c.newly_vacant-roles.result c.without-spares.result (ap (λ (s : Shape). s.disks) c.shape_in-disks.ensures ∙ sym (count-still a.members.newest was.kept.still))
     c.vacant_roles-before.ensures c.newly_vacant-roles.ensures
     (others-lost c.args.slot c.add_member-lost.result c.with.result c.without-spares.result c.with.ensures c.without-spares.ensures (omega (arith, c.without-spares.type_inv))) in
     rw (← c.self.view_is) (λ t s k apart. did.others t s k apart ∙ (λ i. contents-added given.start (g.B.Bank.tape a.bank) (g.B.Bank.tape c.look_at.new.bank) (look.tape t) i s k))
@@ -247,9 +248,9 @@ returns-then-contains-clause-failed g c =
     let given = g.B.Bank.given a.bank in
     let e = c.add_member-lost.ensures in
     let look = c.look_at.ensures in
-    let did = add-done look.given was.kept.slots was.kept.placed was.kept.still was.kept.unlost was.kept.free (slot-there given a.backup c.args.slot a.members was.kept.placed addable)
+    let did = add-done look.given was.kept.slots was.kept.placed was.kept.unlost was.kept.free (slot-there given a.backup c.args.slot a.members was.kept.placed addable)
     (λ role may. slot-free given a.backup c.args.slot a.members was.kept.placed addable (inr (role, may))) look.counts c.spare_for-sb.ensures.made e.own e.moved e.failed e.lost e.grows e.others e.clean e.rise e.counts in
-    let since = since-added did c.shape_in-disks.result.disks c.vacant_roles-before.result c.newly_vacant-roles.result c.without-spares.result (ap (λ (s : Shape). s.disks) c.shape_in-disks.ensures)
+    let since = since-added did c.shape_in-disks.result.disks c.vacant_roles-before.result c.newly_vacant-roles.result c.without-spares.result (ap (λ (s : Shape). s.disks) c.shape_in-disks.ensures ∙ sym (count-still a.members.newest was.kept.still))
     c.vacant_roles-before.ensures c.newly_vacant-roles.ensures
     (others-lost c.args.slot c.add_member-lost.result c.with.result c.without-spares.result c.with.ensures c.without-spares.ensures (omega (arith, c.without-spares.type_inv))) in
     rw (← c.self.view_is) did.failed.roles
@@ -266,9 +267,9 @@ returns-then-contains-clause-losses g c =
     let given = g.B.Bank.given a.bank in
     let e = c.add_member-lost.ensures in
     let look = c.look_at.ensures in
-    let did = add-done look.given was.kept.slots was.kept.placed was.kept.still was.kept.unlost was.kept.free (slot-there given a.backup c.args.slot a.members was.kept.placed addable)
+    let did = add-done look.given was.kept.slots was.kept.placed was.kept.unlost was.kept.free (slot-there given a.backup c.args.slot a.members was.kept.placed addable)
     (λ role may. slot-free given a.backup c.args.slot a.members was.kept.placed addable (inr (role, may))) look.counts c.spare_for-sb.ensures.made e.own e.moved e.failed e.lost e.grows e.others e.clean e.rise e.counts in
-    let since = since-added did c.shape_in-disks.result.disks c.vacant_roles-before.result c.newly_vacant-roles.result c.without-spares.result (ap (λ (s : Shape). s.disks) c.shape_in-disks.ensures)
+    let since = since-added did c.shape_in-disks.result.disks c.vacant_roles-before.result c.newly_vacant-roles.result c.without-spares.result (ap (λ (s : Shape). s.disks) c.shape_in-disks.ensures ∙ sym (count-still a.members.newest was.kept.still))
     c.vacant_roles-before.ensures c.newly_vacant-roles.ensures
     (others-lost c.args.slot c.add_member-lost.result c.with.result c.without-spares.result c.with.ensures c.without-spares.ensures (omega (arith, c.without-spares.type_inv))) in
     rw (← c.self.view_is) (losses-behind a.members c.add_member-lost.new.members (g.B.Bank.faults_of a.bank) (g.B.Bank.faults_of c.add_member-lost.new.bank) a.epoch.entries.items c.make_room.new.self.items c.enter_behind.new.epoch.entries.items c.args.who
@@ -296,9 +297,9 @@ returns-then-contains-clause-never_falls g c =
     let given = g.B.Bank.given a.bank in
     let e = c.add_member-lost.ensures in
     let look = c.look_at.ensures in
-    let did = add-done look.given was.kept.slots was.kept.placed was.kept.still was.kept.unlost was.kept.free (slot-there given a.backup c.args.slot a.members was.kept.placed addable)
+    let did = add-done look.given was.kept.slots was.kept.placed was.kept.unlost was.kept.free (slot-there given a.backup c.args.slot a.members was.kept.placed addable)
     (λ role may. slot-free given a.backup c.args.slot a.members was.kept.placed addable (inr (role, may))) look.counts c.spare_for-sb.ensures.made e.own e.moved e.failed e.lost e.grows e.others e.clean e.rise e.counts in
-    let since = since-added did c.shape_in-disks.result.disks c.vacant_roles-before.result c.newly_vacant-roles.result c.without-spares.result (ap (λ (s : Shape). s.disks) c.shape_in-disks.ensures)
+    let since = since-added did c.shape_in-disks.result.disks c.vacant_roles-before.result c.newly_vacant-roles.result c.without-spares.result (ap (λ (s : Shape). s.disks) c.shape_in-disks.ensures ∙ sym (count-still a.members.newest was.kept.still))
     c.vacant_roles-before.ensures c.newly_vacant-roles.ensures
     (others-lost c.args.slot c.add_member-lost.result c.with.result c.without-spares.result c.with.ensures c.without-spares.ensures (omega (arith, c.without-spares.type_inv))) in
     rw (← c.self.view_is) did.counts
@@ -331,9 +332,9 @@ invariant_of-self-2 g c =
     let given = g.B.Bank.given a.bank in
     let e = c.add_member-lost.ensures in
     let look = c.look_at.ensures in
-    let did = add-done look.given was.kept.slots was.kept.placed was.kept.still was.kept.unlost was.kept.free (slot-there given a.backup c.args.slot a.members was.kept.placed addable)
+    let did = add-done look.given was.kept.slots was.kept.placed was.kept.unlost was.kept.free (slot-there given a.backup c.args.slot a.members was.kept.placed addable)
     (λ role may. slot-free given a.backup c.args.slot a.members was.kept.placed addable (inr (role, may))) look.counts c.spare_for-sb.ensures.made e.own e.moved e.failed e.lost e.grows e.others e.clean e.rise e.counts in
-    let since = since-added did c.shape_in-disks.result.disks c.vacant_roles-before.result c.newly_vacant-roles.result c.without-spares.result (ap (λ (s : Shape). s.disks) c.shape_in-disks.ensures)
+    let since = since-added did c.shape_in-disks.result.disks c.vacant_roles-before.result c.newly_vacant-roles.result c.without-spares.result (ap (λ (s : Shape). s.disks) c.shape_in-disks.ensures ∙ sym (count-still a.members.newest was.kept.still))
     c.vacant_roles-before.ensures c.newly_vacant-roles.ensures
     (others-lost c.args.slot c.add_member-lost.result c.with.result c.without-spares.result c.with.ensures c.without-spares.ensures (omega (arith, c.without-spares.type_inv))) in
     let opens = begins-open c.self.inside.epoch.entries.items c.args.who (c.requires.next ∙ ap (λ p. next_number c.args.who.caller p.entries) (sym c.self.view_is)) in
@@ -375,9 +376,9 @@ returns-clause-spares g c =
     let given = g.B.Bank.given a.bank in
     let e = c.add_member-lost.ensures in
     let look = c.look_at.ensures in
-    let did = add-done look.given was.kept.slots was.kept.placed was.kept.still was.kept.unlost was.kept.free (slot-there given a.backup c.args.slot a.members was.kept.placed addable)
+    let did = add-done look.given was.kept.slots was.kept.placed was.kept.unlost was.kept.free (slot-there given a.backup c.args.slot a.members was.kept.placed addable)
     (λ role may. slot-free given a.backup c.args.slot a.members was.kept.placed addable (inr (role, may))) look.counts c.spare_for-sb.ensures.made e.own e.moved e.failed e.lost e.grows e.others e.clean e.rise e.counts in
-    let since = since-added did c.shape_in-disks.result.disks c.vacant_roles-before.result c.newly_vacant-roles.result c.without-spares.result (ap (λ (s : Shape). s.disks) c.shape_in-disks.ensures)
+    let since = since-added did c.shape_in-disks.result.disks c.vacant_roles-before.result c.newly_vacant-roles.result c.without-spares.result (ap (λ (s : Shape). s.disks) c.shape_in-disks.ensures ∙ sym (count-still a.members.newest was.kept.still))
     c.vacant_roles-before.ensures c.newly_vacant-roles.ensures
     (others-lost c.args.slot c.add_member-lost.result c.with.result c.without-spares.result c.with.ensures c.without-spares.ensures (omega (arith, c.without-spares.type_inv))) in
     rw (← c.self.view_is) (spares-added did)
@@ -395,9 +396,9 @@ returns-clause-others g c =
     let given = g.B.Bank.given a.bank in
     let e = c.add_member-lost.ensures in
     let look = c.look_at.ensures in
-    let did = add-done look.given was.kept.slots was.kept.placed was.kept.still was.kept.unlost was.kept.free (slot-there given a.backup c.args.slot a.members was.kept.placed addable)
+    let did = add-done look.given was.kept.slots was.kept.placed was.kept.unlost was.kept.free (slot-there given a.backup c.args.slot a.members was.kept.placed addable)
     (λ role may. slot-free given a.backup c.args.slot a.members was.kept.placed addable (inr (role, may))) look.counts c.spare_for-sb.ensures.made e.own e.moved e.failed e.lost e.grows e.others e.clean e.rise e.counts in
-    let since = since-added did c.shape_in-disks.result.disks c.vacant_roles-before.result c.newly_vacant-roles.result c.without-spares.result (ap (λ (s : Shape). s.disks) c.shape_in-disks.ensures)
+    let since = since-added did c.shape_in-disks.result.disks c.vacant_roles-before.result c.newly_vacant-roles.result c.without-spares.result (ap (λ (s : Shape). s.disks) c.shape_in-disks.ensures ∙ sym (count-still a.members.newest was.kept.still))
     c.vacant_roles-before.ensures c.newly_vacant-roles.ensures
     (others-lost c.args.slot c.add_member-lost.result c.with.result c.without-spares.result c.with.ensures c.without-spares.ensures (omega (arith, c.without-spares.type_inv))) in
     rw (← c.self.view_is) (λ t s k apart. did.others t s k apart ∙ (λ i. contents-added given.start (g.B.Bank.tape a.bank) (g.B.Bank.tape c.look_at.new.bank) (look.tape t) i s k))
@@ -410,9 +411,9 @@ returns-clause-failed g c =
     let given = g.B.Bank.given a.bank in
     let e = c.add_member-lost.ensures in
     let look = c.look_at.ensures in
-    let did = add-done look.given was.kept.slots was.kept.placed was.kept.still was.kept.unlost was.kept.free (slot-there given a.backup c.args.slot a.members was.kept.placed addable)
+    let did = add-done look.given was.kept.slots was.kept.placed was.kept.unlost was.kept.free (slot-there given a.backup c.args.slot a.members was.kept.placed addable)
     (λ role may. slot-free given a.backup c.args.slot a.members was.kept.placed addable (inr (role, may))) look.counts c.spare_for-sb.ensures.made e.own e.moved e.failed e.lost e.grows e.others e.clean e.rise e.counts in
-    let since = since-added did c.shape_in-disks.result.disks c.vacant_roles-before.result c.newly_vacant-roles.result c.without-spares.result (ap (λ (s : Shape). s.disks) c.shape_in-disks.ensures)
+    let since = since-added did c.shape_in-disks.result.disks c.vacant_roles-before.result c.newly_vacant-roles.result c.without-spares.result (ap (λ (s : Shape). s.disks) c.shape_in-disks.ensures ∙ sym (count-still a.members.newest was.kept.still))
     c.vacant_roles-before.ensures c.newly_vacant-roles.ensures
     (others-lost c.args.slot c.add_member-lost.result c.with.result c.without-spares.result c.with.ensures c.without-spares.ensures (omega (arith, c.without-spares.type_inv))) in
     rw (← c.self.view_is) did.failed.roles
@@ -429,9 +430,9 @@ returns-clause-losses g c =
     let given = g.B.Bank.given a.bank in
     let e = c.add_member-lost.ensures in
     let look = c.look_at.ensures in
-    let did = add-done look.given was.kept.slots was.kept.placed was.kept.still was.kept.unlost was.kept.free (slot-there given a.backup c.args.slot a.members was.kept.placed addable)
+    let did = add-done look.given was.kept.slots was.kept.placed was.kept.unlost was.kept.free (slot-there given a.backup c.args.slot a.members was.kept.placed addable)
     (λ role may. slot-free given a.backup c.args.slot a.members was.kept.placed addable (inr (role, may))) look.counts c.spare_for-sb.ensures.made e.own e.moved e.failed e.lost e.grows e.others e.clean e.rise e.counts in
-    let since = since-added did c.shape_in-disks.result.disks c.vacant_roles-before.result c.newly_vacant-roles.result c.without-spares.result (ap (λ (s : Shape). s.disks) c.shape_in-disks.ensures)
+    let since = since-added did c.shape_in-disks.result.disks c.vacant_roles-before.result c.newly_vacant-roles.result c.without-spares.result (ap (λ (s : Shape). s.disks) c.shape_in-disks.ensures ∙ sym (count-still a.members.newest was.kept.still))
     c.vacant_roles-before.ensures c.newly_vacant-roles.ensures
     (others-lost c.args.slot c.add_member-lost.result c.with.result c.without-spares.result c.with.ensures c.without-spares.ensures (omega (arith, c.without-spares.type_inv))) in
     rw (← c.self.view_is) (losses-behind a.members c.add_member-lost.new.members (g.B.Bank.faults_of a.bank) (g.B.Bank.faults_of c.add_member-lost.new.bank) a.epoch.entries.items c.make_room.new.self.items c.enter_behind-2.new.epoch.entries.items c.args.who
@@ -459,9 +460,9 @@ returns-clause-never_falls g c =
     let given = g.B.Bank.given a.bank in
     let e = c.add_member-lost.ensures in
     let look = c.look_at.ensures in
-    let did = add-done look.given was.kept.slots was.kept.placed was.kept.still was.kept.unlost was.kept.free (slot-there given a.backup c.args.slot a.members was.kept.placed addable)
+    let did = add-done look.given was.kept.slots was.kept.placed was.kept.unlost was.kept.free (slot-there given a.backup c.args.slot a.members was.kept.placed addable)
     (λ role may. slot-free given a.backup c.args.slot a.members was.kept.placed addable (inr (role, may))) look.counts c.spare_for-sb.ensures.made e.own e.moved e.failed e.lost e.grows e.others e.clean e.rise e.counts in
-    let since = since-added did c.shape_in-disks.result.disks c.vacant_roles-before.result c.newly_vacant-roles.result c.without-spares.result (ap (λ (s : Shape). s.disks) c.shape_in-disks.ensures)
+    let since = since-added did c.shape_in-disks.result.disks c.vacant_roles-before.result c.newly_vacant-roles.result c.without-spares.result (ap (λ (s : Shape). s.disks) c.shape_in-disks.ensures ∙ sym (count-still a.members.newest was.kept.still))
     c.vacant_roles-before.ensures c.newly_vacant-roles.ensures
     (others-lost c.args.slot c.add_member-lost.result c.with.result c.without-spares.result c.with.ensures c.without-spares.ensures (omega (arith, c.without-spares.type_inv))) in
     rw (← c.self.view_is) did.counts
