@@ -24,11 +24,11 @@ use Rattle.history_calls.proofs.Quiet.{IsQuiet}
 use Rattle.course_kept.specs.declared.course.Course.{Course}
 use Rattle.moving_kept.specs.Moving.{IsMoving}
 use Rattle.moving_kept.proofs.Resting.{resting-moves}
-use Rattle.moving.specs.Ready.{MovingParts}
-use Rattle.moving.specs.Calls.{IsStatusFor, IsEpochKept}
+use Rattle.running_words.specs.Parts.{RunningParts}
+use Rattle.running_words.specs.Calls.{IsStatusFor, IsEpochKept}
 
 -- two statuses that tell the same array are the same
-pub status-same : {B : Type 0} (array : MovingParts B) (one other : Status) → IsStatusFor array one → IsStatusFor array other → one ≡ other
+pub status-same : {B : Type 0} (array : RunningParts B) (one other : Status) → IsStatusFor array one → IsStatusFor array other → one ≡ other
 status-same array one other a b i = record {
   shape = (a.shape ∙ sym b.shape) i;
   target = (a.target ∙ sym b.target) i;

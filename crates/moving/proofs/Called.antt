@@ -16,15 +16,15 @@ use Rattle.views.specs.Moving.{Grows, IsMoved}
 use Rattle.array_kept.specs.Kept.{scope_in}
 use Rattle.array_kept.specs.Calls.{IsLossBy, AreLossesOf, IsEndOf}
 use Rattle.array_kept.proofs.ReadyLaws.{list-same}
-use Rattle.moving.specs.Ready.{MovingParts}
-use Rattle.moving.specs.Calls.{IsCalled}
+use Rattle.running_words.specs.Parts.{RunningParts}
+use Rattle.running_words.specs.Calls.{IsCalled}
 
 -- no caller of the methods is the opening
 pub not_254 : (n : ℕ) → n ≢ 254 → IsFalse (n == 254)
 not_254 n ne = grind (arith, nat_tests, ne)
 
 -- What a call does over the same bank: members may lose slots, and the epoch, the work and the phases ahead are those that they were.
-pub record KeepsEpoch {B : Type 0} (old new : MovingParts B) : Type 0 where
+pub record KeepsEpoch {B : Type 0} (old new : RunningParts B) : Type 0 where
   pub uuid : new.parts.uuid ≡ old.parts.uuid
   pub given : new.parts.given ≡ old.parts.given
   pub first : new.parts.first ≡ old.parts.first
@@ -32,7 +32,7 @@ pub record KeepsEpoch {B : Type 0} (old new : MovingParts B) : Type 0 where
   pub work : new.parts.work ≡ old.parts.work
   pub ahead : new.ahead ≡ old.ahead
 
-pub called : {B : Type 0} {tells : Type 0} {given : Given} {tape tape' : List Operation} {before after : ℕ → ℕ} {old new : MovingParts B}
+pub called : {B : Type 0} {tells : Type 0} {given : Given} {tape tape' : List Operation} {before after : ℕ → ℕ} {old new : RunningParts B}
     → Grows tells tape tape' → IsMoved given old.parts.members new.parts.members → IsEndOf tells new.parts.first new.parts.entries tape'
     → AreLossesOf old.parts.members before after old.parts.entries new.parts.entries → NeverFalls before after → KeepsEpoch old new → (tells → old.parts.first ≤ length tape)
     → IsCalled tells given tape tape' before after old new

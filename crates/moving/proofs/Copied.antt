@@ -49,8 +49,9 @@ use Rattle.course_kept.proofs.Courses.{copies-go-on}
 use Rattle.moving_kept.specs.Moving.{IsMoving}
 use Rattle.moving_kept.proofs.Staying.{refused-moves}
 use Rattle.moving_kept.proofs.Steps.{AreMissingSince, able-kept, plain-of, copied-moves}
-use Rattle.moving.specs.Ready.{MovingParts, left_in, bytes_in, IsReady}
-use Rattle.moving.specs.Calls.{IsCopyDue}
+use Rattle.running_words.specs.Parts.{RunningParts, left_in}
+use Rattle.moving.specs.Ready.{bytes_in, IsReady}
+use Rattle.running_words.specs.Calls.{IsCopyDue}
 use Rattle.moving.proofs.Kept.{left-moved}
 
 -- ---- the number of a call that goes on
@@ -91,7 +92,7 @@ same-flag : (s t : Span) (m n : ℕ) (a b : Bool) → Entered s m a ≡ Entered 
 same-flag s t m n a b e = cc
 
 -- a stripe of the window that is found open is to be copied, and no stripe behind the list is zeroed
-pub due-is : {B : Type 0} (array : MovingParts B) (span : Span) (copied : ℕ) (sectioned : Bool) → IsCopyDue array → array.course.window ≡ Entered span copied sectioned
+pub due-is : {B : Type 0} (array : RunningParts B) (span : Span) (copied : ℕ) (sectioned : Bool) → IsCopyDue array → array.course.window ≡ Entered span copied sectioned
     → (array.course ≡ entered span copied sectioned) × (copied < stripes_in array.parts.members.newest span)
 due-is array span copied sectioned due window =
     let same : Entered due.span due.copied due.sectioned ≡ Entered span copied sectioned = sym (ap (λ (c : Course). c.window) due.is) ∙ window in

@@ -27,7 +27,8 @@ use Rattle.kept_history.specs.Safe.{world_in}
 use Rattle.kept_history.proofs.Growing.{unsynced-grown}
 use Rattle.course_kept.specs.declared.course.Course.{Course}
 use Rattle.moving_kept.specs.Moving.{IsMoving}
-use Rattle.moving.specs.Ready.{left_in, bytes_in, IsReady}
+use Rattle.running_words.specs.Parts.{left_in}
+use Rattle.moving.specs.Ready.{bytes_in, IsReady}
 
 -- ---- superblocks of the same reshape
 

@@ -50,7 +50,7 @@ use Rattle.moving_kept.specs.Moving.{IsMoving}
 use Rattle.moving_kept.proofs.MoreSteps.{recorded-moves}
 use Rattle.moving_kept.proofs.Staying.{refused-moves}
 use Rattle.moving_kept.proofs.Steps.{AreMissingSince, missing-since}
-use Rattle.moving.specs.Ready.{left_in}
+use Rattle.running_words.specs.Parts.{left_in}
 use Rattle.moving.proofs.Called.{not_254}
 use Rattle.moving.proofs.Kept.{AreSameShapes, left-moved}
 use Rattle.moving.proofs.Settled.{risen-told}

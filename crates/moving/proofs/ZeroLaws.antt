@@ -44,7 +44,8 @@ use Rattle.moving_kept.specs.Moving.{IsMoving}
 use Rattle.moving_kept.proofs.MoreSteps.{zeroed-moves}
 use Rattle.moving_kept.proofs.Staying.{refused-moves}
 use Rattle.moving_kept.proofs.Steps.{AreMissingSince, missing-since}
-use Rattle.moving.specs.Ready.{left_in, IsReady}
+use Rattle.running_words.specs.Parts.{left_in}
+use Rattle.moving.specs.Ready.{IsReady}
 use Rattle.moving.proofs.Called.{not_254}
 use Rattle.moving.proofs.Kept.{left-moved}
 use Rattle.moving.proofs.Settled.{risen-told}

@@ -1,4 +1,4 @@
--- What contracts see of an array in a reshape, and what it keeps between its calls.
+-- What an array in a reshape keeps between its calls.
 use Rattle.std.specs.Prelude.{◌≡◌, ℕ, ◌-◌, ◌*◌, ◌<◌, ◌≤◌, false, List, [], length, take, None}
 use Rattle.md_base.specs.Shapes.{has_slot}
 use Rattle.bank.specs.declared.bank.Operation.{Operation}
@@ -11,24 +11,14 @@ use Rattle.flat_history.specs.Losses.{is_unsynced}
 use Rattle.flat_history.specs.Stands.{reach_of}
 use Rattle.views.specs.declared.work.Work.{Work}
 use Rattle.views.specs.Numbers.{is_carried}
-use Rattle.views.specs.Parts.{Parts}
 use Rattle.grow_asked.specs.declared.window.Window.{Window}
 use Rattle.grow_asked.specs.declared.window.Window.TheVariants.{Closed, Entered, Unsure}
 use Rattle.grow_asked.specs.declared.window.PhasesLeft.{PhasesLeft}
-use Rattle.grow_asked.specs.Left.{phases_of, grow_left}
+use Rattle.grow_asked.specs.Left.{phases_of}
+use Rattle.running_words.specs.Parts.{left_in}
 use Rattle.kept_history.specs.Safe.{world_in}
 use Rattle.course_kept.specs.declared.course.Course.{Course}
 use Rattle.moving_kept.specs.Moving.{IsMoving}
-
--- what is seen of an array of one shape too, how far the reshape has come, and the phases of the plan that are ahead
-pub record MovingParts (B : Type 0) : Type 0 where
-  pub parts : Parts B
-  pub course : Course
-  pub ahead : PhasesLeft
-
--- the steps that are left, of the reshape and of the phases ahead
-abbrev pub left_in : Members → Course → PhasesLeft → ℕ
-left_in members course ahead = grow_left members.newest course.window course.zeroed (phases_of ahead)
 
 -- the bytes of a buffer that have the window's sectors
 abbrev pub bytes_in : Window → List ℕ → List ℕ

@@ -5,7 +5,7 @@ ghost use Rattle.grow_plan.specs.Plans.{AreSound};
 ghost use Rattle.superblocks.specs.Reading.{final_shape};
 ghost use Rattle.flat_history.specs.Flat.{next_number};
 ghost use Rattle.grow_asked.specs.Left.{phases_of, zeroed_by, IsReshapeUnderWay, IsWindowRight};
-ghost use Rattle.moving.specs.Ready.{left_in};
+ghost use Rattle.running_words.specs.Parts.{left_in};
 
 mod asking;
 mod ending;
@@ -48,9 +48,10 @@ pub struct Moving<B: Bank> {
 impl<B: Bank> Model for Moving<B> {
     ghost use Rattle.std.specs.Prelude.{vec_capacity, length, Some};
     ghost use Rattle.array_kept.specs.Kept.{scope_in};
-    ghost use Rattle.moving.specs.Ready.{MovingParts, IsReady};
+    ghost use Rattle.running_words.specs.Parts.{RunningParts};
+    ghost use Rattle.moving.specs.Ready.{IsReady};
 
-    ghost Value = { MovingParts B };
+    ghost Value = { RunningParts B };
 
     ghost view = { λ a. record {
       parts = record {

@@ -11,7 +11,7 @@ ghost use Rattle.views.specs.Moving.{Grows};
 ghost use Rattle.views.specs.Lacking.{AreTooMany};
 ghost use Rattle.array_kept.specs.Calls.{IsEntered, IsBehind, IsUnsettled, IsFaultFor, AreLossesOf};
 ghost use Rattle.history_calls.specs.Reliable.{IsReliable};
-ghost use Rattle.moving.specs.Calls.{IsCalled, IsEpochKept};
+ghost use Rattle.running_words.specs.Calls.{IsCalled, IsEpochKept};
 
 use crate::state::Moving;
 use bank::Bank;

@@ -23,8 +23,8 @@ ghost use Rattle.window_rows.specs.Copies.{tail_of, IsCopied};
 ghost use Rattle.course_kept.specs.Laws.{next_stripe};
 ghost use Rattle.array_kept.specs.Calls.{IsCausedBy};
 ghost use Rattle.kept_history.specs.Recorded.{IsCallGoing};
-ghost use Rattle.moving.specs.Ready.{left_in};
-ghost use Rattle.moving.specs.Calls.{IsCalled, IsStepTaken, IsCopyDue};
+ghost use Rattle.running_words.specs.Parts.{left_in};
+ghost use Rattle.running_words.specs.Calls.{IsCalled, IsStepTaken, IsCopyDue};
 
 use crate::state::{Moving, steps_left};
 use bank::Bank;

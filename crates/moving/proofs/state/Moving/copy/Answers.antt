@@ -25,8 +25,9 @@ use Rattle.moving_state.proofs.ReshapeLaws.{window-reach, list-short}
 use Rattle.moving_kept.proofs.Refusals.{quiet-refusal, refused-right}
 use Rattle.moving_kept.proofs.Resting.{resting-moves}
 use Rattle.moving_kept.proofs.Steps.{missing-since}
-use Rattle.moving.specs.Ready.{left_in, bytes_in}
-use Rattle.moving.specs.Calls.{IsCopyDue}
+use Rattle.running_words.specs.Parts.{left_in}
+use Rattle.moving.specs.Ready.{bytes_in}
+use Rattle.running_words.specs.Calls.{IsCopyDue}
 use Rattle.moving.proofs.Called.{not_254, called, alone-lossless}
 use Rattle.moving.proofs.Copied.{due-is, IsStripeTried, copied-kept, uncopied-kept, refilled, same-long}
 use Rattle.moving.proofs.Kept.{ready, shapes-same, shapes-moved}

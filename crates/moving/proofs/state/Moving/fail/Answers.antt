@@ -24,7 +24,8 @@ use Rattle.moving_kept.specs.Moving.{IsMoving}
 use Rattle.moving_kept.proofs.Failing.{failed-moves}
 use Rattle.moving_kept.proofs.Refusals.{quiet-refusal}
 use Rattle.moving_kept.proofs.Resting.{resting-moves}
-use Rattle.moving.specs.Ready.{left_in, bytes_in}
+use Rattle.running_words.specs.Parts.{left_in}
+use Rattle.moving.specs.Ready.{bytes_in}
 use Rattle.moving.proofs.Called.{not_254, called, alone-lossless}
 use Rattle.moving.proofs.Kept.{ready, shapes-same, shapes-moved, left-moved}
 use Rattle.moving.proofs.TakenOut.{moved-all, since-out, taken-out}

@@ -19,8 +19,9 @@ use Rattle.md_base.specs.declared.places.Span.{Span}
 use Rattle.course_kept.specs.declared.course.Course.{Course}
 use Rattle.moving_kept.proofs.Refusals.{quiet-refusal, refused-right}
 use Rattle.moving_kept.proofs.Resting.{resting-moves}
-use Rattle.moving.specs.Calls.{IsRecordDue}
-use Rattle.moving.specs.Ready.{left_in, bytes_in}
+use Rattle.running_words.specs.Calls.{IsRecordDue}
+use Rattle.running_words.specs.Parts.{left_in}
+use Rattle.moving.specs.Ready.{bytes_in}
 use Rattle.moving.proofs.Called.{not_254, called, alone-lossless}
 use Rattle.moving.proofs.Kept.{ready, shapes-same, shapes-moved}
 use Rattle.moving.proofs.Settled.{many-of}

@@ -17,7 +17,8 @@ use Rattle.moving_kept.proofs.Flushing.{flushed-moves, unflushed-moves, AreFlush
 use Rattle.moving_kept.proofs.Refusals.{quiet-refusal, refused-right}
 use Rattle.moving_kept.proofs.Resting.{resting-moves}
 use Rattle.moving_kept.proofs.Steps.{missing-since}
-use Rattle.moving.specs.Ready.{left_in, bytes_in}
+use Rattle.running_words.specs.Parts.{left_in}
+use Rattle.moving.specs.Ready.{bytes_in}
 use Rattle.moving.proofs.Kept.{ready, shapes-same, shapes-moved, left-moved}
 use Rattle.moving.proofs.Called.{not_254, alone-lossless}
 use Rattle.moving.proofs.Settled.{settles-so, risen-told, many-of}

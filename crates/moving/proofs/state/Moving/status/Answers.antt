@@ -8,7 +8,7 @@ use Rattle.flat_history.specs.declared.events.Event.TheVariants.{Shown}
 use Rattle.views.proofs.MovedLaws.{grows-none}
 use Rattle.array_kept.proofs.LossLaws.{ended-behind}
 use Rattle.array_kept.proofs.ReadyLaws.{scope-same}
-use Rattle.moving.specs.Ready.{left_in}
+use Rattle.running_words.specs.Parts.{left_in}
 use Rattle.moving.proofs.Kept.{ready, shapes-same}
 use Rattle.moving.proofs.Asking.{status-same, shown-moves}
 use Rattle.moving.proofs.state.Moving.status.Goals as goal

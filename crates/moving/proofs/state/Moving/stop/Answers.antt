@@ -1,7 +1,7 @@
 use Rattle.std.proofs.Common.{◌≤◌, ℕ, Option, sym, subst}
 use Rattle.flat_history.specs.Epochs.{world_of}
 use Rattle.history_calls.specs.Reliable.{IsReliable}
-use Rattle.moving.specs.Calls.{IsEpochKept}
+use Rattle.running_words.specs.Calls.{IsEpochKept}
 use Rattle.moving.proofs.state.Moving.stop.Goals as goal
 
 pub returns-in-Ok-clause-right : goal.returns-in-Ok-clause-right

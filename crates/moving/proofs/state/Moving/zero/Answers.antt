@@ -23,8 +23,9 @@ use Rattle.views.specs.Numbers.{is_carried}
 use Rattle.moving_kept.proofs.Refusals.{quiet-refusal, refused-right}
 use Rattle.moving_kept.proofs.Resting.{resting-moves}
 use Rattle.moving_state.proofs.ReshapeLaws.{through-of}
-use Rattle.moving.specs.Calls.{IsZeroDue}
-use Rattle.moving.specs.Ready.{left_in, bytes_in}
+use Rattle.running_words.specs.Calls.{IsZeroDue}
+use Rattle.running_words.specs.Parts.{left_in}
+use Rattle.moving.specs.Ready.{bytes_in}
 use Rattle.moving.proofs.Called.{not_254, called, alone-lossless}
 use Rattle.moving.proofs.Kept.{ready, shapes-same, shapes-moved}
 use Rattle.moving.proofs.Settled.{many-of}

@@ -23,10 +23,10 @@ use Rattle.views.specs.Placed.{AreStillHeld}
 use Rattle.views.specs.Moving.{Grows}
 use Rattle.array_kept.specs.Calls.{world_for, IsBehind, AreSparesFewer, AreLossesOf, IsEndOf, IsSameArray}
 use Rattle.course_kept.specs.Laws.{entered, closed}
-use Rattle.moving.specs.Ready.{MovingParts, left_in}
+use Rattle.running_words.specs.Parts.{RunningParts, left_in}
 
 -- this status tells the array as it is
-pub record IsStatusFor {B : Type 0} (array : MovingParts B) (status : Status) : Type 0 where
+pub record IsStatusFor {B : Type 0} (array : RunningParts B) (status : Status) : Type 0 where
   pub shape : status.shape ≡ shape_of array.parts.members.newest
   pub target : status.target ≡ Some (final_shape array.parts.members.newest)
   pub position : status.position ≡ array.parts.members.newest.reshape_position
@@ -40,11 +40,11 @@ pub record IsStatusFor {B : Type 0} (array : MovingParts B) (status : Status) : 
   pub spares : status.spares ≡ array.parts.members.spares
 
 -- its world over its bank
-abbrev pub moving_world : {B : Type 0} → Given → List Operation → MovingParts B → World
+abbrev pub moving_world : {B : Type 0} → Given → List Operation → RunningParts B → World
 moving_world given tape array = world_for given tape array.parts
 
 -- It is the same array in the same reshape, and the same phases are ahead of it.
-pub record IsSameReshape {B : Type 0} (tells : Type 0) (old new : MovingParts B) (before after : World) : Type 0 where
+pub record IsSameReshape {B : Type 0} (tells : Type 0) (old new : RunningParts B) (before after : World) : Type 0 where
   pub array : IsSameArray tells old.parts new.parts before after
   pub final : final_shape new.parts.members.newest ≡ final_shape old.parts.members.newest
   pub backward : is_backward new.parts.members.newest ≡ is_backward old.parts.members.newest
@@ -52,7 +52,7 @@ pub record IsSameReshape {B : Type 0} (tells : Type 0) (old new : MovingParts B)
 
 -- What each call leaves that is done or refused: more was done on the bank, and the entries end with that; each role and each spare has the slot that it had, or none;
 -- each loss has its cause; and it is the same array, in the same reshape.
-pub record IsCalled {B : Type 0} (tells : Type 0) (given : Given) (tape tape' : List Operation) (before after : ℕ → ℕ) (old new : MovingParts B) : Type 0 where
+pub record IsCalled {B : Type 0} (tells : Type 0) (given : Given) (tape tape' : List Operation) (before after : ℕ → ℕ) (old new : RunningParts B) : Type 0 where
   pub grows : Grows tells tape tape'
   pub ended : IsEndOf tells new.parts.first new.parts.entries tape'
   pub held : AreStillHeld old.parts.members new.parts.members
@@ -80,7 +80,7 @@ IsStepTaken who old new kind left (Err (IsRefusedWith refusal)) = IsBehind who o
 IsStepTaken who old new kind left (Err NoMemory) = ⊥
 
 -- a stripe of the open window is to be copied next
-pub record IsCopyDue {B : Type 0} (array : MovingParts B) : Type 0 where
+pub record IsCopyDue {B : Type 0} (array : RunningParts B) : Type 0 where
   pub span : Span
   pub copied : ℕ
   pub sectioned : Bool
@@ -88,13 +88,13 @@ pub record IsCopyDue {B : Type 0} (array : MovingParts B) : Type 0 where
   pub more : copied < stripes (final_shape array.parts.members.newest) span.lo span.hi
 
 -- all of them are copied, and the window is to be recorded
-pub record IsRecordDue {B : Type 0} (array : MovingParts B) : Type 0 where
+pub record IsRecordDue {B : Type 0} (array : RunningParts B) : Type 0 where
   pub span : Span
   pub sectioned : Bool
   pub is : array.course ≡ entered span (stripes (final_shape array.parts.members.newest) span.lo span.hi) sectioned
 
 -- the reshape has gone through the list, and a stripe behind it is to be zeroed
-pub record IsZeroDue {B : Type 0} (array : MovingParts B) : Type 0 where
+pub record IsZeroDue {B : Type 0} (array : RunningParts B) : Type 0 where
   pub zeroed : ℕ
   pub is : array.course ≡ closed zeroed
   pub through : next_window array.parts.members.newest ≡ None
