@@ -109,13 +109,13 @@ pub record AreWritten (tells : Type 0) (given : Given) (tape tape' : List Operat
       → ((x : ℕ) → at ≤ x → x < at + length from / 512 → IsShown hidden old.newest x) → (bound : ℕ) → relied ≤ bound
       → RowsStandIn (λ s. among s ≡ true) hidden bound old (present given tape) list → RowsStandIn (λ s. among s ≡ true) hidden bound new (present given tape') list'
 
--- And where it is refused: it was torn only where too many are missing, and where it wasn't begun nothing but superblocks is written. Parity isn't relied on everywhere only
--- while a resync is pending.
+-- And where it is refused: it was torn only where too many are missing, and no row is written but those that sectors have by a shape of which too many are.
+-- Parity isn't relied on everywhere only while a resync is pending.
 pub record AreUnwritten (tells : Type 0) (given : Given) (tape tape' : List Operation) (scope : Scope) (first : ℕ) (entries : List Entry) (old new : Members) (at : ℕ) (from : List ℕ) (relied : ℕ)
     (begun : Bool) (refusal : Refusal) : Type 0 where
   pub refused : IsListUnwritten relied at (at + length from / 512) new refusal
   pub torn : begun ≡ true → IsListTorn at (at + length from / 512) new refusal
-  pub untouched : begun ≡ false → tells → AreOthersPresent (present given tape) (present given tape')
+  pub torn_rows : tells → AreOtherRowsKept (IsOtherTouched (λ shape. DoesWithout shape new) old.newest at (at + length from / 512)) (reading_of new) (present given tape) (present given tape')
   pub pending : tells → relied < list_length old.newest → is_unsynced (world_in given tape scope first) entries ≡ true
 
 -- ---- the window
@@ -200,7 +200,7 @@ unrelied-short newest fit relied x lt far = elim (cases_lt relied (list_length n
 module _ (tells : Type 0) (given : Given) (tape tape' : List Operation) (scope : Scope) (first : ℕ) (entries : List Entry) (old new : Members) (carried : ℕ → Bool)
     (course : Course) (buffer : List ℕ) (left : ℕ) (who : Who) (end roles spares at : ℕ) (from : List ℕ) (relied : ℕ) (begun : Bool)
     (was : IsMoving tells given tape scope first entries old carried course buffer left) (goes : IsCallGoing entries who) (caller : IsFalse (who.caller == 254))
-    (at_end : tells → end ≡ length tape') (grows : Grows tells tape tape') (does : DoWithout old)
+    (at_end : tells → end ≡ length tape') (grows : Grows tells tape tape') (does : (x : ℕ) → at ≤ x → x < at + length from / 512 → DoesWithout (shape_for old.newest x) old)
     (visible : tells → at + length from / 512 ≤ visible_of (length (opening_list (world_in given tape scope first))) entries)
     (did : ArePut tells given tape tape' old new course at from relied roles begun) where
   list-same : list_length new.newest ≡ list_length old.newest
