@@ -66,11 +66,12 @@ sections-of scope m d (Unsure own) buffer list stored sectors window header may 
 pub courses-stand-under : (sound : Type 0) → CoursesStandUnder sound
 courses-stand-under sound scope m course buffer c d list stored was = (
   record {
-    outside = under scope m d (λ (hidden : Option Span). ListStands hidden m c list) (λ span stands x slot shown held. stands x slot (shown-wide m span x shown) held) course.window stored.section was.stands;
+    outside = under scope m d (λ (hidden : Option Span). ListStands hidden m c list) (λ span stands x slot shown held. stands x slot (shown-wide m span x shown) held) course.window stored.section
+        (λ x slot shown held. was.stands x slot tt shown held);
     sections = sections-of scope m d course.window buffer list stored.section stored.sectors was.window;
   },
   λ so. record {
-    rows = under scope m d (λ (hidden : Option Span). RowsStand hidden m c list) (λ span stand x shown. stand x (shown-wide m span x shown)) course.window stored.section (was.rows so);
+    rows = under scope m d (λ (hidden : Option Span). RowsStand hidden m c list) (λ span stand x shown. stand x (shown-wide m span x shown)) course.window stored.section (λ x shown. was.rows so x tt shown);
     zeros = λ x tail. was.zeros tail.forth x tail.past;
   },
 )
