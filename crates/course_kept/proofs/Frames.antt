@@ -167,7 +167,7 @@ stands-whole sound m course buffer c list does was = record {
 
 -- so does the shape of one of these sectors, if that of each does
 pub does-stretch : (m : Members) (from to : ℕ) → ((x : ℕ) → from ≤ x → x < to → DoesWithout (shape_for m.newest x) m) → (shape : Shape)
-    → (x : ℕ) × (from ≤ x) × (x < to) × (shape_for m.newest x ≡ shape) → DoesWithout shape m
+    → ((x : ℕ) × (from ≤ x) × (x < to) × (shape_for m.newest x ≡ shape)) → DoesWithout shape m
 does-stretch m from to does shape own = subst (λ (s : Shape). DoesWithout s m) own.3 (does own.0 own.1 own.2)
 
 -- a shape does without what is missing of it, or not
