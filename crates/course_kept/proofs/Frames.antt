@@ -19,7 +19,7 @@ use Rattle.list_io.specs.Full.{RowStands}
 use Rattle.flat_history.specs.Stands.{shape_at, shape_for}
 use Rattle.shape_views.specs.Regions.{place_by, DoWithout}
 use Rattle.shape_views.specs.Views.{IsTail}
-use Rattle.shape_views.specs.Windows.{IsShown, AreTailsStanding}
+use Rattle.shape_views.specs.Windows.{IsShown, ListStands, RowsStand, AreTailsStanding}
 use Rattle.shape_views.proofs.Stands.{StandsAt}
 use Rattle.views.specs.Placed.{HaveSameReshape}
 use Rattle.views.specs.Moving.{IsMoved}
@@ -165,10 +165,21 @@ stands-whole sound m course buffer c list does was = record {
   rows = λ so x any. was.rows so x (does-for m does x);
 }
 
--- so does the shape of one of these sectors, if that of each does
-pub does-stretch : (m : Members) (from to : ℕ) → ((x : ℕ) → from ≤ x → x < to → DoesWithout (shape_for m.newest x) m) → (shape : Shape)
-    → ((x : ℕ) × (from ≤ x) × (x < to) × (shape_for m.newest x ≡ shape)) → DoesWithout shape m
-does-stretch m from to does shape own = subst (λ (s : Shape). DoesWithout s m) own.3 (does own.0 own.1 own.2)
+-- Sectors of which each shape does without what is missing of it: the list stands by their shapes.
+pub stands-stretch : (sound : Type 0) (m : Members) (course : Course) (buffer : List ℕ) (c : Contents) (list : ℕ → Sector) (from to : ℕ)
+    → ((x : ℕ) → from ≤ x → x < to → DoesWithout (shape_for m.newest x) m) → StandsInCourse sound (λ shape. DoesWithout shape m) m course buffer c list
+    → StandsInCourse sound (λ shape. (x : ℕ) × (from ≤ x) × (x < to) × (shape_for m.newest x ≡ shape)) m course buffer c list
+stands-stretch sound m course buffer c list from to does was =
+    stands-less sound (λ shape. (x : ℕ) × (from ≤ x) × (x < to) × (shape_for m.newest x ≡ shape)) (λ shape. DoesWithout shape m) m course buffer c list
+    (λ shape own. subst (λ (s : Shape). DoesWithout s m) own.3 (does own.0 own.1 own.2)) was
+
+-- what stands by any shape
+module _ (sound : Type 0) (m : Members) (course : Course) (buffer : List ℕ) (c : Contents) (list : ℕ → Sector) (was : StandsInCourse sound AnyShape m course buffer c list) where
+  pub list-whole : ListStands (hidden_in course.window) m c list
+  list-whole x slot shown = was.stands x slot tt shown
+
+  pub rows-whole : sound → RowsStand (hidden_in course.window) m c list
+  rows-whole so x shown = was.rows so x tt shown
 
 -- a shape does without what is missing of it, or not
 pub does-or : (shape : Shape) (m : Members) → DoesWithout shape m ⊎ (DoesWithout shape m → ⊥)

@@ -74,7 +74,7 @@ use Rattle.kept_history.proofs.Turns.{either-call, resized-call}
 use Rattle.reshape_ends.specs.Finished.{IsFinishable}
 use Rattle.course_kept.specs.Course.{AnyShape, StandsInCourse}
 use Rattle.course_kept.specs.Laws.{closed}
-use Rattle.course_kept.proofs.Frames.{stands-whole}
+use Rattle.course_kept.proofs.Frames.{stands-whole, list-whole, rows-whole}
 use Rattle.course_kept.proofs.Courses.{zeroes-are-all}
 use Rattle.history_calls.specs.Reliable.{IsReliable, AreToldGone}
 use Rattle.moving_kept.specs.Moving.{HasListInCourse, HasListStill, IsMoving}
@@ -416,8 +416,8 @@ module _ (given : Given) (tape : List Operation) (scope : Scope) (first : ℕ) (
     finishable = record {
       sized = length-later ∙ long;
       allowed = λ x lt. (list-then before.fills listed x (subst (λ (n : ℕ). x < n) length-later lt)).1;
-      stands = λ x slot shown. (whole-list listed).stands x slot tt shown;
-      rows = λ clean does so x shown. (whole-list listed).rows so x tt shown;
+      stands = list-whole (OpensFit world) old (closed zeroed) buffer (present given tape) listed.list (whole-list listed);
+      rows = λ clean does so. rows-whole (OpensFit world) old (closed zeroed) buffer (present given tape) listed.list (whole-list listed) so;
       behind = λ forth. zeroes-are-all (OpensFit world) given old buffer (present given tape) listed.list was.members_are.placed was.members_are.active forth
           (subst (λ (k : ℕ). StandsInCourse (OpensFit world) AnyShape old (closed k) buffer (present given tape) listed.list) all_zeroed (whole-list listed));
     }

@@ -67,7 +67,7 @@ use Rattle.grow_asked.specs.declared.window.Window.{Window}
 use Rattle.grow_asked.specs.declared.window.Window.TheVariants.{Closed, Entered, Unsure}
 use Rattle.course_kept.specs.Course.{IsWindowOf, hidden_in, span_in, StandsInCourse}
 use Rattle.course_kept.specs.Laws.{IsOtherTouched}
-use Rattle.course_kept.proofs.Frames.{stands-less, stands-later, does-stretch}
+use Rattle.course_kept.proofs.Frames.{stands-later, stands-stretch}
 use Rattle.course_kept.proofs.Writes.{writes-go-on, torn-writes-go-on}
 use Rattle.history_calls.specs.Reliable.{IsReliable, AreToldGone}
 use Rattle.moving_kept.specs.Moving.{HasListInCourse, IsMoving}
@@ -258,7 +258,7 @@ module _ (tells : Type 0) (given : Given) (tape tape' : List Operation) (scope :
       → HasRoomLeft old tape tape' → AreGoneTold told new → IsSafeOver (world_in given tape scope first) given told old tape → KeepsSafe (world_in given tape scope first) given told new tape tape'
   keeps t told fills whole more unclean writes room gone before =
       let l = was.listed t fills in
-      let here = in-stretch l.list l.stands in
+      let here = stands-stretch (OpensFit (world_in given tape scope first)) old course buffer (present given tape) l.list at (at + length from / 512) does l.stands in
       did.safe t (world_in given tape scope first) told room gone unclean (hidden_in course.window) (hidden-next old.newest course.window was.course_is.window)
       l.list (list-with l.list at from) (list-with-is l.list at from) shown here.stands
       (elim whole [
@@ -271,13 +271,6 @@ module _ (tells : Type 0) (given : Given) (tape tape' : List Operation) (scope :
       (more.values x (let size = (was.recorded t).sized in omega (arith, lt, size)) (now (opening_list (world_in given tape scope first)) entries x) (newest t x lt)))
       (writes is))
       (λ fit x tail. l.stands.zeros tail.forth x tail.past) before
-    where
-      -- the list stands by the shapes of the sectors that are written
-      in-stretch : (list : ℕ → Sector) → StandsInCourse (OpensFit (world_in given tape scope first)) (λ shape. DoesWithout shape old) old course buffer (present given tape) list
-          → StandsInCourse (OpensFit (world_in given tape scope first)) (IsShapeOf old.newest at (at + length from / 512)) old course buffer (present given tape) list
-      in-stretch list stands =
-          stands-less (OpensFit (world_in given tape scope first)) (IsShapeOf old.newest at (at + length from / 512)) (λ shape. DoesWithout shape old) old course buffer (present given tape) list
-          (does-stretch old at (at + length from / 512) does) stands
 
   -- ---- it is done
 
