@@ -24,6 +24,7 @@ use Rattle.row_io.specs.Rows.{reading_of, held_slot}
 use Rattle.list_io.specs.Full.{RowStands}
 use Rattle.backup.specs.Section.{names_span, has_section}
 use Rattle.flat_history.specs.ActiveSection.{section_for}
+use Rattle.flat_history.specs.Stands.{shape_for}
 use Rattle.region_laws.specs.Regions.{IsDirected}
 use Rattle.shape_views.specs.Regions.{open_by, place_by}
 use Rattle.shape_views.specs.Windows.{IsShown, ListStands, RowsStand, moved_past}

@@ -6,6 +6,7 @@ use Rattle.md_base.specs.Sectors.{Sector, zero_sector}
 use Rattle.md_base.specs.Shapes.{stripe_sectors}
 use Rattle.bank.specs.Given.{Given}
 use Rattle.bank.specs.Tape.{Contents}
+use Rattle.sb1.specs.declared.sb.Sb.{Sb}
 use Rattle.geometry.specs.Geometry.{stripes, rows, zeroed_stripes, is_critical}
 use Rattle.geometry.specs.Geometry as geometry
 use Rattle.superblocks.specs.declared.members.Members.{Members}
