@@ -38,7 +38,7 @@ use Rattle.shape_views.specs.Windows.{IsShown, AreTailsStanding}
 use Rattle.shape_views.proofs.Alike.{row-below}
 use Rattle.shape_changes.specs.Safety.{HasRoomLeft, IsRisen}
 use Rattle.shape_changes.specs.Steady.{IsMoreTold, IsSafeOver, KeepsSafe, AreGoneTold, AreWritesAllowed}
-use Rattle.views.specs.Placed.{AreWhole, IsInForce}
+use Rattle.views.specs.Placed.{AreWhole}
 use Rattle.views.specs.Moving.{Grows, IsMoved}
 use Rattle.safe_updates.specs.Unused.{IsUnusedKept}
 use Rattle.views.specs.Lacking.{lacking, DoesWithout, AreOtherRowsKept, AreBytes}
