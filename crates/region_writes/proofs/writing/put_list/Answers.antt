@@ -1,5 +1,6 @@
 use Rattle.std.proofs.Common.{◌≡◌, ◌⊎◌, inl, inr, ◌+◌, ◌-◌, ◌/◌, ◌<◌, ◌≤◌, ℕ, true, List, length, refl, sym, ◌∙◌, subst, arith}
 use Rattle.std.specs.Prelude.{Contains, slice_index, None}
+use Rattle.md_base.specs.declared.answers.Refusal.{Refusal}
 use Rattle.md_base.specs.declared.places.Shape.{Shape}
 use Rattle.bank.specs.Given.{Given}
 use Rattle.bank.specs.Tape.{disk}
@@ -10,7 +11,7 @@ use Rattle.shape_views.specs.Regions.{place_by}
 use Rattle.shape_views.specs.Windows.{IsOfRegion, IsShown}
 use Rattle.views.specs.Moving.{IsMoved}
 use Rattle.views.specs.Rebuilding.{AreSparesFree}
-use Rattle.views.specs.Lacking.{DoesWithout, AreOtherRowsKept}
+use Rattle.views.specs.Lacking.{DoesWithout, LacksTooMany, AreOtherRowsKept}
 use Rattle.views.proofs.Fit.{alike-force}
 use Rattle.views.proofs.HeldRows.{shape-without-before}
 use Rattle.views.proofs.MovedLaws.{moved-then, moved-same, moved-from, grows-then}
@@ -397,7 +398,10 @@ returns-clause-torn_rows g c =
     λ never row has. torn-low m.newest c.requires.placed.fit c.args.relied c.args.first to cut.low cut.high are p row ((did.low_rows none).touched.only row has) never in
     let from_high : (DoesWithout cut.high.shape p → ⊥) → (row : ℕ) → Contains far_rows row → IsTornTouched m.newest c.args.first to p row =
     λ never row has. torn-high m.newest c.requires.placed.fit c.args.relied c.args.first to cut.low cut.high are p row ((did.high_rows none).touched.only row has) never in
-    told-as _ _ _ c.write_runs-done.result.refusal (λ refusal why told.
+    let each : (refusal : Refusal) → LacksTooMany cut.high.shape p refusal
+    ⊎ (LacksTooMany cut.low.shape p refusal × (g.B.Bank.tells → AreOtherRowsKept (Contains c.as_slice.result.now) (reading_of p) (present given1 tape1) (present given1 tape2)))
+    → g.B.Bank.tells → AreOtherRowsKept (IsTornTouched m.newest c.args.first to p) (reading_of p) (present given tape0) (present given tape2) =
+    λ refusal why told.
     others-then given among m n p (present given tape0) (present given tape1) (present given tape2) two
     (others-same given among m n (present given tape0) (present given tape1) did.moved c.requires.placed (did.others told))
     (subst (λ (b : Given). AreOtherRowsKept among (reading_of p) (present b tape1) (present b tape2)) did.given
@@ -409,7 +413,8 @@ returns-clause-torn_rows g c =
           ]) (did2.others told)
       | inr near ↦ rows-in (reading_of p) (present given1 tape1) (present given1 tape2) (Contains c.as_slice.result.now) among
           (λ row has. from_low (never-does cut.low.shape p refusal near.0) row (subst (λ (l : List ℕ). Contains l row) c.as_slice.ensures.value has)) (near.1 told)
-    ]))) did2.torn
+    ])) in
+    told-as _ _ _ c.write_runs-done.result.refusal each did2.torn
 
 pub returns-clause-grows : goal.returns-clause-grows
 returns-clause-grows g c =
