@@ -118,8 +118,11 @@ returns-then-is_some-clause-torn g c =
     let tape1 = g.B.Bank.tape c.put_rows-near.new.bank in
     let low = c.args.low.now in
     let rows = c.args.rows.now in
-    told-as _ _ _ c.put_rows-near.result.refusal (λ refusal many. inr (many, λ told. rows-apart low.shape c.args.first c.args.from.now rows c.put_rows-near.result.next n (present given tape0) (present given tape1)
-    c.args.buffer.now.items c.put_rows-near.new.buffer.items (did.written told) did.within (Contains rows) (λ row has. has))) c.put_rows-near.ensures.refused
+    told-as _ _ _ c.put_rows-near.result.refusal (λ refusal many. inr (
+      many,
+      λ told. rows-apart low.shape c.args.first c.args.from.now rows c.put_rows-near.result.next n (present given tape0) (present given tape1)
+          c.args.buffer.now.items c.put_rows-near.new.buffer.items (did.written told) did.within (Contains rows) (λ row has. has),
+    )) c.put_rows-near.ensures.refused
 
 pub returns-then-is_some-clause-low : goal.returns-then-is_some-clause-low
 returns-then-is_some-clause-low g c =
