@@ -31,7 +31,7 @@ use Rattle.flat_history.specs.Sound.{OpensFit}
 use Rattle.flat_history.specs.Transfers.{IsReadOver}
 use Rattle.flat_history.specs.World.{opening_list}
 use Rattle.shape_views.specs.Regions.{DoWithout}
-use Rattle.shape_views.specs.Windows.{IsShown}
+use Rattle.shape_views.specs.Windows.{IsShown, ListStands as ListIsShown}
 use Rattle.shape_views.proofs.Stands.{for-still, list-still}
 use Rattle.views.specs.declared.work.Work.{Work}
 use Rattle.views.specs.Lacking.{LacksTooMany}
@@ -43,7 +43,7 @@ use Rattle.views.proofs.LiveLeft.{without-left}
 use Rattle.call_entries.specs.Losing.{losses_of}
 use Rattle.call_entries.proofs.CallLaws.{losses-are, length-losses, limit-losses, values-losses}
 use Rattle.array_kept.proofs.NowLaws.{sectors_of-at}
-use Rattle.region_rows.specs.Stretches.{relied_rows, RowsStandTo, IsShapeOf, ListStandsIn, RowsStandIn, IsListUnread}
+use Rattle.region_rows.specs.Stretches.{relied_rows, RowsStandTo, IsListUnread}
 use Rattle.kept_history.specs.Recorded.{IsCallGoing}
 use Rattle.kept_history.specs.Safe.{world_in}
 use Rattle.kept_history.proofs.Entered.{values-more, length-more}
@@ -133,8 +133,7 @@ module _ (tells : Type 0) (given : Given) (tape tape' : List Operation) (scope :
   -- ---- one that is done
 
   pub read-stands : (at : ℕ) (bytes : List ℕ) → at + length bytes / 512 ≤ list_length old.newest → (tells → at + length bytes / 512 ≤ visible_at (world_in given tape scope first) entries)
-      → (tells → (hidden : Option Span) → (list : ℕ → Sector) → ListStandsIn (IsShapeOf old.newest at (at + length bytes / 512)) hidden old (present given tape) list
-      → AreWhole new ⊎ RowsStandIn (IsShapeOf old.newest at (at + length bytes / 512)) hidden (relied_list work.resync old) old (present given tape) list
+      → (tells → (hidden : Option Span) → (list : ℕ → Sector) → ListIsShown hidden old (present given tape) list → AreWhole new ⊎ RowsStandTo hidden (relied_list work.resync old) old (present given tape) list
       → (i : ℕ) → i < length bytes / 512 → IsShown hidden old.newest (at + i) → sector_of bytes i ≡ list (at + i))
       → IsStill tells given tape' scope first (entries ++ entries_of who end (losses_of roles spares ++ Read at (sectors_of bytes) ∷ [])) new work left'
   read-stands at bytes inside seen holds =
@@ -178,7 +177,6 @@ module _ (tells : Type 0) (given : Given) (tape tape' : List Operation) (scope :
                 let n = length-sectors_of bytes in
                 let below : i < length bytes / 512 = omega (arith, lt, n) in
                 sectors_of-at i bytes below ∙ sym (row-sector bytes i)
-                ∙ holds t None list (λ x slot own shown held. list-shown given old was.members_are (present given tape) list l.stands x slot shown held)
-                (elim (filled t all gone l) [ inl whole ↦ inl whole | inr rows ↦ inr (λ x lt own shown. rows x lt shown) ]) i below (record { within = omega (arith, below, inside); outside = refl })
+                ∙ holds t None list (list-shown given old was.members_are (present given tape) list l.stands) (filled t all gone l) i below (record { within = omega (arith, below, inside); outside = refl })
                 ∙ ap (λ (o : List Sector). now o entries (at + i)) (sym (opened t)) ∙ sym (now-behind entries who end roles spares (opening_list (world_in given tape' scope first)) (at + i));
           }
