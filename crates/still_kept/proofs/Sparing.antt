@@ -188,10 +188,10 @@ module _ (tells : Type 0) (given : Given) (tape mid_tape tape' : List Operation)
 
   -- a new spare: any number of steps may be left then
   pub added-stands : IsStill tells given tape' scope first (entries ++ entries_of who end (losses_of roles spares ++ Added slot ∷ [])) new (with_carried sb.dev_number work) left'
-  added-stands = spared (Added slot) (record { adds = refl; gives = refl; ends = refl; still = λ x values. refl; level = λ n. refl }) (left-added left' entries who end slot (losses_of roles spares) (losses-are roles spares)) (λ t. tt)
+  added-stands = spared (Added slot) (record { adds = refl; gives = refl; ends = refl; still = λ x values. refl; level = λ n. refl; other = refl }) (left-added left' entries who end slot (losses_of roles spares) (losses-are roles spares)) (λ t. tt)
 
   -- one that was lost in this
   pub lost-stands : (losses_of roles spares ≡ [] → left' ≡ left)
       → IsStill tells given tape' scope first (entries ++ entries_of who end (losses_of roles spares ++ Refused (SlotFault slot) ∷ [])) new (with_carried sb.dev_number work) left'
-  lost-stands alike = spared (Refused (SlotFault slot)) (record { adds = refl; gives = refl; ends = refl; still = λ x values. refl; level = λ n. refl })
+  lost-stands alike = spared (Refused (SlotFault slot)) (record { adds = refl; gives = refl; ends = refl; still = λ x values. refl; level = λ n. refl; other = refl })
       (left-lost left left' entries who end (losses_of roles spares) (Refused (SlotFault slot) ∷ []) (losses-are roles spares) alike was.left_told (λ told is. is)) (λ t. tt)
