@@ -1,0 +1,4 @@
+pub mod Asking
+pub mod Kept
+pub mod Left
+pub mod Settled
