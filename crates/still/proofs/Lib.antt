@@ -2,3 +2,5 @@ pub mod Asking
 pub mod Kept
 pub mod Left
 pub mod Settled
+pub mod Reading
+pub mod Writing

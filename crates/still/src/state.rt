@@ -12,7 +12,9 @@ ghost use Rattle.running_words.specs.Parts.{still_left};
 mod asking;
 mod ending;
 mod failing;
+mod reading;
 mod settling;
+mod writing;
 
 use array_state::asking::steps_left;
 use bank::Bank;
