@@ -33,7 +33,7 @@ use Rattle.shape_changes.specs.Marking.{AreOthersPresent}
 use Rattle.shape_changes.specs.Safety.{HasRoomLeft, IsRisen}
 use Rattle.shape_changes.specs.Steady.{IsSafeOver, KeepsSafe, AreGoneTold, AreWritesAllowed}
 use Rattle.views.specs.declared.work.Work.{Work}
-use Rattle.views.specs.Lacking.{AreLostSince, LacksTooMany, IsUnwritten, ListStands, RowsStandBelow, DataStandsAmong, RowsStandAmong, AreOtherRowsKept, are_mended, mended_rows}
+use Rattle.views.specs.Lacking.{AreLostSince, LacksTooMany, IsUnwritten, RowsStandBelow, DataStandsAmong, RowsStandAmong, AreOtherRowsKept, are_mended, mended_rows}
 use Rattle.views.specs.Moving.{Grows, IsMoved}
 use Rattle.views.specs.Placed.{AreWhole}
 use Rattle.views.proofs.Fit.{valid, list-alike}

@@ -1,4 +1,4 @@
-use Rattle.std.proofs.Common.{◌≡◌, ◌⊎◌, ◌+◌, ◌*◌, ◌/◌, ◌<◌, ◌≤◌, ◌++◌, ◌∷◌, [], ℕ, Some, List, length, take, take_all, drop, inl, refl, sym, ◌∙◌, ap, subst, arith}
+use Rattle.std.proofs.Common.{◌≡◌, ◌+◌, ◌*◌, ◌/◌, ◌<◌, ◌≤◌, ◌++◌, ◌∷◌, [], ℕ, Some, List, length, take, take_all, drop, inl, refl, sym, ◌∙◌, ap, subst, arith}
 use Rattle.std.specs.Prelude.{IsTrue}
 use Rattle.std.proofs.lemmas.List.{take-append-le}
 use Rattle.std.specs.Vec.{with_items}
@@ -7,9 +7,7 @@ use Rattle.md_base.specs.Shapes.{data_disks, is_multiple}
 use Rattle.md_base.proofs.SectorLaws.{length-sectors_of}
 use Rattle.md_base.specs.declared.places.Shape.{Shape}
 use Rattle.layout.proofs.Limits.{limited}
-use Rattle.parity.specs.Rows.{sector_of}
 use Rattle.superblocks.specs.Reading.{shape_of, list_length}
-use Rattle.row_io.specs.Rows.{present}
 use Rattle.flat_history.specs.declared.events.Entry.{Entry}
 use Rattle.flat_history.specs.declared.events.Event.TheVariants.{Read, Refused}
 use Rattle.flat_history.specs.declared.events.Request.TheVariants.{Read as AsksRead}
@@ -17,8 +15,8 @@ use Rattle.flat_history.specs.World.{opening_list}
 use Rattle.flat_history.specs.Flat.{next_number, now}
 use Rattle.flat_history.specs.Plain.{entries_of}
 use Rattle.shape_views.proofs.Stands.{list-still}
-use Rattle.views.specs.Lacking.{IsUnread, ListStands, RowsStandBelow, mended_rows}
-use Rattle.views.specs.Placed.{AreWhole, places_of}
+use Rattle.views.specs.Lacking.{IsUnread, mended_rows}
+use Rattle.views.specs.Placed.{places_of}
 use Rattle.views.specs.Rows.{row_sector}
 use Rattle.views.specs.Whole.{list_size}
 use Rattle.views.proofs.Fit.{valid}
