@@ -4,3 +4,6 @@ pub mod Left
 pub mod Settled
 pub mod Reading
 pub mod Writing
+pub mod Going
+pub mod StepLaws
+pub mod MendLaws

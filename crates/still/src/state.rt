@@ -12,8 +12,10 @@ ghost use Rattle.running_words.specs.Parts.{still_left};
 mod asking;
 mod ending;
 mod failing;
+mod mending;
 mod reading;
 mod settling;
+mod steps;
 mod writing;
 
 use array_state::asking::steps_left;
