@@ -7,3 +7,4 @@ pub mod Writing
 pub mod Going
 pub mod StepLaws
 pub mod MendLaws
+pub mod RebuildLaws

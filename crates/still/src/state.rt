@@ -14,6 +14,7 @@ mod ending;
 mod failing;
 mod mending;
 mod reading;
+mod rebuilding;
 mod settling;
 mod steps;
 mod writing;
