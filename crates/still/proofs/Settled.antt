@@ -57,9 +57,6 @@ pub left-settled : (given : Given) (old new : Members) (entries mid entries' : L
     → mid ≡ entries → entries' ≡ mid ++ entries_of who end (losses_of roles spares ++ event ∷ []) → AreHoldersFlushed (reading_of new) given tape → AreLeftSettled old entries entries' given tape
 left-settled given old new entries mid entries' who end roles spares event before after tape was moved few since mid_is is flushed role slot k held kept other = flushed role slot k (by (role_state (reading_of new) role) refl) other
   where
-    abbrev added : List Entry
-    added = entries_of who end (losses_of roles spares ++ event ∷ [])
-
     below : role < role_count new.newest
     below = subst (λ (n : ℕ). role < n) (sym (count-alike old.newest new.newest moved.reshape moved.shape moved.size)) (elim (cases_lt role (role_count old.newest)) [
       | inl lt ↦ lt
@@ -69,7 +66,7 @@ left-settled given old new entries mid entries' who end roles spares event befor
 
     quiet : is_lost (entries_of who end (losses_of roles spares ++ event ∷ [])) role ≡ false
     quiet = subst (λ (l : List Entry). is_lost l role ≡ false)
-        (ap (drop (length entries)) (is ∙ ap (λ (l : List Entry). l ++ added) mid_is) ∙ drop-append_seam entries (entries_of who end (losses_of roles spares ++ event ∷ []))) kept
+        (ap (drop (length entries)) (is ∙ ap (λ (l : List Entry). l ++ entries_of who end (losses_of roles spares ++ event ∷ [])) mid_is) ∙ drop-append_seam entries (entries_of who end (losses_of roles spares ++ event ∷ []))) kept
 
     by : (state : Role) → role_state (reading_of new) role ≡ state → holder (role_state (reading_of new) role) ≡ Some slot
     by (Whole s) at = ap holder (moved.states role s (ap holder at)) ∙ held

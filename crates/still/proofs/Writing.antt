@@ -70,12 +70,12 @@ module _ (given : Given) (m : Members) (rest : AreAtRest given m) (resync : Opti
 
 -- ---- what it leaves
 
-module _ {tells : Type 0} (given : Given) (tape tape' : List Operation) (old new : Members) (rest : AreAtRest given old) (moved : IsMoved given old new) (resync : Option ℕ)
+module _ (given : Given) (tape tape' : List Operation) (old new : Members) (rest : AreAtRest given old) (moved : IsMoved given old new) (resync : Option ℕ)
     (shape : Shape) (same : shape ≡ shape_of old.newest) (at : ℕ) (from : List ℕ) (synced : Bool) (asked : synced ≡ are_mended (shape_of old.newest) (mended_rows resync old) (at + length from / 512)) where
   abbrev AreSynced : (ℕ → Sector) → Type 0
   AreSynced list = synced ≡ true → AreWhole new ⊎ RowsStandAmong shape (IsTouched shape at (length from / 512)) old (present given tape) list
 
-  pub put-still : {roles spares : ℕ} {before after : ℕ → ℕ} {begun : Bool} → AreLostSince old new roles spares before after → Grows tells tape tape' → (is_clean old.newest ≡ false → is_clean new.newest ≡ false) → IsRisen tells old new tape tape'
+  pub put-still : {tells : Type 0} {roles spares : ℕ} {before after : ℕ → ℕ} {begun : Bool} → AreLostSince old new roles spares before after → Grows tells tape tape' → (is_clean old.newest ≡ false → is_clean new.newest ≡ false) → IsRisen tells old new tape tape'
       → (tells → (world : World) → (told : Ledger) → HasRoomLeft old tape tape' → AreGoneTold told new → told.unclean ≡ true → (list list' : ℕ → Sector) → IsWritten list list' at from
       → DataStandsAmong shape (IsTouched shape at (length from / 512)) old (present given tape) list → AreSynced list → IsOfRegion old shape (IsTouched shape at (length from / 512))
       → (begun ≡ true → AreWritesAllowed old told.values list') → (OpensFit world → IsTailZero old.newest list') → IsSafeOver world given told old tape → KeepsSafe world given told new tape tape')
@@ -91,7 +91,7 @@ module _ {tells : Type 0} (given : Given) (tape tape' : List Operation) (old new
         (synced-rows given old rest resync shape same at (length from / 512) new synced asked (present given tape) list filled) allowed began;
   }
 
-  pub written-still : is_clean new.newest ≡ false → (tells → AreOtherRowsKept (IsTouched shape at (length from / 512)) (reading_of new) (present given tape) (present given tape'))
+  pub written-still : {tells : Type 0} → is_clean new.newest ≡ false → (tells → AreOtherRowsKept (IsTouched shape at (length from / 512)) (reading_of new) (present given tape) (present given tape'))
       → (tells → (list list' : ℕ → Sector) → IsWritten list list' at from → DataStandsAmong shape (IsTouched shape at (length from / 512)) old (present given tape) list
       → DataStandsAmong shape (IsTouched shape at (length from / 512)) new (present given tape') list')
       → (tells → (list list' : ℕ → Sector) → IsWritten list list' at from → DataStandsAmong shape (IsTouched shape at (length from / 512)) old (present given tape) list → AreSynced list

@@ -27,12 +27,7 @@ use safe_updates::roles::{shape_in, vacant_roles};
 use superblocks::Members;
 
 // Why so many sectors from one on aren't written, before any row is read: the first of `PastEnd`, `TooManyMissing` and `NotResynced`.
-fn unwritten_here(
-    members: &Members,
-    resync: Option<u64>,
-    at: u64,
-    count: u64,
-) -> Option<Refusal>
+fn unwritten_here(members: &Members, resync: Option<u64>, at: u64, count: u64) -> Option<Refusal>
     requires still { is_reshaping members.now.newest ≡ false }
     requires shape { IsTrue (is_valid_shape (shape_of members.now.newest)) }
     requires multiple { IsTrue (is_multiple members.now.newest.size (shape_of members.now.newest).chunk) }

@@ -172,8 +172,8 @@ returns-in-Some-refusal-clause-answered g c =
     let why = some-of (IsUnwritten c.shape_in-shape.result synced m) c.put-done.result.refusal refusal c.in-Some-refusal.is c.put-done.ensures.refused in
     rw (← c.self.view_is) (failed_reply size a.epoch.entries.items was.sized was.unlimited torn c.args.who c.args.at body c.enter_failure.new.epoch.entries.items end roles spares refusal within
     (unwritten-of c.shape_in-shape.result synced m refusal why)
-    (c.enter_failure.ensures.items ∙ ap (λ (l : List Entry). l ++ entries_of c.args.who end (failure_events roles spares torn c.args.at c.in-Ok.body refusal)) c.make_room.ensures.items
-    ∙ ap (λ (b : List Sector). a.epoch.entries.items ++ entries_of c.args.who end (failure_events roles spares torn c.args.at b refusal)) c.in-Ok.ensures) number)
+    (subst (λ (l : List Entry). c.enter_failure.new.epoch.entries.items ≡ l ++ entries_of c.args.who end (failure_events roles spares torn c.args.at body refusal)) c.make_room.ensures.items
+    (subst (λ (b : List Sector). c.enter_failure.new.epoch.entries.items ≡ c.make_room.new.self.items ++ entries_of c.args.who end (failure_events roles spares torn c.args.at b refusal)) c.in-Ok.ensures c.enter_failure.ensures.items)) number)
 
 pub returns-in-Some-refusal-clause-untouched : goal.returns-in-Some-refusal-clause-untouched
 returns-in-Some-refusal-clause-untouched g c =
