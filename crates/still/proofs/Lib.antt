@@ -9,3 +9,4 @@ pub mod StepLaws
 pub mod MendLaws
 pub mod RebuildLaws
 pub mod AddLaws
+pub mod AnswerLaws
