@@ -7,13 +7,14 @@ ghost use Rattle.superblocks.specs.Reading.{list_length};
 ghost use Rattle.row_io.specs.Rows.{present};
 ghost use Rattle.flat_history.specs.Epochs.{world_of};
 ghost use Rattle.flat_history.specs.Flat.{next_number, now};
+ghost use Rattle.flat_history.specs.Growing.{EndBy};
 ghost use Rattle.flat_history.specs.Sound.{OpensFit};
 ghost use Rattle.flat_history.specs.World.{opening_list};
 ghost use Rattle.flat_history.specs.declared.events.Event.TheVariants.{Halted, Stopped};
 ghost use Rattle.shape_views.specs.Regions.{DoWithout};
 ghost use Rattle.views.specs.Moving.{Grows};
-ghost use Rattle.views.specs.Lacking.{AreTooMany};
-ghost use Rattle.array_kept.specs.Calls.{IsEntered, IsBehind, IsUnsettled, IsFaultFor, AreLossesOf};
+ghost use Rattle.views.specs.Lacking.{AreTooMany, HaveRolesFailed};
+ghost use Rattle.array_kept.specs.Calls.{IsEntered, IsBehind, IsUnsettled, IsFaultFor, AreLossesOf, IsEndOf};
 ghost use Rattle.kept_history.specs.Safe.{IsFilledRight};
 ghost use Rattle.history_calls.specs.Reliable.{IsReliable};
 ghost use Rattle.still_kept.specs.Still.{HasListStood};
@@ -34,6 +35,7 @@ impl<B: Bank> Still<B> {
         ensures given { result.1.given ≡ self.parts.given }
         ensures first { result.1.first ≡ self.parts.first }
         ensures last { result.1.last ≡ self.parts.last }
+        ensures ends { B.tells → EndBy (length (B.tape self.parts.bank)) result.1.entries.items }
         ensures right { B.tells → self.parts.last ≡ length (B.tape self.parts.bank) → IsReliable (world_of (B.given result.0) (B.tape result.0) self.parts.backup result.1) result.1.entries.items
             → IsEpochKept (B.given result.0) (B.tape result.0) self.parts.backup result.1 }
     {
@@ -64,6 +66,7 @@ impl<B: Bank> Still<B> {
         ensures listed { B.tells → DoWithout self.parts.members → IsFilledRight (moving_world (B.given self.parts.bank) (B.tape self.parts.bank) self) self.parts.entries
             → HasListStood (OpensFit (moving_world (B.given self.parts.bank) (B.tape self.parts.bank) self)) self.parts.work self.parts.members (present (B.given self.parts.bank) (B.tape self.parts.bank))
             (now (opening_list (moving_world (B.given self.parts.bank) (B.tape self.parts.bank) self)) self.parts.entries) }
+        ensures ends { B.tells → EndBy (length (B.tape self.parts.bank)) result.1.entries.items }
         ensures right { B.tells → IsReliable (world_of (B.given result.0) (B.tape result.0) self.parts.backup result.1) result.1.entries.items
             → IsEpochKept (B.given result.0) (B.tape result.0) self.parts.backup result.1 }
         ensures uuid { result.1.uuid ≡ self.parts.uuid }
@@ -101,6 +104,8 @@ impl<B: Bank> Still<B> {
         ensures flushed { IfOk result (λ r. B.tells → AreLeftSettled self.parts.members self.parts.entries r.1.entries.items (B.given self.parts.bank) (B.tape r.0)) }
         ensures grows { IfOk result (λ r. Grows B.tells (B.tape self.parts.bank) (B.tape r.0)) }
         ensures losses { IfOk result (λ r. AreLossesOf self.parts.members (B.faults_of self.parts.bank) (B.faults_of r.0) self.parts.entries r.1.entries.items) }
+        ensures ends { IfOk result (λ r. B.tells → EndBy (length (B.tape r.0)) r.1.entries.items) }
+        ensures ended { IfOk result (λ r. IsEndOf B.tells r.1.first r.1.entries.items (B.tape r.0)) }
         ensures right { IfOk result (λ r. B.tells → IsReliable (world_of (B.given r.0) (B.tape r.0) self.parts.backup r.1) r.1.entries.items → IsEpochKept (B.given r.0) (B.tape r.0) self.parts.backup r.1) }
         ensures uuid { IfOk result (λ r. r.1.uuid ≡ self.parts.uuid) }
         ensures slots { IfOk result (λ r. r.1.given ≡ self.parts.given) }
@@ -111,6 +116,7 @@ impl<B: Bank> Still<B> {
         ensures refused { IfErr result (λ e. IsUnsettled who self.parts.entries e.0.parts.entries e.1) }
         ensures caused { IfErr result (λ e. IsFaultFor (list_length self.parts.members.newest) 0 AreTooMany self.parts.members e.0.parts.members e.1) }
         ensures called { IfErr result (λ e. IsCalled B.tells (B.given self.parts.bank) (B.tape self.parts.bank) (B.tape e.0.parts.bank) (B.faults_of self.parts.bank) (B.faults_of e.0.parts.bank) self e.0) }
+        ensures left_failed { IfErr result (λ e. HaveRolesFailed self.parts.members e.0.parts.members (B.faults_of self.parts.bank) (B.faults_of e.0.parts.bank)) }
         ensures left_given { IfErr result (λ e. B.given e.0.parts.bank ≡ B.given self.parts.bank) }
     {
         let mut array = self;

@@ -1,8 +1,9 @@
-use Rattle.std.proofs.Common.{◌≡◌, ℕ, List, [], ◌∷◌, ◌++◌, refl, sym, ◌∙◌, ap, subst}
+use Rattle.std.proofs.Common.{◌≡◌, ℕ, List, [], ◌∷◌, ◌++◌, length, refl, sym, ◌∙◌, ap, subst}
 use Rattle.superblocks.specs.Reading.{Scope}
 use Rattle.flat_history.specs.declared.events.Entry.{Entry}
 use Rattle.flat_history.specs.declared.events.Event.TheVariants.{Halted}
 use Rattle.flat_history.specs.Flat.{next_number}
+use Rattle.flat_history.specs.Growing.{EndBy}
 use Rattle.flat_history.specs.Plain.{entries_of}
 use Rattle.array_kept.specs.Kept.{scope_in}
 use Rattle.array_kept.proofs.ReadyLaws.{scope-same}
@@ -29,3 +30,11 @@ returns-clause-right g c =
 
 pub returns-clause-listed : goal.returns-clause-listed
 returns-clause-listed g c = rw (← c.self.view_is) c.self.invariant.kept.listed
+
+pub returns-clause-ends : goal.returns-clause-ends
+returns-clause-ends g c =
+    let a = c.self.inside in
+    let tape = g.B.Bank.tape a.bank in
+    let number : c.args.who.number ≡ next_number c.args.who.caller a.epoch.entries.items = c.requires.next ∙ ap (λ p. next_number c.args.who.caller p.parts.entries) (sym c.self.view_is) in
+    let kept = halted-stands c.args.who c.ops-end.result c.self.invariant.kept number c.requires.caller c.ops-end.ensures.count in
+    rw (← c.self.view_is) (λ t. subst (λ (l : List Entry). EndBy (length tape) l) (sym c.enter.ensures.items) (kept.recorded t).ends)
