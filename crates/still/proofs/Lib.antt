@@ -8,3 +8,5 @@ pub mod Going
 pub mod StepLaws
 pub mod MendLaws
 pub mod RebuildLaws
+pub mod AddLaws
+pub mod AnswerLaws

@@ -49,6 +49,7 @@ impl<B: Bank> Still<B> {
         ensures caused { IsCausedBy (list_length self.old.parts.members.newest) 0 IsUnmendable self.old.parts.members self.new.parts.members result }
         ensures first { IsFirstRefused (write_refusal (shape_of self.old.parts.members.newest) false) self.old.parts.members self.new.parts.members result }
         ensures dirty { OnOk result (is_clean self.new.parts.members.newest ≡ false) }
+        ensures open { IsCallGoing self.new.parts.entries who }
         ensures room { self.new.parts.steps + 1 ≡ self.old.parts.steps }
         ensures given { B.given self.new.parts.bank ≡ B.given self.old.parts.bank }
     {
@@ -105,6 +106,7 @@ impl<B: Bank> Still<B> {
             → RowsStand self.new.parts.members (present (B.given self.new.parts.bank) (B.tape self.new.parts.bank))
             (now (opening_list (moving_world (B.given self.new.parts.bank) (B.tape self.new.parts.bank) self.new)) self.new.parts.entries)) }
         ensures flushed { OnOk result (B.tells → AreHoldersFlushed (reading_of self.new.parts.members) (B.given self.old.parts.bank) (B.tape self.new.parts.bank)) }
+        ensures open { IsCallGoing self.new.parts.entries who }
         ensures room { self.new.parts.steps + 1 ≡ self.old.parts.steps }
         ensures given { B.given self.new.parts.bank ≡ B.given self.old.parts.bank }
     {

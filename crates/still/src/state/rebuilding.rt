@@ -56,6 +56,7 @@ impl<B: Bank> Still<B> {
         ensures stays { OnErr result (AreStepsKept self.old.parts.entries self.new.parts.entries (still_left self.old.parts.work self.old.parts.members self.old.ahead) (still_left self.new.parts.work self.new.parts.members self.new.ahead)) }
         ensures caused { IsCausedBy (list_length self.old.parts.members.newest) 0 AreTooMany self.old.parts.members self.new.parts.members result }
         ensures clean { is_clean self.new.parts.members.newest ≡ is_clean self.old.parts.members.newest }
+        ensures open { IsCallGoing self.new.parts.entries who }
         ensures room { self.new.parts.steps + 1 ≡ self.old.parts.steps }
         ensures given { B.given self.new.parts.bank ≡ B.given self.old.parts.bank }
     {
@@ -96,6 +97,7 @@ impl<B: Bank> Still<B> {
         ensures stays { OnErr result (AreStepsKept self.old.parts.entries self.new.parts.entries (still_left self.old.parts.work self.old.parts.members self.old.ahead) (still_left self.new.parts.work self.new.parts.members self.new.ahead)) }
         ensures caused { IsCausedBy (list_length self.old.parts.members.newest) 0 AreTooMany self.old.parts.members self.new.parts.members result }
         ensures clean { is_clean self.new.parts.members.newest ≡ is_clean self.old.parts.members.newest }
+        ensures open { IsCallGoing self.new.parts.entries who }
         ensures room { self.new.parts.steps + 1 ≡ self.old.parts.steps }
         ensures given { B.given self.new.parts.bank ≡ B.given self.old.parts.bank }
     {
@@ -164,6 +166,7 @@ impl<B: Bank> Still<B> {
         ensures stays { OnErr result (AreStepsKept self.old.parts.entries self.new.parts.entries (still_left self.old.parts.work self.old.parts.members self.old.ahead) (still_left self.new.parts.work self.new.parts.members self.new.ahead)) }
         ensures caused { IsCausedBy (list_length self.old.parts.members.newest) 0 AreTooMany self.old.parts.members self.new.parts.members result }
         ensures clean { is_clean self.new.parts.members.newest ≡ is_clean self.old.parts.members.newest }
+        ensures open { IsCallGoing self.new.parts.entries who }
         ensures room { self.new.parts.steps + 1 ≡ self.old.parts.steps }
         ensures given { B.given self.new.parts.bank ≡ B.given self.old.parts.bank }
     {

@@ -19,6 +19,7 @@ use Rattle.views.proofs.GivenMembers.{placed-given, spare-before}
 use Rattle.views.proofs.LackingLaws.{lost-since, never-both}
 use Rattle.views.proofs.Still.{count-still}
 use Rattle.call_entries.specs.Losing.{losses_of}
+use Rattle.call_entries.proofs.CallLaws.{losses-are}
 use Rattle.call_entries.proofs.PlainLaws.{one}
 use Rattle.array_kept.specs.Kept.{scope_in}
 use Rattle.array_kept.specs.Calls.{IsLossBy, AreStripesRebuilt}
@@ -28,7 +29,7 @@ use Rattle.array_kept.proofs.ReplyLaws.{too-many-of, refused-for}
 use Rattle.array_kept.proofs.StepsLeft.{steps-fewer}
 use Rattle.calls_kept.proofs.RebuildEnded.{whole-vacant, whole-after, failed-still, holder-before}
 use Rattle.calls_kept.proofs.RebuildGiven.{receiver-recovering}
-use Rattle.calls_kept.proofs.RebuildLaws.{losses-end}
+use Rattle.calls_kept.proofs.RebuildLaws.{losses-open, losses-end}
 use Rattle.kept_history.specs.Safe.{world_in}
 use Rattle.still_kept.proofs.Ending.{IsMadeWhole}
 use Rattle.running_words.specs.Calls.{moving_world}
@@ -36,6 +37,7 @@ use Rattle.still.specs.Steps.{MayLeaveNone, IsCallUnbroken}
 use Rattle.running_words.proofs.Called.{risen-told}
 use Rattle.running_words.proofs.Lengths.{behind-keeps}
 use Rattle.still.proofs.Kept.{ready, rows-moved}
+use Rattle.still.proofs.Going.{still-going}
 use Rattle.still.proofs.StepLaws.{shapes-moved, planned-same, stepped, fewer-more, losses-keep}
 use Rattle.still.proofs.RebuildLaws.{alone, both, among-vacant, whole-held, whole-less, whole-done, end-lost}
 use Rattle.still.proofs.state.Still.end_rebuild.Goals as goal
@@ -496,3 +498,22 @@ returns-clause-left g c =
 
 pub returns-clause-caused : goal.returns-clause-caused
 returns-clause-caused g c = rw (← c.self.view_is) (omega arith, λ refusal many. never-both c.self.inside.members refusal c.in_default.ensures many)
+
+-- ---- the call goes on
+
+pub returns-then-is_vacant-clause-open : goal.returns-then-is_vacant-clause-open
+returns-then-is_vacant-clause-open g c =
+    let losses = losses_of c.newly_vacant-roles.result c.flush_and_record-spares.result in
+    still-going c.args.who c.ops-end.result (losses ++ []) c.requires.open.goes (losses-open losses [] (losses-are c.newly_vacant-roles.result c.flush_and_record-spares.result) tt) (ap (λ p. p.parts.entries) c.self.view_is)
+    (alone c.self.inside.epoch.entries.items c.enter_lost.new.epoch.entries.items c.args.who c.ops-end.result losses c.enter_lost.ensures.items)
+
+pub returns-clause-open : goal.returns-clause-open
+returns-clause-open g c =
+    let a = c.self.inside in
+    let role = c.args.role in
+    let roles = c.newly_vacant-roles.result in
+    let spares = c.flush_and_record-spares.result in
+    let end = c.ops-end.result in
+    still-going c.args.who end (losses_of roles spares ++ Step RebuildEnded c.all_left-left.result ∷ Rebuilt role ∷ []) c.requires.open.goes
+    (losses-open (losses_of roles spares) (Step RebuildEnded c.all_left-left.result ∷ Rebuilt role ∷ []) (losses-are roles spares) (tt, (tt, tt))) (ap (λ p. p.parts.entries) c.self.view_is)
+    (both a.epoch.entries.items c.enter_behind.new.epoch.entries.items c.enter.new.epoch.entries.items c.args.who end (losses_of roles spares) (Step RebuildEnded c.all_left-left.result) (Rebuilt role) c.enter_behind.ensures.items c.enter.ensures.items)

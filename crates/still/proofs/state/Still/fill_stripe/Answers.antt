@@ -17,13 +17,14 @@ use Rattle.views.proofs.Fit.{valid}
 use Rattle.views.proofs.LackingLaws.{lost-since, never-both}
 use Rattle.views.proofs.Still.{count-still}
 use Rattle.call_entries.specs.Losing.{losses_of}
+use Rattle.call_entries.proofs.CallLaws.{losses-are}
 use Rattle.array_kept.specs.Kept.{scope_in}
 use Rattle.array_kept.specs.Calls.{IsLossBy, HasStripeUnbuilt, AreStepsFewer, with_rebuilt}
 use Rattle.array_kept.proofs.LossLaws.{losses-tail, losses-behind, ended-behind}
 use Rattle.array_kept.proofs.ReadyLaws.{scope-same}
 use Rattle.array_kept.proofs.ReplyLaws.{too-many-of, refused-for}
 use Rattle.array_kept.proofs.StepsLeft.{left-filled, steps-fewer, steps-kept}
-use Rattle.calls_kept.proofs.RebuildLaws.{losses-end}
+use Rattle.calls_kept.proofs.RebuildLaws.{losses-open, losses-end}
 use Rattle.kept_history.specs.Recorded.{IsCallGoing}
 use Rattle.still_kept.specs.Still.{IsStill}
 use Rattle.still_kept.proofs.Rebuilding.{IsFillingStill}
@@ -31,6 +32,7 @@ use Rattle.running_words.specs.Parts.{still_left}
 use Rattle.running_words.proofs.Called.{risen-told}
 use Rattle.running_words.proofs.Lengths.{alone-keeps, behind-keeps}
 use Rattle.still.proofs.Kept.{ready, rows-moved, with-buffers}
+use Rattle.still.proofs.Going.{still-going, step-going}
 use Rattle.still.proofs.StepLaws.{refused-of, shapes-moved, planned-same, stepped, fewer-more, kept-more, losses-keep}
 use Rattle.still.proofs.RebuildLaws.{alone, recovering-held, among-vacant, fill-done, fill-gone, fill-refused}
 use Rattle.still.proofs.state.Still.fill_stripe.Goals as goal
@@ -435,3 +437,17 @@ returns-clause-held g c = rw (← c.self.view_is) c.fill-filled.ensures.moved.he
 
 pub returns-clause-spares : goal.returns-clause-spares
 returns-clause-spares g c = rw (← c.self.view_is) c.fill-filled.ensures.moved.fewer
+
+-- ---- the call goes on
+
+pub returns-in-Some-refusal-clause-open : goal.returns-in-Some-refusal-clause-open
+returns-in-Some-refusal-clause-open g c = step-going c.args.who c.ops-end.result c.newly_vacant-roles.result c.fill-filled.result.spares (Refused c.in-Some-refusal.refusal) c.requires.open tt (ap (λ p. p.parts.entries) c.self.view_is) c.enter_behind.ensures.items
+
+pub returns-then-is_vacant-clause-open : goal.returns-then-is_vacant-clause-open
+returns-then-is_vacant-clause-open g c =
+    let losses = losses_of c.newly_vacant-roles.result c.fill-filled.result.spares in
+    still-going c.args.who c.ops-end.result (losses ++ []) c.requires.open (losses-open losses [] (losses-are c.newly_vacant-roles.result c.fill-filled.result.spares) tt) (ap (λ p. p.parts.entries) c.self.view_is)
+    (alone c.self.inside.epoch.entries.items c.enter_lost.new.epoch.entries.items c.args.who c.ops-end.result losses c.enter_lost.ensures.items)
+
+pub returns-clause-open : goal.returns-clause-open
+returns-clause-open g c = step-going c.args.who c.ops-end.result c.newly_vacant-roles.result c.fill-filled.result.spares (Step RebuildStripe c.all_left-left.result) c.requires.open tt (ap (λ p. p.parts.entries) c.self.view_is) c.enter_behind-2.ensures.items

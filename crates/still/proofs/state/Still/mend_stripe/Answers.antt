@@ -22,6 +22,7 @@ use Rattle.still_kept.proofs.Resync.{IsMendingStill}
 use Rattle.running_words.proofs.Called.{risen-told}
 use Rattle.running_words.proofs.Lengths.{alone-keeps, behind-keeps}
 use Rattle.still.proofs.Kept.{ready, rows-moved, with-buffers}
+use Rattle.still.proofs.Going.{step-going}
 use Rattle.still.proofs.StepLaws.{refused-of, shapes-moved, planned-same, stepped, fewer-more, kept-more}
 use Rattle.still.proofs.MendLaws.{mend-done, mend-refused}
 use Rattle.still.proofs.state.Still.mend_stripe.Goals as goal
@@ -268,3 +269,11 @@ returns-clause-held g c = rw (← c.self.view_is) c.mend-mended.ensures.moved.he
 
 pub returns-clause-spares : goal.returns-clause-spares
 returns-clause-spares g c = rw (← c.self.view_is) c.mend-mended.ensures.moved.fewer
+
+-- ---- the call goes on
+
+pub returns-in-Some-refusal-clause-open : goal.returns-in-Some-refusal-clause-open
+returns-in-Some-refusal-clause-open g c = step-going c.args.who c.ops-end.result c.newly_vacant-roles.result c.mend-mended.result.spares (Refused c.in-Some-refusal.refusal) c.requires.open tt (ap (λ p. p.parts.entries) c.self.view_is) c.enter_behind.ensures.items
+
+pub returns-clause-open : goal.returns-clause-open
+returns-clause-open g c = step-going c.args.who c.ops-end.result c.newly_vacant-roles.result c.mend-mended.result.spares (Step ResyncStripe c.all_left-left.result) c.requires.open tt (ap (λ p. p.parts.entries) c.self.view_is) c.enter_behind-2.ensures.items

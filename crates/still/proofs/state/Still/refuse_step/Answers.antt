@@ -1,4 +1,4 @@
-use Rattle.std.proofs.Common.{◌≡◌, ◌≤◌, [], ◌∷◌, None, inl, refl, sym, subst, arith}
+use Rattle.std.proofs.Common.{◌≡◌, ◌≤◌, [], ◌∷◌, None, inl, refl, sym, ap, subst, arith}
 use Rattle.flat_history.specs.declared.events.Event.TheVariants.{Refused}
 use Rattle.flat_history.specs.Plain.{entries_of}
 use Rattle.views.specs.Lacking.{AreTooMany}
@@ -10,6 +10,7 @@ use Rattle.kept_history.specs.Recorded.{IsCallGoing}
 use Rattle.running_words.proofs.Called.{alone-lossless}
 use Rattle.running_words.proofs.Lengths.{alone-keeps}
 use Rattle.still.proofs.Kept.{ready, rows-same}
+use Rattle.still.proofs.Going.{still-going}
 use Rattle.still.proofs.StepLaws.{shapes-same, stepped, step-refused, refused-going}
 use Rattle.still.proofs.state.Still.refuse_step.Goals as goal
 
@@ -46,3 +47,6 @@ returns-clause-stepped g c =
     (λ slot. omega arith)
     (record { uuid = c.enter.ensures.uuid; given = c.enter.ensures.given; first = c.enter.ensures.first; backup = refl; ahead = refl })
     (λ t. (was.kept.recorded t).begun))
+
+pub returns-clause-open : goal.returns-clause-open
+returns-clause-open g c = still-going c.args.who c.ops-end.result (Refused c.args.refusal ∷ []) c.requires.open (tt, tt) (ap (λ p. p.parts.entries) c.self.view_is) c.enter.ensures.items

@@ -32,6 +32,7 @@ use Rattle.still.specs.Steps.{MayLeaveNone}
 use Rattle.running_words.proofs.Called.{risen-told}
 use Rattle.running_words.proofs.Lengths.{alone-keeps, behind-keeps}
 use Rattle.still.proofs.Kept.{ready, rows-moved}
+use Rattle.still.proofs.Going.{step-going}
 use Rattle.still.proofs.StepLaws.{shapes-moved, planned-same, stepped, stepped-more, fewer-more}
 use Rattle.still.proofs.RebuildLaws.{taken-less, take-done}
 use Rattle.still.proofs.state.Still.take_role.Goals as goal
@@ -255,3 +256,8 @@ returns-clause-work g c = rw (← c.self.view_is) c.set_rebuilt.ensures.work
 
 pub returns-clause-caused : goal.returns-clause-caused
 returns-clause-caused g c = rw (← c.self.view_is) (omega arith, λ refusal many. never-both c.self.inside.members refusal c.in_default.ensures many)
+
+-- ---- the call goes on
+
+pub returns-clause-open : goal.returns-clause-open
+returns-clause-open g c = step-going c.args.who c.ops-end.result c.newly_vacant-roles.result c.give_role-spares.result (Step RebuildTaken c.all_left-left.result) c.requires.open tt (ap (λ p. p.parts.entries) c.self.view_is) c.enter_behind.ensures.items
