@@ -6,3 +6,4 @@ pub mod TakenOut
 pub mod ZeroLaws
 pub mod Copied
 pub mod RecordLaws
+pub mod WriteLaws

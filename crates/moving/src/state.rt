@@ -10,9 +10,11 @@ ghost use Rattle.running_words.specs.Parts.{left_in};
 mod asking;
 mod ending;
 mod failing;
+mod finishing;
 mod moves;
 mod recording;
 mod settling;
+mod writing;
 mod zeroing;
 
 use bank::Bank;
