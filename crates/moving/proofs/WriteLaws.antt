@@ -177,7 +177,7 @@ failure-keeps who end roles spares true at body refusal =
 pub failure-whole : {given : Given} {old new : Members} (tape' : List Operation) (scope : Scope) (first : ℕ) (entries : List Entry) (who : Who) (end roles spares : ℕ) (torn : Bool) (at : ℕ) (body : List Sector) (refusal : Refusal)
     → IsMoved given old new → AreMissingSince old new roles
     → TakesNone (world_in given tape' scope first) (entries ++ entries_of who end (failure_events roles spares torn at body refusal)) → AreWhole old → AreWhole new
-failure-whole tape' scope first entries who end roles spares false at body refusal moved since none whole = behind-whole tape' scope first entries who end roles spares (Refused refusal) moved since none whole
+failure-whole tape' scope first entries who end roles spares false at body refusal moved since none whole role lt = behind-whole tape' scope first entries who end roles spares (Refused refusal) moved since none whole role lt
 failure-whole {given = given} {old = old} {new = new} tape' scope first entries who end roles spares true at body refusal moved since none whole role lt = by (is_missing (reading_of new) role) refl
   where
     taken : TakesNone (world_in given tape' scope first) (entries ++ entries_of who end (losses_of roles spares ++ Torn at body ∷ Refused refusal ∷ []))
@@ -202,10 +202,10 @@ pub finished-since : (given : Given) (old new : Members) (span : Span) (refusal 
 finished-since given old new span None moved disks was roles spares before after placed next failed same vacant newly = since-past given old new span disks was roles spares before after placed next moved failed same vacant newly
 finished-since given old new span (Some why) moved disks was roles spares before after placed next failed same vacant newly = lost-since given old new disks was roles spares before after placed moved failed same vacant newly
 
-pub finished-missing : {given : Given} {old new : Members} (span : Span) (refusal : Option Refusal) → MatchOption refusal (IsMoved given (moved_past span old) new) (λ why. IsMoved given old new)
+pub finished-missing : (given : Given) (old new : Members) (span : Span) (refusal : Option Refusal) → MatchOption refusal (IsMoved given (moved_past span old) new) (λ why. IsMoved given old new)
     → {roles spares : ℕ} {before after : ℕ → ℕ} → AreLostSince old new roles spares before after → AreMissingSince old new roles
-finished-missing {old = old} span None moved {roles = roles} since = missing-since {old = moved_past span old} roles moved since.vacant
-finished-missing span (Some why) moved {roles = roles} since = missing-since roles moved since.vacant
+finished-missing given old new span None moved {roles = roles} since = missing-since {old = moved_past span old} roles moved since.vacant
+finished-missing given old new span (Some why) moved {roles = roles} since = missing-since roles moved since.vacant
 
 module _ {tells : Type 0} {given : Given} {tape tape' : List Operation} {scope : Scope} {first : ℕ} {entries : List Entry} {old new : Members} {carried : ℕ → Bool} (course : Course) (ahead : PhasesLeft) (window : List ℕ)
     (span : Span) (copied done : ℕ) (sectioned : Bool) (who : Who) (end roles spares : ℕ) (was : IsMoving tells given tape scope first entries old carried course (bytes_in course.window window) (left_in old course ahead))
@@ -239,7 +239,7 @@ module _ {tells : Type 0} {given : Given} {tape tape' : List Operation} {scope :
       (finish-moves tells given tape tape' scope first entries old new carried (final_shape old.newest) span copied done sectioned bytes who end roles spares goes (not_254 who.caller caller) at_end grows enough
       (Some why) (left_in old course ahead) 1 opened one (subst (λ (o : Option Refusal). IsFinishedBy tells given tape tape' old new (final_shape old.newest) span copied done bytes roles o) refused did)))
     where
-      one : 1 ≢ 0
+      one : ◌≢◌ {A = ℕ} 1 0
       one zero = absurd (omega (arith, zero))
 
 -- ---- sectors beside the window
@@ -437,19 +437,19 @@ behind-caused window visible long at to old mid new (Err NoMemory) who entries e
 pub alone-entered : {T : Type 0} (window : Window) (at to : ℕ) (body : List Sector) (who : Who) (old mid new : List Entry) (left : ℕ) (result : Result T AnyFault) → mid ≡ old → (TouchesWindow window at to → ⊥)
     → IsPutEntered who mid new at body result → IsWriteEntered window at to body who old new left result
 alone-entered window at to body who old mid new left (Ok x) same none told = (mid, inr (none, same), told)
-alone-entered window at to body who old mid new left (Err (IsRefusedWith refusal)) same none told = (mid, inr same, told)
+alone-entered window at to body who old mid new left (Err (IsRefusedWith refusal)) same none told = (mid, inr same, told.0, told.1, told.2, told.3, told.4)
 alone-entered window at to body who old mid new left (Err NoMemory) same none told = absurd told
 
 -- where that isn't finished
-pub refused-entered : {T : Type 0} (window : Window) (at to : ℕ) (body : List Sector) (who : Who) (old mid new : List Entry) (left before : ℕ) (fault : AnyFault) → mid ≡ old
+pub refused-entered : (T : Type 0) (window : Window) (at to : ℕ) (body : List Sector) (who : Who) (old mid new : List Entry) (left before : ℕ) (fault : AnyFault) → mid ≡ old
     → IsStepTaken {T = T} who mid new FinishesWindow before (Err fault) → IsWriteEntered {T = T} window at to body who old new left (Err fault)
-refused-entered window at to body who old mid new left before (IsRefusedWith refusal) same told = (mid, inr same, told.roles, told.spares, false, told.end, told.is)
-refused-entered window at to body who old mid new left before NoMemory same told = absurd told
+refused-entered T window at to body who old mid new left before (IsRefusedWith refusal) same told = (mid, inr same, told.roles, told.spares, false, told.end, told.is)
+refused-entered T window at to body who old mid new left before NoMemory same told = absurd told
 
 -- and behind it
 pub behind-entered : {T : Type 0} (window : Window) (at to : ℕ) (body : List Sector) (who : Who) (old mid new : List Entry) (left before : ℕ) (result : Result T AnyFault) → TouchesWindow window at to → left ≡ before
     → IsBehind who old mid (Step FinishesWindow before) → IsPutEntered who mid new at body result → IsWriteEntered window at to body who old new left result
 behind-entered window at to body who old mid new left before (Ok x) touches same finished told = (mid, inl (touches, subst (λ (n : ℕ). IsBehind who old mid (Step FinishesWindow n)) (sym same) finished), told)
 behind-entered window at to body who old mid new left before (Err (IsRefusedWith refusal)) touches same finished told =
-    (mid, inl (inl (touches, subst (λ (n : ℕ). IsBehind who old mid (Step FinishesWindow n)) (sym same) finished)), told)
+    (mid, inl (inl (touches, subst (λ (n : ℕ). IsBehind who old mid (Step FinishesWindow n)) (sym same) finished)), told.0, told.1, told.2, told.3, told.4)
 behind-entered window at to body who old mid new left before (Err NoMemory) touches same finished told = absurd told

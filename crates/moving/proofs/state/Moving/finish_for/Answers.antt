@@ -1,4 +1,5 @@
 use Rattle.std.proofs.Common.{◌≤◌, ◌+◌, ℕ, [], ◌∷◌, Some, refl, sym, subst, arith}
+use Rattle.md_base.specs.declared.answers.Refusal.{Refusal}
 use Rattle.superblocks.specs.Reading.{list_length}
 use Rattle.flat_history.specs.declared.events.Event.TheVariants.{Refused}
 use Rattle.flat_history.specs.Plain.{entries_of}
@@ -21,8 +22,8 @@ use Rattle.moving.proofs.state.Moving.finish_for.Goals as goal
 
 -- ---- refused before the window is finished
 
-pub invariant_of-self-in-Some : goal.invariant_of-self-in-Some
-invariant_of-self-in-Some g c =
+pub invariant_of-self : goal.invariant_of-self
+invariant_of-self g c =
     let was = c.self.invariant in
     let a = c.self.inside in
     let given = g.B.Bank.given a.bank in
@@ -71,8 +72,10 @@ returns-in-Some-clause-caused g c =
 
 pub returns-clause-caused : goal.returns-clause-caused
 returns-clause-caused g c =
-    let a = c.self.inside in
+    let m = c.args.self.now.parts.members in
     let to = c.args.at + c.args.count in
     let size = c.list_sectors-sectors.ensures.length in
-    rw (← c.self.view_is) (finish-caused (list_length a.members.newest) to (IsListUnwritten (list_length a.members.newest) c.args.at to) a.members c.finish_window.new.self.parts.members c.finish_window.result
-    (let within = c.in_default.ensures.why.0 in omega (arith, size, within)) c.in_default.ensures.why.1 c.finish_window.ensures.caused)
+    let within = c.in_default.ensures.why.0 in
+    let fine = subst (λ p. (to ≤ list_length p.parts.members.newest) × ((refusal : Refusal) → IsListUnwritten (list_length p.parts.members.newest) c.args.at to p.parts.members refusal → ⊥)) c.self.view_is
+    (omega (arith, size, within), c.in_default.ensures.why.1) in
+    finish-caused (list_length m.newest) to (IsListUnwritten (list_length m.newest) c.args.at to) m c.finish_window.new.self.parts.members c.finish_window.result fine.0 fine.1 c.finish_window.ensures.caused

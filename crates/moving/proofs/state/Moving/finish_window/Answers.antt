@@ -129,7 +129,7 @@ invariant_of-self-in-Some-refusal g c =
       plain = did.plain;
       rise = did.rise;
       unused = did.unused;
-      since = finished-missing span c.finish_rest-rest.result.refusal did.moved did.since;
+      since = finished-missing given a.members m span c.finish_rest-rest.result.refusal did.moved did.since;
       safe = did.safe;
     } in
     let kept = finish-refused a.course a.ahead a.window.items span c.in-Entered.copied c.finish_rest-rest.result.copied c.in-Entered.sectioned c.args.who end roles spares was.kept due goes c.requires.caller c.ops-end-2.ensures.count
@@ -204,7 +204,7 @@ invariant_of-self-2 g c =
       plain = did.plain;
       rise = did.rise;
       unused = did.unused;
-      since = finished-missing span c.finish_rest-rest.result.refusal did.moved did.since;
+      since = finished-missing given a.members m span c.finish_rest-rest.result.refusal did.moved did.since;
       safe = did.safe;
     } in
     let kept = finish-done a.course a.ahead a.window.items span c.in-Entered.copied c.finish_rest-rest.result.copied c.in-Entered.sectioned c.args.who end roles spares was.kept due goes c.requires.caller c.ops-end-2.ensures.count

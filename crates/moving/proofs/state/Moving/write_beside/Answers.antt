@@ -38,8 +38,8 @@ use Rattle.moving.proofs.state.Moving.write_beside.Goals as goal
 
 -- ---- refused before any row is read
 
-pub invariant_of-self-in-Some : goal.invariant_of-self-in-Some
-invariant_of-self-in-Some g c =
+pub invariant_of-self : goal.invariant_of-self
+invariant_of-self g c =
     let was = c.self.invariant in
     let a = c.self.inside in
     let given = g.B.Bank.given a.bank in
