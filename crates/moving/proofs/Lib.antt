@@ -7,3 +7,5 @@ pub mod ZeroLaws
 pub mod Copied
 pub mod RecordLaws
 pub mod WriteLaws
+pub mod EnterLaws
+pub mod Entered
