@@ -1,6 +1,6 @@
 -- A write of an array in a reshape: the open window that it touches is finished, and then its sectors are put into the list. What is kept, done or refused.
 use Rattle.std.proofs.Common.{◌≡◌, ◌≢◌, ◌⊎◌, inl, inr, ℕ, ◌+◌, ◌-◌, ◌*◌, ◌/◌, ◌<◌, ◌≤◌, Bool, true, false, Option, Some, None, Result, Ok, Err, List, [], ◌∷◌, ◌++◌, length, take, refl, sym, ◌∙◌, ap, subst, arith, append_assoc}
-use Rattle.std.specs.Prelude.{min, MatchOption}
+use Rattle.std.specs.Prelude.{min, MatchOption, OnOk}
 use Rattle.std.specs.Option.{option_map_or}
 use Rattle.std.proofs.lemmas.Bool.{cases_lt}
 use Rattle.std.proofs.lemmas.List.Elements.{All-append, All-weaker}
@@ -42,7 +42,7 @@ use Rattle.views.proofs.LackingLaws.{AreVacant, AreNewlyVacant, lost-since, shap
 use Rattle.views.proofs.MovedLaws.{grows-then}
 use Rattle.call_entries.specs.Losing.{losses_of, failure_events}
 use Rattle.call_entries.proofs.CallLaws.{losses-are, length-losses, limit-losses}
-use Rattle.array_kept.specs.Calls.{IsRoleLossBy, IsLossBy, AreLossesOf, IsBehind, IsRefusedFor, IsCausedBy, IsFaultFor}
+use Rattle.array_kept.specs.Calls.{IsRoleLossBy, IsLossBy, AreLossesOf, IsBehind, IsRefusedFor, IsCausedBy}
 use Rattle.array_kept.proofs.ReplyLaws.{IsOfMissing, unwritten-of}
 use Rattle.region_writes.specs.Runs.{IsListTorn, IsListUnwritten}
 use Rattle.region_writes.proofs.Together.{shape-force}
@@ -383,6 +383,15 @@ called-roomed {f = f} {g = g} old new items steps same was = record {
 
 -- ---- what it answers
 
+-- where none of its sectors lies in the entered window, it touches none
+pub untouched : (window : Window) (at to : ℕ) → ((x : ℕ) → at ≤ x → x < to → covers (open_in window) x ≡ false) → TouchesWindow window at to → ⊥
+untouched window at to out touches = absurd (let both : true ≡ false = sym touches.3 ∙ out touches.0 touches.1 touches.2 in cc)
+
+-- what follows of something that isn't so holds
+pub never-ok : {T : Type 0} (result : Result T AnyFault) (P Q : Type 0) → (P → ⊥) → OnOk result (P → Q)
+never-ok (Ok x) P Q none = λ is. absurd (none is)
+never-ok (Err fault) P Q none = tt
+
 -- a refusal for one cause is one for either
 pub wider-refused : (visible to : ℕ) (why : Members → Refusal → Type 0) (m : Members) (refusal : Refusal) → IsRefusedFor visible to why m m refusal → IsRefusedFor visible to (λ m refusal. why m refusal ⊎ AreTooMany m refusal) m m refusal
 wider-refused visible to why m (PastEnd told) is = is
@@ -411,14 +420,14 @@ alone-caused window visible at to old new (Err (IsRefusedWith refusal)) none cau
 alone-caused window visible at to old new (Err NoMemory) none caused = caused
 
 -- a window that it touches isn't finished
-pub refused-caused : (window : Window) (visible at to : ℕ) (old new : Members) (fault : AnyFault) → TouchesWindow window at to
-    → IsFaultFor visible to (λ m refusal. IsListUnwritten visible at to m refusal ⊎ AreTooMany m refusal) old new fault → IsFaultFor visible to (IsWriteLacked window visible at to) old new fault
-refused-caused window visible at to old new (IsRefusedWith refusal) touches caused = by refusal caused
+pub refused-caused : (T : Type 0) (window : Window) (visible at to : ℕ) (old new : Members) (fault : AnyFault) → TouchesWindow window at to
+    → IsCausedBy {T = T} visible to (λ m refusal. IsListUnwritten visible at to m refusal ⊎ AreTooMany m refusal) old new (Err fault) → IsCausedBy {T = T} visible to (IsWriteLacked window visible at to) old new (Err fault)
+refused-caused T window visible at to old new (IsRefusedWith refusal) touches caused = by refusal caused
   where
     by : (refusal : Refusal) → IsRefusedFor visible to (λ m refusal. IsListUnwritten visible at to m refusal ⊎ AreTooMany m refusal) old new refusal → IsRefusedFor visible to (IsWriteLacked window visible at to) old new refusal
     by (PastEnd told) is = is
     by refusal is = (is.0, elim is.1 [ inl asked ↦ inl asked | inr many ↦ inr (touches, many) ])
-refused-caused window visible at to old new NoMemory touches caused = caused
+refused-caused T window visible at to old new NoMemory touches caused = caused
 
 -- it is finished, and the sectors are written behind it, or aren't
 pub behind-caused : {T : Type 0} (window : Window) (visible long at to : ℕ) (old mid new : Members) (result : Result T AnyFault) (who : Who) (entries entries' : List Entry) (body : List Sector) → long ≡ visible
