@@ -98,15 +98,7 @@ fn finish_rest<B: Bank>(
     let before = vacant_roles(members, count);
     let shape = final_in(members);
     let width = 512 * (span.hi - span.lo) as usize;
-    let done = finish_window(
-        members,
-        bank,
-        &shape,
-        span,
-        from,
-        &window[..width],
-        scratch,
-    );
+    let done = finish_window(members, bank, &shape, span, from, &window[..width], scratch);
     Rest {
         roles: newly_vacant(members, count, before),
         copied: done.copied,

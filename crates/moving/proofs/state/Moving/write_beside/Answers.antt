@@ -22,7 +22,6 @@ use Rattle.array_kept.proofs.ReplyLaws.{refused-for}
 use Rattle.calls_kept.proofs.ReadLaws.{some-of}
 use Rattle.region_writes.specs.Runs.{IsTornTouched, IsListTorn, IsListUnwritten}
 use Rattle.kept_history.specs.Recorded.{IsCallGoing}
-use Rattle.kept_history.specs.Safe.{world_in}
 use Rattle.course_kept.specs.Course.{span_in}
 use Rattle.moving_kept.proofs.Refusals.{quiet-refusal}
 use Rattle.moving_kept.proofs.Resting.{resting-moves}
@@ -181,8 +180,13 @@ returns-in-Some-refusal-clause-entered g c =
     let roles = c.newly_vacant-roles.result in
     let spares = c.put_list-done.result.spares in
     let begun = c.put_list-done.result.begun in
-    rw (← c.self.view_is) (roles, spares, begun, end,
-    c.enter_failure.ensures.items ∙ ap (λ (b : List Sector). a.epoch.entries.items ++ entries_of c.args.who end (failure_events roles spares begun c.args.at b c.in-Some-refusal.refusal)) c.requires.body)
+    rw (← c.self.view_is) (
+      roles,
+      spares,
+      begun,
+      end,
+      c.enter_failure.ensures.items ∙ ap (λ (b : List Sector). a.epoch.entries.items ++ entries_of c.args.who end (failure_events roles spares begun c.args.at b c.in-Some-refusal.refusal)) c.requires.body,
+    )
 
 pub returns-in-Some-refusal-clause-called : goal.returns-in-Some-refusal-clause-called
 returns-in-Some-refusal-clause-called g c =

@@ -1,4 +1,4 @@
-use Rattle.std.proofs.Common.{ℕ, ◌≤◌, List, take, ◌-◌, ◌*◌, sym, ◌∙◌, ap, subst, arith}
+use Rattle.std.proofs.Common.{◌≤◌, sym, ◌∙◌, ap, subst, arith}
 use Rattle.md_base.specs.declared.places.Shape.{Shape}
 use Rattle.geometry.specs.Geometry.{stripes}
 use Rattle.superblocks.specs.Reading.{final_shape}
