@@ -1,18 +1,25 @@
 -- What an array in a reshape keeps, after a call.
-use Rattle.std.proofs.Common.{◌≡◌, ℕ, ◌+◌, ◌-◌, ◌*◌, ◌<◌, ◌≤◌, ◌&&◌, ◌||◌, Bool, true, false, not, cond, List, ◌++◌, length, refl, sym, ◌∙◌, ap, subst, arith}
-use Rattle.std.specs.Prelude.{min}
+use Rattle.std.proofs.Common.{◌≡◌, ℕ, ◌+◌, ◌-◌, ◌*◌, ◌<◌, ◌≤◌, ◌&&◌, ◌||◌, Bool, true, false, not, cond, Option, None, List, [], ◌∷◌, ◌++◌, length, refl, sym, ◌∙◌, ap, subst, arith}
+use Rattle.std.specs.Prelude.{min, fold}
 use Rattle.std.specs.List.{list_any}
 use Rattle.std.proofs.lemmas.List.Folds.{list_any-append}
 use Rattle.md_base.specs.Shapes.{data_disks}
 use Rattle.md_base.specs.declared.wishes.Phase.{Phase}
 use Rattle.bank.specs.declared.bank.Operation.{Operation}
+use Rattle.md_base.specs.declared.answers.Who.{Who}
+use Rattle.call_entries.specs.Losing.{losses_of}
+use Rattle.call_entries.proofs.CallLaws.{losses-are, length-losses, limit-losses}
+use Rattle.array_kept.proofs.NowLaws.{length-more, limit-more}
 use Rattle.bank.specs.Given.{Given, NeverFalls}
 use Rattle.sb1.specs.declared.sb.Sb.{Sb}
 use Rattle.geometry.specs.Geometry.{unit, steps_of, stripes, beyond}
 use Rattle.grow_plan.specs.Plans.{AreSound, phases_steps}
 use Rattle.superblocks.specs.declared.members.Members.{Members}
-use Rattle.superblocks.specs.Reading.{Scope, shape_of, final_shape}
+use Rattle.superblocks.specs.Reading.{Scope, shape_of, final_shape, list_length}
 use Rattle.flat_history.specs.declared.events.Entry.{Entry}
+use Rattle.flat_history.specs.declared.events.Event.{Event}
+use Rattle.flat_history.specs.Flat.{length_of, length_after, limit_after}
+use Rattle.flat_history.specs.Plain.{entries_of}
 use Rattle.flat_history.specs.Losses.{was_dirty, is_resync_end, is_unsynced}
 use Rattle.flat_history.specs.Stands.{reach_of}
 use Rattle.views.specs.Placed.{HaveSameReshape}
@@ -47,6 +54,9 @@ shapes-moved given old new moved = record { shape = moved.shape; final = moved.r
 reach-same : (old new : Sb) → AreSameShapes old new → reach_of new ≡ reach_of old
 reach-same old new same = λ i. min (unit (same.shape i) (same.final i)) (min (data_disks (same.shape i)) (data_disks (same.final i)) * same.size i)
 
+long-same : (old new : Sb) → AreSameShapes old new → list_length new ≡ list_length old
+long-same old new same = λ i. min (data_disks (same.shape i)) (data_disks (same.final i)) * same.size i
+
 -- the steps that are left are the same
 left-alike : (old new : Sb) (window : Window) (zeroed : ℕ) (ahead : List Phase) → HaveSameReshape old new → shape_of new ≡ shape_of old → new.size ≡ old.size
     → grow_left new window zeroed ahead ≡ grow_left old window zeroed ahead
@@ -79,6 +89,24 @@ settled-later {tape = tape} given scope first entries added grows begun was t =
     ∙ ap (λ (b : Bool). was_dirty world && not b) (list_any-append (λ e. is_resync_end e.event) entries added)
     ∙ settled-more (was_dirty world) (list_any (λ e. is_resync_end e.event) entries) (list_any (λ e. is_resync_end e.event) added) (was t))
 
+-- ---- the length of the list
+
+-- these entries change neither the length of the list, nor what is visible of it
+pub record IsLengthKept (added : List Entry) : Type 0 where
+  pub long : (n : ℕ) → fold (λ m e. length_after m e.event) n added ≡ n
+  pub free : fold (λ (limit : Option ℕ) e. limit_after limit e.event) None added ≡ None
+
+-- those of one event
+pub alone-keeps : (who : Who) (end : ℕ) (event : Event) → ((n : ℕ) → length_after n event ≡ n) → limit_after None event ≡ None → IsLengthKept (entries_of who end (event ∷ []))
+alone-keeps who end event long free = record { long = long; free = free }
+
+-- and those of one behind losses
+pub behind-keeps : (who : Who) (end roles spares : ℕ) (event : Event) → ((n : ℕ) → length_after n event ≡ n) → limit_after None event ≡ None → IsLengthKept (entries_of who end (losses_of roles spares ++ event ∷ []))
+behind-keeps who end roles spares event long free = record {
+  long = λ n. length-losses who end (losses_of roles spares) (event ∷ []) (losses-are roles spares) n ∙ long n;
+  free = limit-losses who end (losses_of roles spares) (event ∷ []) (losses-are roles spares) None ∙ free;
+}
+
 -- ---- after a call's last step in memory
 
 pub ready : {tells : Type 0} {given given' : Given} {tape tape' : List Operation} {scope scope' : Scope} {first first' : ℕ} {entries mid entries' : List Entry} {members members' : Members}
@@ -86,12 +114,12 @@ pub ready : {tells : Type 0} {given given' : Given} {tape tape' : List Operation
     → IsReady tells given tape scope first entries members work course ahead window before steps room rows buffer far_rows far_buffer
     → Grows tells tape tape' → AreSameShapes members.newest members'.newest
     → IsMoving tells given tape' scope first (entries ++ added) members' (is_carried work) course' (bytes_in course'.window window') (left_in members' course' ahead)
-    → length window' ≡ length window → NeverFalls before after
+    → length window' ≡ length window → NeverFalls before after → IsLengthKept added
     → given' ≡ given → scope' ≡ scope → first' ≡ first → mid ≡ entries → entries' ≡ mid ++ added → 50 * steps' < room'
     → IsReady tells given' tape' scope' first' entries' members' work course' ahead window' after steps' room' rows buffer far_rows far_buffer
 ready {tells = tells} {given = given} {given' = given'} {tape' = tape'} {scope = scope} {scope' = scope'} {first = first} {first' = first'} {entries = entries} {mid = mid} {members = members} {members' = members'}
     {work = work} {course' = course'} {ahead = ahead} {window' = window'} {steps' = steps'} {room' = room'} {rows = rows} {buffer = buffer} {far_rows = far_rows} {far_buffer = far_buffer} {after = after}
-    added was grows same kept long rises same_given scope_is first_is mid_is is room_left =
+    added was grows same kept long rises quiet same_given scope_is first_is mid_is is room_left =
     subst (λ (l : List Entry). IsReady tells given' tape' scope' first' l members' work course' ahead window' after steps' room' rows buffer far_rows far_buffer) (sym (is ∙ ap (λ (l : List Entry). l ++ added) mid_is))
     (subst (λ (n : ℕ). IsReady tells given' tape' scope' n (entries ++ added) members' work course' ahead window' after steps' room' rows buffer far_rows far_buffer) (sym first_is)
     (subst (λ (s : Scope). IsReady tells given' tape' s first (entries ++ added) members' work course' ahead window' after steps' room' rows buffer far_rows far_buffer) (sym scope_is)
@@ -99,6 +127,9 @@ ready {tells = tells} {given = given} {given' = given'} {tape' = tape'} {scope =
     (record {
       kept = kept;
       synced = was.synced;
+      sized = subst (λ (n : ℕ). length_of n (entries ++ added) ≡ n) (sym (long-same members.newest members'.newest same))
+          (length-more (list_length members.newest) entries added was.sized (quiet.long (list_length members.newest)));
+      unlimited = limit-more entries added was.unlimited quiet.free;
       settled = settled-later given scope first entries added grows (λ t. (was.kept.recorded t).begun) was.settled;
       planned = subst (λ (n : ℕ). AreSound (final_shape members'.newest) n (phases_of ahead)) (sym same.size)
           (subst (λ s. AreSound s members.newest.size (phases_of ahead)) (sym same.final) was.planned);
@@ -110,3 +141,24 @@ ready {tells = tells} {given = given} {given' = given'} {tape' = tape'} {scope =
       far_rows_fit = was.far_rows_fit;
       far_buffer_fits = was.far_buffer_fits;
     }))))
+
+-- with another buffer for rows
+pub with-buffer : {tells : Type 0} {given : Given} {tape : List Operation} {scope : Scope} {first : ℕ} {entries : List Entry} {members : Members}
+    {work : Work} {course : Course} {ahead : PhasesLeft} {window : List ℕ} {steps room rows buffer buffer' far_rows far_buffer : ℕ} {faults : ℕ → ℕ} → 1048576 ≤ buffer'
+    → IsReady tells given tape scope first entries members work course ahead window faults steps room rows buffer far_rows far_buffer
+    → IsReady tells given tape scope first entries members work course ahead window faults steps room rows buffer' far_rows far_buffer
+with-buffer fits was = record {
+  kept = was.kept;
+  synced = was.synced;
+  sized = was.sized;
+  unlimited = was.unlimited;
+  settled = was.settled;
+  planned = was.planned;
+  wide = was.wide;
+  failed = was.failed;
+  room_left = was.room_left;
+  rows_fit = was.rows_fit;
+  buffer_fits = fits;
+  far_rows_fit = was.far_rows_fit;
+  far_buffer_fits = was.far_buffer_fits;
+}

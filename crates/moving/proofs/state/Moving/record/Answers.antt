@@ -23,7 +23,7 @@ use Rattle.running_words.specs.Calls.{IsRecordDue}
 use Rattle.running_words.specs.Parts.{left_in}
 use Rattle.moving.specs.Ready.{bytes_in}
 use Rattle.moving.proofs.Called.{not_254, called, alone-lossless}
-use Rattle.moving.proofs.Kept.{ready, shapes-same, shapes-moved}
+use Rattle.moving.proofs.Kept.{ready, shapes-same, shapes-moved, alone-keeps, behind-keeps}
 use Rattle.moving.proofs.Settled.{many-of}
 use Rattle.moving.proofs.RecordLaws.{window-next, same-span, all_copied, moved-if, moved-none, safe-none-of, shapes-past, since-past, record-refused, record-done}
 use Rattle.moving.proofs.state.Moving.record.Goals as goal
@@ -45,7 +45,7 @@ invariant_of-self g c =
     c.args.who end (Refused refusal) was.kept goes (not_254 c.args.who.caller c.requires.caller) c.ops-end.ensures.count (quiet-refusal refusal) (λ told is. is)
     (λ t right. refused-right (world_in given tape scope a.epoch.first) a.epoch.entries.items given a.members was.kept.members_are.placed (was.kept.gone t right) (was.kept.levelled t right) refusal c.in-Some.ensures) in
     ready (entries_of c.args.who end (Refused refusal ∷ [])) was (grows-none (λ t. refl)) (shapes-same a.members.newest) kept
-    refl (λ slot. omega arith) refl (scope-same given (Some a.backup) refl c.enter.ensures.uuid c.enter.ensures.given) c.enter.ensures.first refl c.enter.ensures.items
+    refl (λ slot. omega arith) (alone-keeps c.args.who end (Refused refusal) (λ n. refl) refl) refl (scope-same given (Some a.backup) refl c.enter.ensures.uuid c.enter.ensures.given) c.enter.ensures.first refl c.enter.ensures.items
     (omega (arith, c.enter.ensures.room, was.room_left, some))
 
 pub returns-in-Some-clause-entered : goal.returns-in-Some-clause-entered
@@ -119,7 +119,7 @@ invariant_of-self-in-Some-refusal g c =
     let kept = record-refused a.course a.ahead c.in-Entered.span c.args.who end roles spares was.kept goes c.requires.caller c.ops-end-2.ensures.count did.grows since did.clean did.rise did.others
     c.record-done.result.refusal refusal c.in-Some-refusal.is moved (many-of m c.record-done.result.refusal refusal c.in-Some-refusal.is did.refused) did.unused did.safe in
     ready (entries_of c.args.who end (losses_of roles spares ++ Refused refusal ∷ [])) was did.grows (shapes-moved given a.members m moved) kept
-    refl did.counts did.given (scope-same given (Some a.backup) did.given c.enter_behind.ensures.uuid c.enter_behind.ensures.given) c.enter_behind.ensures.first refl c.enter_behind.ensures.items
+    refl did.counts (behind-keeps c.args.who end roles spares (Refused refusal) (λ n. refl) refl) did.given (scope-same given (Some a.backup) did.given c.enter_behind.ensures.uuid c.enter_behind.ensures.given) c.enter_behind.ensures.first refl c.enter_behind.ensures.items
     (omega (arith, c.enter_behind.ensures.room, was.room_left, some))
 
 pub returns-in-Some-refusal-clause-called : goal.returns-in-Some-refusal-clause-called
@@ -185,7 +185,7 @@ invariant_of-self-2 g c =
     let kept = record-done a.course a.ahead c.in-Entered.span c.args.who end roles spares was.kept goes c.requires.caller c.ops-end-2.ensures.count did.grows since did.clean did.rise did.others
     due.sectioned left is c.steps_left-left.ensures moved c.in_default.ensures (λ t. did.plain none t (scope_in given a.epoch.uuid a.epoch.given (Some a.backup))) (safe-none-of c.record-done.result.refusal none did.safe) in
     ready (entries_of c.args.who end (losses_of roles spares ++ Step RecordsWindow left ∷ [])) was did.grows (shapes-past given a.members m c.in-Entered.span moved) kept
-    refl did.counts did.given (scope-same given (Some a.backup) did.given c.enter_behind-2.ensures.uuid c.enter_behind-2.ensures.given) c.enter_behind-2.ensures.first refl c.enter_behind-2.ensures.items
+    refl did.counts (behind-keeps c.args.who end roles spares (Step RecordsWindow left) (λ n. refl) refl) did.given (scope-same given (Some a.backup) did.given c.enter_behind-2.ensures.uuid c.enter_behind-2.ensures.given) c.enter_behind-2.ensures.first refl c.enter_behind-2.ensures.items
     (omega (arith, c.enter_behind-2.ensures.room, was.room_left, some))
 
 pub returns-clause-called : goal.returns-clause-called
