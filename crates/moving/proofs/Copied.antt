@@ -105,6 +105,15 @@ due-is array span copied sectioned due window =
 abbrev pub one_more : Course → Span → ℕ → Bool → Course
 one_more course span copied sectioned = record course { window = Entered span (copied + 1) sectioned }
 
+-- it is that of the entered window with one more
+pub copied-more : (course : Course) (span s : Span) (copied n : ℕ) (sectioned b : Bool) → course.window ≡ Entered span copied sectioned → course ≡ entered s n b → one_more course span copied sectioned ≡ entered s (n + 1) b
+copied-more course span s copied n sectioned b window is =
+    let same : Entered span copied sectioned ≡ Entered s n b = sym window ∙ ap (λ (c : Course). c.window) is in
+    let spans = same-span span s copied n sectioned b same in
+    let counts = same-count span s copied n sectioned b same in
+    let flags = same-flag span s copied n sectioned b same in
+    λ i. one_more (is i) (spans i) (counts i) (flags i)
+
 -- ---- the steps that are left
 
 -- One step fewer is left, and at least one.

@@ -1,4 +1,4 @@
-use Rattle.std.proofs.Common.{◌≤◌, ℕ, ◌-◌, ◌*◌, List, [], ◌∷◌, ◌++◌, take, Some, refl, sym, subst, arith}
+use Rattle.std.proofs.Common.{◌≤◌, ℕ, ◌-◌, ◌*◌, List, [], ◌∷◌, ◌++◌, take, Some, refl, sym, ◌∙◌, ap, subst, arith}
 use Rattle.std.specs.Vec.{with_items}
 use Rattle.md_base.specs.Shapes.{stripe_sectors}
 use Rattle.geometry.proofs.ClosedForms.{ceiling_below}
@@ -30,7 +30,7 @@ use Rattle.running_words.specs.Parts.{left_in}
 use Rattle.moving.specs.Ready.{bytes_in}
 use Rattle.running_words.specs.Calls.{IsCopyDue}
 use Rattle.moving.proofs.Called.{not_254, called, alone-lossless}
-use Rattle.moving.proofs.Copied.{due-is, IsStripeTried, copied-kept, uncopied-kept}
+use Rattle.moving.proofs.Copied.{due-is, IsStripeTried, copied-more, copied-kept, uncopied-kept}
 use Rattle.moving.proofs.Kept.{ready, shapes-same, shapes-moved, alone-keeps, behind-keeps, behind-whole, with-buffer}
 use Rattle.moving.proofs.Settled.{risen-told, many-of}
 use Rattle.moving.proofs.state.Moving.copy.Goals as goal
@@ -186,6 +186,10 @@ returns-clause-called g c =
     did.counts
     (record { uuid = c.enter_behind-2.ensures.uuid; given = c.enter_behind-2.ensures.given; first = c.enter_behind-2.ensures.first; backup = refl; work = refl; ahead = refl })
     (λ t. (was.kept.recorded t).begun))
+
+pub returns-clause-copied : goal.returns-clause-copied
+returns-clause-copied g c = λ s n b is.
+    copied-more c.self.inside.course c.in-Entered.span s c.in-Entered.copied n c.in-Entered.sectioned b c.in-Entered.is (ap (λ p. p.course) c.self.view_is ∙ is)
 
 pub returns-clause-caused : goal.returns-clause-caused
 returns-clause-caused g c = rw (← c.self.view_is) (omega arith, λ refusal many. never-both c.self.inside.members refusal c.in_default.ensures many)
