@@ -154,7 +154,7 @@ behind-whole {given = given} {old = old} {new = new} tape' scope first entries w
     ]
 
 -- what no entry takes in the end, none took before
-takes-before : {tells : Type 0} {tape tape' : List Operation} (given : Given) (scope : Scope) (first : ℕ) (entries added : List Entry) → Grows tells tape tape' → (tells → EndBy (length tape) entries)
+pub takes-before : {tells : Type 0} {tape tape' : List Operation} (given : Given) (scope : Scope) (first : ℕ) (entries added : List Entry) → Grows tells tape tape' → (tells → EndBy (length tape) entries)
     → tells → TakesNone (world_in given tape' scope first) (entries ++ added) → TakesNone (world_in given tape scope first) entries
 takes-before {tape = tape} {tape' = tape'} given scope first entries added grows ends t none role =
     let g = grows.more t in
@@ -220,3 +220,27 @@ with-buffer fits was = record {
   far_rows_fit = was.far_rows_fit;
   far_buffer_fits = was.far_buffer_fits;
 }
+
+-- with room for more entries
+pub roomier : {tells : Type 0} {given : Given} {tape : List Operation} {scope : Scope} {first : ℕ} {entries entries' : List Entry} {members : Members}
+    {work : Work} {course : Course} {ahead : PhasesLeft} {window : List ℕ} {steps room room' rows buffer far_rows far_buffer : ℕ} {faults : ℕ → ℕ}
+    → IsReady tells given tape scope first entries members work course ahead window faults steps room rows buffer far_rows far_buffer → entries' ≡ entries → room ≤ room'
+    → IsReady tells given tape scope first entries' members work course ahead window faults steps room' rows buffer far_rows far_buffer
+roomier {tells = tells} {given = given} {tape = tape} {scope = scope} {first = first} {members = members} {work = work} {course = course} {ahead = ahead} {window = window} {steps = steps} {room' = room'}
+    {rows = rows} {buffer = buffer} {far_rows = far_rows} {far_buffer = far_buffer} {faults = faults} was same more =
+    subst (λ (l : List Entry). IsReady tells given tape scope first l members work course ahead window faults steps room' rows buffer far_rows far_buffer) (sym same) (record {
+      kept = was.kept;
+      synced = was.synced;
+      sized = was.sized;
+      unlimited = was.unlimited;
+      full = was.full;
+      settled = was.settled;
+      planned = was.planned;
+      wide = was.wide;
+      failed = was.failed;
+      room_left = (let had = was.room_left in omega (arith, had, more));
+      rows_fit = was.rows_fit;
+      buffer_fits = was.buffer_fits;
+      far_rows_fit = was.far_rows_fit;
+      far_buffer_fits = was.far_buffer_fits;
+    })

@@ -9,9 +9,12 @@ use Rattle.views.proofs.MovedLaws.{grows-none}
 use Rattle.array_kept.proofs.LossLaws.{ended-behind}
 use Rattle.array_kept.proofs.ReadyLaws.{scope-same}
 use Rattle.running_words.specs.Parts.{left_in}
-use Rattle.moving.proofs.Kept.{ready, shapes-same, alone-keeps}
+use Rattle.moving.proofs.Kept.{ready, roomier, shapes-same, alone-keeps}
 use Rattle.moving.proofs.Asking.{status-same, shown-moves}
 use Rattle.moving.proofs.state.Moving.status.Goals as goal
+
+pub invariant_of-self : goal.invariant_of-self
+invariant_of-self g c = roomier c.self.invariant c.make_room.ensures.items c.make_room.ensures.keeps
 
 pub invariant_of-self-2 : goal.invariant_of-self-2
 invariant_of-self-2 g c =
