@@ -1,12 +1,11 @@
 -- A step that enters the next window, or is refused: what the array keeps of it.
-use Rattle.std.proofs.Common.{◌≡◌, ◌≢◌, ◌⊎◌, inl, inr, ℕ, ◌+◌, ◌-◌, ◌*◌, ◌<◌, ◌≤◌, ◌==◌, Bool, true, false, cond, Some, None, List, [], ◌∷◌, ◌++◌, length, take, refl, sym, ◌∙◌, ap, subst, arith}
-use Rattle.std.specs.Prelude.{IfSome, IsFalse, ⊤}
+use Rattle.std.proofs.Common.{◌≡◌, ◌≢◌, ◌⊎◌, inl, inr, ℕ, ◌+◌, ◌-◌, ◌*◌, ◌<◌, ◌==◌, Bool, true, false, Option, Some, None, List, [], ◌∷◌, ◌++◌, length, take, refl, sym, ◌∙◌, ap, subst, arith}
+use Rattle.std.specs.Prelude.{IfSome, IsFalse, MatchOption, ⊤}
 use Rattle.md_base.specs.Sectors.{Sector}
 use Rattle.md_base.specs.Shapes.{tolerance, tolerance_of}
 use Rattle.md_base.specs.declared.answers.Refusal.{Refusal}
 use Rattle.md_base.specs.declared.answers.Refusal.TheVariants.{BackupFault}
 use Rattle.md_base.specs.declared.answers.Who.{Who}
-use Rattle.md_base.specs.declared.places.Shape.{Shape}
 use Rattle.md_base.specs.declared.places.Span.{Span}
 use Rattle.bank.specs.declared.bank.Operation.{Operation}
 use Rattle.bank.specs.Given.{Given}
@@ -26,11 +25,11 @@ use Rattle.flat_history.specs.Flat.{now, values_of}
 use Rattle.flat_history.specs.Legal.{told_left, level_at, IsLegalEvent}
 use Rattle.flat_history.specs.Plain.{entries_of}
 use Rattle.flat_history.specs.Sound.{OpensFit}
-use Rattle.flat_history.specs.World.{World, opening_list}
+use Rattle.flat_history.specs.World.{opening_list}
 use Rattle.flat_history.proofs.SoundLaws.{fit-before}
 use Rattle.shape_views.specs.Regions.{DoWithout}
 use Rattle.shape_views.specs.Views.{Ledger}
-use Rattle.shape_views.specs.Windows.{HasNoSection, ListStands, RowsStand}
+use Rattle.shape_views.specs.Windows.{ListStands, RowsStand}
 use Rattle.shape_changes.specs.Safety.{HasRoomLeft, IsRisen}
 use Rattle.shape_changes.specs.Steady.{AreWritesAllowed, IsSafeOver, KeepsSafe, AreGoneTold, IsUncleanTold}
 use Rattle.views.specs.Placed.{AreWhole}
@@ -44,7 +43,7 @@ use Rattle.window_steps.proofs.CopyLaws.{window-alike, critical-alike}
 use Rattle.grow_asked.specs.declared.window.Window.{Window}
 use Rattle.grow_asked.specs.declared.window.Window.TheVariants.{Closed, Entered, Unsure}
 use Rattle.grow_asked.specs.declared.window.PhasesLeft.{PhasesLeft}
-use Rattle.grow_asked.specs.Left.{grow_left, phases_of, reshape_left}
+use Rattle.grow_asked.specs.Left.{phases_of, reshape_left}
 use Rattle.grow_asked.proofs.LeftLaws.{entering}
 use Rattle.kept_history.specs.Recorded.{IsCallGoing, entry_of}
 use Rattle.kept_history.specs.Safe.{world_in, IsFilledRight, TakesNone}
@@ -54,8 +53,8 @@ use Rattle.history_calls.proofs.Adding.{IsAdding, ChangesEarly, changing-leaves}
 use Rattle.history_calls.proofs.Behind.{IsAmong, early-losses, first-of, legal-losses}
 use Rattle.history_calls.proofs.Quiet.{IsQuiet, IsLeftBehind, fit-later, quiet-now}
 use Rattle.course_kept.specs.declared.course.Course.{Course}
-use Rattle.course_kept.specs.Course.{HasWindowIn, IsCourseOf, IsStored, StandsInCourse, hidden_in}
-use Rattle.course_kept.specs.Laws.{closed, entered, unsure}
+use Rattle.course_kept.specs.Course.{HasWindowIn, IsCourseOf, IsStored, StandsInCourse}
+use Rattle.course_kept.specs.Laws.{closed}
 use Rattle.course_kept.proofs.Courses.{enters-stand}
 use Rattle.course_kept.proofs.Frames.{stands-on}
 use Rattle.moving_state.proofs.LeftLaws.{plans-counted, some-left}
@@ -69,6 +68,14 @@ use Rattle.moving.specs.Ready.{bytes_in}
 use Rattle.moving.proofs.Called.{not_254}
 use Rattle.moving.proofs.Kept.{left-moved, behind-whole, takes-before}
 use Rattle.moving.proofs.RecordLaws.{closed-bare}
+
+-- ---- answers
+
+pub when-some : (P : Type 0) (Q : Refusal → Type 0) (found : Option Refusal) (refusal : Refusal) → found ≡ Some refusal → MatchOption found P Q → Q refusal
+when-some P Q found refusal is told = subst (λ (o : Option Refusal). MatchOption o P Q) is told
+
+pub when-none : (P : Type 0) (Q : Refusal → Type 0) (found : Option Refusal) → found ≡ None → MatchOption found P Q → P
+when-none P Q found is told = subst (λ (o : Option Refusal). MatchOption o P Q) is told
 
 -- ---- the course
 
