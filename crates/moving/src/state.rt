@@ -9,10 +9,13 @@ ghost use Rattle.running_words.specs.Parts.{left_in};
 
 mod asking;
 mod ending;
+mod entering;
 mod failing;
+mod finishing;
 mod moves;
 mod recording;
 mod settling;
+mod writing;
 mod zeroing;
 
 use bank::Bank;
