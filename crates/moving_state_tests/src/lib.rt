@@ -6,4 +6,6 @@ mod courses;
 #[cfg(test)]
 mod members;
 #[cfg(test)]
+mod mends;
+#[cfg(test)]
 mod rows;

@@ -1,0 +1,6 @@
+pub mod Regions
+pub mod StripeLaws
+pub mod ReliedLaws
+pub mod RefusalLaws
+pub mod StripeRows
+pub mod MendedLists
