@@ -1,5 +1,5 @@
 -- What a mended stripe leaves of the list: it stands as before, and in one stripe more each row with its parity.
-use Rattle.std.proofs.Common.{◌≡◌, ◌⊎◌, inl, inr, ℕ, ◌+◌, ◌*◌, ◌<◌, ◌≤◌, Bool, true, false, if◌then◌else◌, [], Option, Some, refl, sym, ◌∙◌, ap, subst, arith}
+use Rattle.std.proofs.Common.{◌≡◌, inl, inr, ℕ, ◌+◌, ◌*◌, ◌<◌, ◌≤◌, Bool, true, false, if◌then◌else◌, [], Option, Some, refl, sym, ◌∙◌, ap, subst, arith}
 use Rattle.std.specs.Option.{option_map_or}
 use Rattle.std.proofs.lemmas.Bool.{cases_lt}
 use Rattle.std.proofs.lemmas.Nat.{mul-le}
@@ -20,10 +20,10 @@ use Rattle.flat_history.specs.Stands.{shape_for}
 use Rattle.shape_views.specs.Regions.{place_by}
 use Rattle.shape_views.specs.Views.{IsTail}
 use Rattle.shape_views.specs.Windows.{IsShown, AreTailsStanding}
-use Rattle.shape_views.proofs.Stands.{StandsAt, data-at, data-from}
+use Rattle.shape_views.proofs.Stands.{data-at, data-from}
 use Rattle.views.specs.Placed.{IsPlaced}
 use Rattle.views.specs.Moving.{IsMoved}
-use Rattle.views.specs.Lacking.{IsOfStripe, IsHeldRowKept, DoesWithout, DataStandsAmong, AreOtherRowsKept}
+use Rattle.views.specs.Lacking.{IsHeldRowKept, DoesWithout, DataStandsAmong, AreOtherRowsKept}
 use Rattle.views.proofs.Fit.{for-alike, list-alike}
 use Rattle.views.proofs.HeldRows.{held-moved}
 use Rattle.views.proofs.MendedParts.{stripe-within}
@@ -32,7 +32,7 @@ use Rattle.region_writes.proofs.Tails.{is_listed, listed-is, tailed-is, listed-o
 use Rattle.region_mends.specs.declared.stripes.Stripe.{Stripe}
 use Rattle.region_mends.specs.Mends.{low_end, low_shape, low_stripes, mend_stripes, stripe_behind, relied_sector, IsMendRow, AreEndsStanding}
 use Rattle.region_mends.proofs.StripeLaws.{is-next}
-use Rattle.region_mends.proofs.StripeRows.{of-stripe-or, next-valid, next-within, next-row, next-region, next-sector, next-mate, next-behind, next-past, next-ended, next-tail}
+use Rattle.region_mends.proofs.StripeRows.{of-stripe-or, next-valid, next-row, next-region, next-sector, next-mate, next-behind, next-past, next-ended, next-tail}
 
 -- ---- a row that isn't written stands on
 
@@ -126,7 +126,7 @@ module _ (given : Given) (old new : Members) (moved : IsMoved given old new) (wa
       let all = mul-le (next.at + 1) next.shape.chunk (low_stripes old.newest) next.shape.chunk (let few = low.1 in omega (arith, few)) (omega arith) in
       let under : (place next.shape y).row < low_stripes old.newest * next.shape.chunk = omega (arith, high, all) in
       subst (λ (s : Shape). (place s y).row < low_stripes old.newest * s.chunk → held_slot (reading_of old) (place s y).role (place s y).row ≡ Some slot
-          → before slot (data_offset_of (reading_of old) slot + (place s y).row) ≡ list y) (sym low.0) (ends y slot past) under held
+      → before slot (data_offset_of (reading_of old) slot + (place s y).row) ≡ list y) (sym low.0) (ends y slot past) under held
 
   -- so its data stands in the stripe
   pub stripe-data : (hidden : Option Span) (list : ℕ → Sector) (among : Shape → Type 0) → among next.shape

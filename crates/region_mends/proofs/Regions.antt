@@ -1,5 +1,5 @@
 -- The two regions of the list: the shape of each, and where its stripes begin and end.
-use Rattle.std.proofs.Common.{◌≡◌, ◌⊎◌, inl, inr, ℕ, ◌+◌, ◌-◌, ◌*◌, ◌/◌, ◌^◌, ◌<◌, ◌≤◌, nat_lt, nat_le, min, Bool, true, false, if◌then◌else◌, refl, sym, ◌∙◌, ap, subst, arith}
+use Rattle.std.proofs.Common.{◌≡◌, ◌⊎◌, inl, inr, ℕ, ◌+◌, ◌*◌, ◌/◌, ◌^◌, ◌<◌, ◌≤◌, nat_lt, nat_le, min, Bool, true, false, if◌then◌else◌, refl, sym, ◌∙◌, ap, subst, arith}
 use Rattle.std.specs.Prelude.{IsTrue}
 use Rattle.std.specs.Int.{◌∣◌}
 use Rattle.std.proofs.lemmas.Bool.{cases_lt}
@@ -14,7 +14,7 @@ use Rattle.sb1.specs.declared.sb.Sb.{Sb}
 use Rattle.geometry.specs.Geometry.{unit, side, ceiling}
 use Rattle.geometry.proofs.Divisions.{ceiling_bounds, ceiling_le, ceiling_of_multiple, next_multiple}
 use Rattle.geometry.proofs.Valid.{bounded, bounded_pair, the_unit}
-use Rattle.region_laws.specs.Regions.{IsDirected, IsUnderWay}
+use Rattle.region_laws.specs.Regions.{IsDirected}
 use Rattle.superblocks.specs.Reading.{is_reshaping, is_backward, shape_of, final_shape, list_length}
 use Rattle.flat_history.specs.Stands.{shape_at, shape_for}
 use Rattle.shape_views.specs.Regions.{AreShapesFit}
@@ -82,7 +82,7 @@ module _ (newest : Sb) (fit : AreShapesFit newest) where
 
   -- ---- where the lower region ends
 
-  low-is : is_reshaping newest ≡ true → low_end newest ≡ newest.reshape_position
+  pub low-is : is_reshaping newest ≡ true → low_end newest ≡ newest.reshape_position
   low-is active = ap (λ (b : Bool). if b then newest.reshape_position else 0) active
 
   pub low-none : is_reshaping newest ≡ false → low_end newest ≡ 0
@@ -216,7 +216,7 @@ module _ (newest : Sb) (fit : AreShapesFit newest) where
 
   pub low-few : low_stripes newest ≤ newest.size / (low_shape newest).chunk
   low-few = ceiling_le (low_end newest) (stripe_sectors (low_shape newest)) (newest.size / (low_shape newest).chunk) low-some
-      (let fits = low-fits in let short = list-short newest (low_shape newest) low-force in let data = data-of (low_shape newest) low-force in omega (arith, fits, short, data))
+      (let fits = low-fits in let short = list-short newest (low_shape newest) low-force in let holds = data-of (low_shape newest) low-force in omega (arith, fits, short, holds))
 
 -- ---- shapes that the code has
 

@@ -1,5 +1,5 @@
 -- How far parity is relied on: from nowhere to the whole list, and no stripe is cut.
-use Rattle.std.proofs.Common.{◌≡◌, ◌↔◌, inl, inr, ℕ, zero, suc, ◌+◌, ◌-◌, ◌*◌, ◌/◌, ◌<◌, ◌≤◌, nat_le, Bool, true, false, if◌then◌else◌, Option, Some, None, IfSome, refl, sym, ◌∙◌, ap, subst, arith}
+use Rattle.std.proofs.Common.{◌≡◌, inl, inr, ℕ, zero, suc, ◌+◌, ◌-◌, ◌*◌, ◌/◌, ◌<◌, ◌≤◌, nat_le, Bool, true, false, if◌then◌else◌, Option, Some, None, IfSome, refl, sym, ◌∙◌, ap, subst, arith}
 use Rattle.std.proofs.lemmas.Bool.{cases_lt}
 use Rattle.std.proofs.lemmas.Bool.Decides.{nat_tests}
 use Rattle.std.proofs.lemmas.Nat.{mul-le, le-div}
@@ -20,7 +20,7 @@ use Rattle.views.proofs.Stripes.{row-in_stripes}
 use Rattle.region_rows.specs.Stretches.{relied_rows}
 use Rattle.region_rows.proofs.StretchLaws.{relied-below}
 use Rattle.region_mends.specs.declared.stripes.Stripe.{Stripe}
-use Rattle.region_mends.specs.Mends.{low_end, low_shape, high_shape, low_stripes, high_stripe, mend_stripes, stripe_behind, first_sector, relied_sector}
+use Rattle.region_mends.specs.Mends.{low_end, low_shape, high_shape, low_stripes, high_stripe, mend_stripes, stripe_behind, relied_sector}
 use Rattle.region_mends.specs.Laws.{ReliedGrows, ReliedReaches, ReliedIsWhole, StillMends}
 use Rattle.region_mends.proofs.Regions.{low-valid, high-valid, low-some, high-some, low-none, low-own, high-own, list-stripes, high-whole, high-few, low-ends, low-before}
 use Rattle.region_mends.proofs.StripeLaws.{stripe-at, behind-low, behind-high, relied-low, relied-high, relied-between, relied-low-fits, is-next}
@@ -63,8 +63,8 @@ module _ (newest : Sb) (fit : AreShapesFit newest) where
   to-all =
       relied-high newest (mend_stripes newest) (omega arith)
       ∙ ap (λ (n : ℕ). n * stripe_sectors (high_shape newest))
-          (let few = high-few newest fit in
-          let last : high_stripe newest + (low_stripes newest + (newest.size / (high_shape newest).chunk - high_stripe newest) - low_stripes newest) ≡ newest.size / (high_shape newest).chunk = omega (arith, few) in last)
+      (let few = high-few newest fit in
+      let last : high_stripe newest + (low_stripes newest + (newest.size / (high_shape newest).chunk - high_stripe newest) - low_stripes newest) ≡ newest.size / (high_shape newest).chunk = omega (arith, few) in last)
       ∙ sym (list-stripes newest fit)
 
   pub relied-within : (mended : ℕ) → mended ≤ mend_stripes newest → relied_sector newest (Some mended) ≤ list_length newest
@@ -149,7 +149,7 @@ module _ (newest : Sb) (fit : AreShapesFit newest) (still : is_reshaping newest 
   none-low = elim (cases_lt 0 (low_stripes newest)) [
     | inl some ↦ absurd (
         let before = low-before newest fit 0 some in
-        let none = low-none newest still in
+        let none = low-none newest fit still in
         let long = chunk_some (low_shape newest) (low-valid newest fit) in
         omega (arith, before, none, long))
     | inr none ↦ omega (arith, none)
@@ -160,7 +160,7 @@ module _ (newest : Sb) (fit : AreShapesFit newest) (still : is_reshaping newest 
     | inl some ↦ absurd (
         let past = next_multiple 0 (high_stripe newest) (stripe_sectors (high_shape newest)) some in
         let whole = high-whole newest fit in
-        let none = low-none newest still in
+        let none = low-none newest fit still in
         let long = high-some newest fit in
         omega (arith, past, whole, none, long))
     | inr none ↦ omega (arith, none)

@@ -8,12 +8,11 @@ use Rattle.md_base.specs.Shapes.{data_disks, stripe_sectors}
 use Rattle.sb1.specs.declared.sb.Sb.{Sb}
 use Rattle.geometry.proofs.Valid.{bounded}
 use Rattle.superblocks.specs.Reading.{list_length}
-use Rattle.flat_history.specs.Stands.{shape_for}
 use Rattle.shape_views.specs.Regions.{AreShapesFit}
 use Rattle.region_mends.specs.declared.stripes.Stripe.{Stripe}
-use Rattle.region_mends.specs.Mends.{low_end, low_shape, high_shape, low_stripes, high_stripe, mend_stripes, stripe_behind, next_mend, first_sector, relied_sector}
+use Rattle.region_mends.specs.Mends.{low_end, low_shape, high_shape, low_stripes, high_stripe, mend_stripes, stripe_behind, relied_sector}
 use Rattle.region_mends.specs.Laws.{IsMendedNext, MendsGoOn}
-use Rattle.region_mends.proofs.Regions.{low-valid, high-valid, low-force, high-force, low-some, low-fits, low-own, high-own, list-stripes, high-whole, high-few, low-ends, low-before, low-reach, low-few}
+use Rattle.region_mends.proofs.Regions.{low-valid, high-valid, low-force, high-force, low-fits, low-own, high-own, list-stripes, high-whole, high-few, low-ends, low-before, low-reach, low-few}
 
 lt-is : (a b : ℕ) → a < b → nat_lt a b ≡ true
 lt-is a b lt = grind (arith, nat_tests, lt)

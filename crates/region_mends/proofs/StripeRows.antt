@@ -1,5 +1,5 @@
 -- The rows of a stripe of a region: which sectors of the list stand in them, and which are behind its end.
-use Rattle.std.proofs.Common.{◌≡◌, ◌⊎◌, inl, inr, ℕ, ◌+◌, ◌-◌, ◌*◌, ◌/◌, ◌<◌, ◌≤◌, nat_lt, min, Bool, true, false, if◌then◌else◌, Some, refl, sym, ◌∙◌, ap, subst, arith}
+use Rattle.std.proofs.Common.{◌≡◌, ◌⊎◌, inl, inr, ℕ, ◌+◌, ◌*◌, ◌<◌, ◌≤◌, nat_lt, min, Bool, true, false, if◌then◌else◌, Some, sym, ◌∙◌, ap, subst, arith}
 use Rattle.std.proofs.lemmas.Bool.{cases_lt}
 use Rattle.std.proofs.lemmas.Bool.Decides.{nat_tests}
 use Rattle.std.proofs.lemmas.Nat.{mul-le}
@@ -9,8 +9,8 @@ use Rattle.md_base.specs.Shapes.{is_valid_shape, data_disks, stripe_sectors}
 use Rattle.sb1.specs.declared.sb.Sb.{Sb}
 use Rattle.layout.specs.Layout.{place}
 use Rattle.layout.proofs.Places.{chunk_some}
-use Rattle.geometry.specs.Geometry.{side}
-use Rattle.superblocks.specs.Reading.{final_shape, list_length}
+use Rattle.geometry.specs.Geometry.{side, ceiling}
+use Rattle.superblocks.specs.Reading.{is_reshaping, is_backward, final_shape, list_length}
 use Rattle.flat_history.specs.Stands.{shape_for}
 use Rattle.shape_views.specs.Regions.{AreShapesFit, place_by}
 use Rattle.shape_views.specs.Views.{IsTail}
@@ -20,9 +20,9 @@ use Rattle.views.proofs.Fit.{force-valid}
 use Rattle.views.proofs.Stripes.{stripes-multiple, row-beyond, row-in_stripes, sector-in_stripes, of_stripe-touched}
 use Rattle.region_writes.proofs.Together.{rows-together, together-shape}
 use Rattle.region_mends.specs.declared.stripes.Stripe.{Stripe}
-use Rattle.region_mends.specs.Mends.{low_shape, low_stripes, mend_stripes, stripe_behind, first_sector, relied_sector, IsMendRow}
-use Rattle.region_mends.specs.Laws.{IsMendedNext}
-use Rattle.region_mends.proofs.Regions.{low-valid, high-some, low-fits, low-ends}
+use Rattle.region_mends.specs.Mends.{low_end, low_shape, low_stripes, mend_stripes, stripe_behind, first_sector, relied_sector, IsMendRow}
+use Rattle.region_mends.specs.Laws.{IsMendedNext, MendsAreListed}
+use Rattle.region_mends.proofs.Regions.{low-valid, high-some, low-is, low-fits, low-ends, low-before}
 use Rattle.region_mends.proofs.StripeLaws.{behind-low, behind-high, high-from, high-within, is-next}
 use Rattle.region_mends.proofs.ReliedLaws.{relied-within}
 
@@ -188,7 +188,39 @@ module _ (newest : Sb) (fit : AreShapesFit newest) (mended : ℕ) (lt : mended <
       let low : first_sector next < newest.reshape_position = omega (arith, some, within, through) in
       sym (is.own (first_sector next) (omega arith) next-some)
       ∙ shape-on newest tail.active (first_sector next) New
-          (ap (λ (b : Bool). side b newest.reshape_position (first_sector next)) tail.forth ∙ ap (λ (b : Bool). if b then New else Old) (lt-is (first_sector next) newest.reshape_position low))
+      (ap (λ (b : Bool). side b newest.reshape_position (first_sector next)) tail.forth ∙ ap (λ (b : Bool). if b then New else Old) (lt-is (first_sector next) newest.reshape_position low))
     where
       lt-is : (a b : ℕ) → a < b → nat_lt a b ≡ true
       lt-is a b lt = grind (arith, nat_tests, lt)
+
+-- ---- behind a forward reshape's last window
+
+pub mends-are-listed : MendsAreListed
+mends-are-listed newest mended row fit active forth through lt at = elim (cases_lt mended (low_stripes newest)) [
+  | inl low ↦ (
+      let low-row : IsOfStripe (low_shape newest) mended row = subst (λ (s : Stripe). IsOfStripe s.shape s.at row) (behind-low newest mended low) at in
+      let high = low-row.1 in
+      let all = mul-le (mended + 1) (low_shape newest).chunk (low_stripes newest) (low_shape newest).chunk (omega (arith, low)) (omega arith) in
+      let under : row < low_stripes newest * (low_shape newest).chunk = omega (arith, high, all) in
+      let end : low_end newest ≡ list_length newest = low-is newest fit active ∙ through in
+      subst (λ (s : Shape). row < ceiling (list_length newest) (stripe_sectors s) * s.chunk) (new-below newest fit active forth through mended low)
+      (subst (λ (n : ℕ). row < ceiling n (stripe_sectors (low_shape newest)) * (low_shape newest).chunk) end under))
+  | inr high ↦ absurd (
+      let from = high-from newest fit mended high lt in
+      let within = high-within newest fit mended high lt in
+      let some = high-some newest fit in
+      let end : low_end newest ≡ list_length newest = low-is newest fit active ∙ through in
+      omega (arith, from, within, some, end))
+]
+  where
+    lt-is : (a b : ℕ) → a < b → nat_lt a b ≡ true
+    lt-is a b lt = grind (arith, nat_tests, lt)
+
+    -- the list's first sector is of the new shape
+    new-below : (newest : Sb) (fit : AreShapesFit newest) → is_reshaping newest ≡ true → is_backward newest ≡ false → newest.reshape_position ≡ list_length newest → (mended : ℕ) → mended < low_stripes newest
+        → low_shape newest ≡ final_shape newest
+    new-below newest fit active forth through mended low =
+        let before = low-before newest fit mended low in
+        let some = chunk_some (low_shape newest) (low-valid newest fit) in
+        let same = low-is newest fit active in
+        shape-on newest active 0 New (ap (λ (b : Bool). side b newest.reshape_position 0) forth ∙ ap (λ (b : Bool). if b then New else Old) (lt-is 0 newest.reshape_position (omega (arith, before, some, same))))

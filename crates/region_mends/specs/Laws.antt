@@ -1,14 +1,15 @@
 -- How a resync goes through the list of an array in a reshape.
-use Rattle.std.specs.Prelude.{◌≡◌, ◌↔◌, ℕ, ◌+◌, ◌-◌, ◌*◌, ◌/◌, ◌<◌, ◌≤◌, min, false, Option, Some, IfSome}
+use Rattle.std.specs.Prelude.{◌≡◌, ◌↔◌, ℕ, ◌+◌, ◌*◌, ◌/◌, ◌<◌, ◌≤◌, min, true, false, Option, Some, IfSome}
 use Rattle.md_base.specs.Shapes.{stripe_sectors}
 use Rattle.sb1.specs.declared.sb.Sb.{Sb}
-use Rattle.superblocks.specs.Reading.{is_reshaping, shape_of, list_length}
+use Rattle.geometry.specs.Geometry.{ceiling}
+use Rattle.superblocks.specs.Reading.{is_reshaping, is_backward, shape_of, final_shape, list_length}
 use Rattle.flat_history.specs.Stands.{shape_for}
 use Rattle.shape_views.specs.Regions.{AreShapesFit, place_by}
 use Rattle.views.specs.Placed.{IsInForce}
 use Rattle.region_rows.specs.Stretches.{relied_rows}
 use Rattle.region_mends.specs.declared.stripes.Stripe.{Stripe}
-use Rattle.region_mends.specs.Mends.{mend_stripes, stripe_behind, next_mend, first_sector, relied_sector}
+use Rattle.region_mends.specs.Mends.{mend_stripes, stripe_behind, next_mend, first_sector, relied_sector, IsMendRow}
 
 -- The next stripe, where so many are mended, is one of a shape in force. It begins where parity is relied on so far; with it mended, that is so to its end, or to
 -- the list's, a chunk further or more; and each sector between is placed by its shape.
@@ -37,6 +38,11 @@ ReliedReaches = (newest : Sb) → AreShapesFit newest
 abbrev pub ReliedIsWhole : Type 0
 ReliedIsWhole = (newest : Sb) (resync : Option ℕ) (x : ℕ) → AreShapesFit newest → IfSome resync (λ mended. mended ≤ mend_stripes newest) → x < list_length newest
     → ((place_by newest x).row < relied_rows newest (relied_sector newest resync) (shape_for newest x)) ↔ (x < relied_sector newest resync)
+
+-- Once a forward reshape has gone through the list, each row that is mended is of a stripe of the new shape that has sectors of the list: none is one that is zeroed.
+abbrev pub MendsAreListed : Type 0
+MendsAreListed = (newest : Sb) (mended row : ℕ) → AreShapesFit newest → is_reshaping newest ≡ true → is_backward newest ≡ false → newest.reshape_position ≡ list_length newest
+    → mended < mend_stripes newest → IsMendRow newest mended row → row < ceiling (list_length newest) (stripe_sectors (final_shape newest)) * (final_shape newest).chunk
 
 -- Without a reshape the stripes are those of the array, one after another.
 abbrev pub StillMends : Type 0

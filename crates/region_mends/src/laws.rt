@@ -1,6 +1,6 @@
 //! How a resync goes through the list. Each function's contract is the law.
 
-ghost use Rattle.region_mends.specs.Laws.{MendsGoOn, ReliedGrows, ReliedReaches, ReliedIsWhole, StillMends};
+ghost use Rattle.region_mends.specs.Laws.{MendsGoOn, ReliedGrows, ReliedReaches, ReliedIsWhole, MendsAreListed, StillMends};
 
 /// The next stripe begins where parity is relied on so far, and with it that is so to its end.
 pub fn mends_go_on()
@@ -20,6 +20,11 @@ pub fn relied_reaches()
 /// It is relied on in the rows of exactly the sectors below.
 pub fn relied_is_whole()
     ensures { ReliedIsWhole }
+{}
+
+/// Behind a forward reshape's last window no row behind the list's last stripe is mended.
+pub fn mends_are_listed()
+    ensures { MendsAreListed }
 {}
 
 /// Without a reshape the stripes are those of the array.

@@ -1,9 +1,8 @@
-use Rattle.std.proofs.Common.{◌≡◌, ◌≤◌, ◌<◌, ◌*◌, ℕ, Some, ap, sym, ◌∙◌, subst, arith}
+use Rattle.std.proofs.Common.{◌≡◌, ◌*◌, ℕ, Some, ap, sym, ◌∙◌, subst, arith}
 use Rattle.std.specs.Prelude.{IsTrue}
 use Rattle.md_base.specs.Shapes.{is_valid_shape, stripe_sectors}
-use Rattle.md_base.specs.declared.places.Shape.{Shape}
 use Rattle.region_mends.specs.declared.stripes.Stripe.{Stripe}
-use Rattle.region_mends.specs.Mends.{stripe_behind, relied_sector}
+use Rattle.region_mends.specs.Mends.{relied_sector}
 use Rattle.region_mends.proofs.Regions.{list-few}
 use Rattle.region_mends.proofs.ReliedLaws.{behind-valid, relied-within}
 use Rattle.region_mends.proofs.stripes.mended_sector.Goals as goal

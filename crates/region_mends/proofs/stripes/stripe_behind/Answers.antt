@@ -1,8 +1,8 @@
-use Rattle.std.proofs.Common.{◌≡◌, ◌≤◌, ◌<◌, ◌+◌, ◌-◌, ◌/◌, ℕ, ap, sym, ◌∙◌, subst, arith}
+use Rattle.std.proofs.Common.{◌+◌, ◌-◌, ℕ, ap, sym, ◌∙◌, arith}
 use Rattle.std.proofs.Math.Nat.{div-le_self}
 use Rattle.md_base.specs.declared.places.Shape.{Shape}
 use Rattle.views.proofs.Fit.{fit-short}
-use Rattle.region_mends.specs.Mends.{low_shape, high_shape, low_stripes, high_stripe}
+use Rattle.region_mends.specs.Mends.{high_shape, high_stripe}
 use Rattle.region_mends.proofs.Regions.{high-few}
 use Rattle.region_mends.proofs.StripeLaws.{stripe-at, behind-low, behind-high}
 use Rattle.region_mends.proofs.stripes.stripe_behind.Goals as goal
@@ -14,8 +14,8 @@ returns-then-mended-low c =
     let below = c.if-mended-low.true in
     ap (λ (s : Shape). stripe-at s c.args.mended) c.low_shape.ensures ∙ sym (behind-low newest c.args.mended (omega (arith, low, below)))
 
-pub overflow_add-result-at : goal.overflow_add-result-at
-overflow_add-result-at c =
+pub overflow_add-result : goal.overflow_add-result
+overflow_add-result c =
     let newest = c.args.members.now.newest in
     let first = c.high_stripe.ensures in
     let few = high-few newest c.requires.fit in
