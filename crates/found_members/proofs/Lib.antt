@@ -1,0 +1,5 @@
+pub mod Elected
+pub mod Fit
+pub mod Placed
+pub mod Read
+pub mod Held
