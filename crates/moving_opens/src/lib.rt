@@ -1,0 +1,10 @@
+//! What an opening finds of an array in a reshape is what such an array keeps. Each function's contract is the law.
+#![tactic(auto)]
+
+ghost use Rattle.std.specs.Prelude.{⊤};
+ghost use Rattle.moving_opens.specs.Opening.{OpeningsMove};
+
+/// What a sound opening finds of a clean array in a reshape is what such an array keeps from call to call.
+pub fn openings_move()
+    ensures { OpeningsMove ⊤ }
+{}
