@@ -1,5 +1,5 @@
 -- The list of an array in a reshape that an opening finds stands in its course: nothing of the window is copied, and its section's sectors are in the buffer.
-use Rattle.std.proofs.Common.{◌≡◌, inl, inr, ℕ, ◌+◌, ◌-◌, ◌*◌, ◌/◌, ◌<◌, ◌≤◌, nat_lt, nat_le, ◌&&◌, Bool, true, false, cond, List, [], Option, Some, None, unwrap_or, refl, sym, ◌∙◌, ap, ap₂, subst, arith}
+use Rattle.std.proofs.Common.{◌≡◌, inl, inr, ℕ, ◌+◌, ◌-◌, ◌/◌, ◌<◌, ◌≤◌, nat_lt, nat_le, ◌&&◌, Bool, true, false, cond, List, [], Option, Some, None, unwrap_or, refl, sym, ◌∙◌, ap, ap₂, subst, arith}
 use Rattle.std.specs.Prelude.{slice_index_or}
 use Rattle.std.proofs.lemmas.Bool.{cases_lt}
 use Rattle.std.proofs.lemmas.Bool.Decides.{nat_tests}
@@ -30,7 +30,8 @@ use Rattle.shape_views.proofs.Standing.{standing_at, section-here, held-same, re
 use Rattle.shape_views.proofs.WindowLaws.{open-window}
 use Rattle.grow_asked.specs.declared.window.Window.{Window}
 use Rattle.views.specs.Placed.{IsPlaced}
-use Rattle.course_kept.specs.Course.{hidden_in, HasWindowIn, IsCopiedRow, past_stripe, StandsInCourse}
+use Rattle.course_kept.specs.Course.{hidden_in, HasWindowIn, IsCopiedRow, past_stripe, AnyShape, StandsInCourse}
+use Rattle.course_kept.proofs.Courses.{none-of-none}
 use Rattle.reshape_openings.specs.Finding.{window_for, IsFoundIn}
 use Rattle.moving_opens.specs.Opening.{found_course}
 use Rattle.moving_opens.proofs.Regions.{for-same, beside-window, past-tail, past-old}
@@ -47,13 +48,6 @@ is-covered span x (low, high) = of span.lo span.hi low high
   where
     of : (lo hi : ℕ) → lo ≤ x → x < hi → ◌≡◌ {A = Bool} (nat_le lo x && nat_lt x hi) true
     of lo hi low high = grind (arith, nat_tests, low, high)
-
--- no stripe has no row
-no-stripe : (first chunk row : ℕ) → first * chunk ≤ row → row < (first + 0) * chunk → ⊥
-no-stripe first chunk row low high = absurd (let same : (first + 0) * chunk ≡ first * chunk = ap (λ (n : ℕ). n * chunk) (plain first) in omega (arith, low, high, same))
-  where
-    plain : (n : ℕ) → n + 0 ≡ n
-    plain n = omega arith
 
 -- what is hidden is what the header makes active
 hidden-is : (o : Option Span) → hidden_in (window_for o) ≡ o
@@ -190,7 +184,7 @@ module _ (bank : Given) (scope : Scope) (sizes_are : scope.sizes ≡ sizes bank)
   -- nothing is copied yet
   none-copied : (o : Option Span) (k : ℕ) → IsCopiedRow m.newest (window_for o) k → ⊥
   none-copied None k copied = copied
-  none-copied (Some span) k copied = absurd (no-stripe (span.lo / stripe_sectors (final_shape m.newest)) (final_shape m.newest).chunk k copied.0 copied.1)
+  none-copied (Some span) k copied = absurd (none-of-none (final_shape m.newest) (span.lo / stripe_sectors (final_shape m.newest)) k copied)
 
   section-has : (slot : ℕ → Sector) (buffer : List ℕ) (o : Option Span) → IsFoundIn slot (window_for o) buffer → ((span : Span) → o ≡ Some span → (x : ℕ) → geometry.IsIn x span → list x ≡ slot (8 + (x - span.lo)))
       → HasWindowIn (window_for o) buffer list
@@ -204,17 +198,17 @@ module _ (bank : Given) (scope : Scope) (sizes_are : scope.sizes ≡ sizes bank)
     found-here : IsFoundIn (c (backup_of scope)) (window_for (open_by scope m.newest (header_in scope c))) buffer
     found-here = subst (λ (w : Window). IsFoundIn (c (backup_of scope)) w buffer) is found
 
-    stands-by : StandsInCourse sound m (found_course (window_for (open_by scope m.newest (header_in scope c)))) buffer c list
+    stands-by : StandsInCourse sound AnyShape m (found_course (window_for (open_by scope m.newest (header_in scope c)))) buffer c list
     stands-by = record {
-      stands = subst (λ (o : Option Span). ListStands o m c list) (sym (hidden-is hidden)) list-stands;
+      stands = λ x slot any shown held. subst (λ (o : Option Span). ListStands o m c list) (sym (hidden-is hidden)) list-stands x slot shown held;
       window = section-has (c (backup_of scope)) buffer hidden found-here
           (λ span here x within. list-hidden span here x within (let most = inside span (open-window scope m.newest (header_in scope c) span here) in let high = within.1 in omega (arith, high, most)));
       zeros = λ forth x le. list-zero forth x le;
-      copied = λ row copied. absurd (none-copied hidden row copied);
-      tail = tail;
-      zeroed = λ row zeroed. absurd (no-stripe (past_stripe m.newest) (final_shape m.newest).chunk row zeroed.0 zeroed.1);
-      rows = λ so. subst (λ (o : Option Span). RowsStand o m c list) (sym (hidden-is hidden)) (rows so);
+      copied = λ any row copied. absurd (none-copied hidden row copied);
+      tail = λ any. tail;
+      zeroed = λ any row zeroed. absurd (none-of-none (final_shape m.newest) (past_stripe m.newest) row zeroed);
+      rows = λ so x any shown. subst (λ (o : Option Span). RowsStand o m c list) (sym (hidden-is hidden)) (rows so) x shown;
     }
 
-    pub found-stands : StandsInCourse sound m (found_course window) buffer c list
-    found-stands = subst (λ (w : Window). StandsInCourse sound m (found_course w) buffer c list) (sym is) stands-by
+    pub found-stands : StandsInCourse sound AnyShape m (found_course window) buffer c list
+    found-stands = subst (λ (w : Window). StandsInCourse sound AnyShape m (found_course w) buffer c list) (sym is) stands-by

@@ -51,7 +51,8 @@ use Rattle.kept_history.specs.Told.{told_now}
 use Rattle.kept_history.proofs.Opened.{opened-kept, opened-safe}
 use Rattle.history_calls.specs.Reliable.{IsReliable, AreToldGone}
 use Rattle.grow_asked.specs.declared.window.Window.{Window}
-use Rattle.course_kept.specs.Course.{IsStoredAs, HasSection, IsStored, StandsInCourse}
+use Rattle.course_kept.specs.Course.{IsStoredAs, HasSection, IsStored, AnyShape, StandsInCourse}
+use Rattle.course_kept.proofs.Frames.{stands-without}
 use Rattle.course_kept.proofs.Courses.{courses-move}
 use Rattle.course_kept.proofs.Under.{courses-stand-under}
 use Rattle.moving_kept.specs.Moving.{HasListInCourse}
@@ -245,19 +246,19 @@ module _ {tells : Type 0} {bank : Given} {tape : List Operation} {given backup :
           row-stands bank scope refl former backed opened.active does c read stored.says (λ slot k within. sectors-whole bank tape (length tape) slot k (opened.whole t) within) placed
           ((sound-is so).rows clean) ((sound-is so).tail opened.active) x shown
 
-      stands-former : StandsInCourse (OpensFit world) former (found_course window) buffer c list
+      stands-former : StandsInCourse (OpensFit world) AnyShape former (found_course window) buffer c list
       stands-former =
           found-stands bank scope refl former backed opened.active does c read stored.says (OpensFit world) placed buffer window (λ span next. window-inside former.newest fit span next)
           window-now (opened.sectors t) tails rows
 
-      stands-here : StandsInCourse (OpensFit world) m (found_course window) buffer c list
-      stands-here = courses-move (OpensFit world) bank former m (found_course window) buffer c c list placed moved (λ slot k other. refl) stands-former
+      stands-here : StandsInCourse (OpensFit world) AnyShape m (found_course window) buffer c list
+      stands-here = courses-move (OpensFit world) AnyShape bank former m (found_course window) buffer c c list placed moved (λ slot k other. refl) stands-former
 
       listed : HasListInCourse (OpensFit world) m (found_course window) buffer c (now (opening_list world) entries)
       listed = record {
         list = list;
         is = λ x lt. list-now x lt ∙ sym (ap (λ (l : List Sector). slice_index_or l 0 []) (same-values opener (length tape) (reading_of m) n (opening_list world) x) ∙ first-now (opening_list world) x);
-        stands = stands-here;
+        stands = stands-without (OpensFit world) m (found_course window) buffer c list stands-here;
       }
 
       -- ---- what a stop may leave
@@ -318,7 +319,7 @@ openings-move tells bank tape given backup lost first left former window buffer 
   recorded = λ t. at t (λ (k : ℕ). IsHistoryKept (IsReliable (world_in bank tape (scope_of bank given backup former) k) (opening_entries k (members_without lost former))) (world_in bank tape (scope_of bank given backup former) k) (list_length former.newest) (opening_entries k (members_without lost former)))
       (recorded opened lost recovering t);
   stored = λ t. is-stored opened lost recovering t (sound t);
-  listed = λ t does. at t (λ (k : ℕ). IsFilledRight (world_in bank tape (scope_of bank given backup former) k) (opening_entries k (members_without lost former))
+  listed = λ t. at t (λ (k : ℕ). IsFilledRight (world_in bank tape (scope_of bank given backup former) k) (opening_entries k (members_without lost former))
       → HasListInCourse (OpensFit (world_in bank tape (scope_of bank given backup former) k)) (members_without lost former) (found_course window) buffer (present bank tape) (now (opening_list (world_in bank tape (scope_of bank given backup former) k)) (opening_entries k (members_without lost former))))
       (λ right. listed opened lost recovering t clean (sound t));
   safe = λ t. at t (λ (k : ℕ). IsFilledRight (world_in bank tape (scope_of bank given backup former) k) (opening_entries k (members_without lost former)) → HasRoomForEvents (world_in bank tape (scope_of bank given backup former) k) → OpensAlike (world_in bank tape (scope_of bank given backup former) k)
