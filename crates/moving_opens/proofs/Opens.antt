@@ -1,4 +1,4 @@
--- What a sound opening finds of a clean array in a reshape is what such an array keeps.
+-- What an opening finds of a clean array in a reshape that fits is what such an array keeps.
 use Rattle.std.proofs.Common.{◌≡◌, inl, inr, ℕ, ◌+◌, ◌<◌, ◌&&◌, ◌||◌, nat_le, Bool, true, false, not, cond, if◌then◌else◌, List, [], ◌∷◌, length, take, drop, MatchOption, Option, Some, None, IfSome, refl, sym, ◌∙◌, ap, subst, arith}
 use Rattle.std.specs.Prelude.{slice_index_or, ⊤}
 use Rattle.std.specs.Option.{option_map_or}
@@ -17,7 +17,7 @@ use Rattle.backup.specs.Section.{is_header_of, names_span}
 use Rattle.superblocks.specs.declared.members.Members.{Members}
 use Rattle.superblocks.specs.Election.{reading_in}
 use Rattle.superblocks.specs.Found.{AreLikeNewest}
-use Rattle.superblocks.specs.Reading.{Scope, Reading, is_reshaping, is_clean, is_whole, shape_of, list_length, role_count, role_state, holder}
+use Rattle.superblocks.specs.Reading.{Scope, Reading, reading, is_reshaping, is_clean, is_whole, shape_of, list_length, role_count, role_state, holder}
 use Rattle.row_io.specs.Rows.{reading_of, present, is_missing, role_without, members_without}
 use Rattle.row_io.proofs.Losses.{state_after}
 use Rattle.flat_history.specs.declared.events.Entry.{Entry}
@@ -61,7 +61,7 @@ use Rattle.found_members.proofs.Elected.{elected-does}
 use Rattle.found_members.proofs.Held.{found-numbers, found-is-held}
 use Rattle.found_members.proofs.Read.{found-read}
 use Rattle.reshape_openings.specs.Finding.{window_for, IsFoundIn}
-use Rattle.moving_opens.specs.Opening.{AreRecovering, scope_of, IsOpenedMoving, opening_entries, AreAmong, found_course, OpeningsMove}
+use Rattle.moving_opens.specs.Opening.{AreRecovering, scope_of, IsOpenedMoving, opening_entries, AreAmong, found_course, IsReshapeFit, OpeningsMove, SoundReshapesFit}
 use Rattle.moving_opens.proofs.Listed.{found-list, list-in, tails-stand, row-stands, found-stands}
 use Rattle.moving_opens.proofs.Losses.{all-found, events-are, all-absent, all-gone, no-resync, same-level, no-left, same-length, same-values}
 use Rattle.moving_opens.proofs.Members.{fit-here, placed-here, backed-here, moved-here, reshaping-here}
@@ -80,6 +80,11 @@ roomy : (a b : Bool) → a ≡ true → ◌≡◌ {A = Option Refusal} (cond (no
 roomy true true is none = refl
 roomy true false is none = absurd (cc)
 roomy false b is none = absurd (cc)
+
+-- what a sound opening finds
+found-sound : (bank : Given) (tape : List Operation) (scope : Scope) (r : Reading) → reading scope (present bank tape) ≡ Some r → OpensFit (world_in bank tape scope (length tape)) → IsSound scope (present bank tape) r
+unfolding reading_at
+found-sound bank tape scope r says fits = subst (λ (o : Option Reading). IfSome o (IsSound scope (present bank tape))) says fits
 
 module _ {tells : Type 0} {bank : Given} {tape : List Operation} {given backup : ℕ} {former : Members} {window : Window} {buffer : List ℕ} (opened : IsOpenedMoving tells bank tape given backup former window buffer)
     (lost : ℕ) (recovering : AreRecovering former lost) where
@@ -209,25 +214,26 @@ module _ {tells : Type 0} {bank : Given} {tape : List Operation} {given backup :
     window-now : window ≡ window_for (open_by scope former.newest (header_in scope c))
     window-now = opened.found t
 
-    -- the headers fit if the opening was sound
     sound-is : OpensFit world → IsSound scope c r
-    sound-is fits = subst (λ (o : Option Reading). IfSome o (IsSound scope c)) reading-is fits
+    sound-is fits = found-sound bank tape scope r stored.says fits
 
-    headers : OpensFit world → AreHeadersFit scope m d
-    headers fits slot header is may span names =
-        let same : header ≡ c slot 0 = subst (λ (s : ℕ). IsIn (disk bank.start tape s 0) header → header ≡ c s 0) (one backup slot is) (header-is header) may in
-        (sound-is fits).sections opened.active slot span is (subst (λ (h : Sector). (is_header_of scope.uuid h && names_span h span) ≡ true) same names)
-      where
-        one : (a b : ℕ) → Some a ≡ Some b → a ≡ b
-        one a b e = cc
+    module _ (reshape : IsReshapeFit (scope_of bank given backup former) (present bank tape) (reading_in bank.slots former)) where
+      -- the headers fit
+      headers : AreHeadersFit scope m d
+      headers slot header is may span names =
+          let same : header ≡ c slot 0 = subst (λ (s : ℕ). IsIn (disk bank.start tape s 0) header → header ≡ c s 0) (one backup slot is) (header-is header) may in
+          reshape.sections slot span is (subst (λ (h : Sector). (is_header_of scope.uuid h && names_span h span) ≡ true) same names)
+        where
+          one : (a b : ℕ) → Some a ≡ Some b → a ≡ b
+          one a b e = cc
 
-    is-stored : OpensFit world → IsStored scope m window buffer d
-    is-stored fits = record {
-      section = subst (λ (w : Window). IsStoredAs scope m w d) (sym window-now) (stored-as (open_by scope former.newest (header_in scope c)) refl);
-      sectors = subst (λ (w : Window). HasSection scope w buffer d) (sym window-now)
-          (section-as (open_by scope former.newest (header_in scope c)) (subst (λ (w : Window). IsFoundIn (c backup) w buffer) window-now (opened.sectors t)));
-      headers = headers fits;
-    }
+      is-stored : IsStored scope m window buffer d
+      is-stored = record {
+        section = subst (λ (w : Window). IsStoredAs scope m w d) (sym window-now) (stored-as (open_by scope former.newest (header_in scope c)) refl);
+        sectors = subst (λ (w : Window). HasSection scope w buffer d) (sym window-now)
+            (section-as (open_by scope former.newest (header_in scope c)) (subst (λ (w : Window). IsFoundIn (c backup) w buffer) window-now (opened.sectors t)));
+        headers = headers;
+      }
 
     -- ---- the list
 
@@ -237,14 +243,14 @@ module _ {tells : Type 0} {bank : Given} {tape : List Operation} {given backup :
     list-now : (x : ℕ) → x < list_length former.newest → list x ≡ slice_index_or (opening_list world) x []
     list-now x lt = list-in bank scope refl former backed opened.active does c read stored.says x lt ∙ ap (λ (l : List Sector). slice_index_or l x []) (sym opening-is)
 
-    module _ (clean : is_clean former.newest ≡ true) (fits : OpensFit world) where
+    module _ (clean : is_clean former.newest ≡ true) (reshape : IsReshapeFit (scope_of bank given backup former) (present bank tape) (reading_in bank.slots former)) where
       tails : AreTailsStanding former c list
-      tails = tails-stand bank scope refl former backed opened.active does c read stored.says ((sound-is fits).tail opened.active)
+      tails = tails-stand bank scope refl former backed opened.active does c read stored.says reshape.tail
 
       rows : OpensFit world → RowsStand (open_by scope former.newest (header_in scope c)) former c list
       rows so x shown =
           row-stands bank scope refl former backed opened.active does c read stored.says (λ slot k within. sectors-whole bank tape (length tape) slot k (opened.whole t) within) placed
-          ((sound-is so).rows clean) ((sound-is so).tail opened.active) x shown
+          ((sound-is so).rows clean) reshape.tail x shown
 
       stands-former : StandsInCourse (OpensFit world) AnyShape former (found_course window) buffer c list
       stands-former =
@@ -278,12 +284,12 @@ module _ {tells : Type 0} {bank : Given} {tape : List Operation} {given backup :
         under = courses-stand-under (OpensFit world) scope former (found_course window) buffer c d list (is-stored-former) stands-former
           where
             is-stored-former : IsStored scope former window buffer d
-            is-stored-former = let s = is-stored fits in record { section = s.section; sectors = s.sectors; headers = s.headers }
+            is-stored-former = let s = is-stored reshape in record { section = s.section; sectors = s.sectors; headers = s.headers }
 
-        right : IsViewRight (OpensFit world) scope bank told former d
-        right =
+        seen-right : IsViewRight (OpensFit world) scope bank told former d
+        seen-right =
             found-right (OpensFit world) bank tape scope former told list backed placed (found-flushed bank tape scope former stored.says stored.flushed) sized values
-            (λ role lt miss. gone role lt (missing-moved moved role miss)) unclean refl under.0 under.1 (λ so. headers so) tails (λ x tail. stands-former.zeros tail.forth x tail.past)
+            (λ role lt miss. gone role lt (missing-moved moved role miss)) unclean refl under.0 under.1 (λ so. headers reshape) tails (λ x tail. stands-former.zeros tail.forth x tail.past)
 
         safe-now : OpensAlike world → IsSafeOver world bank told m tape
         safe-now alike = inl (record {
@@ -293,20 +299,20 @@ module _ {tells : Type 0} {bank : Given} {tape : List Operation} {given backup :
             since = refl;
             held = found-is-held bank former.newest.set_uuid given (Some backup) former c d opened.elected stored (subst (λ (o : Option Reading). IfSome o (λ q. AreLikeNewest scope q.newest c)) reading-is alike);
           };
-          right = right;
+          right = seen-right;
           numbers = found-carried scope carried former d among (found-numbers bank former.newest.set_uuid given (Some backup) former c d opened.elected stored);
         })
 
         counted : HasLiveSlot m → IsCounted world m
         counted live = record { found = r; is = reading-is; events = omega arith }
 
-        safe : OpensAlike world → IsSafeHistory ⊤ world bank m carried true entries
-        safe alike =
-            opened-safe ⊤ bank tape scope m carried true opener (absent_losses (reading_of m) n) refl (inr fits) (safe-now alike)
+        safe : IsFilledRight world entries → OpensAlike world → IsSafeHistory ⊤ world bank m carried true entries
+        safe right alike =
+            opened-safe ⊤ bank tape scope m carried true opener (absent_losses (reading_of m) n) refl right (safe-now alike)
             (λ claimed so. leaves-now world bank told m refl (safe-now alike) so) counted
 
 pub openings-move : (tells : Type 0) → OpeningsMove tells
-openings-move tells bank tape given backup lost first left former window buffer carried opened recovering clean among first_is sound = record {
+openings-move tells bank tape given backup lost first left former window buffer carried opened recovering clean among first_is reshape = record {
   slots = opened.elected.few;
   members_are = reshaping-here bank given backup former opened.elected opened.aside opened.active opened.backed lost recovering;
   course_is = record { window = opened.window_is; through = λ some. absurd (omega (arith, some)); few = omega arith };
@@ -318,17 +324,22 @@ openings-move tells bank tape given backup lost first left former window buffer 
   unclean = λ t. at t (λ (k : ℕ). is_clean former.newest ≡ false → (is_unsynced (world_in bank tape (scope_of bank given backup former) k) (opening_entries k (members_without lost former)) || is_unsettled (opening_entries k (members_without lost former))) ≡ true) (unclean opened lost recovering t);
   recorded = λ t. at t (λ (k : ℕ). IsHistoryKept (IsReliable (world_in bank tape (scope_of bank given backup former) k) (opening_entries k (members_without lost former))) (world_in bank tape (scope_of bank given backup former) k) (list_length former.newest) (opening_entries k (members_without lost former)))
       (recorded opened lost recovering t);
-  stored = λ t. is-stored opened lost recovering t (sound t);
+  stored = λ t. is-stored opened lost recovering t (reshape t);
   listed = λ t. at t (λ (k : ℕ). IsFilledRight (world_in bank tape (scope_of bank given backup former) k) (opening_entries k (members_without lost former))
       → HasListInCourse (OpensFit (world_in bank tape (scope_of bank given backup former) k)) (members_without lost former) (found_course window) buffer (present bank tape) (now (opening_list (world_in bank tape (scope_of bank given backup former) k)) (opening_entries k (members_without lost former))))
-      (λ right. listed opened lost recovering t clean (sound t));
+      (λ right. listed opened lost recovering t clean (reshape t));
   safe = λ t. at t (λ (k : ℕ). IsFilledRight (world_in bank tape (scope_of bank given backup former) k) (opening_entries k (members_without lost former)) → HasRoomForEvents (world_in bank tape (scope_of bank given backup former) k) → OpensAlike (world_in bank tape (scope_of bank given backup former) k)
       → IsSafeHistory ⊤ (world_in bank tape (scope_of bank given backup former) k) bank (members_without lost former) carried true (opening_entries k (members_without lost former)))
-      (λ right room alike. safe opened lost recovering t clean (sound t) carried among alike);
+      (λ right room alike. safe opened lost recovering t clean (reshape t) carried among right alike);
   now_safe = λ t. at t (λ (k : ℕ). IsFilledRight (world_in bank tape (scope_of bank given backup former) k) (opening_entries k (members_without lost former)) → HasRoomForEvents (world_in bank tape (scope_of bank given backup former) k) → OpensAlike (world_in bank tape (scope_of bank given backup former) k)
       → IsSafeOver (world_in bank tape (scope_of bank given backup former) k) bank (told_now (world_in bank tape (scope_of bank given backup former) k) carried true (opening_entries k (members_without lost former))) (members_without lost former) tape)
-      (λ right room alike. safe-now opened lost recovering t clean (sound t) carried among alike);
+      (λ right room alike. safe-now opened lost recovering t clean (reshape t) carried among alike);
 }
   where
     at : tells → (P : ℕ → Type 0) → P (length tape) → P first
     at t P holds = subst P (sym (first_is t)) holds
+
+pub sound-reshapes-fit : (tells : Type 0) → SoundReshapesFit tells
+sound-reshapes-fit tells bank tape given backup former window buffer opened t fits =
+    let sound = found-sound bank tape (scope_of bank given backup former) (reading_in bank.slots former) (opened.stored t).says fits in
+    record { sections = sound.sections opened.active; tail = sound.tail opened.active }

@@ -5,13 +5,15 @@ use Rattle.md_base.specs.declared.status.Role.TheVariants.{Recovering}
 use Rattle.sb1.specs.declared.sb.Sb.{Sb}
 use Rattle.bank.specs.declared.bank.Operation.{Operation}
 use Rattle.bank.specs.Given.{Given}
-use Rattle.bank.specs.Tape.{disk}
+use Rattle.bank.specs.Tape.{Contents, disk}
 use Rattle.bank.specs.Whole.{HasWholeSectors}
 use Rattle.superblocks.specs.declared.members.Members.{Members}
-use Rattle.superblocks.specs.Reading.{Scope, is_reshaping, is_clean, role_count, role_state}
+use Rattle.superblocks.specs.Election.{reading_in}
+use Rattle.superblocks.specs.Reading.{Scope, Reading, is_reshaping, is_clean, role_count, role_state}
 use Rattle.superblocks.specs.Update.{own_in}
 use Rattle.row_io.specs.Rows.{reading_of, present, members_without}
 use Rattle.flat_history.specs.declared.events.Entry.{Entry}
+use Rattle.flat_history.specs.Opened.{HasFittingSections, HasZeroTail}
 use Rattle.flat_history.specs.Plain.{entries_of}
 use Rattle.flat_history.specs.Sound.{OpensFit}
 use Rattle.flat_history.specs.Stands.{backup_absent}
@@ -61,10 +63,20 @@ AreAmong carried members = (slot : ℕ) (sb : Sb) → own_in members.own slot �
 abbrev pub found_course : Window → Course
 found_course window = record { window = window; zeroed = 0 }
 
--- A clean array in a reshape whose opening was sound keeps, without the slots that recover a role, what an array in a reshape keeps, whatever number of steps is left.
+-- What a sound opening finds of the reshape itself: each section that the header names is that of the next window, or lies in the new region, and the tail is zero.
+pub record IsReshapeFit (scope : Scope) (c : Contents) (r : Reading) : Type 0 where
+  pub sections : HasFittingSections scope c r.newest
+  pub tail : HasZeroTail c r
+
+-- A clean array whose reshape is found so keeps, without the slots that recover a role, what an array in a reshape keeps, whatever number of steps is left.
 abbrev pub OpeningsMove : (tells : Type 0) → Type 0
 OpeningsMove tells = (bank : Given) (tape : List Operation) (given backup recovering first left : ℕ) (former : Members) (window : Window) (buffer : List ℕ) (carried : ℕ → Bool)
     → IsOpenedMoving tells bank tape given backup former window buffer → AreRecovering former recovering → is_clean former.newest ≡ true → AreAmong carried former
-    → (tells → first ≡ length tape) → (tells → OpensFit (world_in bank tape (scope_of bank given backup former) (length tape)))
+    → (tells → first ≡ length tape) → (tells → IsReshapeFit (scope_of bank given backup former) (present bank tape) (reading_in bank.slots former))
     → IsMoving tells bank tape (scope_of bank given backup former) first (opening_entries first (members_without recovering former)) (members_without recovering former) carried
     (found_course window) buffer left
+
+-- A sound opening finds the reshape so.
+abbrev pub SoundReshapesFit : (tells : Type 0) → Type 0
+SoundReshapesFit tells = (bank : Given) (tape : List Operation) (given backup : ℕ) (former : Members) (window : Window) (buffer : List ℕ) → IsOpenedMoving tells bank tape given backup former window buffer → tells
+    → OpensFit (world_in bank tape (scope_of bank given backup former) (length tape)) → IsReshapeFit (scope_of bank given backup former) (present bank tape) (reading_in bank.slots former)

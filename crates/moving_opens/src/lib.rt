@@ -2,9 +2,14 @@
 #![tactic(auto)]
 
 ghost use Rattle.std.specs.Prelude.{⊤};
-ghost use Rattle.moving_opens.specs.Opening.{OpeningsMove};
+ghost use Rattle.moving_opens.specs.Opening.{OpeningsMove, SoundReshapesFit};
 
-/// What a sound opening finds of a clean array in a reshape is what such an array keeps from call to call.
+/// What an opening finds of a clean array in a reshape that fits is what such an array keeps from call to call.
 pub fn openings_move()
     ensures { OpeningsMove ⊤ }
+{}
+
+/// What a sound opening finds of a reshape fits.
+pub fn sound_reshapes_fit()
+    ensures { SoundReshapesFit ⊤ }
 {}
