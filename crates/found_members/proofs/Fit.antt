@@ -1,5 +1,5 @@
 -- The shapes in force of a reshape that is refused for nothing fit the size, and its position stands on their unit.
-use Rattle.std.proofs.Common.{◌≡◌, ℕ, zero, suc, ◌+◌, ◌-◌, ◌≤◌, ◌==◌, ◌&&◌, ◌||◌, nat_le, nat_lt, Bool, true, false, not, cond, List, [], ◌∷◌, get_or, Some, None, unwrap_or, ℤ, pos, negsuc, ◌-ℤ◌, refl, sym, ◌∙◌, ap, subst, arith}
+use Rattle.std.proofs.Common.{◌≡◌, ℕ, zero, suc, ◌+◌, ◌-◌, ◌≤◌, ◌==◌, ◌&&◌, ◌||◌, nat_le, nat_lt, Bool, true, false, not, cond, List, [], ◌∷◌, length, take, get_or, Option, Some, None, unwrap_or, ℤ, pos, negsuc, ◌-ℤ◌, refl, sym, ◌∙◌, ap, subst, arith}
 use Rattle.std.specs.Prelude.{◌^◌, find}
 use Rattle.std.specs.Int.{bit_at}
 use Rattle.std.proofs.lemmas.Bool.{leb-true, eqb-true}
@@ -7,11 +7,14 @@ use Rattle.std.proofs.lemmas.Bool.Decides.{nat_tests}
 use Rattle.md_base.specs.declared.places.Shape.{Shape}
 use Rattle.md_base.specs.Shapes.{is_multiple}
 use Rattle.sb1.specs.declared.sb.Sb.{Sb}
+use Rattle.bank.specs.Given.{sizes}
 use Rattle.geometry.specs.Geometry.{is_size}
 use Rattle.superblocks.specs.Reading.{is_reshaping, is_negative, is_zero, count_of, shape_of, final_shape, list_length}
-use Rattle.superblocks.specs.Verdict.{bad_field, judged_fields, is_bad_size, off_unit, AreValidShapes}
+use Rattle.superblocks.specs.Election.{reading_in}
+use Rattle.superblocks.specs.Verdict.{fresh_from, bad_field, judged_fields, is_bad_size, off_unit, AreValidShapes}
 use Rattle.shape_views.specs.Regions.{AreShapesFit}
-use Rattle.found_members.proofs.Elected.{fields-pass}
+use Rattle.found_members.specs.Laws.{ElectedReshapesFit}
+use Rattle.found_members.proofs.Elected.{fields-pass, elected-unrefused, elected-valid}
 
 -- ---- a judged field
 
@@ -87,8 +90,8 @@ module _ (newest : Sb) (slots : List (Sb × ℕ)) (active : is_reshaping newest 
   size-good : is_bad_size newest ≡ false
   size-good = field 2
 
-  sizes : (is_size newest.size newest.chunksize ≡ true) × ((nat_le 1 newest.size && nat_le newest.size (2 ^ 48)) ≡ true) × ((not (is_reshaping newest) || is_multiple newest.size newest.new_chunk) ≡ true)
-  sizes = all-four (nat_le 1 newest.size) (nat_le newest.size (2 ^ 48)) (is_multiple newest.size newest.chunksize) (not (is_reshaping newest) || is_multiple newest.size newest.new_chunk) size-good
+  sizes-good : (is_size newest.size newest.chunksize ≡ true) × ((nat_le 1 newest.size && nat_le newest.size (2 ^ 48)) ≡ true) × ((not (is_reshaping newest) || is_multiple newest.size newest.new_chunk) ≡ true)
+  sizes-good = all-four (nat_le 1 newest.size) (nat_le newest.size (2 ^ 48)) (is_multiple newest.size newest.chunksize) (not (is_reshaping newest) || is_multiple newest.size newest.new_chunk) size-good
 
   level-same : newest.new_level ≡ newest.level
   level-same = eqb-true newest.new_level newest.level (so (is_reshaping newest) (newest.new_level == newest.level) active (field 5))
@@ -108,12 +111,20 @@ module _ (newest : Sb) (slots : List (Sb × ℕ)) (active : is_reshaping newest 
   pub moving-fit : AreShapesFit newest
   moving-fit = record {
     valid = valid;
-    size = sizes.0;
+    size = sizes-good.0;
     final_size = subst (λ (s : Shape). is_size newest.size s.chunk ≡ true) (sym final-is)
-        (and-both (nat_le 1 newest.size && nat_le newest.size (2 ^ 48)) (is_multiple newest.size newest.new_chunk) sizes.1 (or-second (is_reshaping newest) (is_multiple newest.size newest.new_chunk) active sizes.2));
+        (and-both (nat_le 1 newest.size && nat_le newest.size (2 ^ 48)) (is_multiple newest.size newest.new_chunk) sizes-good.1 (or-second (is_reshaping newest) (is_multiple newest.size newest.new_chunk) active sizes-good.2));
     level = ap (λ (s : Shape). s.level) final-is ∙ level-same;
     unit = unit;
     position = λ is. within;
     delta = λ is forth. (let few = forward-more newest.raid_disks newest.delta_disks (bit_at newest.feature_map 5 == 1) forth in let old = disks-are in let new = final-disks in omega (arith, few, old, new));
     delta_back = λ is back. (let few = backward-fewer newest.raid_disks newest.delta_disks (bit_at newest.feature_map 5 == 1) back in let old = disks-are in let new = final-disks in omega (arith, few, old, new));
   }
+
+-- ---- an election
+
+pub reshape-fits : ElectedReshapesFit
+reshape-fits bank given members are active =
+    let X : List (Option Sb) = take bank.slots members.own in
+    let u = elected-unrefused (sizes bank).sectors X members.lost members are.elected in
+    moving-fit members.newest (fresh_from members.newest (sizes bank).sectors 0 (reading_in (length X) members).own) active (elected-valid (sizes bank).sectors X members.lost members are.elected) u.fields u.unit

@@ -3,3 +3,4 @@ pub mod Fit
 pub mod Placed
 pub mod Read
 pub mod Held
+pub mod Causes
