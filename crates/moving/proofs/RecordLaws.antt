@@ -111,6 +111,7 @@ closed-bare count buffer left was = record {
   gone = was.gone;
   unclean = was.unclean;
   recorded = was.recorded;
+  last_step = was.last_step;
   stored = λ t. let stored = was.stored t in record { section = stored.section; sectors = tt; headers = stored.headers };
   listed = λ t fills.
       let l = was.listed t fills in
