@@ -49,7 +49,8 @@ use Rattle.kept_history.specs.Recorded.{IsHistoryKept}
 use Rattle.kept_history.specs.Safe.{world_in, IsFilledRight, IsCounted, IsSafeHistory}
 use Rattle.kept_history.specs.Told.{told_now}
 use Rattle.kept_history.proofs.Opened.{opened-kept, opened-safe}
-use Rattle.history_calls.specs.Reliable.{IsReliable, AreToldGone}
+use Rattle.history_calls.specs.Reliable.{IsReliable, AreToldGone, HasLastStep}
+use Rattle.history_calls.proofs.LastStep.{opened-last}
 use Rattle.grow_asked.specs.declared.window.Window.{Window}
 use Rattle.course_kept.specs.Course.{IsStoredAs, HasSection, IsStored, AnyShape, StandsInCourse}
 use Rattle.course_kept.proofs.Frames.{stands-without}
@@ -193,6 +194,12 @@ module _ {tells : Type 0} {bank : Given} {tape : List Operation} {given backup :
         (subst (λ (l : List Event). IsHistoryKept (IsReliable world entries) world (length (opening_list world)) (entries_of opener (length tape) l)) (events-are (reading_of m) n)
         (opened-kept (IsReliable world entries) world opener (all-found (reading_of m) n) refl refl refl (all-absent world (reading_of m) n absent)))
 
+    last-step : HasLastStep world entries (list_length former.newest)
+    last-step =
+        subst (λ (k : ℕ). HasLastStep world entries k) list-long
+        (subst (λ (l : List Event). HasLastStep world (entries_of opener (length tape) l) (length (opening_list world))) (events-are (reading_of m) n)
+        (opened-last world opener (all-found (reading_of m) n) refl refl refl (all-absent world (reading_of m) n absent)))
+
     -- ---- the backup
 
     -- it is a given slot
@@ -324,6 +331,7 @@ openings-move tells bank tape given backup lost first left former window buffer 
   unclean = λ t. at t (λ (k : ℕ). is_clean former.newest ≡ false → (is_unsynced (world_in bank tape (scope_of bank given backup former) k) (opening_entries k (members_without lost former)) || is_unsettled (opening_entries k (members_without lost former))) ≡ true) (unclean opened lost recovering t);
   recorded = λ t. at t (λ (k : ℕ). IsHistoryKept (IsReliable (world_in bank tape (scope_of bank given backup former) k) (opening_entries k (members_without lost former))) (world_in bank tape (scope_of bank given backup former) k) (list_length former.newest) (opening_entries k (members_without lost former)))
       (recorded opened lost recovering t);
+  last_step = λ t. at t (λ (k : ℕ). HasLastStep (world_in bank tape (scope_of bank given backup former) k) (opening_entries k (members_without lost former)) (list_length former.newest)) (last-step opened lost recovering t);
   stored = λ t. is-stored opened lost recovering t (reshape t);
   listed = λ t. at t (λ (k : ℕ). IsFilledRight (world_in bank tape (scope_of bank given backup former) k) (opening_entries k (members_without lost former))
       → HasListInCourse (OpensFit (world_in bank tape (scope_of bank given backup former) k)) (members_without lost former) (found_course window) buffer (present bank tape) (now (opening_list (world_in bank tape (scope_of bank given backup former) k)) (opening_entries k (members_without lost former))))
