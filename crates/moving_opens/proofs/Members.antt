@@ -32,7 +32,8 @@ use Rattle.found_members.specs.Found.{AreElected}
 use Rattle.found_members.proofs.Elected.{elected-unrefused, elected-valid}
 use Rattle.found_members.proofs.Fit.{moving-fit}
 use Rattle.found_members.proofs.Placed.{few-spares, placed-found, unlost-found, free-found, live-there, holder-there-is}
-use Rattle.moving_opens.specs.Opening.{AreRecovering, scope_of}
+use Rattle.reshape_openings.specs.Recovering.{AreRecovering}
+use Rattle.moving_opens.specs.Opening.{scope_of}
 
 module _ (bank : Given) (given backup : ℕ) (former : Members) (are : AreElected bank given former) (aside : own_in former.own backup ≡ None) (active : is_reshaping former.newest ≡ true)
     (backed : backup_absent (scope_of bank given backup former) former.newest ≡ None) where

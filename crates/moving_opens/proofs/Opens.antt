@@ -52,6 +52,7 @@ use Rattle.kept_history.proofs.Opened.{opened-kept, opened-safe}
 use Rattle.history_calls.specs.Reliable.{IsReliable, AreToldGone, HasLastStep}
 use Rattle.history_calls.proofs.LastStep.{opened-last}
 use Rattle.grow_asked.specs.declared.window.Window.{Window}
+use Rattle.course_kept.specs.declared.course.Course.{Course}
 use Rattle.course_kept.specs.Course.{IsStoredAs, HasSection, IsStored, AnyShape, StandsInCourse}
 use Rattle.course_kept.proofs.Frames.{stands-without}
 use Rattle.course_kept.proofs.Courses.{courses-move}
@@ -62,7 +63,8 @@ use Rattle.found_members.proofs.Elected.{elected-does}
 use Rattle.found_members.proofs.Held.{found-numbers, found-is-held}
 use Rattle.found_members.proofs.Read.{found-read}
 use Rattle.reshape_openings.specs.Finding.{window_for, IsFoundIn}
-use Rattle.moving_opens.specs.Opening.{AreRecovering, scope_of, IsOpenedMoving, opening_entries, AreAmong, found_course, IsReshapeFit, OpeningsMove, SoundReshapesFit}
+use Rattle.reshape_openings.specs.Recovering.{AreRecovering}
+use Rattle.moving_opens.specs.Opening.{scope_of, IsOpenedMoving, opening_entries, AreAmong, found_course, IsReshapeFit, IsCleanAndFit, OpeningsMove, OpeningsStand, SoundReshapesFit}
 use Rattle.moving_opens.proofs.Listed.{found-list, list-in, tails-stand, row-stands, found-stands}
 use Rattle.moving_opens.proofs.Losses.{all-found, events-are, all-absent, all-gone, no-resync, same-level, no-left, same-length, same-values}
 use Rattle.moving_opens.proofs.Members.{fit-here, placed-here, backed-here, moved-here, reshaping-here}
@@ -250,28 +252,28 @@ module _ {tells : Type 0} {bank : Given} {tape : List Operation} {given backup :
     list-now : (x : ℕ) → x < list_length former.newest → list x ≡ slice_index_or (opening_list world) x []
     list-now x lt = list-in bank scope refl former backed opened.active does c read stored.says x lt ∙ ap (λ (l : List Sector). slice_index_or l x []) (sym opening-is)
 
-    module _ (clean : is_clean former.newest ≡ true) (reshape : IsReshapeFit (scope_of bank given backup former) (present bank tape) (reading_in bank.slots former)) where
+    module _ (reshape : IsReshapeFit (scope_of bank given backup former) (present bank tape) (reading_in bank.slots former)) where
       tails : AreTailsStanding former c list
       tails = tails-stand bank scope refl former backed opened.active does c read stored.says reshape.tail
 
-      rows : OpensFit world → RowsStand (open_by scope former.newest (header_in scope c)) former c list
+      rows : IsCleanAndFit world former → RowsStand (open_by scope former.newest (header_in scope c)) former c list
       rows so x shown =
           row-stands bank scope refl former backed opened.active does c read stored.says (λ slot k within. sectors-whole bank tape (length tape) slot k (opened.whole t) within) placed
-          ((sound-is so).rows clean) reshape.tail x shown
+          ((sound-is so.fit).rows so.clean) reshape.tail x shown
 
-      stands-former : StandsInCourse (OpensFit world) AnyShape former (found_course window) buffer c list
+      stands-former : StandsInCourse (IsCleanAndFit world former) AnyShape former (found_course window) buffer c list
       stands-former =
-          found-stands bank scope refl former backed opened.active does c read stored.says (OpensFit world) placed buffer window (λ span next. window-inside former.newest fit span next)
+          found-stands bank scope refl former backed opened.active does c read stored.says (IsCleanAndFit world former) placed buffer window (λ span next. window-inside former.newest fit span next)
           window-now (opened.sectors t) tails rows
 
-      stands-here : StandsInCourse (OpensFit world) AnyShape m (found_course window) buffer c list
-      stands-here = courses-move (OpensFit world) AnyShape bank former m (found_course window) buffer c c list placed moved (λ slot k other. refl) stands-former
+      stands-here : StandsInCourse (IsCleanAndFit world former) AnyShape m (found_course window) buffer c list
+      stands-here = courses-move (IsCleanAndFit world former) AnyShape bank former m (found_course window) buffer c c list placed moved (λ slot k other. refl) stands-former
 
-      listed : HasListInCourse (OpensFit world) m (found_course window) buffer c (now (opening_list world) entries)
+      listed : HasListInCourse (IsCleanAndFit world former) m (found_course window) buffer c (now (opening_list world) entries)
       listed = record {
         list = list;
         is = λ x lt. list-now x lt ∙ sym (ap (λ (l : List Sector). slice_index_or l 0 []) (same-values opener (length tape) (reading_of m) n (opening_list world) x) ∙ first-now (opening_list world) x);
-        stands = stands-without (OpensFit world) m (found_course window) buffer c list stands-here;
+        stands = stands-without (IsCleanAndFit world former) m (found_course window) buffer c list stands-here;
       }
 
       -- ---- what a stop may leave
@@ -287,8 +289,8 @@ module _ {tells : Type 0} {bank : Given} {tape : List Operation} {given backup :
         values x lt = subst (λ (l : List Sector). IsIn l (list x)) (sym (same-values opener (length tape) (reading_of m) n (opening_list world) x))
             (subst (λ (v : Sector). IsIn (take 1 (drop x (opening_list world))) v) (sym (list-now x lt)) (first-in (opening_list world) x (let long = list-long in omega (arith, lt, long))))
 
-        under : StandsUnder scope former c d list × (OpensFit world → RowsStandUnder scope former c d list)
-        under = courses-stand-under (OpensFit world) scope former (found_course window) buffer c d list (is-stored-former) stands-former
+        under : StandsUnder scope former c d list × (IsCleanAndFit world former → RowsStandUnder scope former c d list)
+        under = courses-stand-under (IsCleanAndFit world former) scope former (found_course window) buffer c d list (is-stored-former) stands-former
           where
             is-stored-former : IsStored scope former window buffer d
             is-stored-former = let s = is-stored reshape in record { section = s.section; sectors = s.sectors; headers = s.headers }
@@ -296,7 +298,7 @@ module _ {tells : Type 0} {bank : Given} {tape : List Operation} {given backup :
         seen-right : IsViewRight (OpensFit world) scope bank told former d
         seen-right =
             found-right (OpensFit world) bank tape scope former told list backed placed (found-flushed bank tape scope former stored.says stored.flushed) sized values
-            (λ role lt miss. gone role lt (missing-moved moved role miss)) unclean refl under.0 under.1 (λ so. headers reshape) tails (λ x tail. stands-former.zeros tail.forth x tail.past)
+            (λ role lt miss. gone role lt (missing-moved moved role miss)) unclean refl under.0 (λ clean so. under.1 (record { clean = clean; fit = so })) (λ so. headers reshape) tails (λ x tail. stands-former.zeros tail.forth x tail.past)
 
         safe-now : OpensAlike world → IsSafeOver world bank told m tape
         safe-now alike = inl (record {
@@ -335,17 +337,41 @@ openings-move tells bank tape given backup lost first left former window buffer 
   stored = λ t. is-stored opened lost recovering t (reshape t);
   listed = λ t. at t (λ (k : ℕ). IsFilledRight (world_in bank tape (scope_of bank given backup former) k) (opening_entries k (members_without lost former))
       → HasListInCourse (OpensFit (world_in bank tape (scope_of bank given backup former) k)) (members_without lost former) (found_course window) buffer (present bank tape) (now (opening_list (world_in bank tape (scope_of bank given backup former) k)) (opening_entries k (members_without lost former))))
-      (λ right. listed opened lost recovering t clean (reshape t));
+      (λ right. listed-clean (listed opened lost recovering t (reshape t)));
   safe = λ t. at t (λ (k : ℕ). IsFilledRight (world_in bank tape (scope_of bank given backup former) k) (opening_entries k (members_without lost former)) → HasRoomForEvents (world_in bank tape (scope_of bank given backup former) k) → OpensAlike (world_in bank tape (scope_of bank given backup former) k)
       → IsSafeHistory ⊤ (world_in bank tape (scope_of bank given backup former) k) bank (members_without lost former) carried true (opening_entries k (members_without lost former)))
-      (λ right room alike. safe opened lost recovering t clean (reshape t) carried among right alike);
+      (λ right room alike. safe opened lost recovering t (reshape t) carried among right alike);
   now_safe = λ t. at t (λ (k : ℕ). IsFilledRight (world_in bank tape (scope_of bank given backup former) k) (opening_entries k (members_without lost former)) → HasRoomForEvents (world_in bank tape (scope_of bank given backup former) k) → OpensAlike (world_in bank tape (scope_of bank given backup former) k)
       → IsSafeOver (world_in bank tape (scope_of bank given backup former) k) bank (told_now (world_in bank tape (scope_of bank given backup former) k) carried true (opening_entries k (members_without lost former))) (members_without lost former) tape)
-      (λ right room alike. safe-now opened lost recovering t clean (reshape t) carried among alike);
+      (λ right room alike. safe-now opened lost recovering t (reshape t) carried among alike);
 }
   where
     at : tells → (P : ℕ → Type 0) → P (length tape) → P first
     at t P holds = subst P (sym (first_is t)) holds
+
+    listed-clean : {world : World} {m : Members} {course : Course} {sectors : List ℕ} {c : Contents} {current : ℕ → Sector}
+        → HasListInCourse (IsCleanAndFit world former) m course sectors c current → HasListInCourse (OpensFit world) m course sectors c current
+    listed-clean {world} was = record {
+      list = was.list;
+      is = was.is;
+      stands = record {
+        stands = was.stands.stands;
+        window = was.stands.window;
+        zeros = was.stands.zeros;
+        copied = was.stands.copied;
+        tail = was.stands.tail;
+        zeroed = was.stands.zeroed;
+        rows = λ so. was.stands.rows (record { clean = clean; fit = so });
+      };
+    }
+
+-- ---- a dirty one
+
+pub openings-stand : (tells : Type 0) → OpeningsStand tells
+openings-stand tells bank tape given backup lost former window buffer carried opened recovering among t reshape = record {
+  listed = listed opened lost recovering t reshape;
+  safe = λ right alike. safe opened lost recovering t reshape carried among right alike;
+}
 
 pub sound-reshapes-fit : (tells : Type 0) → SoundReshapesFit tells
 sound-reshapes-fit tells bank tape given backup former window buffer opened t fits =

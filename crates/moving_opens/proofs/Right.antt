@@ -49,7 +49,7 @@ first-now (w ∷ list) (suc x) = first-now list x
 module _ (sound : Type 0) (bank : Given) (tape : List Operation) (scope : Scope) (m : Members) (told : Ledger) (list : ℕ → Sector) (backed : ArePlaced scope bank m) (placed : IsPlaced bank m)
     (flushed : AreHoldersFlushed (reading_of m) bank tape) (sized : list_length m.newest ≡ told.size) (values : (x : ℕ) → x < list_length m.newest → IsIn (told.values x) (list x))
     (gone : (role : ℕ) → role < role_count m.newest → is_missing (reading_of m) role ≡ true → told.gone role ≡ true) (unclean : is_clean m.newest ≡ false → told.unclean ≡ true) (reshaping : told.reshaping ≡ true)
-    (under : StandsUnder scope m (present bank tape) (disk bank.start tape) list) (rows : sound → RowsStandUnder scope m (present bank tape) (disk bank.start tape) list)
+    (under : StandsUnder scope m (present bank tape) (disk bank.start tape) list) (rows : is_clean m.newest ≡ true → sound → RowsStandUnder scope m (present bank tape) (disk bank.start tape) list)
     (headers : sound → AreHeadersFit scope m (disk bank.start tape)) (tails : AreTailsStanding m (present bank tape) list) (zeros : (x : ℕ) → IsTail m.newest x → list x ≡ zero_sector) where
   abbrev d : Disk
   d = disk bank.start tape
@@ -75,7 +75,7 @@ module _ (sound : Type 0) (bank : Given) (tape : List Operation) (scope : Scope)
     sections = λ header may span active x low high v is.
         subst (λ (w : Sector). IsIn (told.values x) w) (sym (only v (list x) (under.sections header may span active x low high v is)))
         (values x (let inside = window-inside m.newest placed.fit span (open-window scope m.newest header span active) in omega (arith, high, inside)));
-    settled = λ clean few so. flushed-is-settled scope bank m tape told.values list placed flushed (rows so) values;
+    settled = λ clean few so. flushed-is-settled scope bank m tape told.values list placed flushed (rows clean so) values;
     headers = λ active so. headers so;
     tails = λ so x slot tail held v is.
         held-only (place (final_shape m.newest) x).role (place (final_shape m.newest) x).row slot v held is
