@@ -15,6 +15,7 @@ mod ending;
 mod examining;
 mod failing;
 mod mending;
+mod parting;
 mod reading;
 mod rebuilding;
 mod settling;
