@@ -9,8 +9,10 @@ ghost use Rattle.running_words.specs.Parts.{left_in};
 
 mod asking;
 mod ending;
+mod entering;
 mod failing;
 mod moves;
+mod reading;
 mod recording;
 mod settling;
 mod zeroing;
