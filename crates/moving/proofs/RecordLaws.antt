@@ -74,7 +74,7 @@ since-past given old new span disks was roles spares before after placed next mo
 
 -- ---- the steps that are left
 
-past-of : (given : Given) (old new : Members) (span : Span) → IsMoved given (moved_past span old) new → IsPast span old.newest new.newest
+pub past-of : (given : Given) (old new : Members) (span : Span) → IsMoved given (moved_past span old) new → IsPast span old.newest new.newest
 past-of given old new span moved = record {
   active = moved.reshape.reshaping;
   shape = moved.shape;

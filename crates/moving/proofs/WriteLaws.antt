@@ -19,7 +19,7 @@ use Rattle.bank.proofs.Causes.{faulted_longer}
 use Rattle.superblocks.specs.declared.members.Members.{Members}
 use Rattle.superblocks.proofs.ValidFields.{few-roles}
 use Rattle.row_io.specs.Rows.{reading_of, is_missing}
-use Rattle.superblocks.specs.Reading.{Scope, final_shape, list_length, next_window, role_count}
+use Rattle.superblocks.specs.Reading.{Scope, is_reshaping, final_shape, list_length, next_window, role_count}
 use Rattle.flat_history.specs.declared.events.Entry.{Entry}
 use Rattle.flat_history.specs.declared.events.Event.{Event}
 use Rattle.flat_history.specs.declared.events.Event.TheVariants.{Lost, SpareLost, Step, Wrote, Torn, Refused}
@@ -34,7 +34,7 @@ use Rattle.flat_history.specs.World.{opening_list}
 use Rattle.shape_views.specs.Regions.{AreShapesFit, DoWithout}
 use Rattle.shape_views.specs.Windows.{moved_past}
 use Rattle.views.specs.declared.work.Work.{Work}
-use Rattle.views.specs.Lacking.{DoesWithout, AreLostSince, HaveFailedSince, AreTooMany}
+use Rattle.views.specs.Lacking.{DoesWithout, HaveRolesFailed, AreLostSince, HaveFailedSince, AreTooMany}
 use Rattle.views.specs.Moving.{Grows, IsMoved}
 use Rattle.views.specs.Placed.{AreWhole, IsPlaced, AreStillHeld}
 use Rattle.views.specs.Rebuilding.{Held}
@@ -49,6 +49,8 @@ use Rattle.region_writes.proofs.Together.{shape-force}
 use Rattle.grow_asked.specs.declared.window.Window.{Window}
 use Rattle.grow_asked.specs.declared.window.Window.TheVariants.{Closed, Entered, Unsure}
 use Rattle.grow_asked.specs.declared.window.PhasesLeft.{PhasesLeft}
+use Rattle.grow_asked.specs.Left.{phases_of}
+use Rattle.grow_asked.proofs.LeftLaws.{finishing}
 use Rattle.kept_history.specs.Recorded.{IsCallGoing}
 use Rattle.kept_history.specs.Safe.{world_in, TakesNone}
 use Rattle.history_calls.proofs.Behind.{early-losses}
@@ -65,10 +67,10 @@ use Rattle.moving_kept.proofs.Writing.{ArePut, AreWritten, AreUnwritten, unrelie
 use Rattle.running_words.specs.Calls.{IsCalled, IsStepTaken}
 use Rattle.running_words.specs.Parts.{RunningParts, left_in}
 use Rattle.moving.specs.Ready.{bytes_in, IsReady}
-use Rattle.moving.specs.Writing.{IsWindowOpen, TouchesWindow, IsWriteLacked, IsPutEntered, IsWriteEntered}
+use Rattle.moving.specs.Writing.{IsWindowOpen, steps_in, TouchesWindow, IsWriteLacked, IsPutEntered, IsWriteEntered}
 use Rattle.moving.proofs.Called.{not_254}
 use Rattle.moving.proofs.Kept.{IsLengthKept, behind-keeps, behind-whole, takes-lost, left-moved}
-use Rattle.moving.proofs.RecordLaws.{since-past, record-some, closed-bare, moved-none, moved-if}
+use Rattle.moving.proofs.RecordLaws.{past-of, since-past, record-some, closed-bare, moved-none, moved-if}
 
 -- ---- the window
 
@@ -242,6 +244,14 @@ module _ {tells : Type 0} {given : Given} {tape tape' : List Operation} {scope :
       one : ◌≢◌ {A = ℕ} 1 0
       one zero = absurd (omega (arith, zero))
 
+-- the steps that the window still had are taken
+pub finish-left : (given : Given) (old new : Members) (course : Course) (ahead : PhasesLeft) (span : Span) (copied : ℕ) (sectioned : Bool) → course ≡ entered span copied sectioned
+    → IsMoved given (moved_past span old) new → is_reshaping old.newest ≡ true → left_in new (closed 0) ahead + steps_in old.newest course.window ≡ left_in old course ahead
+finish-left given old new course ahead span copied sectioned is moved active =
+    ap (λ (c : Course). left_in new (closed 0) ahead + steps_in old.newest c.window) is
+    ∙ finishing old.newest new.newest span sectioned copied 0 (phases_of ahead) active (past-of given old new span moved)
+    ∙ sym (ap (λ (c : Course). left_in old c ahead) is)
+
 -- ---- sectors beside the window
 
 -- where all rows are relied on, a write isn't done for missing members alone
@@ -323,6 +333,16 @@ losses-then a b f g h early late held old mid new one two = record {
       (All-weaker (λ e. IsLossBy (Held b) g h e.event) (λ e. IsLossBy (Held a) f h e.event)
       (λ e loss. loss-around (Held a) (Held b) f g h h held early late (λ slot. omega arith) e.event loss) two.more two.failed);
 }
+
+-- a slot has failed, or has its role still
+pub failed-then : (a b c : Members) (f g h : ℕ → ℕ) → NeverFalls f g → NeverFalls g h → HaveRolesFailed a b f g → HaveRolesFailed b c g h → HaveRolesFailed a c f h
+failed-then a b c f g h early late one two role slot held = elim (one role slot held) [
+  | inl still ↦ elim (two role slot still) [
+    | inl there ↦ inl there
+    | inr failed ↦ inr (faulted_longer slot f g h h (early slot) (omega arith) (late slot) failed)
+  ]
+  | inr failed ↦ inr (faulted_longer slot f f g h (omega arith) (late slot) (early slot) failed)
+]
 
 -- what two calls leave, one behind the other
 pub called-then : {B : Type 0} {tells : Type 0} {given given' : Given} {tape0 tape1 tape2 : List Operation} {f g h : ℕ → ℕ} {a b c : RunningParts B} → given' ≡ given

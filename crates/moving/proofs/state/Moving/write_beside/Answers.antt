@@ -1,4 +1,4 @@
-use Rattle.std.proofs.Common.{◌≡◌, ◌≤◌, ◌<◌, ◌+◌, ◌/◌, ℕ, false, List, [], ◌∷◌, ◌++◌, length, Some, refl, sym, ◌∙◌, ap, subst, arith}
+use Rattle.std.proofs.Common.{inl, ◌≡◌, ◌≤◌, ◌<◌, ◌+◌, ◌/◌, ℕ, false, List, [], ◌∷◌, ◌++◌, length, Some, refl, sym, ◌∙◌, ap, subst, arith}
 use Rattle.md_base.specs.Sectors.{Sector, sectors_of}
 use Rattle.md_base.specs.declared.answers.Refusal.{Refusal}
 use Rattle.superblocks.specs.Reading.{list_length}
@@ -328,3 +328,14 @@ pub returns-clause-left : goal.returns-clause-left
 returns-clause-left g c =
     let a = c.self.inside in
     rw (← c.self.view_is) (left-moved (g.B.Bank.given a.bank) a.members c.put_list-done.new.members a.course a.ahead c.put_list-done.ensures.moved)
+
+-- ---- what failed
+
+pub returns-in-Some-clause-failed : goal.returns-in-Some-clause-failed
+returns-in-Some-clause-failed g c = rw (← c.self.view_is) (λ role slot held. inl held)
+
+pub returns-in-Some-refusal-clause-failed : goal.returns-in-Some-refusal-clause-failed
+returns-in-Some-refusal-clause-failed g c = rw (← c.self.view_is) c.put_list-done.ensures.failed.roles
+
+pub returns-clause-failed : goal.returns-clause-failed
+returns-clause-failed g c = rw (← c.self.view_is) c.put_list-done.ensures.failed.roles
