@@ -6,6 +6,7 @@ pub mod TakenOut
 pub mod ZeroLaws
 pub mod Copied
 pub mod RecordLaws
+pub mod WriteLaws
 pub mod EnterLaws
 pub mod Entered
 pub mod Reading

@@ -74,7 +74,7 @@ since-past given old new span disks was roles spares before after placed next mo
 
 -- ---- the steps that are left
 
-past-of : (given : Given) (old new : Members) (span : Span) → IsMoved given (moved_past span old) new → IsPast span old.newest new.newest
+pub past-of : (given : Given) (old new : Members) (span : Span) → IsMoved given (moved_past span old) new → IsPast span old.newest new.newest
 past-of given old new span moved = record {
   active = moved.reshape.reshaping;
   shape = moved.shape;
@@ -89,7 +89,7 @@ pub record-left : (given : Given) (old new : Members) (span : Span) (sectioned :
 record-left given old new span sectioned ahead moved active = recording old.newest new.newest span sectioned 0 (phases_of ahead) active (past-of given old new span moved)
 
 -- the end of the reshape is left behind it
-record-some : (given : Given) (old new : Members) (span : Span) (ahead : PhasesLeft) → IsMoved given (moved_past span old) new → is_reshaping old.newest ≡ true → left_in new (closed 0) ahead ≢ 0
+pub record-some : (given : Given) (old new : Members) (span : Span) (ahead : PhasesLeft) → IsMoved given (moved_past span old) new → is_reshaping old.newest ≡ true → left_in new (closed 0) ahead ≢ 0
 record-some given old new span ahead moved active =
     some (left_in new (closed 0) ahead) (reshape_left new.newest Closed 0) (phases_steps (final_shape new.newest) new.newest.size (phases_of ahead))
     (plans-counted new.newest (closed 0) (phases_of ahead) (moved.reshape.reshaping ∙ active)) (some-left new.newest Closed 0 (omega arith))

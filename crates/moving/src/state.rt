@@ -11,10 +11,12 @@ mod asking;
 mod ending;
 mod entering;
 mod failing;
+mod finishing;
 mod moves;
 mod reading;
 mod recording;
 mod settling;
+mod writing;
 mod zeroing;
 
 use bank::Bank;

@@ -190,7 +190,7 @@ is-le : (a b : ℕ) → nat_le a b ≡ true → a ≤ b
 is-le a b is = grind (arith, nat_tests, is)
 
 -- where the row of a sector of the list isn't relied on, not all are
-unrelied-short : (newest : Sb) → AreShapesFit newest → (relied x : ℕ) → x < list_length newest → relied_rows newest relied (shape_for newest x) ≤ (place_by newest x).row → relied < list_length newest
+pub unrelied-short : (newest : Sb) → AreShapesFit newest → (relied x : ℕ) → x < list_length newest → relied_rows newest relied (shape_for newest x) ≤ (place_by newest x).row → relied < list_length newest
 unrelied-short newest fit relied x lt far = elim (cases_lt relied (list_length newest)) [
   | inl less ↦ less
   | inr all ↦ absurd (
