@@ -7,8 +7,10 @@ ghost use Rattle.flat_history.specs.Flat.{next_number};
 ghost use Rattle.grow_asked.specs.Left.{phases_of, zeroed_by, IsReshapeUnderWay, IsWindowRight};
 ghost use Rattle.running_words.specs.Parts.{left_in};
 
+mod adding;
 mod asking;
 mod ending;
+mod examining;
 mod failing;
 mod moves;
 mod recording;
