@@ -89,6 +89,9 @@ pub with-number : {tells : Type 0} {given : Given} {tape : List Operation} {scop
 with-number {work = work} number was = record {
   kept = more-numbers (is_carried (with_carried number work)) (carries-number number work) was.kept;
   synced = was.synced;
+  sized = was.sized;
+  unlimited = was.unlimited;
+  full = was.full;
   settled = was.settled;
   planned = was.planned;
   wide = was.wide;

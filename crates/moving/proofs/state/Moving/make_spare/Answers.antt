@@ -33,7 +33,7 @@ use Rattle.running_words.specs.Parts.{left_in}
 use Rattle.moving.specs.Ready.{bytes_in}
 use Rattle.moving.proofs.AddLaws.{with-number, apart-from, looked-grows, spare-made, none-added, add-called}
 use Rattle.moving.proofs.Called.{not_254, called, alone-lossless}
-use Rattle.moving.proofs.Kept.{ready, shapes-same, shapes-moved, left-moved}
+use Rattle.moving.proofs.Kept.{ready, shapes-same, shapes-moved, left-moved, alone-keeps, behind-keeps, behind-whole}
 use Rattle.moving.proofs.state.Moving.make_spare.Goals as goal
 
 pub look_at-requires-clause-slot : goal.look_at-requires-clause-slot
@@ -60,7 +60,7 @@ invariant_of-self-in_default g c =
     (looked-moves g.B.Bank.tells given (g.B.Bank.tape a.bank) (g.B.Bank.tape c.look_at.new.bank) (scope_in given a.epoch.uuid a.epoch.given (Some a.backup)) a.epoch.first a.epoch.entries.items a.members (is_carried a.work)
     a.course (bytes_in a.course.window a.window.items) (left_in a.members a.course a.ahead) c.args.who end c.args.slot
     was.kept (begins-going a.epoch.entries.items c.args.who number) (not_254 c.args.who.caller c.requires.caller) c.ops-end.ensures.count look.tape)
-    refl look.counts look.given (scope-same given (Some a.backup) look.given c.enter.ensures.uuid c.enter.ensures.given) c.enter.ensures.first c.make_room.ensures.items c.enter.ensures.items
+    refl look.counts (alone-keeps c.args.who end (Refused (SlotFault c.args.slot)) (λ n. refl) refl) (λ none whole. whole) look.given (scope-same given (Some a.backup) look.given c.enter.ensures.uuid c.enter.ensures.given) c.enter.ensures.first c.make_room.ensures.items c.enter.ensures.items
     (omega (arith, c.enter.ensures.room, c.in-Ok.ensures.ok))
 
 pub returns-in_default-clause-answered : goal.returns-in_default-clause-answered
@@ -238,7 +238,8 @@ invariant_of-self-then-contains g c =
     (sym (left-moved given (with_spare slot sb a.members) m a.course a.ahead did.moved))
     (added-lost-moves g.B.Bank.tells given tape mid tape' scope a.epoch.first a.epoch.entries.items a.members m (is_carried a.work) (is_carried work) a.course (bytes_in a.course.window a.window.items)
     (left_in a.members a.course a.ahead) c.args.who end slot sb roles spares was.kept (begins-going a.epoch.entries.items c.args.who number) (not_254 c.args.who.caller c.requires.caller) c.ops-end-2.ensures.count made))
-    refl did.counts given_is (scope-same given (Some a.backup) given_is c.enter_behind.ensures.uuid c.enter_behind.ensures.given) c.enter_behind.ensures.first c.make_room.ensures.items c.enter_behind.ensures.items
+    refl did.counts (behind-keeps c.args.who end roles spares (Refused (SlotFault slot)) (λ n. refl) refl)
+    (behind-whole tape' scope a.epoch.first a.epoch.entries.items c.args.who end roles spares (Refused (SlotFault slot)) did.moved made.since) given_is (scope-same given (Some a.backup) given_is c.enter_behind.ensures.uuid c.enter_behind.ensures.given) c.enter_behind.ensures.first c.make_room.ensures.items c.enter_behind.ensures.items
     (omega (arith, c.enter_behind.ensures.room, c.in-Ok.ensures.ok))
 
 pub returns-then-contains-clause-answered : goal.returns-then-contains-clause-answered
@@ -366,7 +367,8 @@ invariant_of-self-2 g c =
     (sym (left-moved given (with_spare slot sb a.members) m a.course a.ahead did.moved))
     (added-moves g.B.Bank.tells given tape mid tape' scope a.epoch.first a.epoch.entries.items a.members m (is_carried a.work) (is_carried work) a.course (bytes_in a.course.window a.window.items)
     (left_in a.members a.course a.ahead) c.args.who end slot sb roles spares was.kept (begins-going a.epoch.entries.items c.args.who number) (not_254 c.args.who.caller c.requires.caller) c.ops-end-2.ensures.count made))
-    refl did.counts given_is (scope-same given (Some a.backup) given_is c.enter_behind-2.ensures.uuid c.enter_behind-2.ensures.given) c.enter_behind-2.ensures.first c.make_room.ensures.items c.enter_behind-2.ensures.items
+    refl did.counts (behind-keeps c.args.who end roles spares (Added slot) (λ n. refl) refl)
+    (behind-whole tape' scope a.epoch.first a.epoch.entries.items c.args.who end roles spares (Added slot) did.moved made.since) given_is (scope-same given (Some a.backup) given_is c.enter_behind-2.ensures.uuid c.enter_behind-2.ensures.given) c.enter_behind-2.ensures.first c.make_room.ensures.items c.enter_behind-2.ensures.items
     (omega (arith, c.enter_behind-2.ensures.room, c.in-Ok.ensures.ok))
 
 pub returns-clause-answered : goal.returns-clause-answered
