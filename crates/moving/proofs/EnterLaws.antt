@@ -1,6 +1,6 @@
 -- The next window is entered, or isn't, from what `enter_window` of `window_steps` says of it: what that leaves.
-use Rattle.std.proofs.Common.{◌≡◌, ◌≢◌, ◌⊎◌, inl, inr, ℕ, ◌+◌, ◌-◌, ◌*◌, ◌/◌, ◌<◌, ◌≤◌, ◌&&◌, ◌||◌, nat_le, nat_lt, Bool, true, false, not, if◌then◌else◌, Option, Some, None, List, [], ◌∷◌, length, take, refl, sym, ◌∙◌, ap, subst, arith}
-use Rattle.std.specs.Prelude.{MatchOption, Result, Ok, Err, OnOk, ⊤}
+use Rattle.std.proofs.Common.{◌≡◌, ◌≢◌, ◌⊎◌, inl, inr, ℕ, ◌+◌, ◌-◌, ◌<◌, ◌≤◌, ◌&&◌, ◌||◌, nat_le, nat_lt, Bool, true, false, not, if◌then◌else◌, Option, Some, None, List, [], ◌∷◌, length, take, refl, sym, ◌∙◌, ap, subst, arith}
+use Rattle.std.specs.Prelude.{MatchOption, Result, Ok, Err, OnOk}
 use Rattle.std.proofs.lemmas.Bool.Decides.{nat_tests}
 use Rattle.std.proofs.lemmas.List.{take_all}
 use Rattle.md_base.specs.Sectors.{Sector}
@@ -18,7 +18,7 @@ use Rattle.parity.specs.Rows.{sector_of}
 use Rattle.geometry.specs.Geometry as geometry
 use Rattle.superblocks.specs.declared.members.Members.{Members}
 use Rattle.superblocks.specs.Reading.{Scope, is_clean, is_reshaping, shape_of, list_length, next_window, role_count, data_offset_of}
-use Rattle.row_io.specs.Rows.{reading_of, present, is_held, is_missing, missing_count, IsTolerated}
+use Rattle.row_io.specs.Rows.{reading_of, present, missing_count, IsTolerated}
 use Rattle.row_io.proofs.Lacks.{lacking-missing}
 use Rattle.row_io.proofs.Written.{present-same}
 use Rattle.list_io.specs.declared.outcome.Unavailable.TheVariants.{TooManyMissing, NotResynced}
@@ -60,7 +60,6 @@ use Rattle.window_rows.proofs.ReadLaws.{the-window}
 use Rattle.window_steps.specs.declared.entering.NotEntered.{NotEntered}
 use Rattle.window_steps.specs.declared.entering.NotEntered.TheVariants.{Unread, Unsaved}
 use Rattle.window_steps.specs.Entering.{IsBackupFor, IsEnterable, IsEntered, IsRead}
-use Rattle.grow_asked.specs.declared.window.Window.{Window}
 use Rattle.grow_asked.specs.declared.window.Window.TheVariants.{Closed, Entered, Unsure}
 use Rattle.course_kept.specs.Course.{HasWindowIn, IsStored}
 use Rattle.moving_state.proofs.ReshapeLaws.{window-reach}

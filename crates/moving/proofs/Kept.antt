@@ -1,8 +1,9 @@
 -- What an array in a reshape keeps, after a call.
-use Rattle.std.proofs.Common.{◌≡◌, ℕ, ◌+◌, ◌-◌, ◌*◌, ◌<◌, ◌≤◌, ◌==◌, ◌&&◌, ◌||◌, Bool, true, false, inl, inr, not, cond, Option, None, List, [], ◌∷◌, ◌++◌, length, refl, sym, ◌∙◌, ap, subst, arith}
+use Rattle.std.proofs.Common.{◌≡◌, ℕ, ◌+◌, ◌-◌, ◌*◌, ◌<◌, ◌≤◌, ◌==◌, ◌&&◌, ◌||◌, Bool, true, false, inl, inr, not, cond, Option, None, List, [], ◌∷◌, ◌++◌, length, take, take_all, drop, refl, sym, ◌∙◌, ap, subst, arith}
 use Rattle.std.specs.Prelude.{min, fold}
 use Rattle.std.specs.List.{list_any}
 use Rattle.std.proofs.lemmas.Bool.Decides.{nat_tests}
+use Rattle.std.proofs.lemmas.List.{take-append-le}
 use Rattle.std.proofs.lemmas.List.Folds.{list_any-append}
 use Rattle.md_base.specs.Shapes.{data_disks}
 use Rattle.md_base.specs.declared.wishes.Phase.{Phase}
@@ -244,3 +245,9 @@ roomier {tells = tells} {given = given} {tape = tape} {scope = scope} {first = f
       far_rows_fit = was.far_rows_fit;
       far_buffer_fits = was.far_buffer_fits;
     })
+
+-- ---- the bytes
+
+-- bytes that were written whole
+pub written-whole : (n : ℕ) (bytes written : List ℕ) → length written ≡ length bytes → n ≡ length bytes → take n (written ++ drop (length written) bytes) ≡ written
+written-whole n bytes written len ok = take-append-le n written (drop (length written) bytes) (omega (arith, len, ok)) ∙ take_all n written (omega (arith, len, ok))

@@ -60,7 +60,11 @@ fn is_read(answer: Result<(), NotEntered>) -> bool
 }
 
 // Why the window isn't entered: by what the call answered, or else for what is missing behind it.
-fn refusal_behind(members: &Members, shape: &Shape, answer: Result<(), NotEntered>) -> Option<Refusal>
+fn refusal_behind(
+    members: &Members,
+    shape: &Shape,
+    answer: Result<(), NotEntered>,
+) -> Option<Refusal>
     requires shapes { AreValidShapes members.now.newest }
     requires roles { length members.now.roles ≡ role_count members.now.newest }
     requires shape { shape.now ≡ shape_of members.now.newest }
@@ -199,16 +203,7 @@ fn enter_next<B: Bank>(
     let width = 512 * (span.hi - span.lo) as usize;
     let (part, _) = window.split_at_mut(width);
     let entered = enter_window(
-        members,
-        bank,
-        backup,
-        uuid,
-        &shape,
-        span,
-        sectioned,
-        part,
-        scratch,
-        true,
+        members, bank, backup, uuid, &shape, span, sectioned, part, scratch, true,
     );
     let answer = entered.answer;
     let spares = name_read(members, bank, is_read(answer));

@@ -1,4 +1,4 @@
-use Rattle.std.proofs.Common.{◌≡◌, ◌⊎◌, inl, inr, ℕ, ◌+◌, ◌-◌, ◌*◌, ◌/◌, ◌<◌, ◌≤◌, ◌++◌, Bool, true, false, Some, List, length, take, take_all, refl, sym, ◌∙◌, ap, subst, arith}
+use Rattle.std.proofs.Common.{◌≡◌, ◌⊎◌, inl, inr, ℕ, ◌-◌, ◌*◌, ◌/◌, ◌++◌, true, List, length, take, take_all, refl, sym, ◌∙◌, subst, arith}
 use Rattle.std.specs.Prelude.{MatchOption, None}
 use Rattle.std.proofs.lemmas.List.{take-append-le}
 use Rattle.md_base.specs.Sectors.{Sector}
@@ -6,17 +6,15 @@ use Rattle.bank.specs.declared.bank.Operation.{Operation}
 use Rattle.bank.specs.Given.{Given}
 use Rattle.bank.specs.Tape.{disk}
 use Rattle.superblocks.specs.declared.members.Members.{Members}
-use Rattle.superblocks.specs.Reading.{shape_of}
 use Rattle.superblocks.proofs.ValidFields.{few-roles}
 use Rattle.row_io.specs.Rows.{present}
 use Rattle.list_io.specs.Calls.{IsAsked}
 use Rattle.flat_history.specs.Sound.{OpensFit}
-use Rattle.shape_views.specs.Windows.{ListStands, RowsStand}
+use Rattle.shape_views.specs.Windows.{RowsStand}
 use Rattle.shape_views.proofs.Stands.{span-order}
 use Rattle.shape_changes.specs.Marking.{AreOthersPresent}
-use Rattle.shape_changes.specs.Steady.{IsUncleanTold}
 use Rattle.shape_changes.proofs.Risen.{risen-then, room-then}
-use Rattle.views.specs.Placed.{AreWhole, IsPlaced, AreLost}
+use Rattle.views.specs.Placed.{AreWhole, IsPlaced}
 use Rattle.views.specs.Moving.{IsMoved}
 use Rattle.views.specs.Rebuilding.{AreSparesFree}
 use Rattle.views.specs.Under.{IsRestKept}
@@ -26,7 +24,6 @@ use Rattle.views.proofs.LackingWrites.{lost-of, others-then, others-same}
 use Rattle.views.proofs.MovedLaws.{grows-then, moved-lost, moved-then, moved-from}
 use Rattle.views.proofs.SafeStretch.{safe-then, over-at, keeps-from}
 use Rattle.safe_updates.proofs.Unused.{rest-unused}
-use Rattle.window_steps.specs.declared.entering.NotEntered.{NotEntered}
 use Rattle.grow_asked.specs.declared.window.Window.{Window}
 use Rattle.grow_asked.specs.declared.window.Window.TheVariants.{Closed, Entered, Unsure}
 use Rattle.course_kept.specs.Course.{HasWindowIn, IsStored}
@@ -207,8 +204,8 @@ returns-clause-has g c = λ t list stands whole.
 pub returns-clause-stored : goal.returns-clause-stored
 returns-clause-stored g c = λ t scope its are none fit.
     let start = (given g c).start in
-    subst (λ (w : Window). IsStored scope (new g c) w (take (512 * (c.args.span.now.hi - c.args.span.now.lo)) (bytes g c ++ c.split_at_mut-part.result.1.now)) (disk start (three g c))) (sym c.window_behind.ensures)
-    (subst (λ (l : List ℕ). IsStored scope (new g c) (window_behind c.args.span.now c.args.sectioned c.enter_window-entered.result.answer c.refusal_behind-refusal.result) l (disk start (three g c))) (sym (part-is g c))
+    subst (λ (w : Window). IsStored scope (new g c) w (take (512 * (c.args.span.now.hi - c.args.span.now.lo)) (bytes g c ++ c.split_at_mut-part.result.1.now)) (disk start (three g c))) {x = window_behind c.args.span.now c.args.sectioned c.enter_window-entered.result.answer c.refusal_behind-refusal.result} (sym c.window_behind.ensures)
+    (subst (λ (l : List ℕ). IsStored scope (new g c) (window_behind c.args.span.now c.args.sectioned c.enter_window-entered.result.answer c.refusal_behind-refusal.result) l (disk start (three g c))) {x = bytes g c} (sym (part-is g c))
     (stored-kept scope (given g c) (mid g c) (new g c) (window_behind c.args.span.now c.args.sectioned c.enter_window-entered.result.answer c.refusal_behind-refusal.result) (bytes g c) (disk start (two g c)) (disk start (three g c))
     (reshaping-moved scope (given g c) (old g c) (mid g c) (first g c) are) (then g c)
     (rest-unused (mid g c) (disk start (two g c)) (disk start (three g c))
