@@ -10,3 +10,6 @@ pub mod WriteLaws
 pub mod EnterLaws
 pub mod Entered
 pub mod Reading
+pub mod AddLaws
+pub mod Examined
+pub mod DueSteps

@@ -7,9 +7,11 @@ ghost use Rattle.flat_history.specs.Flat.{next_number};
 ghost use Rattle.grow_asked.specs.Left.{phases_of, zeroed_by, IsReshapeUnderWay, IsWindowRight};
 ghost use Rattle.running_words.specs.Parts.{left_in};
 
+mod adding;
 mod asking;
 mod ending;
 mod entering;
+mod examining;
 mod failing;
 mod finishing;
 mod moves;
@@ -17,6 +19,7 @@ mod reading;
 mod recording;
 mod settling;
 mod writing;
+mod stepping;
 mod zeroing;
 
 use bank::Bank;
