@@ -9,11 +9,16 @@ ghost use Rattle.views.specs.Status.{stripes_of};
 ghost use Rattle.grow_asked.specs.Left.{phases_of};
 ghost use Rattle.running_words.specs.Parts.{still_left};
 
+mod adding;
 mod asking;
 mod ending;
+mod examining;
 mod failing;
+mod mending;
 mod reading;
+mod rebuilding;
 mod settling;
+mod steps;
 mod writing;
 
 use array_state::asking::steps_left;
