@@ -71,6 +71,7 @@ more-numbers {tells = tells} {given = given} {tape = tape} {scope = scope} {firs
   stored = was.stored;
   listed = was.listed;
   safe = λ t fills room alike. let s = was.safe t fills room alike in record { past = s.past; sound = s.sound; now = inl (now t fills room alike); counted = s.counted };
+  last_step = was.last_step;
   now_safe = now;
 }
   where

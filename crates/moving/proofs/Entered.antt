@@ -52,7 +52,8 @@ use Rattle.kept_history.proofs.Lists.{newest-in}
 use Rattle.history_calls.specs.Reliable.{IsReliable, AreToldGone}
 use Rattle.history_calls.proofs.Adding.{IsAdding, ChangesEarly, changing-leaves}
 use Rattle.history_calls.proofs.Behind.{IsAmong, early-losses, first-of, legal-losses}
-use Rattle.history_calls.proofs.Quiet.{IsQuiet, IsLeftBehind, fit-later, quiet-now}
+use Rattle.history_calls.proofs.LastStep.{IsWithin, losses-within}
+use Rattle.history_calls.proofs.Quiet.{IsQuiet, IsLeftBehind, fit-later, quiet-now, last-left}
 use Rattle.course_kept.specs.declared.course.Course.{Course}
 use Rattle.course_kept.specs.Course.{HasWindowIn, IsCourseOf, IsStored, StandsInCourse}
 use Rattle.course_kept.specs.Laws.{closed}
@@ -144,7 +145,7 @@ module _ {tells : Type 0} {given : Given} {tape tape' : List Operation} {scope :
   long-same : list_length new.newest ≡ list_length old.newest
   long-same = list-alike old.newest new.newest did.moved.reshape did.moved.shape did.moved.size
 
-  module _ (event : Event) (quiet : IsQuiet event) where
+  module _ (event : Event) (quiet : IsQuiet event) (inside : IsWithin (list_length old.newest) event) where
     abbrev all : List Entry
     all = entries ++ entries_of who end (losses_of roles spares ++ event ∷ [])
 
@@ -179,13 +180,14 @@ module _ {tells : Type 0} {given : Given} {tape tape' : List Operation} {scope :
         (newest-in (opening_list (world_in given tape scope first)) entries x (let sized = (was.recorded t).sized in omega (arith, lt, sized))) lt)
 
     adding : IsAdding event
-    adding = record { adds = quiet.adds; gives = quiet.gives; ends = quiet.ends; level = quiet.level }
+    adding = record { adds = quiet.adds; gives = quiet.gives; ends = quiet.ends; level = quiet.level; other = quiet.other }
 
     module _ (legal : tells → IsReliable (world_in given tape scope first) entries → AreToldGone (world_in given tape' scope first) (entries ++ entries_of who end (losses_of roles spares)) new
         → level_at (world_in given tape' scope first) (entries ++ entries_of who end (losses_of roles spares)) ≡ level_at (world_in given tape scope first) entries
         → IsLegalEvent (world_in given tape' scope first) (entries ++ entries_of who end (losses_of roles spares)) (entry_of who end event) [] event) where
       changes : tells → Changes tape' end
       changes t = record {
+        within = losses-within (list_length old.newest) (losses_of roles spares) (event ∷ []) (losses-are roles spares) (inside, tt);
         rise = did.rise t;
         keeps = λ told right gone fills more values room told_gone unclean unsettled before.
             let l = was.listed t fills in
@@ -233,6 +235,7 @@ module _ {tells : Type 0} {given : Given} {tape tape' : List Operation} {scope :
         gone = λ t. (leaves t).gone;
         unclean = λ t. (leaves t).unclean;
         recorded = λ t. (leaves t).recorded;
+        last_step = λ t. last-left given tape tape' scope first entries (list_length old.newest) new carried true who end (losses_of roles spares) event (leaves t) (at_end t) quiet.other long-same (was.last_step t).past;
         stored = did.stored;
         listed = λ t fills. listed t fills;
         safe = λ t. (leaves t).safe;
@@ -304,7 +307,7 @@ module _ {tells : Type 0} {given : Given} {tape tape' : List Operation} {scope :
         (left_in new (record course { window = window }) ahead)
     enter-refused refusal why =
         put (losses_of roles spares ++ Refused refusal ∷ []) (left_in old (closed 0) ahead) (left-with ∙ refused-left) refused-which
-        (next-moves window (take (512 * (span.hi - span.lo)) buffer) who end roles spares before full does goes (not_254 who.caller caller) at_end grows refused-next did (Refused refusal) (quiet-refusal refusal)
+        (next-moves window (take (512 * (span.hi - span.lo)) buffer) who end roles spares before full does goes (not_254 who.caller caller) at_end grows refused-next did (Refused refusal) (quiet-refusal refusal) tt
         (λ t right gone level. legal t right gone level why) (left_in old (closed 0) ahead)
         (left-more (left_in old (closed 0) ahead) entries who end (losses_of roles spares ++ Refused refusal ∷ []) before.left_told
         (left-behind (left_in old (closed 0) ahead) who end (losses_of roles spares) (Refused refusal ∷ []) (losses-are roles spares) (λ told same. same))))
@@ -343,7 +346,7 @@ module _ {tells : Type 0} {given : Given} {tape tape' : List Operation} {scope :
     enter-done critical left told =
         put (losses_of roles spares ++ Step EntersWindow left ∷ []) left (sym told) (inr (inl (sectioned, named)))
         (next-moves window (take (512 * (span.hi - span.lo)) buffer) who end roles spares before full does goes (not_254 who.caller caller) at_end grows
-        (subst (IsNextWindow old.newest) (sym named) (at, refl, critical)) did (Step EntersWindow left) (quiet-step EntersWindow left tt (λ zero. enter-some (sym told ∙ zero)))
+        (subst (IsNextWindow old.newest) (sym named) (at, refl, critical)) did (Step EntersWindow left) (quiet-step EntersWindow left tt (λ zero. enter-some (sym told ∙ zero))) tt
         (λ t right gone level. step-is (world_in given tape' scope first) (entries ++ entries_of who end (losses_of roles spares)) (entry_of who end (Step EntersWindow left)) EntersWindow left
         (told-behind (left + 1) entries who end (losses_of roles spares) (losses-are roles spares)
         (subst (λ (n : ℕ). IfSome (told_left entries) (λ k. k ≡ n)) (sym (ap (λ (n : ℕ). n + 1) told ∙ enter-left)) was.left_told)))

@@ -68,7 +68,7 @@ use Rattle.kept_history.proofs.Ledgers.{gone-any}
 use Rattle.kept_history.proofs.Tests.{none-before}
 use Rattle.history_calls.specs.Reliable.{IsReliable, AreToldGone}
 use Rattle.history_calls.proofs.Behind.{IsAmong, early-losses, legal-losses}
-use Rattle.history_calls.proofs.Quiet.{IsQuiet, LeavesList, IsLeftBehind, quiet-leaves, quiet-now}
+use Rattle.history_calls.proofs.Quiet.{IsQuiet, LeavesList, IsLeftBehind, quiet-leaves, quiet-now, last-left}
 use Rattle.course_kept.specs.declared.course.Course.{Course}
 use Rattle.grow_asked.specs.declared.window.Window.{Window}
 use Rattle.grow_asked.specs.declared.window.Window.TheVariants.{Closed, Entered, Unsure}
@@ -245,7 +245,7 @@ module _ {tells : Type 0} {given : Given} {tape : List Operation} {scope : Scope
       all = entries ++ entries_of who end (losses_of roles spares ++ Read at (sectors_of bytes) ∷ [])
 
       quiet : IsQuiet (Read at (sectors_of bytes))
-      quiet = record { adds = refl; gives = refl; ends = refl; still = λ x values. refl; level = λ n. refl }
+      quiet = record { adds = refl; gives = refl; ends = refl; still = λ x values. refl; level = λ n. refl; other = refl }
 
       opened : tells → opening_list (world_in given tape' scope first) ≡ opening_list (world_in given tape scope first)
       opened t =
@@ -341,6 +341,7 @@ module _ {tells : Type 0} {given : Given} {tape : List Operation} {scope : Scope
         gone = λ t. (leaves t).gone;
         unclean = λ t. (leaves t).unclean;
         recorded = λ t. (leaves t).recorded;
+        last_step = λ t. last-left given tape tape' scope first entries (list_length old.newest) new carried true who end (losses_of roles spares) (Read at (sectors_of bytes)) (leaves t) (at_end t) refl long-same (was.last_step t).past;
         stored = λ t. stored-kept scope given old new course.window buffer (disk given.start tape) (disk given.start tape') was.members_are did.moved (did.unused t) (was.stored t);
         listed = λ t. listed-later given tape scope first entries all new carried course buffer tape' (now (opening_list (world_in given tape scope first)) entries) (leaves t)
             (quiet-now (opening_list (world_in given tape scope first)) entries who end (losses_of roles spares) (IsAmong roles) (Read at (sectors_of bytes)) (early-losses roles spares) quiet)
