@@ -15,10 +15,13 @@ use Rattle.superblocks.specs.Reading.{Scope, shape_of, final_shape}
 use Rattle.flat_history.specs.declared.events.Entry.{Entry}
 use Rattle.flat_history.specs.Losses.{was_dirty, is_resync_end, is_unsynced}
 use Rattle.flat_history.specs.Stands.{reach_of}
+use Rattle.shape_views.specs.Regions.{DoWithout}
+use Rattle.shape_changes.specs.Safety.{HasLiveSlot}
 use Rattle.views.specs.Placed.{HaveSameReshape}
 use Rattle.views.specs.declared.work.Work.{Work}
 use Rattle.views.specs.Moving.{Grows, IsMoved}
 use Rattle.views.specs.Numbers.{is_carried}
+use Rattle.views.proofs.LiveLeft.{without-left}
 use Rattle.grow_asked.specs.declared.window.Window.{Window}
 use Rattle.grow_asked.specs.declared.window.Window.TheVariants.{Closed, Entered, Unsure}
 use Rattle.grow_asked.specs.declared.window.PhasesLeft.{PhasesLeft}
@@ -110,3 +113,10 @@ ready {tells = tells} {given = given} {given' = given'} {tape' = tape'} {scope =
       far_rows_fit = was.far_rows_fit;
       far_buffer_fits = was.far_buffer_fits;
     }))))
+
+-- ---- live slots
+
+-- an array that does without what it misses has one
+pub live-of : {tells : Type 0} {given : Given} {tape : List Operation} {scope : Scope} {first : ℕ} {entries : List Entry} {members : Members} {carried : ℕ → Bool} {course : Course} {buffer : List ℕ} {left : ℕ}
+    → IsMoving tells given tape scope first entries members carried course buffer left → DoWithout members → HasLiveSlot members
+live-of {given = given} {members = members} was does = without-left given members was.members_are.placed was.members_are.unlost does

@@ -27,7 +27,7 @@ use Rattle.running_words.specs.Calls.{IsZeroDue}
 use Rattle.running_words.specs.Parts.{left_in}
 use Rattle.moving.specs.Ready.{bytes_in}
 use Rattle.moving.proofs.Called.{not_254, called, alone-lossless}
-use Rattle.moving.proofs.Kept.{ready, shapes-same, shapes-moved}
+use Rattle.moving.proofs.Kept.{ready, shapes-same, shapes-moved, live-of}
 use Rattle.moving.proofs.Settled.{many-of}
 use Rattle.moving.proofs.ZeroLaws.{buffer-other, closed-at, zero-step, rows-zeroed, zero-refused, zero-done}
 use Rattle.moving.proofs.state.Moving.zero.Goals as goal
@@ -131,7 +131,7 @@ invariant_of-self-in-Some-refusal g c =
     (c.len-count.ensures ∙ here.backed.roles) c.vacant_roles-before.ensures c.newly_vacant-roles.ensures in
     let step = zero-step given a.members m tape tape' c.final_in-shape.result c.stripe_to_zero-stripe.result a.course.zeroed roles spares before after c.final_in-shape.ensures c.stripe_to_zero-stripe.ensures.value
     did.moved did.grows since did.clean did.rise did.unused did.others did.safe in
-    let kept = zero-refused a.course a.ahead c.args.who end roles spares is due.through was.kept goes c.requires.caller c.ops-end-2.ensures.count step refusal
+    let kept = zero-refused a.course a.ahead c.args.who end roles spares is due.through was.kept (live-of was.kept c.in_default.ensures) goes c.requires.caller c.ops-end-2.ensures.count step refusal
     (many-of m c.zero-done.result.refusal refusal c.in-Some-refusal.is did.refused) in
     buffer-other (ready (entries_of c.args.who end (losses_of roles spares ++ Refused refusal ∷ [])) was did.grows (shapes-moved given a.members m did.moved) kept
     refl did.counts did.given (scope-same given (Some a.backup) did.given c.enter_behind.ensures.uuid c.enter_behind.ensures.given) c.enter_behind.ensures.first refl c.enter_behind.ensures.items
@@ -207,7 +207,7 @@ invariant_of-self-2 g c =
     (c.len-count.ensures ∙ here.backed.roles) c.vacant_roles-before.ensures c.newly_vacant-roles.ensures in
     let step = zero-step given a.members m tape tape' c.final_in-shape.result c.stripe_to_zero-stripe.result a.course.zeroed roles spares before after c.final_in-shape.ensures c.stripe_to_zero-stripe.ensures.value
     did.moved did.grows since did.clean did.rise did.unused did.others did.safe in
-    let kept = zero-done a.course a.ahead c.args.who end roles spares is due.through was.kept goes c.requires.caller c.ops-end-2.ensures.count step left c.steps_left-left.ensures more
+    let kept = zero-done a.course a.ahead c.args.who end roles spares is due.through was.kept (live-of was.kept c.in_default.ensures) goes c.requires.caller c.ops-end-2.ensures.count step left c.steps_left-left.ensures more
     (rows-zeroed given a.members m tape' c.final_in-shape.result c.stripe_to_zero-stripe.result a.course.zeroed c.final_in-shape.ensures c.stripe_to_zero-stripe.ensures.value (did.stands c.in_default-refusal.is)) in
     buffer-other (ready (entries_of c.args.who end (losses_of roles spares ++ Step ZeroesStripe left ∷ [])) was did.grows (shapes-moved given a.members m did.moved) kept
     refl did.counts did.given (scope-same given (Some a.backup) did.given c.enter_behind-2.ensures.uuid c.enter_behind-2.ensures.given) c.enter_behind-2.ensures.first refl c.enter_behind-2.ensures.items
