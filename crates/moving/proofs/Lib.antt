@@ -6,3 +6,5 @@ pub mod TakenOut
 pub mod ZeroLaws
 pub mod Copied
 pub mod RecordLaws
+pub mod EnterLaws
+pub mod Entered

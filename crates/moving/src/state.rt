@@ -9,6 +9,7 @@ ghost use Rattle.running_words.specs.Parts.{left_in};
 
 mod asking;
 mod ending;
+mod entering;
 mod failing;
 mod moves;
 mod recording;

@@ -51,8 +51,8 @@ use Rattle.call_entries.proofs.LeftLaws.{TellLeft, left-behind, left-more}
 use Rattle.call_entries.proofs.LosingLaws.{entries-both}
 use Rattle.array_kept.proofs.LedgerLaws.{written-allowed, wrote-in, torn-in}
 use Rattle.array_kept.proofs.NowLaws.{wrote-is}
-use Rattle.region_rows.specs.Stretches.{relied_rows}
-use Rattle.region_writes.specs.Runs.{IsShapeOf, ListStandsIn, RowsStandIn, IsListTouched, MayBeHidden, IsListTorn, IsListUnwritten}
+use Rattle.region_rows.specs.Stretches.{relied_rows, IsShapeOf, ListStandsIn, RowsStandIn}
+use Rattle.region_writes.specs.Runs.{IsListTouched, MayBeHidden, IsListTorn, IsListUnwritten}
 use Rattle.region_writes.proofs.Together.{shape-force}
 use Rattle.region_writes.proofs.RunLists.{written-same}
 use Rattle.kept_history.specs.Recorded.{IsCallGoing, IsLegalCall, entry_of}
