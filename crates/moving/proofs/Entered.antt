@@ -6,6 +6,7 @@ use Rattle.md_base.specs.Shapes.{tolerance, tolerance_of}
 use Rattle.md_base.specs.declared.answers.Refusal.{Refusal}
 use Rattle.md_base.specs.declared.answers.Refusal.TheVariants.{BackupFault}
 use Rattle.md_base.specs.declared.answers.Who.{Who}
+use Rattle.md_base.specs.declared.places.Shape.{Shape}
 use Rattle.md_base.specs.declared.places.Span.{Span}
 use Rattle.bank.specs.declared.bank.Operation.{Operation}
 use Rattle.bank.specs.Given.{Given}
@@ -34,7 +35,7 @@ use Rattle.shape_changes.specs.Safety.{HasRoomLeft, IsRisen}
 use Rattle.shape_changes.specs.Steady.{AreWritesAllowed, IsSafeOver, KeepsSafe, AreGoneTold, IsUncleanTold}
 use Rattle.views.specs.Placed.{AreWhole}
 use Rattle.views.specs.Moving.{Grows, IsMoved}
-use Rattle.views.specs.Lacking.{AreTooMany, AreOtherRowsKept}
+use Rattle.views.specs.Lacking.{DoesWithout, AreTooMany, AreOtherRowsKept}
 use Rattle.views.proofs.LiveLeft.{without-left}
 use Rattle.views.proofs.Fit.{list-alike}
 use Rattle.call_entries.specs.Losing.{losses_of}
@@ -58,7 +59,7 @@ use Rattle.course_kept.specs.declared.course.Course.{Course}
 use Rattle.course_kept.specs.Course.{HasWindowIn, IsCourseOf, IsStored, StandsInCourse}
 use Rattle.course_kept.specs.Laws.{closed}
 use Rattle.course_kept.proofs.Courses.{enters-stand}
-use Rattle.course_kept.proofs.Frames.{stands-on}
+use Rattle.course_kept.proofs.Frames.{stands-on, stands-later, stands-whole}
 use Rattle.moving_state.proofs.LeftLaws.{plans-counted, some-left}
 use Rattle.moving_state.proofs.ReshapeLaws.{under-way-of}
 use Rattle.moving_kept.specs.Moving.{HasListInCourse, IsMoving}
@@ -110,18 +111,18 @@ next-course given old new moved (Unsure span) is =
     record { window = window-alike old.newest new.newest moved.reshape moved.shape moved.size ∙ is; through = λ some. absurd (omega (arith, some)); few = omega arith }
 
 -- the list stands in it, where the buffer has the window's sectors
-next-stands : (sound : Type 0) (given : Given) (old new : Members) (former bytes : List ℕ) (c e : Contents) (list : ℕ → Sector) → IsMoved given old new → AreOtherRowsKept (λ row. ⊥) (reading_of new) c e
-    → (window : Window) → IsNextWindow old.newest window → HasWindowIn window bytes list → StandsInCourse sound old (closed 0) former c list → StandsInCourse sound new (course_in window) bytes e list
-next-stands sound given old new former bytes c e list moved kept Closed is has was =
-    stands-on sound given old new moved (closed 0) bytes c e list (λ row. ⊥) kept (record { stands = was.stands; window = tt; zeros = was.zeros; copied = was.copied; tail = was.tail; zeroed = was.zeroed; rows = was.rows }) (record {
-      shown = λ x shown none. none;
-      tail = λ x tail none. none;
-      copied = λ row at none. none;
-      zeroed = λ row at none. none;
+next-stands : (sound : Type 0) (among : Shape → Type 0) (given : Given) (old new : Members) (former bytes : List ℕ) (c e : Contents) (list : ℕ → Sector) → IsMoved given old new → AreOtherRowsKept (λ row. ⊥) (reading_of new) c e
+    → (window : Window) → IsNextWindow old.newest window → HasWindowIn window bytes list → StandsInCourse sound among old (closed 0) former c list → StandsInCourse sound among new (course_in window) bytes e list
+next-stands sound among given old new former bytes c e list moved kept Closed is has was =
+    stands-on sound among given old new moved (closed 0) bytes c e list (λ row. ⊥) kept (record { stands = was.stands; window = tt; zeros = was.zeros; copied = was.copied; tail = was.tail; zeroed = was.zeroed; rows = was.rows }) (record {
+      shown = λ x own shown none. none;
+      tail = λ own x tail none. none;
+      copied = λ own row at none. none;
+      zeroed = λ own row at none. none;
     })
-next-stands sound given old new former bytes c e list moved kept (Entered span copied sectioned) is has was =
-    subst (λ (n : ℕ). StandsInCourse sound new (course_in (Entered span n sectioned)) bytes e list) (sym is.1) ((enters-stand sound given old new span sectioned former bytes c e list moved kept has.0 has.1 was).0)
-next-stands sound given old new former bytes c e list moved kept (Unsure span) is has was = (enters-stand sound given old new span false former bytes c e list moved kept has.0 has.1 was).1
+next-stands sound among given old new former bytes c e list moved kept (Entered span copied sectioned) is has was =
+    subst (λ (n : ℕ). StandsInCourse sound among new (course_in (Entered span n sectioned)) bytes e list) (sym is.1) ((enters-stand sound among given old new span sectioned former bytes c e list moved kept has.0 has.1 was).0)
+next-stands sound among given old new former bytes c e list moved kept (Unsure span) is has was = (enters-stand sound among given old new span false former bytes c e list moved kept has.0 has.1 was).1
 
 -- ---- the call
 
@@ -158,10 +159,14 @@ module _ {tells : Type 0} {given : Given} {tape tape' : List Operation} {scope :
         let g = grows.more t in
         fit-before (world_in given tape scope first) g.0 (was.recorded t).begun (subst (λ (l : List Operation). OpensFit (world_in given l scope first)) g.1 fit))
 
-    rows-of : (list : ℕ → Sector) → AreWhole new ⊎ OpensFit (world_in given tape scope first) → StandsInCourse (OpensFit (world_in given tape scope first)) old (closed 0) former (present given tape) list
-        → AreWhole new ⊎ RowsStand None old (present given tape) list
+    -- the list stands by each shape, as the array does without what it misses
+    list-of : (list : ℕ → Sector) → StandsInCourse (OpensFit (world_in given tape scope first)) (λ shape. DoesWithout shape old) old (closed 0) former (present given tape) list → ListStands None old (present given tape) list
+    list-of list stands x slot shown held = (stands-whole (OpensFit (world_in given tape scope first)) old (closed 0) former (present given tape) list does stands).stands x slot tt shown held
+
+    rows-of : (list : ℕ → Sector) → AreWhole new ⊎ OpensFit (world_in given tape scope first)
+        → StandsInCourse (OpensFit (world_in given tape scope first)) (λ shape. DoesWithout shape old) old (closed 0) former (present given tape) list → AreWhole new ⊎ RowsStand None old (present given tape) list
     rows-of list (inl whole) stands = inl whole
-    rows-of list (inr fit) stands = inr (stands.rows fit)
+    rows-of list (inr fit) stands = inr (λ x shown. (stands-whole (OpensFit (world_in given tape scope first)) old (closed 0) former (present given tape) list does stands).rows fit x tt shown)
 
     -- ---- each mark
 
@@ -187,8 +192,8 @@ module _ {tells : Type 0} {given : Given} {tape tape' : List Operation} {scope :
         within = losses-within (list_length old.newest) (losses_of roles spares) (event ∷ []) (losses-are roles spares) (inside, tt);
         rise = did.rise t;
         keeps = λ told right gone fills more values room told_gone unclean unsettled before.
-            let l = was.listed t does fills in
-            did.safe t told l.list room told_gone unclean l.stands.stands (rows-of l.list (filled t right.fills) l.stands)
+            let l = was.listed t fills in
+            did.safe t told l.list room told_gone unclean (list-of l.list l.stands) (rows-of l.list (filled t right.fills) l.stands)
             (current l.list l.is t told (λ x v may lt. more.values x (let sized = (was.recorded t).sized in omega (arith, lt, sized)) v may)) before;
         legal = λ right gone level. legal-losses (world_in given tape' scope first) entries who end (losses_of roles spares) (event ∷ []) (losses-are roles spares) (legal t right gone level, tt, tt);
       }
@@ -209,15 +214,16 @@ module _ {tells : Type 0} {given : Given} {tape tape' : List Operation} {scope :
           → HasListInCourse (OpensFit (world_in given tape' scope first)) new (course_in window) bytes (present given tape') (now (opening_list (world_in given tape' scope first)) all)
       listed t fills =
           let behind = leaves t in
-          let l = was.listed t does (behind.fills fills) in
+          let l = was.listed t (behind.fills fills) in
           record {
             list = l.list;
             is = λ x lt. l.is x (subst (λ (n : ℕ). x < n) long-same lt)
                 ∙ sym (quiet-now (opening_list (world_in given tape scope first)) entries who end (losses_of roles spares) (IsAmong roles) event (early-losses roles spares) quiet x)
                 ∙ sym (ap (λ (o : List Sector). now o all x) behind.opened);
-            stands = subst (λ (sound : Type 0). StandsInCourse sound new (course_in window) bytes (present given tape') l.list) (sym (fit-later behind))
-                (next-stands (OpensFit (world_in given tape scope first)) given old new former bytes (present given tape) (present given tape') l.list did.moved (did.kept t) window next
-                (did.has t l.list l.stands.stands (rows-of l.list (filled t fills) l.stands)) l.stands);
+            stands = subst (λ (sound : Type 0). StandsInCourse sound (λ shape. DoesWithout shape new) new (course_in window) bytes (present given tape') l.list) (sym (fit-later behind))
+                (next-stands (OpensFit (world_in given tape scope first)) (λ shape. DoesWithout shape new) given old new former bytes (present given tape) (present given tape') l.list did.moved (did.kept t) window next
+                (did.has t l.list (list-of l.list l.stands) (rows-of l.list (filled t fills) l.stands))
+                (stands-later (OpensFit (world_in given tape scope first)) given old new (closed 0) former (present given tape) l.list did.moved l.stands));
           }
 
       pub next-moves : (left' : ℕ) → IfSome (told_left all) (λ n. n ≡ left') → IsMoving tells given tape' scope first all new carried (course_in window) bytes left'
@@ -233,7 +239,7 @@ module _ {tells : Type 0} {given : Given} {tape tape' : List Operation} {scope :
         recorded = λ t. (leaves t).recorded;
         last_step = λ t. last-left given tape tape' scope first entries (list_length old.newest) new carried true who end (losses_of roles spares) event (leaves t) (at_end t) quiet.other long-same (was.last_step t).past;
         stored = did.stored;
-        listed = λ t does_new fills. listed t fills;
+        listed = λ t fills. listed t fills;
         safe = λ t. (leaves t).safe;
       }
 

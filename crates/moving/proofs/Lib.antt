@@ -8,3 +8,4 @@ pub mod Copied
 pub mod RecordLaws
 pub mod EnterLaws
 pub mod Entered
+pub mod Reading

@@ -12,6 +12,7 @@ mod ending;
 mod entering;
 mod failing;
 mod moves;
+mod reading;
 mod recording;
 mod settling;
 mod zeroing;
