@@ -36,6 +36,7 @@ use Rattle.shape_changes.specs.Steady.{AreWritesAllowed, IsSafeOver, KeepsSafe, 
 use Rattle.views.specs.Placed.{AreWhole}
 use Rattle.views.specs.Moving.{Grows, IsMoved}
 use Rattle.views.specs.Lacking.{DoesWithout, AreTooMany, AreOtherRowsKept}
+use Rattle.views.proofs.LiveLeft.{without-left}
 use Rattle.views.proofs.Fit.{list-alike}
 use Rattle.call_entries.specs.Losing.{losses_of}
 use Rattle.call_entries.proofs.CallLaws.{losses-are}
@@ -62,6 +63,7 @@ use Rattle.course_kept.proofs.Frames.{stands-on, stands-later, stands-whole}
 use Rattle.moving_state.proofs.LeftLaws.{plans-counted, some-left}
 use Rattle.moving_state.proofs.ReshapeLaws.{under-way-of}
 use Rattle.moving_kept.specs.Moving.{HasListInCourse, IsMoving}
+use Rattle.moving_kept.proofs.Quiet.{safe-now}
 use Rattle.moving_kept.proofs.MembersMove.{reshaping-moved}
 use Rattle.moving_kept.proofs.Refusals.{quiet-refusal, refused-right}
 use Rattle.moving_kept.proofs.Steps.{AreMissingSince, missing-moved, quiet-step, step-is, told-behind, told-step}
@@ -205,7 +207,7 @@ module _ {tells : Type 0} {given : Given} {tape tape' : List Operation} {scope :
           subst (λ (l : List Operation). Then l end) (sym g.1)
           (subst (Then (tape ++ g.0)) (sym (at_end t ∙ ap (λ (l : List Operation). length l) g.1))
           (λ call. changing-leaves given tape scope first entries old new carried true who (losses_of roles spares) (IsAmong roles) event g.0 (first-of (early-losses roles spares)) goes caller adding
-          (few-roles new.newest did.moved.placed.fit.valid) (missing-moved roles did.moved did.since) long-same (λ dirty. inl (was.unclean t (sym did.clean ∙ dirty))) was.sizes_are (was.gone t) (was.unclean t) (was.recorded t) (was.safe t) (was.now_safe t) call))
+          (few-roles new.newest did.moved.placed.fit.valid) (missing-moved roles did.moved did.since) long-same (λ dirty. inl (was.unclean t (sym did.clean ∙ dirty))) was.sizes_are (was.gone t) (was.unclean t) (was.recorded t) (was.safe t) (safe-now was (without-left given old was.members_are.placed was.members_are.unlost does) t) call))
           (changes t)
 
       listed : (t : tells) → IsFilledRight (world_in given tape' scope first) all
@@ -239,7 +241,6 @@ module _ {tells : Type 0} {given : Given} {tape tape' : List Operation} {scope :
         stored = did.stored;
         listed = λ t fills. listed t fills;
         safe = λ t. (leaves t).safe;
-        now_safe = λ t. (leaves t).now_safe;
       }
 
 -- ---- the step

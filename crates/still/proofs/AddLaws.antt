@@ -124,6 +124,7 @@ still-same {tells = tells} {given = given} {tape' = tape'} {scope = scope} {firs
   full = λ t. (here t).full t;
   unclean = λ t. (here t).unclean t;
   recorded = λ t. (here t).recorded t;
+  past = λ t. (here t).past t;
   listed = λ t. (here t).listed t;
   safe = λ t. (here t).safe t;
 }
