@@ -17,6 +17,7 @@ use Rattle.flat_history.specs.declared.events.Entry.{Entry}
 use Rattle.flat_history.specs.Epochs.{HasRoomForEvents, OpensAlike}
 use Rattle.flat_history.specs.Sound.{OpensFit}
 use Rattle.shape_views.specs.Regions.{DoWithout, backup_of}
+use Rattle.shape_changes.specs.Safety.{HasLiveSlot}
 use Rattle.shape_changes.specs.Steady.{IsMoreTold, IsSafeOver}
 use Rattle.views.specs.declared.work.Work.{Work}
 use Rattle.views.specs.Flushing.{OnlyFlushesAdded}
@@ -39,6 +40,7 @@ use Rattle.kept_history.proofs.Seen.{now-more}
 use Rattle.grow_asked.specs.declared.window.PhasesLeft.{PhasesLeft}
 use Rattle.course_kept.specs.declared.course.Course.{Course}
 use Rattle.moving_kept.specs.Moving.{IsMoving}
+use Rattle.moving_kept.proofs.Quiet.{safe-now}
 use Rattle.moving_kept.proofs.AddedSpare.{IsSpareMade}
 use Rattle.moving_kept.proofs.Steps.{missing-since}
 use Rattle.running_words.specs.Parts.{RunningParts}
@@ -57,8 +59,8 @@ number-known l number = elim (cases_lt number (length l)) [
 -- an array that keeps its record keeps it where more numbers are known
 more-numbers : {tells : Type 0} {given : Given} {tape : List Operation} {scope : Scope} {first : ℕ} {entries : List Entry} {members : Members} {carried : ℕ → Bool} {course : Course} {buffer : List ℕ} {left : ℕ}
     (more : ℕ → Bool) → ((number : ℕ) → carried number ≡ true → more number ≡ true)
-    → IsMoving tells given tape scope first entries members carried course buffer left → IsMoving tells given tape scope first entries members more course buffer left
-more-numbers {tells = tells} {given = given} {tape = tape} {scope = scope} {first = first} {entries = entries} {members = members} {carried = carried} more carries was = record {
+    → IsMoving tells given tape scope first entries members carried course buffer left → HasLiveSlot members → IsMoving tells given tape scope first entries members more course buffer left
+more-numbers {tells = tells} {given = given} {tape = tape} {scope = scope} {first = first} {entries = entries} {members = members} {carried = carried} more carries was live = record {
   slots = was.slots;
   members_are = was.members_are;
   course_is = was.course_is;
@@ -72,7 +74,6 @@ more-numbers {tells = tells} {given = given} {tape = tape} {scope = scope} {firs
   listed = was.listed;
   safe = λ t fills room alike. let s = was.safe t fills room alike in record { past = s.past; sound = s.sound; now = inl (now t fills room alike); counted = s.counted };
   last_step = was.last_step;
-  now_safe = now;
 }
   where
     told : IsMoreTold (told_now (world_in given tape scope first) carried true entries) (told_now (world_in given tape scope first) more true entries)
@@ -81,14 +82,14 @@ more-numbers {tells = tells} {given = given} {tape = tape} {scope = scope} {firs
     now : tells → IsFilledRight (world_in given tape scope first) entries → HasRoomForEvents (world_in given tape scope first) → OpensAlike (world_in given tape scope first)
         → IsSafeOver (world_in given tape scope first) given (told_now (world_in given tape scope first) more true entries) members tape
     now t fills room alike = now-more (OpensFit (world_in given tape scope first)) scope given (told_now (world_in given tape scope first) carried true entries) (told_now (world_in given tape scope first) more true entries)
-        members (disk given.start tape) told (was.now_safe t fills room alike)
+        members (disk given.start tape) told (safe-now was live t fills room alike)
 
 pub with-number : {tells : Type 0} {given : Given} {tape : List Operation} {scope : Scope} {first : ℕ} {entries : List Entry} {members : Members} {work : Work} {course : Course} {ahead : PhasesLeft}
     {window : List ℕ} {faults : ℕ → ℕ} {steps room rows buffer far_rows far_buffer : ℕ} (number : ℕ)
-    → IsReady tells given tape scope first entries members work course ahead window faults steps room rows buffer far_rows far_buffer
+    → HasLiveSlot members → IsReady tells given tape scope first entries members work course ahead window faults steps room rows buffer far_rows far_buffer
     → IsReady tells given tape scope first entries members (with_carried number work) course ahead window faults steps room rows buffer far_rows far_buffer
-with-number {work = work} number was = record {
-  kept = more-numbers (is_carried (with_carried number work)) (carries-number number work) was.kept;
+with-number {work = work} number live was = record {
+  kept = more-numbers (is_carried (with_carried number work)) (carries-number number work) was.kept live;
   synced = was.synced;
   sized = was.sized;
   unlimited = was.unlimited;

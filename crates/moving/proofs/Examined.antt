@@ -28,7 +28,6 @@ moving-still {tells = tells} {given = given} {tape' = tape'} {scope = scope} {fi
   stored = λ t. (there t).stored t;
   listed = λ t. (there t).listed t;
   safe = λ t. (there t).safe t;
-  now_safe = λ t. (there t).now_safe t;
   last_step = λ t. (there t).last_step t;
 }
   where

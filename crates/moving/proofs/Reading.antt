@@ -41,7 +41,7 @@ use Rattle.shape_views.specs.Views.{Ledger}
 use Rattle.shape_views.specs.Windows.{IsShown}
 use Rattle.shape_views.proofs.Alike.{row-below}
 use Rattle.shape_changes.specs.Marking.{AreOthersPresent}
-use Rattle.shape_changes.specs.Safety.{HasRoomLeft, IsRisen}
+use Rattle.shape_changes.specs.Safety.{HasRoomLeft, IsRisen, HasLiveSlot}
 use Rattle.shape_changes.specs.Steady.{IsSafeOver, KeepsSafe, AreGoneTold, IsUncleanTold}
 use Rattle.views.specs.Placed.{AreWhole}
 use Rattle.views.specs.Lacking.{DoesWithout, LacksTooMany, lacking, too_many}
@@ -78,7 +78,8 @@ use Rattle.course_kept.proofs.Courses.{courses-move}
 use Rattle.moving_kept.specs.Moving.{IsMoving}
 use Rattle.moving_kept.proofs.BackupKept.{stored-kept}
 use Rattle.moving_kept.proofs.MembersMove.{reshaping-moved}
-use Rattle.moving_kept.proofs.Quiet.{listed-later}
+use Rattle.moving_kept.proofs.NoneLeft.{shape-left}
+use Rattle.moving_kept.proofs.Quiet.{safe-now, listed-later}
 use Rattle.moving_kept.proofs.Refusals.{quiet-refusal, lacking-right}
 use Rattle.moving_kept.proofs.Staying.{course-moved, stays-moves}
 use Rattle.moving_kept.proofs.Steps.{AreMissingSince, missing-moved}
@@ -152,6 +153,12 @@ read-does m relied from to none x low high = elim (cases_lt (tolerance (shape_fo
   | inr few ↦ few
 ]
 
+-- so a live slot is left, where a sector is read
+pub read-live : {tells : Type 0} {given : Given} {tape : List Operation} {scope : Scope} {first : ℕ} {entries : List Entry} {m : Members} {carried : ℕ → Bool} {course : Course} {buffer : List ℕ} {left : ℕ}
+    (relied from to : ℕ) → IsMoving tells given tape scope first entries m carried course buffer left → ((refusal : Refusal) → IsListUnread relied from to m refusal → ⊥) → from < to → HasLiveSlot m
+read-live {given = given} {m = m} relied from to was none some =
+    shape-left given m was.members_are.placed was.members_are.unlost (shape_for m.newest from) (shape-force m.newest from) (read-does m relied from to none from (omega arith) some)
+
 -- beside a window the cause is one of the list too
 pub beside-unread : (hidden : Option Span) (relied from to : ℕ) (m : Members) (refusal : Refusal) → IsUnreadBeside hidden relied from to m refusal → IsListUnread relied from to m refusal
 beside-unread hidden relied from to m refusal why = (why.0, why.1, why.2, why.4)
@@ -200,7 +207,7 @@ module _ {tells : Type 0} {given : Given} {tape : List Operation} {scope : Scope
       lacking-right (world_in given tape scope first) entries given old was.members_are.placed (was.gone t right) (was.levelled t right)
       (shape_for old.newest lacked.0) refusal (shape-force old.newest lacked.0) lacked.1
 
-  module _ {tape' : List Operation} {new : Members} (who : Who) (end roles spares : ℕ) (goes : IsCallGoing entries who) (caller : IsFalse (who.caller == 254)) (at_end : tells → end ≡ length tape')
+  module _ {tape' : List Operation} {new : Members} (live : HasLiveSlot old) (who : Who) (end roles spares : ℕ) (goes : IsCallGoing entries who) (caller : IsFalse (who.caller == 254)) (at_end : tells → end ≡ length tape')
       (grows : Grows tells tape tape') (did : IsFetched tells given tape tape' old new roles) where
     long-same : list_length new.newest ≡ list_length old.newest
     long-same = list-alike old.newest new.newest did.moved.reshape did.moved.shape did.moved.size
@@ -213,7 +220,7 @@ module _ {tells : Type 0} {given : Given} {tape : List Operation} {scope : Scope
     pub unread-moves : (at to : ℕ) (refusal : Refusal) → to ≤ list_length old.newest → IsListUnread (list_length old.newest) at to new refusal
         → IsMoving tells given tape' scope first (entries ++ entries_of who end (losses_of roles spares ++ Refused refusal ∷ [])) new carried course buffer left
     unread-moves at to refusal within why =
-        stays-moves tells given tape tape' scope first entries old new carried course buffer left who end roles spares (Refused refusal) was goes caller at_end grows (quiet-refusal refusal) (λ told is. is)
+        stays-moves tells given tape tape' scope first entries old new carried course buffer left who end roles spares (Refused refusal) was live goes caller at_end grows (quiet-refusal refusal) (λ told is. is)
         did.moved did.few did.since did.clean did.rise did.unused moves
         (λ t told fills more room gone unclean safe. did.safe t (world_in given tape scope first) told room gone unclean safe)
         (λ t right gone level.
@@ -306,7 +313,7 @@ module _ {tells : Type 0} {given : Given} {tape : List Operation} {scope : Scope
           subst (λ (l : List Operation). Then l end) (sym g.1)
           (subst (Then (tape ++ g.0)) (sym (at_end t ∙ ap (λ (l : List Operation). length l) g.1))
           (λ call_to. quiet-leaves given tape scope first entries old new carried true who (losses_of roles spares) (IsAmong roles) (Read at (sectors_of bytes)) g.0 (early-losses roles spares) goes caller quiet did.few
-          (missing-moved roles did.moved did.since) long-same did.clean was.sizes_are (was.gone t) (was.unclean t) (was.recorded t) (was.safe t) (was.now_safe t) call_to))
+          (missing-moved roles did.moved did.since) long-same did.clean was.sizes_are (was.gone t) (was.unclean t) (was.recorded t) (was.safe t) (safe-now was live t) call_to))
           (call t)
 
       -- where what is filled in is right by all entries
@@ -341,7 +348,6 @@ module _ {tells : Type 0} {given : Given} {tape : List Operation} {scope : Scope
                   (stands-later (OpensFit (world_in given tape scope first)) given old new course buffer (present given tape) l.list did.moved l.stands);
             });
         safe = λ t. (leaves t).safe;
-        now_safe = λ t. (leaves t).now_safe;
       }
 
 -- ---- the bytes

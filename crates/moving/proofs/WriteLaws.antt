@@ -58,6 +58,7 @@ use Rattle.course_kept.specs.Course.{IsWindowOf, IsCourseOf, span_in}
 use Rattle.course_kept.specs.Laws.{closed, entered}
 use Rattle.moving_state.specs.Due.{open_in, unsure_in}
 use Rattle.moving_kept.specs.Moving.{IsMoving}
+use Rattle.moving_kept.proofs.NoneLeft.{shape-left}
 use Rattle.moving_kept.proofs.FinishedCall.{IsFinishedBy, finish-moves}
 use Rattle.moving_kept.proofs.Refusals.{lacking-right}
 use Rattle.moving_kept.proofs.Steps.{AreMissingSince, missing-since, missing-moved}
@@ -284,11 +285,15 @@ module _ {tells : Type 0} {given : Given} {tape : List Operation} {scope : Scope
 module _ {tells : Type 0} {given : Given} {tape tape' : List Operation} {scope : Scope} {first : ℕ} {entries : List Entry} {old new : Members} {carried : ℕ → Bool} (course : Course) (ahead : PhasesLeft) (buffer : List ℕ)
     (who : Who) (end roles spares at : ℕ) (from : List ℕ) (relied : ℕ) (begun : Bool)
     (was : IsMoving tells given tape scope first entries old carried course buffer (left_in old course ahead)) (goes : IsCallGoing entries who) (caller : who.caller ≢ 254)
-    (at_end : tells → end ≡ length tape') (grows : Grows tells tape tape') (unlimited : limit_of entries ≡ None)
+    (at_end : tells → end ≡ length tape') (grows : Grows tells tape tape') (unlimited : limit_of entries ≡ None) (some : 0 < length from / 512)
     (fine : (refusal : Refusal) → IsListUnwritten relied at (at + length from / 512) old refusal → ⊥) (did : ArePut tells given tape tape' old new course at from relied roles begun) where
   -- no shape of the write misses too many
   each-does : (x : ℕ) → at ≤ x → x < at + length from / 512 → DoesWithout (shape_for old.newest x) old
   each-does x low high = shape-without (shape_for old.newest x) old (λ refusal many. fine refusal (inl (x, low, high, many)))
+
+  -- so a live slot is left
+  live : HasLiveSlot old
+  live = shape-left given old was.members_are.placed was.members_are.unlost (shape_for old.newest at) (shape-force old.newest at) (each-does at (omega arith) (omega (arith, some)))
 
   seen : tells → at + length from / 512 ≤ visible_of (length (opening_list (world_in given tape scope first))) entries
   seen t = let same = all-seen was unlimited t in let within = did.within in omega (arith, same, within)
@@ -298,14 +303,14 @@ module _ {tells : Type 0} {given : Given} {tape tape' : List Operation} {scope :
       → IsMoving tells given tape' scope first (entries ++ entries_of who end (losses_of roles spares ++ Wrote at (sectors_of from) ∷ [])) new carried course buffer (left_in new course ahead)
   wrote-kept done =
       subst (λ (n : ℕ). IsMoving tells given tape' scope first (entries ++ entries_of who end (losses_of roles spares ++ Wrote at (sectors_of from) ∷ [])) new carried course buffer n) (sym (left-moved given old new course ahead did.moved))
-      (written-moves tells given tape tape' scope first entries old new carried course buffer (left_in old course ahead) who end roles spares at from relied begun was goes (not_254 who.caller caller) at_end grows each-does seen did done)
+      (written-moves tells given tape tape' scope first entries old new carried course buffer (left_in old course ahead) who end roles spares at from relied begun was live goes (not_254 who.caller caller) at_end grows each-does seen did done)
 
   -- it is refused
   pub unwritten-kept : (refusal : Refusal) → AreUnwritten tells given tape tape' scope first entries old new at from relied begun refusal
       → IsMoving tells given tape' scope first (entries ++ entries_of who end (failure_events roles spares begun at (sectors_of from) refusal)) new carried course buffer (left_in new course ahead)
   unwritten-kept refusal undone =
       subst (λ (n : ℕ). IsMoving tells given tape' scope first (entries ++ entries_of who end (failure_events roles spares begun at (sectors_of from) refusal)) new carried course buffer n) (sym (left-moved given old new course ahead did.moved))
-      (unwritten-moves tells given tape tape' scope first entries old new carried course buffer (left_in old course ahead) who end roles spares at from relied begun was goes (not_254 who.caller caller) at_end grows each-does seen did refusal undone)
+      (unwritten-moves tells given tape tape' scope first entries old new carried course buffer (left_in old course ahead) who end roles spares at from relied begun was live goes (not_254 who.caller caller) at_end grows each-does seen did refusal undone)
 
 -- ---- one call behind another
 

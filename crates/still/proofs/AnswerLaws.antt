@@ -47,7 +47,7 @@ pub answer-stands : {tells : Type 0} {given : Given} {tape : List Operation} {sc
 answer-stands work m ahead who end (Refused Nothing) was goes caller at_end plans reply = refused-going who end Nothing was goes caller at_end tt
 answer-stands {tells = tells} {given = given} {tape = tape} {scope = scope} {first = first} {entries = entries} work m ahead who end (Stepped done left ended) was goes caller at_end plans reply =
     resting-stands tells given tape scope first entries m work (still_left work m ahead) (still_left work m ahead)
-    who end (Stepped done left ended) was goes (not_254 who.caller caller) at_end (record { adds = refl; gives = refl; still = λ x values. refl; level = λ n. refl; other = refl })
+    who end (Stepped done left ended) was goes (not_254 who.caller caller) at_end (record { adds = refl; gives = refl; still = λ x values. refl; level = λ n. refl })
     (ends-reply entries done left ended (leaves-none entries (left_of work m) left (phases_steps (shape_of m.newest) m.newest.size (phases_of ahead))
     (phases_steps (shape_of m.newest) m.newest.size (phases_of ahead)) refl plans reply.0))
     (left-more (still_left work m ahead) entries who end (Stepped done left ended ∷ []) was.left_told (λ told is. reply.0))

@@ -54,18 +54,18 @@ module _ {tells : Type 0} {given : Given} {tape : List Operation} {scope : Scope
     (number : who.number ≡ next_number who.caller entries) (caller : who.caller ≢ 254) (at_end : tells → end ≡ length tape) where
   pub shown-stands : (status : Status) → status.left ≡ left → IsStill tells given tape scope first (entries ++ entries_of who end (Shown status ∷ [])) members work left
   shown-stands status steps = resting-stands tells given tape scope first entries members work left left who end (Shown status) was (begins-going entries who number) (not_254 who.caller caller) at_end
-      (record { adds = refl; gives = refl; still = λ x values. refl; level = λ n. refl; other = refl }) (inl refl) (left-more left entries who end (Shown status ∷ []) was.left_told (λ told is. steps))
+      (record { adds = refl; gives = refl; still = λ x values. refl; level = λ n. refl }) (inl refl) (left-more left entries who end (Shown status ∷ []) was.left_told (λ told is. steps))
       (λ t right. keeps-left left entries (entry_of who end (Shown status)) [] status.left was.left_told steps)
 
   pub halted-stands : IsStill tells given tape scope first (entries ++ entries_of who end (Halted ∷ [])) members work left
   halted-stands = resting-stands tells given tape scope first entries members work left left who end Halted was (begins-going entries who number) (not_254 who.caller caller) at_end
-      (record { adds = refl; gives = refl; still = λ x values. refl; level = λ n. refl; other = refl }) (inl refl) (left-more left entries who end (Halted ∷ []) was.left_told (λ told is. is)) (λ t right. tt)
+      (record { adds = refl; gives = refl; still = λ x values. refl; level = λ n. refl }) (inl refl) (left-more left entries who end (Halted ∷ []) was.left_told (λ told is. is)) (λ t right. tt)
 
   -- and behind one that is refused before it makes any
   pub refused-alone : (refusal : Refusal) → (tells → IsReliable (world_in given tape scope first) entries → IsRefusedRight (world_in given tape scope first) entries refusal)
       → IsStill tells given tape scope first (entries ++ entries_of who end (Refused refusal ∷ [])) members work left
   refused-alone refusal right = resting-stands tells given tape scope first entries members work left left who end (Refused refusal) was (begins-going entries who number) (not_254 who.caller caller) at_end
-      (record { adds = refl; gives = refl; still = λ x values. refl; level = λ n. refl; other = refl }) (inl refl) (left-more left entries who end (Refused refusal ∷ []) was.left_told (λ told is. is)) right
+      (record { adds = refl; gives = refl; still = λ x values. refl; level = λ n. refl }) (inl refl) (left-more left entries who end (Refused refusal ∷ []) was.left_told (λ told is. is)) right
 
   -- since too many are missing
   pub many-alone : (refusal : Refusal) → AreTooMany members refusal → IsStill tells given tape scope first (entries ++ entries_of who end (Refused refusal ∷ [])) members work left

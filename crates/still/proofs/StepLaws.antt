@@ -169,6 +169,6 @@ pub refused-going : {tells : Type 0} {given : Given} {tape : List Operation} {sc
     → IsStill tells given tape scope first (entries ++ entries_of who end (Refused refusal ∷ [])) m work left
 refused-going {tells = tells} {given = given} {tape = tape} {scope = scope} {first = first} {entries = entries} {m = m} {work = work} {left = left} who end refusal was goes caller at_end why =
     resting-stands tells given tape scope first entries m work left left who end (Refused refusal) was goes (not_254 who.caller caller) at_end
-    (record { adds = refl; gives = refl; still = λ x values. refl; level = λ n. refl; other = refl }) (inl refl)
+    (record { adds = refl; gives = refl; still = λ x values. refl; level = λ n. refl }) (inl refl)
     (left-lost left left entries who end [] (Refused refusal ∷ []) tt (λ none. refl) was.left_told (λ told is. is))
     (λ t right. refused-right (world_in given tape scope first) entries given m was.members_are.placed work.resync (was.gone t right) (was.levelled t right) (was.pending t) refusal why)

@@ -33,7 +33,7 @@ use Rattle.running_words.specs.Parts.{left_in}
 use Rattle.moving.specs.Ready.{bytes_in}
 use Rattle.moving.proofs.AddLaws.{with-number, apart-from, looked-grows, spare-made, none-added, add-called}
 use Rattle.moving.proofs.Called.{not_254, called, alone-lossless}
-use Rattle.moving.proofs.Kept.{ready, shapes-same, shapes-moved, left-moved, alone-keeps, behind-keeps, behind-whole}
+use Rattle.moving.proofs.Kept.{ready, shapes-same, shapes-moved, left-moved, alone-keeps, behind-keeps, behind-whole, live-of}
 use Rattle.moving.proofs.state.Moving.make_spare.Goals as goal
 
 pub look_at-requires-clause-slot : goal.look_at-requires-clause-slot
@@ -50,6 +50,7 @@ look_at-requires-clause-room g c =
 
 pub invariant_of-self-in_default : goal.invariant_of-self-in_default
 invariant_of-self-in_default g c =
+    let addable = subst (λ p. (refusal : Refusal) → IsUnaddable (g.B.Bank.given p.parts.bank) p.parts.backup c.args.slot p.parts.members refusal → ⊥) (sym c.self.view_is) c.requires.addable in
     let was = c.self.invariant in
     let a = c.self.inside in
     let given = g.B.Bank.given a.bank in
@@ -59,7 +60,7 @@ invariant_of-self-in_default g c =
     ready (entries_of c.args.who end (Refused (SlotFault c.args.slot) ∷ [])) was (looked-grows look.tape) (shapes-same a.members.newest)
     (looked-moves g.B.Bank.tells given (g.B.Bank.tape a.bank) (g.B.Bank.tape c.look_at.new.bank) (scope_in given a.epoch.uuid a.epoch.given (Some a.backup)) a.epoch.first a.epoch.entries.items a.members (is_carried a.work)
     a.course (bytes_in a.course.window a.window.items) (left_in a.members a.course a.ahead) c.args.who end c.args.slot
-    was.kept (begins-going a.epoch.entries.items c.args.who number) (not_254 c.args.who.caller c.requires.caller) c.ops-end.ensures.count look.tape)
+    was.kept (live-of was.kept (slot-does given (Some a.backup) c.args.slot a.members was.kept.members_are.placed addable)) (begins-going a.epoch.entries.items c.args.who number) (not_254 c.args.who.caller c.requires.caller) c.ops-end.ensures.count look.tape)
     refl look.counts (alone-keeps c.args.who end (Refused (SlotFault c.args.slot)) (λ n. refl) refl) (λ none whole. whole) look.given (scope-same given (Some a.backup) look.given c.enter.ensures.uuid c.enter.ensures.given) c.enter.ensures.first c.make_room.ensures.items c.enter.ensures.items
     (omega (arith, c.enter.ensures.room, c.in-Ok.ensures.ok))
 
@@ -233,7 +234,7 @@ invariant_of-self-then-contains g c =
     (subst (λ (b : Given). AddsSafe g.B.Bank.tells b slot sb a.members m mid tape') look.given e.safe) since in
     let given_is = e.given ∙ look.given in
     let events = losses_of roles spares ++ Refused (SlotFault slot) ∷ [] in
-    ready (entries_of c.args.who end events) (with-number c.args.number was) (grows-then (looked-grows look.tape) did.grows) (shapes-moved given (with_spare slot sb a.members) m did.moved)
+    ready (entries_of c.args.who end events) (with-number c.args.number (live-of was.kept (slot-does given (Some a.backup) slot a.members here.placed addable)) was) (grows-then (looked-grows look.tape) did.grows) (shapes-moved given (with_spare slot sb a.members) m did.moved)
     (subst (λ (n : ℕ). IsMoving g.B.Bank.tells given tape' scope a.epoch.first (a.epoch.entries.items ++ entries_of c.args.who end events) m (is_carried work) a.course (bytes_in a.course.window a.window.items) n)
     (sym (left-moved given (with_spare slot sb a.members) m a.course a.ahead did.moved))
     (added-lost-moves g.B.Bank.tells given tape mid tape' scope a.epoch.first a.epoch.entries.items a.members m (is_carried a.work) (is_carried work) a.course (bytes_in a.course.window a.window.items)
@@ -362,7 +363,7 @@ invariant_of-self-2 g c =
     (subst (λ (b : Given). AddsSafe g.B.Bank.tells b slot sb a.members m mid tape') look.given e.safe) since in
     let given_is = e.given ∙ look.given in
     let events = losses_of roles spares ++ Added slot ∷ [] in
-    ready (entries_of c.args.who end events) (with-number c.args.number was) (grows-then (looked-grows look.tape) did.grows) (shapes-moved given (with_spare slot sb a.members) m did.moved)
+    ready (entries_of c.args.who end events) (with-number c.args.number (live-of was.kept (slot-does given (Some a.backup) slot a.members here.placed addable)) was) (grows-then (looked-grows look.tape) did.grows) (shapes-moved given (with_spare slot sb a.members) m did.moved)
     (subst (λ (n : ℕ). IsMoving g.B.Bank.tells given tape' scope a.epoch.first (a.epoch.entries.items ++ entries_of c.args.who end events) m (is_carried work) a.course (bytes_in a.course.window a.window.items) n)
     (sym (left-moved given (with_spare slot sb a.members) m a.course a.ahead did.moved))
     (added-moves g.B.Bank.tells given tape mid tape' scope a.epoch.first a.epoch.entries.items a.members m (is_carried a.work) (is_carried work) a.course (bytes_in a.course.window a.window.items)

@@ -46,7 +46,7 @@ use Rattle.running_words.specs.Calls.{moving_world}
 use Rattle.moving.proofs.Kept.{ready, with-buffer, shapes-same, shapes-moved, left-moved, alone-keeps, behind-keeps, behind-whole, written-whole}
 use Rattle.moving.proofs.Called.{not_254, alone-lossless, called}
 use Rattle.moving.proofs.Settled.{risen-told}
-use Rattle.moving.proofs.Reading.{IsFetched, first-right, first-reply, unread-moves, read-moves, holds-read, beside-unread, unread-missing, read-does, asked-is, hidden-fits, holds-sliced}
+use Rattle.moving.proofs.Reading.{IsFetched, read-live, first-right, first-reply, unread-moves, read-moves, holds-read, beside-unread, unread-missing, read-does, asked-is, hidden-fits, holds-sliced}
 use Rattle.moving.proofs.state.Moving.read.Goals as goal
 
 -- ---- the shape has at most so many roles
@@ -211,7 +211,7 @@ invariant_of-self-in-Some-refusal g c =
     with-buffer (let len = (with_items a.buffer c.fetch_beside-fetched.new.scratch).ok.0 in let ok = a.buffer.ok.0 in let fits = was.buffer_fits in omega (arith, len, ok, fits))
     (ready (entries_of c.args.who end (losses_of roles spares ++ Refused refusal ∷ [])) was did.grows (shapes-moved given a.members m did.moved)
     (subst (λ (left : ℕ). IsMoving g.B.Bank.tells given tape' scope a.epoch.first (a.epoch.entries.items ++ entries_of c.args.who end (losses_of roles spares ++ Refused refusal ∷ [])) m (is_carried a.work) a.course (bytes_in a.course.window a.window.items) left)
-    (sym (left-moved given a.members m a.course a.ahead did.moved)) (unread-moves was.kept was.unlimited c.args.who end roles spares (begins-going a.epoch.entries.items c.args.who number) (not_254 c.args.who.caller c.requires.caller) c.ops-end-2.ensures.count did.grows named c.args.at (c.args.at + count) refusal within why))
+    (sym (left-moved given a.members m a.course a.ahead did.moved)) (unread-moves was.kept was.unlimited (read-live size c.args.at (c.args.at + count) was.kept c.in_default.ensures.why.1 (let some = c.requires.some in omega (arith, some))) c.args.who end roles spares (begins-going a.epoch.entries.items c.args.who number) (not_254 c.args.who.caller c.requires.caller) c.ops-end-2.ensures.count did.grows named c.args.at (c.args.at + count) refusal within why))
     refl did.counts (behind-keeps c.args.who end roles spares (Refused refusal) (λ n. refl) refl)
     (behind-whole tape' scope a.epoch.first a.epoch.entries.items c.args.who end roles spares (Refused refusal) did.moved (missing-since roles did.moved since.vacant)) did.given (scope-same given (Some a.backup) did.given c.enter_behind.ensures.uuid c.enter_behind.ensures.given) c.enter_behind.ensures.first c.make_room.ensures.items
     c.enter_behind.ensures.items
@@ -370,7 +370,7 @@ invariant_of-self-2 g c =
     with-buffer (let len = (with_items a.buffer c.fetch_beside-fetched.new.scratch).ok.0 in let ok = a.buffer.ok.0 in let fits = was.buffer_fits in omega (arith, len, ok, fits))
     (ready (entries_of c.args.who end (losses_of roles spares ++ Read c.args.at (sectors_of bytes) ∷ [])) was did.grows (shapes-moved given a.members m did.moved)
     (subst (λ (left : ℕ). IsMoving g.B.Bank.tells given tape' scope a.epoch.first (a.epoch.entries.items ++ entries_of c.args.who end (losses_of roles spares ++ Read c.args.at (sectors_of bytes) ∷ [])) m (is_carried a.work) a.course (bytes_in a.course.window a.window.items) left)
-    (sym (left-moved given a.members m a.course a.ahead did.moved)) (read-moves was.kept was.unlimited c.args.who end roles spares (begins-going a.epoch.entries.items c.args.who number) (not_254 c.args.who.caller c.requires.caller) c.ops-end-2.ensures.count did.grows named c.args.at bytes does within holds))
+    (sym (left-moved given a.members m a.course a.ahead did.moved)) (read-moves was.kept was.unlimited (read-live size c.args.at (c.args.at + count) was.kept c.in_default.ensures.why.1 (let some = c.requires.some in omega (arith, some))) c.args.who end roles spares (begins-going a.epoch.entries.items c.args.who number) (not_254 c.args.who.caller c.requires.caller) c.ops-end-2.ensures.count did.grows named c.args.at bytes does within holds))
     refl did.counts (behind-keeps c.args.who end roles spares (Read c.args.at (sectors_of bytes)) (λ n. refl) refl)
     (behind-whole tape' scope a.epoch.first a.epoch.entries.items c.args.who end roles spares (Read c.args.at (sectors_of bytes)) did.moved (missing-since roles did.moved since.vacant)) did.given (scope-same given (Some a.backup) did.given c.enter_behind-2.ensures.uuid c.enter_behind-2.ensures.given) c.enter_behind-2.ensures.first c.make_room.ensures.items
     (c.enter_behind-2.ensures.items ∙ ap (λ (b : List Sector). c.make_room.new.self.items ++ entries_of c.args.who end (losses_of roles spares ++ Read c.args.at b ∷ [])) (c.from_bytes-body.ensures ∙ ap sectors_of whole))
@@ -454,7 +454,7 @@ returns-clause-holds g c = λ t right i lt.
     c.enter_behind-2.ensures.items ∙ ap (λ (l : List Entry). l ++ entries_of c.args.who end (losses_of roles spares ++ Read c.args.at c.from_bytes-body.result ∷ [])) c.make_room.ensures.items
     ∙ ap (λ (b : List Sector). a.epoch.entries.items ++ entries_of c.args.who end (losses_of roles spares ++ Read c.args.at b ∷ [])) body in
     ap (λ (l : List ℕ). take 512 (drop (512 * i) l)) copied ∙ sym (row-sector bytes i)
-    ∙ holds-read was.kept was.unlimited c.args.who end roles spares (begins-going a.epoch.entries.items c.args.who number) (not_254 c.args.who.caller c.requires.caller) c.ops-end-2.ensures.count did.grows named c.args.at bytes does within holds t
+    ∙ holds-read was.kept was.unlimited (read-live size c.args.at (c.args.at + count) was.kept c.in_default.ensures.why.1 (let some = c.requires.some in omega (arith, some))) c.args.who end roles spares (begins-going a.epoch.entries.items c.args.who number) (not_254 c.args.who.caller c.requires.caller) c.ops-end-2.ensures.count did.grows named c.args.at bytes does within holds t
     (subst (λ (w : World). IsReliable w (a.epoch.entries.items ++ entries_of c.args.who end (losses_of roles spares ++ Read c.args.at (sectors_of bytes) ∷ [])))
     (λ k. world_in (did.given k) tape' (scope-same given (Some a.backup) did.given c.enter_behind-2.ensures.uuid c.enter_behind-2.ensures.given k) (c.enter_behind-2.ensures.first k))
     (subst (λ (l : List Entry). IsReliable (world_in (g.B.Bank.given c.fetch_beside-fetched.new.bank) tape' (scope_in (g.B.Bank.given c.fetch_beside-fetched.new.bank) c.enter_behind-2.new.epoch.uuid c.enter_behind-2.new.epoch.given (Some a.backup)) c.enter_behind-2.new.epoch.first) l) items right)) i (subst (λ (l : List ℕ). i < length l / 512) copied lt)

@@ -159,7 +159,7 @@ invariant_of-self-in-Some-refusal g c =
       unused = did.unused;
       safe = did.safe;
     } in
-    let kept = unwritten-kept a.course a.ahead (bytes_in a.course.window a.window.items) c.args.who end roles spares at from relied begun was.kept goes c.requires.caller c.ops-end-2.ensures.count did.grows was.unlimited fine put refusal
+    let kept = unwritten-kept a.course a.ahead (bytes_in a.course.window a.window.items) c.args.who end roles spares at from relied begun was.kept goes c.requires.caller c.ops-end-2.ensures.count did.grows was.unlimited c.requires.some fine put refusal
     (record {
       refused = some-of (IsListUnwritten relied at to m) c.put_list-done.result.refusal refusal is did.refused;
       torn = λ begun. some-of (IsListTorn at to m) c.put_list-done.result.refusal refusal is (did.torn begun);
@@ -271,7 +271,7 @@ invariant_of-self-2 g c =
       unused = did.unused;
       safe = did.safe;
     } in
-    let kept = wrote-kept a.course a.ahead (bytes_in a.course.window a.window.items) c.args.who end roles spares at from relied begun was.kept goes c.requires.caller c.ops-end-2.ensures.count did.grows was.unlimited fine put
+    let kept = wrote-kept a.course a.ahead (bytes_in a.course.window a.window.items) c.args.who end roles spares at from relied begun was.kept goes c.requires.caller c.ops-end-2.ensures.count did.grows was.unlimited c.requires.some fine put
     (record { bytes = λ i. (c.type_inv.from i).fits; put = did.put none; tail = did.tail none; others = did.others; good = did.good none }) in
     with-rooms did.rows did.buffer did.far_rows did.far_buffer
     (ready (entries_of c.args.who end (losses_of roles spares ++ Wrote at (sectors_of from) ∷ [])) was did.grows (shapes-moved given a.members m did.moved) kept
