@@ -26,14 +26,14 @@ use Rattle.flat_history.specs.Sound.{OpensFit}
 use Rattle.flat_history.specs.World.{World, reading_at, opening_list}
 use Rattle.shape_views.specs.Views.{Ledger}
 use Rattle.shape_changes.specs.Safety.{HasRoomLeft, IsRisen}
-use Rattle.shape_changes.specs.Steady.{IsMoreTold, IsSafeNow, IsSafeOver, KeepsSafe, AreGoneTold, IsUncleanTold, given_back}
+use Rattle.shape_changes.specs.Steady.{IsMoreTold, IsSafeOver, KeepsSafe, AreGoneTold, IsUncleanTold, given_back}
 use Rattle.views.proofs.SoundViews.{throughout-kept}
 use Rattle.call_entries.proofs.CallLaws.{last_end-behind}
 use Rattle.call_entries.proofs.LosingLaws.{entries-both}
 use Rattle.kept_history.specs.Recorded.{IsHistoryKept, IsLegalCall, IsReshapedCall, IsCallGoing, IsOpenBehind, entry_of, gives_some}
 use Rattle.kept_history.specs.Safe.{world_in, IsFilledRight, IsSafeHistory}
 use Rattle.kept_history.specs.Told.{told_now, told_by}
-use Rattle.kept_history.proofs.Growing.{fit-grown, now-grown, alike-before, room-before, room-now}
+use Rattle.kept_history.proofs.Growing.{now-grown, alike-before, room-before, room-now}
 use Rattle.kept_history.proofs.Seen.{now-more}
 use Rattle.kept_history.proofs.Calls.{safe-called}
 use Rattle.kept_history.proofs.KeptCalls.{kept-call}
@@ -217,9 +217,6 @@ module _ (given : Given) (tape : List Operation) (scope : Scope) (first : ℕ) (
     safe-all = safe-called ⊤ given tape scope first entries old new carried carried reshaping reshaping who early (Rebuilt role ∷ []) told ops (tape ++ ops) end refl refl sizes_are begun recorded.ends was
         fills call.rise (λ claimed opened mark low high. throughout-kept world given told new ops refl begun stretch (was.sound tt) opened mark (omega (arith, begun, low)) high) (record { size = refl; values = λ x lt v may. may; gone = λ role is. is; unclean = λ is. is; reshaping = λ is. refl; carried = λ number is. refl }) stretch last
 
-    now-all : IsSafeOver later given (told_now later carried reshaping all) new (tape ++ ops)
-    now-all = subst (λ (fit : Type 0). IsSafeNow fit scope given (told_now later carried reshaping all) new (disk given.start (tape ++ ops))) (sym (fit-grown world ops begun)) last
-
   level-all : level_at later all ≡ level_at world entries
   level-all = ap (λ (l : List Entry). level_at later l) whole
       ∙ fold-append (λ level e. level_after level e.event) (option_map_or (λ r. r.newest.level) (reading_at later later.first) 5) (entries ++ more) (given_at ∷ []) ∙ behind.level_more
@@ -237,5 +234,4 @@ module _ (given : Given) (tape : List Operation) (scope : Scope) (first : ℕ) (
     begun = begun;
     grown = (ops, refl);
     safe = safe-all;
-    now_safe = now-all;
   }

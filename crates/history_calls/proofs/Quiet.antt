@@ -1,5 +1,5 @@
 -- A call that leaves the list as it is, and enters losses and one event behind them.
-use Rattle.std.proofs.Common.{◌≡◌, inr, ℕ, ◌≤◌, ◌==◌, ◌||◌, Bool, true, false, List, [], ◌∷◌, ◌++◌, length, refl, sym, ◌∙◌, ap, subst, arith, append_assoc}
+use Rattle.std.proofs.Common.{◌≡◌, inl, inr, ℕ, ◌≤◌, ◌==◌, ◌||◌, Bool, true, false, List, [], ◌∷◌, ◌++◌, length, refl, sym, ◌∙◌, ap, subst, arith, append_assoc, append-nil}
 use Rattle.std.specs.Prelude.{IsFalse, fold, slice_index_or, ⊤}
 use Rattle.std.specs.List.{list_any}
 use Rattle.md_base.specs.Sectors.{Sector}
@@ -13,34 +13,36 @@ use Rattle.flat_history.specs.declared.events.Entry.{Entry}
 use Rattle.flat_history.specs.declared.events.Event.{Event}
 use Rattle.flat_history.specs.Epochs.{HasRoomForEvents, OpensAlike}
 use Rattle.flat_history.specs.Flat.{now, values_of, values_after}
-use Rattle.flat_history.specs.Legal.{is_loss, level_at, level_after}
+use Rattle.flat_history.specs.Legal.{is_loss, level_at, level_after, IsLegalEvent}
 use Rattle.flat_history.specs.Transfers.{last_end_from}
-use Rattle.flat_history.specs.Losses.{is_unsynced}
+use Rattle.flat_history.specs.Losses.{is_unsynced, loses}
 use Rattle.flat_history.specs.OneShape.{is_unsettled}
 use Rattle.flat_history.specs.Plain.{entries_of}
 use Rattle.flat_history.specs.Sound.{OpensFit}
 use Rattle.flat_history.specs.World.{World, opening_list}
 use Rattle.shape_views.specs.Views.{Ledger}
 use Rattle.shape_changes.specs.Safety.{HasRoomLeft, IsRisen}
-use Rattle.shape_changes.specs.Steady.{IsMoreTold, IsSafeNow, IsSafeOver, KeepsSafe, AreGoneTold, IsUncleanTold, AreViewsRight, IsSafeStretch}
+use Rattle.shape_changes.specs.Steady.{IsMoreTold, IsSafeOver, KeepsSafe, AreGoneTold, IsUncleanTold, AreViewsRight, IsSafeStretch}
 use Rattle.views.proofs.SoundViews.{throughout-kept}
 use Rattle.call_entries.proofs.CallLaws.{last_end-behind}
 use Rattle.call_entries.proofs.LosingLaws.{entries-both}
 use Rattle.bank.proofs.Marks.{each_mark-map}
 use Rattle.shape_changes.proofs.Steady.{views-told}
-use Rattle.kept_history.specs.Recorded.{IsHistoryKept, IsLegalCall, IsCallGoing, ends_reshape, gives_some, IsReshapedCall}
+use Rattle.kept_history.specs.Recorded.{IsHistoryKept, IsLegalCall, IsCallGoing, entry_of, ends_reshape, gives_some, IsReshapedCall}
 use Rattle.kept_history.specs.Safe.{world_in, IsFilledRight, IsSafeHistory}
 use Rattle.kept_history.specs.Told.{told_now, told_by}
 use Rattle.kept_history.proofs.Growing.{fit-grown, now-grown, alike-before, room-before, room-now}
 use Rattle.kept_history.proofs.Ledgers.{more-then}
 use Rattle.kept_history.proofs.Seen.{now-more}
 use Rattle.kept_history.proofs.Calls.{safe-called}
+use Rattle.kept_history.proofs.Idle.{idle-call}
 use Rattle.kept_history.proofs.KeptCalls.{kept-call}
+use Rattle.kept_history.proofs.Tests.{none-before}
 use Rattle.kept_history.proofs.Entered.{adds_only, AreAdding, told-adding, told-added, values-more, length-adding}
 use Rattle.kept_history.proofs.Reshapes.{call-ends_none}
 use Rattle.history_calls.specs.Reliable.{IsReliable, AreToldGone, IsNonePast, HasLastStep}
 use Rattle.history_calls.proofs.LastStep.{last-of}
-use Rattle.history_calls.proofs.Behind.{telling-of, AreEarly, first-of, AreLostOrMissing, IsBehind, is-behind, or-false, and-true}
+use Rattle.history_calls.proofs.Behind.{telling-of, AreEarly, early-none, first-of, AreLostOrMissing, IsBehind, is-behind, or-false, and-true}
 
 -- An event that leaves the list and the level, settles nothing, neither ends a reshape nor gives a role, and is no loss.
 pub record IsQuiet (event : Event) : Type 0 where
@@ -107,8 +109,6 @@ pub record IsLeftBehind (given : Given) (tape : List Operation) (scope : Scope) 
   pub past : (size : ℕ) → list_length new.newest ≤ size → IsNonePast (world_in given tape scope first) entries size → IsNonePast (world_in given tape' scope first) all size
   pub safe : IsFilledRight (world_in given tape' scope first) all → HasRoomForEvents (world_in given tape' scope first) → OpensAlike (world_in given tape' scope first)
       → IsSafeHistory ⊤ (world_in given tape' scope first) given new carried reshaping all
-  pub now_safe : IsFilledRight (world_in given tape' scope first) all → HasRoomForEvents (world_in given tape' scope first) → OpensAlike (world_in given tape' scope first)
-      → IsSafeOver (world_in given tape' scope first) given (told_now (world_in given tape' scope first) carried reshaping all) new tape'
 
 -- what the opening found is what it was
 pub fit-later : {given : Given} {tape tape' : List Operation} {scope : Scope} {first : ℕ} {entries all : List Entry} {new : Members} {carried : ℕ → Bool} {reshaping : Bool}
@@ -132,15 +132,14 @@ module _ (given : Given) (tape : List Operation) (scope : Scope) (first : ℕ) (
     (ended : last_end_from first (entries ++ entries_of who (length (tape ++ ops)) (early ++ tail)) ≡ length (tape ++ ops))
     (reshaped : IsReshapedCall (world_in given (tape ++ ops) scope first) entries who (length (tape ++ ops)) (early ++ tail)) (few : role_count new.newest ≤ 16)
     (missing : AreLostOrMissing old new IsTaken)
-    (sized : list_length new.newest ≡ list_length old.newest) (clean : is_clean new.newest ≡ is_clean old.newest) (sizes_are : scope.sizes ≡ sizes given)
+    (sized : list_length new.newest ≡ list_length old.newest) (clean : is_clean new.newest ≡ is_clean old.newest)
     (gone : IsReliable (world_in given tape scope first) entries → AreToldGone (world_in given tape scope first) entries old)
     (unclean : is_clean old.newest ≡ false → (is_unsynced (world_in given tape scope first) entries || is_unsettled entries) ≡ true)
     (recorded : IsHistoryKept (IsReliable (world_in given tape scope first) entries) (world_in given tape scope first) (list_length old.newest) entries)
-    (safe : IsFilledRight (world_in given tape scope first) entries → HasRoomForEvents (world_in given tape scope first) → OpensAlike (world_in given tape scope first)
-    → IsSafeHistory ⊤ (world_in given tape scope first) given old carried reshaping entries)
-    (now_safe : IsFilledRight (world_in given tape scope first) entries → HasRoomForEvents (world_in given tape scope first) → OpensAlike (world_in given tape scope first)
-    → IsSafeOver (world_in given tape scope first) given (told_now (world_in given tape scope first) carried reshaping entries) old tape)
-    (call : LeavesNumbers given tape scope first entries old new carried carried' reshaping who early tail (tape ++ ops) (length (tape ++ ops))) where
+    (legal : IsReliable (world_in given (tape ++ ops) scope first) (entries ++ entries_of who (length (tape ++ ops)) (early ++ tail)) → IsReliable (world_in given tape scope first) entries
+    → AreToldGone (world_in given (tape ++ ops) scope first) (entries ++ entries_of who (length (tape ++ ops)) early) new
+    → level_at (world_in given (tape ++ ops) scope first) (entries ++ entries_of who (length (tape ++ ops)) early) ≡ level_at (world_in given tape scope first) entries
+    → IsLegalCall (world_in given (tape ++ ops) scope first) entries who (length (tape ++ ops)) (early ++ tail)) where
   abbrev world : World
   world = world_in given tape scope first
 
@@ -200,7 +199,7 @@ module _ (given : Given) (tape : List Operation) (scope : Scope) (first : ℕ) (
   recorded-all : IsHistoryKept (IsReliable later all) later (list_length new.newest) all
   recorded-all = kept-call (IsReliable world entries) (IsReliable later all) world ops (list_length old.newest) (list_length new.newest) entries who (early ++ tail) goes recorded behind.right caller
       (λ fills. inr behind.gives_all) (length-adding (length (opening_list world)) entries added adds-all ∙ recorded.sized ∙ sym sized)
-      ended (λ fills. call.legal fills (behind.right fills) (behind.gone_more fills) behind.level_more)
+      ended (λ fills. legal fills (behind.right fills) (behind.gone_more fills) behind.level_more)
       (λ fills fit. reshaped)
 
   -- past the list's end it tells no more than before
@@ -209,30 +208,10 @@ module _ (given : Given) (tape : List Operation) (scope : Scope) (first : ℕ) (
       ap (λ (l : List Sector). values_of l all x) behind.opened ∙ values-more (opening_list world) entries added x
       ∙ are.values who end tail x (values_of (opening_list world) entries x) ∙ quiet.still x (values_of (opening_list world) entries x) ∙ none (behind.fills fills) x high
 
-  -- ---- each mark
-
-  module _ (fills : IsFilledRight later all) (room : HasRoomForEvents later) (alike : OpensAlike later) where
-    abbrev was : IsSafeHistory ⊤ (world_in given tape scope first) given old carried reshaping entries
-    was = safe (behind.fills fills) (room-before world ops begun room) (alike-before world ops begun alike)
-
-    stretch : KeepsSafe world given told new tape (tape ++ ops)
-    stretch = call.keeps before told (behind.right (record { fills = fills; room = room; alike = alike })) told-first told-more (λ number. refl) (λ number. refl) (room-now world ops begun old was.counted room)
-        (λ role lt miss. behind.counts_more (record { fills = fills; room = room; alike = alike }) role lt miss)
-        (λ dirty. told-first.unclean (unclean dirty))
-        (now-more (OpensFit world) scope given (told_now world carried reshaping entries) before old (disk given.start tape) told-first (now_safe (behind.fills fills) (room-before world ops begun room) (alike-before world ops begun alike)))
-
-    last : IsSafeOver world given (told_now later carried' reshaping all) new (tape ++ ops)
-    last = now-more (OpensFit world) scope given told (told_now later carried' reshaping all) new (disk given.start (tape ++ ops)) told-last stretch.next
-
-    safe-all : IsSafeHistory ⊤ later given new carried' reshaping all
-    safe-all = safe-called ⊤ given tape scope first entries old new carried carried' reshaping reshaping who early tail told ops (tape ++ ops) end refl refl sizes_are begun recorded.ends was
-        fills call.rise (λ claimed opened mark low high. throughout-kept world given told new ops refl begun stretch (was.sound tt) opened mark (omega (arith, begun, low)) high) (record { size = refl; values = λ x lt v may. may; gone = λ role is. is; unclean = λ is. is; reshaping = λ is. refl; carried = λ number is. refl }) stretch last
-
-    now-all : IsSafeOver later given (told_now later carried' reshaping all) new (tape ++ ops)
-    now-all = subst (λ (fit : Type 0). IsSafeNow fit scope given (told_now later carried' reshaping all) new (disk given.start (tape ++ ops))) (sym (fit-grown world ops begun)) last
-
-  pub numbers-leaves : IsLeftBehind given tape scope first entries all new carried' reshaping (tape ++ ops)
-  numbers-leaves = record {
+  -- what it leaves, if each mark is safe
+  pub left-behind : (IsFilledRight later all → HasRoomForEvents later → OpensAlike later → IsSafeHistory ⊤ later given new carried' reshaping all)
+      → IsLeftBehind given tape scope first entries all new carried' reshaping (tape ++ ops)
+  left-behind safe = record {
     right = behind.right;
     fills = behind.fills;
     past = past-all;
@@ -243,9 +222,94 @@ module _ (given : Given) (tape : List Operation) (scope : Scope) (first : ℕ) (
     opened = behind.opened;
     begun = begun;
     grown = (ops, refl);
-    safe = safe-all;
-    now_safe = now-all;
+    safe = safe;
   }
+
+  -- ---- each mark
+
+  module _ (sizes_are : scope.sizes ≡ sizes given)
+      (safe : IsFilledRight (world_in given tape scope first) entries → HasRoomForEvents (world_in given tape scope first) → OpensAlike (world_in given tape scope first)
+      → IsSafeHistory ⊤ (world_in given tape scope first) given old carried reshaping entries)
+      (now_safe : IsFilledRight (world_in given tape scope first) entries → HasRoomForEvents (world_in given tape scope first) → OpensAlike (world_in given tape scope first)
+      → IsSafeOver (world_in given tape scope first) given (told_now (world_in given tape scope first) carried reshaping entries) old tape)
+      (call : LeavesNumbers given tape scope first entries old new carried carried' reshaping who early tail (tape ++ ops) (length (tape ++ ops))) where
+    module _ (fills : IsFilledRight later all) (room : HasRoomForEvents later) (alike : OpensAlike later) where
+      abbrev was : IsSafeHistory ⊤ (world_in given tape scope first) given old carried reshaping entries
+      was = safe (behind.fills fills) (room-before world ops begun room) (alike-before world ops begun alike)
+
+      stretch : KeepsSafe world given told new tape (tape ++ ops)
+      stretch = call.keeps before told (behind.right (record { fills = fills; room = room; alike = alike })) told-first told-more (λ number. refl) (λ number. refl) (room-now world ops begun old was.counted room)
+          (λ role lt miss. behind.counts_more (record { fills = fills; room = room; alike = alike }) role lt miss)
+          (λ dirty. told-first.unclean (unclean dirty))
+          (now-more (OpensFit world) scope given (told_now world carried reshaping entries) before old (disk given.start tape) told-first (now_safe (behind.fills fills) (room-before world ops begun room) (alike-before world ops begun alike)))
+
+      last : IsSafeOver world given (told_now later carried' reshaping all) new (tape ++ ops)
+      last = now-more (OpensFit world) scope given told (told_now later carried' reshaping all) new (disk given.start (tape ++ ops)) told-last stretch.next
+
+      safe-all : IsSafeHistory ⊤ later given new carried' reshaping all
+      safe-all = safe-called ⊤ given tape scope first entries old new carried carried' reshaping reshaping who early tail told ops (tape ++ ops) end refl refl sizes_are begun recorded.ends was
+          fills call.rise (λ claimed opened mark low high. throughout-kept world given told new ops refl begun stretch (was.sound tt) opened mark (omega (arith, begun, low)) high) (record { size = refl; values = λ x lt v may. may; gone = λ role is. is; unclean = λ is. is; reshaping = λ is. refl; carried = λ number is. refl }) stretch last
+
+    pub marks-leave : IsLeftBehind given tape scope first entries all new carried' reshaping (tape ++ ops)
+    marks-leave = left-behind safe-all
+
+module _ (given : Given) (tape : List Operation) (scope : Scope) (first : ℕ) (entries : List Entry) (old new : Members) (carried carried' : ℕ → Bool) (reshaping : Bool)
+    (who : Who) (early : List Event) (IsTaken : ℕ → Type 0) (tail : List Event) (ops : List Operation) (are : AreEarly early IsTaken) (carries : (number : ℕ) → carried number ≡ true → carried' number ≡ true)
+    (goes : IsCallGoing entries who) (caller : IsFalse (who.caller == 254)) (quiet : AreQuietLast who (length (tape ++ ops)) tail)
+    (ended : last_end_from first (entries ++ entries_of who (length (tape ++ ops)) (early ++ tail)) ≡ length (tape ++ ops))
+    (reshaped : IsReshapedCall (world_in given (tape ++ ops) scope first) entries who (length (tape ++ ops)) (early ++ tail)) (few : role_count new.newest ≤ 16)
+    (missing : AreLostOrMissing old new IsTaken)
+    (sized : list_length new.newest ≡ list_length old.newest) (clean : is_clean new.newest ≡ is_clean old.newest) (sizes_are : scope.sizes ≡ sizes given)
+    (gone : IsReliable (world_in given tape scope first) entries → AreToldGone (world_in given tape scope first) entries old)
+    (unclean : is_clean old.newest ≡ false → (is_unsynced (world_in given tape scope first) entries || is_unsettled entries) ≡ true)
+    (recorded : IsHistoryKept (IsReliable (world_in given tape scope first) entries) (world_in given tape scope first) (list_length old.newest) entries)
+    (safe : IsFilledRight (world_in given tape scope first) entries → HasRoomForEvents (world_in given tape scope first) → OpensAlike (world_in given tape scope first)
+    → IsSafeHistory ⊤ (world_in given tape scope first) given old carried reshaping entries)
+    (now_safe : IsFilledRight (world_in given tape scope first) entries → HasRoomForEvents (world_in given tape scope first) → OpensAlike (world_in given tape scope first)
+    → IsSafeOver (world_in given tape scope first) given (told_now (world_in given tape scope first) carried reshaping entries) old tape)
+    (call : LeavesNumbers given tape scope first entries old new carried carried' reshaping who early tail (tape ++ ops) (length (tape ++ ops))) where
+  pub numbers-leaves : IsLeftBehind given tape scope first entries (entries ++ entries_of who (length (tape ++ ops)) (early ++ tail)) new carried' reshaping (tape ++ ops)
+  numbers-leaves = marks-leave given tape scope first entries old new carried carried' reshaping who early IsTaken tail ops are carries goes caller quiet ended reshaped few missing sized clean gone unclean recorded call.legal
+      sizes_are safe now_safe call
+
+-- ---- one that makes no device call
+
+-- It enters one event, whether a live slot is left or not.
+pub resting-leaves : (given : Given) (tape : List Operation) (scope : Scope) (first : ℕ) (entries : List Entry) (m : Members) (carried : ℕ → Bool) (reshaping : Bool) (who : Who) (event : Event)
+    → IsCallGoing entries who → IsFalse (who.caller == 254) → IsQuiet event → role_count m.newest ≤ 16 → scope.sizes ≡ sizes given
+    → (IsReliable (world_in given tape scope first) entries → AreToldGone (world_in given tape scope first) entries m)
+    → (is_clean m.newest ≡ false → (is_unsynced (world_in given tape scope first) entries || is_unsettled entries) ≡ true)
+    → IsHistoryKept (IsReliable (world_in given tape scope first) entries) (world_in given tape scope first) (list_length m.newest) entries
+    → (IsFilledRight (world_in given tape scope first) entries → HasRoomForEvents (world_in given tape scope first) → OpensAlike (world_in given tape scope first)
+    → IsSafeHistory ⊤ (world_in given tape scope first) given m carried reshaping entries)
+    → (IsReliable (world_in given tape scope first) entries → IsLegalEvent (world_in given tape scope first) entries (entry_of who (length tape) event) [] event)
+    → IsLeftBehind given tape scope first entries (entries ++ entries_of who (length tape) (event ∷ [])) m carried reshaping tape
+resting-leaves given tape scope first entries m carried reshaping who event goes caller quiet few sizes_are gone unclean recorded safe legal =
+    subst Here (append-nil tape)
+    (left-behind given tape scope first entries m m carried carried reshaping who [] (λ role. ⊥) (event ∷ []) [] early-none (λ number is. is) goes caller (quiet-last who (length (tape ++ [])) event quiet)
+    (last_end-behind first entries who (length (tape ++ [])) [] event)
+    (call-ends_none (world_in given (tape ++ []) scope first) entries who (length (tape ++ [])) (event ∷ []) (or-false (ends_reshape event) false quiet.ends refl)) few (λ role lt miss. inl (lt, miss)) refl refl gone unclean recorded
+    (λ all right told level. (subst Legal (sym (append-nil tape)) legal right, tt, tt))
+    (subst Safe (sym (append-nil tape)) idle))
+  where
+    Here : List Operation → Type 0
+    Here l = IsLeftBehind given tape scope first entries (entries ++ entries_of who (length l) (event ∷ [])) m carried reshaping l
+
+    Legal : List Operation → Type 0
+    Legal l = IsReliable (world_in given tape scope first) entries → IsLegalEvent (world_in given l scope first) entries (entry_of who (length l) event) [] event
+
+    Safe : List Operation → Type 0
+    Safe l = IsFilledRight (world_in given l scope first) (entries ++ entries_of who (length l) (event ∷ [])) → HasRoomForEvents (world_in given l scope first) → OpensAlike (world_in given l scope first)
+        → IsSafeHistory ⊤ (world_in given l scope first) given m carried reshaping (entries ++ entries_of who (length l) (event ∷ []))
+
+    -- what is filled in was right before it, too
+    before : IsFilledRight (world_in given tape scope first) (entries ++ entries_of who (length tape) (event ∷ [])) → IsFilledRight (world_in given tape scope first) entries
+    before (inl none) = inl (λ role. none-before (loses (world_in given tape scope first) role) entries (entries_of who (length tape) (event ∷ [])) (none role))
+    before (inr fit) = inr fit
+
+    idle : Safe tape
+    idle fills room alike = idle-call ⊤ given tape scope first entries m carried reshaping who (event ∷ []) sizes_are recorded.begun recorded.ends fills (safe (before fills) room alike)
+        (and-true (adds_only event) true quiet.adds refl) (or-false (gives_some event) false quiet.gives refl)
 
 -- ---- one that makes no number known
 

@@ -24,7 +24,7 @@ use Rattle.flat_history.specs.Sound.{OpensFit}
 use Rattle.flat_history.specs.World.{World, opening_list}
 use Rattle.shape_views.specs.Views.{Ledger}
 use Rattle.shape_changes.specs.Safety.{HasRoomLeft, IsRisen}
-use Rattle.shape_changes.specs.Steady.{IsMoreTold, IsSafeNow, IsSafeOver, KeepsSafe, AreGoneTold, IsUncleanTold, AreWritesAllowed, settled_ledger}
+use Rattle.shape_changes.specs.Steady.{IsMoreTold, IsSafeOver, KeepsSafe, AreGoneTold, IsUncleanTold, AreWritesAllowed, settled_ledger}
 use Rattle.views.proofs.SoundViews.{throughout-kept}
 use Rattle.call_entries.specs.Losing.{losses_of}
 use Rattle.call_entries.proofs.CallLaws.{AreLossEvents, losses-are, last_end-behind, length-losses, values-losses}
@@ -32,7 +32,7 @@ use Rattle.call_entries.proofs.LosingLaws.{entries-both}
 use Rattle.kept_history.specs.Recorded.{IsHistoryKept, IsLegalCall, IsReshapedCall, IsCallGoing, entry_of, ends_reshape, gives_some}
 use Rattle.kept_history.specs.Safe.{world_in, IsFilledRight, IsSafeHistory}
 use Rattle.kept_history.specs.Told.{told_now, told_by}
-use Rattle.kept_history.proofs.Growing.{fit-grown, unsynced-grown, now-grown, alike-before, room-before, room-now}
+use Rattle.kept_history.proofs.Growing.{unsynced-grown, now-grown, alike-before, room-before, room-now}
 use Rattle.kept_history.proofs.Ledgers.{more-then}
 use Rattle.kept_history.proofs.Lists.{newest-in}
 use Rattle.kept_history.proofs.Seen.{now-more}
@@ -287,9 +287,6 @@ module _ (given : Given) (tape : List Operation) (scope : Scope) (first : ℕ) (
         fills call.rise (λ claimed opened mark low high. throughout-kept world given told new ops refl begun stretch (was.sound tt) opened mark (omega (arith, begun, low)) high)
         (record { size = refl; values = λ x lt v may. may; gone = λ role is. is; unclean = λ is. is; reshaping = λ is. refl; carried = λ number is. refl }) stretch last
 
-    now-all : IsSafeOver later given (told_now later carried reshaping all) new (tape ++ ops)
-    now-all = subst (λ (fit : Type 0). IsSafeNow fit scope given (told_now later carried reshaping all) new (disk given.start (tape ++ ops))) (sym (fit-grown world ops begun)) last
-
   pub settling-leaves : IsLeftBehind given tape scope first entries all new carried reshaping (tape ++ ops)
   settling-leaves = record {
     right = behind.right;
@@ -303,7 +300,6 @@ module _ (given : Given) (tape : List Operation) (scope : Scope) (first : ℕ) (
     begun = begun;
     grown = (ops, refl);
     safe = safe-all;
-    now_safe = now-all;
   }
 
 -- the newest value of each sector is what it was

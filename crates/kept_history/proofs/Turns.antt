@@ -1,5 +1,5 @@
 -- The calls by which a reshape begins or ends: what they tell before the update and with it.
-use Rattle.std.proofs.Common.{◌≡◌, ℕ, ◌<◌, ◌≤◌, ◌||◌, Bool, true, false, List, [], ◌∷◌, ◌++◌, length, refl, sym, ◌∙◌, ap, subst, append_assoc, append-nil}
+use Rattle.std.proofs.Common.{◌≡◌, ℕ, ◌<◌, ◌≤◌, Bool, true, false, List, [], ◌∷◌, ◌++◌, length, refl, sym, ◌∙◌, ap, subst, append_assoc, append-nil}
 use Rattle.std.specs.Prelude.{⊤, IsTrue}
 use Rattle.std.specs.List.{list_any}
 use Rattle.md_base.specs.Sectors.{Sector, zero_sector}
@@ -17,7 +17,7 @@ use Rattle.flat_history.specs.CrashSafe.{is_resized, up_to}
 use Rattle.flat_history.specs.Flat.{length_of, values_of}
 use Rattle.flat_history.specs.Growing.{grown, EndBy}
 use Rattle.flat_history.specs.Legal.{is_all_gone}
-use Rattle.flat_history.specs.Losses.{loses, is_gone_after}
+use Rattle.flat_history.specs.Losses.{is_gone_after}
 use Rattle.flat_history.specs.Plain.{entries_of}
 use Rattle.flat_history.specs.Sound.{OpensFit}
 use Rattle.flat_history.specs.World.{World}
@@ -66,7 +66,7 @@ module _ (world : World) (entries : List Entry) (who : Who) (end : ℕ) (early :
 
   -- where no slot kept it, the history without it tells what was told before it
   turned-unkept : (told : Ledger) → AreAdding (entries_of who end early) → IsMoreTold told (told_by world (λ number. true) true entries (entries_of who end early))
-      → ((role : ℕ) → (is_gone_after world entries role || list_any (loses world role) (entries_of who end early)) ≡ true → is_gone_after world (entries ++ entries_of who end (early ++ Resized n ∷ losses)) role ≡ true)
+      → ((role : ℕ) → told.gone role ≡ true → is_gone_after world (entries ++ entries_of who end (early ++ Resized n ∷ losses)) role ≡ true)
       → IsTrue (is_all_gone world end (entries ++ entries_of who end (early ++ Resized n ∷ losses)))
       → IsTrue (is_all_gone world end (up_to (entries ++ entries_of who end (early ++ Resized n ∷ losses)) (length (entries ++ entries_of who end early))))
       × IsMoreTold told (told_without world (entries ++ entries_of who end (early ++ Resized n ∷ losses)) (length (entries ++ entries_of who end early)))
@@ -76,7 +76,7 @@ module _ (world : World) (entries : List Entry) (who : Who) (end : ℕ) (early :
         ∙ all,
     subst (λ (l : List Entry). IsMoreTold told (told_without world l (length (entries ++ entries_of who end early)))) (sym whole)
         (unkept-told world told entries (entries_of who end early) (one who end (Resized n)) n (entries_of who end losses) refl adds (losses-add who end losses are) less
-        (subst (λ (l : List Entry). (role : ℕ) → (is_gone_after world entries role || list_any (loses world role) (entries_of who end early)) ≡ true → is_gone_after world l role ≡ true) whole gone)),
+        (subst (λ (l : List Entry). (role : ℕ) → told.gone role ≡ true → is_gone_after world l role ≡ true) whole gone)),
   )
     where
       whole : entries ++ entries_of who end (early ++ Resized n ∷ losses) ≡ entries ++ (entries_of who end early ++ one who end (Resized n) ∷ entries_of who end losses)
@@ -94,7 +94,7 @@ module _ (claims : Type 0) (given : Given) (tape : List Operation) (scope : Scop
     (change : IsSafeChange (OpensFit (world_in given tape scope first)) scope given told
     (told_now (grown (world_in given tape scope first) ops) carried' reshaping' (entries ++ entries_of who (length (tape ++ ops)) (early ++ Resized n ∷ losses))) new tape (tape ++ ops))
     (spent : (HasLiveSlot new → ⊥) → IsTrue (is_all_gone (grown (world_in given tape scope first) ops) (length (tape ++ ops)) (entries ++ entries_of who (length (tape ++ ops)) (early ++ Resized n ∷ losses)))
-    × ((role : ℕ) → (is_gone_after (grown (world_in given tape scope first) ops) entries role || list_any (loses (grown (world_in given tape scope first) ops) role) (entries_of who (length (tape ++ ops)) early)) ≡ true
+    × ((role : ℕ) → told.gone role ≡ true
     → is_gone_after (grown (world_in given tape scope first) ops) (entries ++ entries_of who (length (tape ++ ops)) (early ++ Resized n ∷ losses)) role ≡ true)) where
   abbrev later : World
   later = grown (world_in given tape scope first) ops

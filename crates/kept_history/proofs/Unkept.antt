@@ -12,7 +12,7 @@ use Rattle.flat_history.specs.declared.events.Event.TheVariants.{Lost, SpareLost
 use Rattle.flat_history.specs.declared.events.LostCause.TheVariants.{Fault}
 use Rattle.flat_history.specs.CrashSafe.{up_to, first_with_losses, losses_behind}
 use Rattle.flat_history.specs.Flat.{length_of, values_of}
-use Rattle.flat_history.specs.Losses.{loses, settles, unsettles, is_gone_after, is_unsynced}
+use Rattle.flat_history.specs.Losses.{settles, unsettles, is_gone_after, is_unsynced}
 use Rattle.flat_history.specs.OneShape.{is_unsettled}
 use Rattle.flat_history.specs.Plain.{entries_of}
 use Rattle.flat_history.specs.World.{World, opening_list}
@@ -30,12 +30,12 @@ use Rattle.kept_history.proofs.Ledgers.{unclean-now}
 -- what its first events told, where the roles that they tell gone are gone still.
 pub unkept-told : (world : World) (told : Ledger) (entries before : List Entry) (e : Entry) (n : ℕ) (behind : List Entry) → e.event ≡ Resized n → AreAdding before → AreAdding behind
     → IsMoreTold told (told_by world (λ number. true) true entries before)
-    → ((role : ℕ) → (is_gone_after world entries role || list_any (loses world role) before) ≡ true → is_gone_after world (entries ++ (before ++ e ∷ behind)) role ≡ true)
+    → ((role : ℕ) → told.gone role ≡ true → is_gone_after world (entries ++ (before ++ e ∷ behind)) role ≡ true)
     → IsMoreTold told (told_without world (entries ++ (before ++ e ∷ behind)) (length (entries ++ before)))
 unkept-told world told entries before e n behind is adds more less gone = record {
   size = less.size ∙ sym (ap (λ (l : List Entry). length_of (length (opening_list world)) l) without ∙ length-adding (length (opening_list world)) (entries ++ before) behind more);
   values = λ x lt v may. subst (λ (l : List Entry). IsIn (values_of (opening_list world) l x) v) (sym without) (values-adding (opening_list world) (entries ++ before) behind more x v (less.values x lt v may));
-  gone = λ role was. gone role (less.gone role was);
+  gone = gone;
   unclean = λ was. unclean-now world entries (before ++ e ∷ behind) settled (with_more (less.unclean was));
   reshaping = λ was. refl;
   carried = λ number was. refl;

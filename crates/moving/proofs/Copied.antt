@@ -28,7 +28,7 @@ use Rattle.flat_history.specs.Plain.{entries_of}
 use Rattle.flat_history.specs.World.{World}
 use Rattle.shape_views.specs.Views.{Ledger}
 use Rattle.shape_views.specs.Windows.{IsCopyable}
-use Rattle.shape_changes.specs.Safety.{HasRoomLeft, IsRisen}
+use Rattle.shape_changes.specs.Safety.{HasLiveSlot, HasRoomLeft, IsRisen}
 use Rattle.shape_changes.specs.Steady.{IsSafeOver, KeepsSafe, AreGoneTold, IsUncleanTold}
 use Rattle.views.specs.Moving.{Grows, IsMoved}
 use Rattle.views.specs.Lacking.{AreTooMany, AreOtherRowsKept, IsOfStripe}
@@ -152,7 +152,7 @@ pub record IsStripeTried (tells : Type 0) (given : Given) (tape tape' : List Ope
 
 module _ (tells : Type 0) (given : Given) (tape tape' : List Operation) (scope : Scope) (first : ℕ) (entries : List Entry) (old new : Members) (carried : ℕ → Bool)
     (course : Course) (ahead : PhasesLeft) (window : List ℕ) (span : Span) (copied : ℕ) (sectioned : Bool) (who : Who) (end roles spares : ℕ)
-    (was : IsMoving tells given tape scope first entries old carried course (bytes_in course.window window) (left_in old course ahead)) (is : course ≡ entered span copied sectioned)
+    (was : IsMoving tells given tape scope first entries old carried course (bytes_in course.window window) (left_in old course ahead)) (is : course ≡ entered span copied sectioned) (live : HasLiveSlot old)
     (more : copied < stripes_in old.newest span) (goes : IsCallGoing entries who) (caller : IsFalse (who.caller == 254)) (at_end : tells → end ≡ length tape') (grows : Grows tells tape tape')
     (did : IsStripeTried tells given tape tape' old new span copied roles) where
   abbrev bytes : List ℕ
@@ -179,7 +179,7 @@ module _ (tells : Type 0) (given : Given) (tape tape' : List Operation) (scope :
       (subst (λ (c : Course). IsMoving tells given tape' scope first (entries ++ entries_of who end (losses_of roles spares ++ Step CopiesStripe left ∷ [])) new carried c bytes left)
       (sym (more-is given old new course ahead span copied sectioned active is more did.moved))
       (copied-moves tells given tape tape' scope first entries old new carried span copied sectioned bytes left who end roles spares
-      (subst (λ (n : ℕ). IsMoving tells given tape scope first entries old carried (entered span copied sectioned) bytes n) one opened) goes caller at_end grows
+      (subst (λ (n : ℕ). IsMoving tells given tape scope first entries old carried (entered span copied sectioned) bytes n) one opened) live goes caller at_end grows
       more (λ none. some (sym left_is ∙ none)) did.moved few did.since did.clean did.rise did.unused did.others stands did.safe))
 
   -- refused
@@ -190,7 +190,7 @@ module _ (tells : Type 0) (given : Given) (tape tape' : List Operation) (scope :
       (sym (left-moved given old new course ahead did.moved))
       (subst (λ (c : Course). IsMoving tells given tape' scope first (entries ++ entries_of who end (losses_of roles spares ++ Refused refusal ∷ [])) new carried c (bytes_in c.window window) (left_in old course ahead)) (sym is)
       (refused-moves tells given tape tape' scope first entries old new carried (entered span copied sectioned) bytes (left_in old course ahead) who end roles spares refusal
-      opened goes caller at_end grows did.moved few did.since did.clean (inr many) did.rise did.unused
+      opened live goes caller at_end grows did.moved few did.since did.clean (inr many) did.rise did.unused
       (λ t sound among list stands.
       (copies-go-on sound among given old new span copied sectioned bytes (present given tape) (present given tape') list was.members_are.placed did.moved opened.course_is.window.0 more
       (plain-of old.newest span copied sectioned opened.course_is.window) (did.others t) stands).0)

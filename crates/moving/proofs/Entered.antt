@@ -36,6 +36,7 @@ use Rattle.shape_changes.specs.Steady.{AreWritesAllowed, IsSafeOver, KeepsSafe, 
 use Rattle.views.specs.Placed.{AreWhole}
 use Rattle.views.specs.Moving.{Grows, IsMoved}
 use Rattle.views.specs.Lacking.{DoesWithout, AreTooMany, AreOtherRowsKept}
+use Rattle.views.proofs.LiveLeft.{without-left}
 use Rattle.views.proofs.Fit.{list-alike}
 use Rattle.call_entries.specs.Losing.{losses_of}
 use Rattle.call_entries.proofs.CallLaws.{losses-are}
@@ -52,7 +53,8 @@ use Rattle.kept_history.proofs.Lists.{newest-in}
 use Rattle.history_calls.specs.Reliable.{IsReliable, AreToldGone}
 use Rattle.history_calls.proofs.Adding.{IsAdding, ChangesEarly, changing-leaves}
 use Rattle.history_calls.proofs.Behind.{IsAmong, early-losses, first-of, legal-losses}
-use Rattle.history_calls.proofs.Quiet.{IsQuiet, IsLeftBehind, fit-later, quiet-now}
+use Rattle.history_calls.proofs.LastStep.{IsWithin, losses-within}
+use Rattle.history_calls.proofs.Quiet.{IsQuiet, IsLeftBehind, fit-later, quiet-now, last-left}
 use Rattle.course_kept.specs.declared.course.Course.{Course}
 use Rattle.course_kept.specs.Course.{HasWindowIn, IsCourseOf, IsStored, StandsInCourse}
 use Rattle.course_kept.specs.Laws.{closed}
@@ -61,6 +63,7 @@ use Rattle.course_kept.proofs.Frames.{stands-on, stands-later, stands-whole}
 use Rattle.moving_state.proofs.LeftLaws.{plans-counted, some-left}
 use Rattle.moving_state.proofs.ReshapeLaws.{under-way-of}
 use Rattle.moving_kept.specs.Moving.{HasListInCourse, IsMoving}
+use Rattle.moving_kept.proofs.Quiet.{safe-now}
 use Rattle.moving_kept.proofs.MembersMove.{reshaping-moved}
 use Rattle.moving_kept.proofs.Refusals.{quiet-refusal, refused-right}
 use Rattle.moving_kept.proofs.Steps.{AreMissingSince, missing-moved, quiet-step, step-is, told-behind, told-step}
@@ -144,7 +147,7 @@ module _ {tells : Type 0} {given : Given} {tape tape' : List Operation} {scope :
   long-same : list_length new.newest ≡ list_length old.newest
   long-same = list-alike old.newest new.newest did.moved.reshape did.moved.shape did.moved.size
 
-  module _ (event : Event) (quiet : IsQuiet event) where
+  module _ (event : Event) (quiet : IsQuiet event) (inside : IsWithin (list_length old.newest) event) where
     abbrev all : List Entry
     all = entries ++ entries_of who end (losses_of roles spares ++ event ∷ [])
 
@@ -179,13 +182,14 @@ module _ {tells : Type 0} {given : Given} {tape tape' : List Operation} {scope :
         (newest-in (opening_list (world_in given tape scope first)) entries x (let sized = (was.recorded t).sized in omega (arith, lt, sized))) lt)
 
     adding : IsAdding event
-    adding = record { adds = quiet.adds; gives = quiet.gives; ends = quiet.ends; level = quiet.level }
+    adding = record { adds = quiet.adds; gives = quiet.gives; ends = quiet.ends; level = quiet.level; other = quiet.other }
 
     module _ (legal : tells → IsReliable (world_in given tape scope first) entries → AreToldGone (world_in given tape' scope first) (entries ++ entries_of who end (losses_of roles spares)) new
         → level_at (world_in given tape' scope first) (entries ++ entries_of who end (losses_of roles spares)) ≡ level_at (world_in given tape scope first) entries
         → IsLegalEvent (world_in given tape' scope first) (entries ++ entries_of who end (losses_of roles spares)) (entry_of who end event) [] event) where
       changes : tells → Changes tape' end
       changes t = record {
+        within = losses-within (list_length old.newest) (losses_of roles spares) (event ∷ []) (losses-are roles spares) (inside, tt);
         rise = did.rise t;
         keeps = λ told right gone fills more values room told_gone unclean unsettled before.
             let l = was.listed t fills in
@@ -203,7 +207,7 @@ module _ {tells : Type 0} {given : Given} {tape tape' : List Operation} {scope :
           subst (λ (l : List Operation). Then l end) (sym g.1)
           (subst (Then (tape ++ g.0)) (sym (at_end t ∙ ap (λ (l : List Operation). length l) g.1))
           (λ call. changing-leaves given tape scope first entries old new carried true who (losses_of roles spares) (IsAmong roles) event g.0 (first-of (early-losses roles spares)) goes caller adding
-          (few-roles new.newest did.moved.placed.fit.valid) (missing-moved roles did.moved did.since) long-same (λ dirty. inl (was.unclean t (sym did.clean ∙ dirty))) was.sizes_are (was.gone t) (was.unclean t) (was.recorded t) (was.safe t) (was.now_safe t) call))
+          (few-roles new.newest did.moved.placed.fit.valid) (missing-moved roles did.moved did.since) long-same (λ dirty. inl (was.unclean t (sym did.clean ∙ dirty))) was.sizes_are (was.gone t) (was.unclean t) (was.recorded t) (was.safe t) (safe-now was (without-left given old was.members_are.placed was.members_are.unlost does) t) call))
           (changes t)
 
       listed : (t : tells) → IsFilledRight (world_in given tape' scope first) all
@@ -233,10 +237,10 @@ module _ {tells : Type 0} {given : Given} {tape tape' : List Operation} {scope :
         gone = λ t. (leaves t).gone;
         unclean = λ t. (leaves t).unclean;
         recorded = λ t. (leaves t).recorded;
+        last_step = λ t. last-left given tape tape' scope first entries (list_length old.newest) new carried true who end (losses_of roles spares) event (leaves t) (at_end t) quiet.other long-same (was.last_step t).past;
         stored = did.stored;
         listed = λ t fills. listed t fills;
         safe = λ t. (leaves t).safe;
-        now_safe = λ t. (leaves t).now_safe;
       }
 
 -- ---- the step
@@ -304,7 +308,7 @@ module _ {tells : Type 0} {given : Given} {tape tape' : List Operation} {scope :
         (left_in new (record course { window = window }) ahead)
     enter-refused refusal why =
         put (losses_of roles spares ++ Refused refusal ∷ []) (left_in old (closed 0) ahead) (left-with ∙ refused-left) refused-which
-        (next-moves window (take (512 * (span.hi - span.lo)) buffer) who end roles spares before full does goes (not_254 who.caller caller) at_end grows refused-next did (Refused refusal) (quiet-refusal refusal)
+        (next-moves window (take (512 * (span.hi - span.lo)) buffer) who end roles spares before full does goes (not_254 who.caller caller) at_end grows refused-next did (Refused refusal) (quiet-refusal refusal) tt
         (λ t right gone level. legal t right gone level why) (left_in old (closed 0) ahead)
         (left-more (left_in old (closed 0) ahead) entries who end (losses_of roles spares ++ Refused refusal ∷ []) before.left_told
         (left-behind (left_in old (closed 0) ahead) who end (losses_of roles spares) (Refused refusal ∷ []) (losses-are roles spares) (λ told same. same))))
@@ -343,7 +347,7 @@ module _ {tells : Type 0} {given : Given} {tape tape' : List Operation} {scope :
     enter-done critical left told =
         put (losses_of roles spares ++ Step EntersWindow left ∷ []) left (sym told) (inr (inl (sectioned, named)))
         (next-moves window (take (512 * (span.hi - span.lo)) buffer) who end roles spares before full does goes (not_254 who.caller caller) at_end grows
-        (subst (IsNextWindow old.newest) (sym named) (at, refl, critical)) did (Step EntersWindow left) (quiet-step EntersWindow left tt (λ zero. enter-some (sym told ∙ zero)))
+        (subst (IsNextWindow old.newest) (sym named) (at, refl, critical)) did (Step EntersWindow left) (quiet-step EntersWindow left tt (λ zero. enter-some (sym told ∙ zero))) tt
         (λ t right gone level. step-is (world_in given tape' scope first) (entries ++ entries_of who end (losses_of roles spares)) (entry_of who end (Step EntersWindow left)) EntersWindow left
         (told-behind (left + 1) entries who end (losses_of roles spares) (losses-are roles spares)
         (subst (λ (n : ℕ). IfSome (told_left entries) (λ k. k ≡ n)) (sym (ap (λ (n : ℕ). n + 1) told ∙ enter-left)) was.left_told)))

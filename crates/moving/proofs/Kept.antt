@@ -31,10 +31,13 @@ use Rattle.flat_history.specs.Plain.{entries_of}
 use Rattle.flat_history.specs.Losses.{was_dirty, is_resync_end, is_unsynced, loses}
 use Rattle.flat_history.specs.World.{World}
 use Rattle.flat_history.specs.Stands.{reach_of}
+use Rattle.shape_views.specs.Regions.{DoWithout}
+use Rattle.shape_changes.specs.Safety.{HasLiveSlot}
 use Rattle.views.specs.Placed.{AreWhole, HaveSameReshape}
 use Rattle.views.specs.declared.work.Work.{Work}
 use Rattle.views.specs.Moving.{Grows, IsMoved}
 use Rattle.views.specs.Numbers.{is_carried}
+use Rattle.views.proofs.LiveLeft.{without-left}
 use Rattle.grow_asked.specs.declared.window.Window.{Window}
 use Rattle.grow_asked.specs.declared.window.Window.TheVariants.{Closed, Entered, Unsure}
 use Rattle.grow_asked.specs.declared.window.PhasesLeft.{PhasesLeft}
@@ -251,3 +254,10 @@ roomier {tells = tells} {given = given} {tape = tape} {scope = scope} {first = f
 -- bytes that were written whole
 pub written-whole : (n : ℕ) (bytes written : List ℕ) → length written ≡ length bytes → n ≡ length bytes → take n (written ++ drop (length written) bytes) ≡ written
 written-whole n bytes written len ok = take-append-le n written (drop (length written) bytes) (omega (arith, len, ok)) ∙ take_all n written (omega (arith, len, ok))
+
+-- ---- live slots
+
+-- an array that does without what it misses has one
+pub live-of : {tells : Type 0} {given : Given} {tape : List Operation} {scope : Scope} {first : ℕ} {entries : List Entry} {members : Members} {carried : ℕ → Bool} {course : Course} {buffer : List ℕ} {left : ℕ}
+    → IsMoving tells given tape scope first entries members carried course buffer left → DoWithout members → HasLiveSlot members
+live-of {given = given} {members = members} was does = without-left given members was.members_are.placed was.members_are.unlost does

@@ -9,3 +9,7 @@ pub mod RecordLaws
 pub mod WriteLaws
 pub mod EnterLaws
 pub mod Entered
+pub mod Reading
+pub mod AddLaws
+pub mod Examined
+pub mod DueSteps

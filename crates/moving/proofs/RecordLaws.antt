@@ -25,7 +25,7 @@ use Rattle.shape_views.specs.Regions.{ArePlaced, DoWithout}
 use Rattle.shape_views.specs.Views.{AreHeadersFit, Ledger}
 use Rattle.shape_views.specs.Windows.{HasNoSection, moved_past}
 use Rattle.shape_changes.specs.Marking.{AreOthersPresent}
-use Rattle.shape_changes.specs.Safety.{HasRoomLeft, IsRisen}
+use Rattle.shape_changes.specs.Safety.{HasLiveSlot, HasRoomLeft, IsRisen}
 use Rattle.shape_changes.specs.Steady.{IsSafeOver, KeepsSafe, AreGoneTold, IsUncleanTold}
 use Rattle.views.specs.Placed.{IsPlaced}
 use Rattle.views.specs.Moving.{Grows, IsMoved}
@@ -74,7 +74,7 @@ since-past given old new span disks was roles spares before after placed next mo
 
 -- ---- the steps that are left
 
-past-of : (given : Given) (old new : Members) (span : Span) → IsMoved given (moved_past span old) new → IsPast span old.newest new.newest
+pub past-of : (given : Given) (old new : Members) (span : Span) → IsMoved given (moved_past span old) new → IsPast span old.newest new.newest
 past-of given old new span moved = record {
   active = moved.reshape.reshaping;
   shape = moved.shape;
@@ -122,7 +122,6 @@ closed-bare count buffer left was = record {
         stands = record { stands = stands.stands; window = tt; zeros = stands.zeros; copied = stands.copied; tail = stands.tail; zeroed = stands.zeroed; rows = stands.rows };
       };
   safe = was.safe;
-  now_safe = was.now_safe;
 }
 
 -- ---- what is kept
@@ -135,14 +134,14 @@ IsRecordSafe tells given old new tape tape' span refusal = tells → (world : Wo
 
 module _ {tells : Type 0} {given : Given} {tape tape' : List Operation} {scope : Scope} {first : ℕ} {entries : List Entry} {old new : Members} {carried : ℕ → Bool} (course : Course) {buffer : List ℕ} (ahead : PhasesLeft)
     (span : Span) (who : Who) (end roles spares : ℕ) (was : IsMoving tells given tape scope first entries old carried course buffer (left_in old course ahead))
-    (goes : IsCallGoing entries who) (caller : who.caller ≢ 254) (at_end : tells → end ≡ length tape') (grows : Grows tells tape tape') {before after : ℕ → ℕ} (since : AreLostSince old new roles spares before after)
+    (live : HasLiveSlot old) (goes : IsCallGoing entries who) (caller : who.caller ≢ 254) (at_end : tells → end ≡ length tape') (grows : Grows tells tape tape') {before after : ℕ → ℕ} (since : AreLostSince old new roles spares before after)
     (clean : is_clean new.newest ≡ is_clean old.newest) (rise : IsRisen tells old new tape tape') (others : tells → AreOthersPresent (present given tape) (present given tape')) where
   -- it is refused: the window is open as before
   pub record-refused : (o : Option Refusal) (refusal : Refusal) → o ≡ Some refusal → IsMoved given old new → AreTooMany new refusal → (tells → IsUnusedKept old (disk given.start tape) (disk given.start tape')) → IsRecordSafe tells given old new tape tape' span o
       → IsMoving tells given tape' scope first (entries ++ entries_of who end (losses_of roles spares ++ Refused refusal ∷ [])) new carried course buffer (left_in new course ahead)
   record-refused o refusal is moved many unused safe =
       subst (λ (n : ℕ). IsMoving tells given tape' scope first (entries ++ entries_of who end (losses_of roles spares ++ Refused refusal ∷ [])) new carried course buffer n) (sym (left-moved given old new course ahead moved))
-      (refused-moves tells given tape tape' scope first entries old new carried course buffer (left_in old course ahead) who end roles spares refusal was goes (not_254 who.caller caller) at_end grows
+      (refused-moves tells given tape tape' scope first entries old new carried course buffer (left_in old course ahead) who end roles spares refusal was live goes (not_254 who.caller caller) at_end grows
       moved (few-roles new.newest moved.placed.fit.valid) (missing-since roles moved since.vacant) clean (inr many) (risen-told rise) unused
       (λ t sound among list stands. courses-move sound among given old new course buffer (present given tape) (present given tape') list was.members_are.placed moved (others t) stands)
       (λ t told filled more room gone unclean. safe t (world_in given tape scope first) told room gone unclean (λ x. zero_sector) (λ none. absurd (let both = sym none ∙ is in cc))))

@@ -5,13 +5,11 @@ use Rattle.std.specs.Option.{option_map_or}
 use Rattle.std.proofs.lemmas.Bool.{cases_lt}
 use Rattle.std.proofs.lemmas.List.Elements.{All-append, All-weaker}
 use Rattle.md_base.specs.Sectors.{Sector, sectors_of}
-use Rattle.md_base.specs.Shapes.{tolerance, tolerance_of}
 use Rattle.md_base.specs.declared.answers.Fault.{Fault as AnyFault}
 use Rattle.md_base.specs.declared.answers.Fault.TheVariants.{Refused as IsRefusedWith, NoMemory}
 use Rattle.md_base.specs.declared.answers.Refusal.{Refusal}
 use Rattle.md_base.specs.declared.answers.Refusal.TheVariants.{PastEnd}
 use Rattle.md_base.specs.declared.answers.Who.{Who}
-use Rattle.md_base.specs.declared.places.Shape.{Shape}
 use Rattle.md_base.specs.declared.places.Span.{Span}
 use Rattle.bank.specs.declared.bank.Operation.{Operation}
 use Rattle.bank.specs.Given.{Given, NeverFalls}
@@ -19,7 +17,7 @@ use Rattle.bank.proofs.Causes.{faulted_longer}
 use Rattle.superblocks.specs.declared.members.Members.{Members}
 use Rattle.superblocks.proofs.ValidFields.{few-roles}
 use Rattle.row_io.specs.Rows.{reading_of, is_missing}
-use Rattle.superblocks.specs.Reading.{Scope, final_shape, list_length, next_window, role_count}
+use Rattle.superblocks.specs.Reading.{Scope, is_reshaping, final_shape, list_length, next_window, role_count}
 use Rattle.flat_history.specs.declared.events.Entry.{Entry}
 use Rattle.flat_history.specs.declared.events.Event.{Event}
 use Rattle.flat_history.specs.declared.events.Event.TheVariants.{Lost, SpareLost, Step, Wrote, Torn, Refused}
@@ -34,7 +32,7 @@ use Rattle.flat_history.specs.World.{opening_list}
 use Rattle.shape_views.specs.Regions.{AreShapesFit, DoWithout}
 use Rattle.shape_views.specs.Windows.{moved_past}
 use Rattle.views.specs.declared.work.Work.{Work}
-use Rattle.views.specs.Lacking.{DoesWithout, AreLostSince, HaveFailedSince, AreTooMany}
+use Rattle.views.specs.Lacking.{DoesWithout, HaveRolesFailed, AreLostSince, HaveFailedSince, AreTooMany}
 use Rattle.views.specs.Moving.{Grows, IsMoved}
 use Rattle.views.specs.Placed.{AreWhole, IsPlaced, AreStillHeld}
 use Rattle.views.specs.Rebuilding.{Held}
@@ -49,6 +47,8 @@ use Rattle.region_writes.proofs.Together.{shape-force}
 use Rattle.grow_asked.specs.declared.window.Window.{Window}
 use Rattle.grow_asked.specs.declared.window.Window.TheVariants.{Closed, Entered, Unsure}
 use Rattle.grow_asked.specs.declared.window.PhasesLeft.{PhasesLeft}
+use Rattle.grow_asked.specs.Left.{phases_of}
+use Rattle.grow_asked.proofs.LeftLaws.{finishing}
 use Rattle.kept_history.specs.Recorded.{IsCallGoing}
 use Rattle.kept_history.specs.Safe.{world_in, TakesNone}
 use Rattle.history_calls.proofs.Behind.{early-losses}
@@ -58,6 +58,7 @@ use Rattle.course_kept.specs.Course.{IsWindowOf, IsCourseOf, span_in}
 use Rattle.course_kept.specs.Laws.{closed, entered}
 use Rattle.moving_state.specs.Due.{open_in, unsure_in}
 use Rattle.moving_kept.specs.Moving.{IsMoving}
+use Rattle.moving_kept.proofs.NoneLeft.{shape-left}
 use Rattle.moving_kept.proofs.FinishedCall.{IsFinishedBy, finish-moves}
 use Rattle.moving_kept.proofs.Refusals.{lacking-right}
 use Rattle.moving_kept.proofs.Steps.{AreMissingSince, missing-since, missing-moved}
@@ -65,10 +66,10 @@ use Rattle.moving_kept.proofs.Writing.{ArePut, AreWritten, AreUnwritten, unrelie
 use Rattle.running_words.specs.Calls.{IsCalled, IsStepTaken}
 use Rattle.running_words.specs.Parts.{RunningParts, left_in}
 use Rattle.moving.specs.Ready.{bytes_in, IsReady}
-use Rattle.moving.specs.Writing.{IsWindowOpen, TouchesWindow, IsWriteLacked, IsPutEntered, IsWriteEntered}
+use Rattle.moving.specs.Writing.{IsWindowOpen, steps_in, TouchesWindow, IsWriteLacked, IsPutEntered, IsWriteEntered}
 use Rattle.moving.proofs.Called.{not_254}
 use Rattle.moving.proofs.Kept.{IsLengthKept, behind-keeps, behind-whole, takes-lost, left-moved}
-use Rattle.moving.proofs.RecordLaws.{since-past, record-some, closed-bare, moved-none, moved-if}
+use Rattle.moving.proofs.RecordLaws.{past-of, since-past, record-some, closed-bare, moved-none, moved-if}
 
 -- ---- the window
 
@@ -242,6 +243,14 @@ module _ {tells : Type 0} {given : Given} {tape tape' : List Operation} {scope :
       one : ◌≢◌ {A = ℕ} 1 0
       one zero = absurd (omega (arith, zero))
 
+-- the steps that the window still had are taken
+pub finish-left : (given : Given) (old new : Members) (course : Course) (ahead : PhasesLeft) (span : Span) (copied : ℕ) (sectioned : Bool) → course ≡ entered span copied sectioned
+    → IsMoved given (moved_past span old) new → is_reshaping old.newest ≡ true → left_in new (closed 0) ahead + steps_in old.newest course.window ≡ left_in old course ahead
+finish-left given old new course ahead span copied sectioned is moved active =
+    ap (λ (c : Course). left_in new (closed 0) ahead + steps_in old.newest c.window) is
+    ∙ finishing old.newest new.newest span sectioned copied 0 (phases_of ahead) active (past-of given old new span moved)
+    ∙ sym (ap (λ (c : Course). left_in old c ahead) is)
+
 -- ---- sectors beside the window
 
 -- where all rows are relied on, a write isn't done for missing members alone
@@ -276,11 +285,15 @@ module _ {tells : Type 0} {given : Given} {tape : List Operation} {scope : Scope
 module _ {tells : Type 0} {given : Given} {tape tape' : List Operation} {scope : Scope} {first : ℕ} {entries : List Entry} {old new : Members} {carried : ℕ → Bool} (course : Course) (ahead : PhasesLeft) (buffer : List ℕ)
     (who : Who) (end roles spares at : ℕ) (from : List ℕ) (relied : ℕ) (begun : Bool)
     (was : IsMoving tells given tape scope first entries old carried course buffer (left_in old course ahead)) (goes : IsCallGoing entries who) (caller : who.caller ≢ 254)
-    (at_end : tells → end ≡ length tape') (grows : Grows tells tape tape') (unlimited : limit_of entries ≡ None)
+    (at_end : tells → end ≡ length tape') (grows : Grows tells tape tape') (unlimited : limit_of entries ≡ None) (some : 0 < length from / 512)
     (fine : (refusal : Refusal) → IsListUnwritten relied at (at + length from / 512) old refusal → ⊥) (did : ArePut tells given tape tape' old new course at from relied roles begun) where
   -- no shape of the write misses too many
   each-does : (x : ℕ) → at ≤ x → x < at + length from / 512 → DoesWithout (shape_for old.newest x) old
   each-does x low high = shape-without (shape_for old.newest x) old (λ refusal many. fine refusal (inl (x, low, high, many)))
+
+  -- so a live slot is left
+  live : HasLiveSlot old
+  live = shape-left given old was.members_are.placed was.members_are.unlost (shape_for old.newest at) (shape-force old.newest at) (each-does at (omega arith) (omega (arith, some)))
 
   seen : tells → at + length from / 512 ≤ visible_of (length (opening_list (world_in given tape scope first))) entries
   seen t = let same = all-seen was unlimited t in let within = did.within in omega (arith, same, within)
@@ -290,14 +303,14 @@ module _ {tells : Type 0} {given : Given} {tape tape' : List Operation} {scope :
       → IsMoving tells given tape' scope first (entries ++ entries_of who end (losses_of roles spares ++ Wrote at (sectors_of from) ∷ [])) new carried course buffer (left_in new course ahead)
   wrote-kept done =
       subst (λ (n : ℕ). IsMoving tells given tape' scope first (entries ++ entries_of who end (losses_of roles spares ++ Wrote at (sectors_of from) ∷ [])) new carried course buffer n) (sym (left-moved given old new course ahead did.moved))
-      (written-moves tells given tape tape' scope first entries old new carried course buffer (left_in old course ahead) who end roles spares at from relied begun was goes (not_254 who.caller caller) at_end grows each-does seen did done)
+      (written-moves tells given tape tape' scope first entries old new carried course buffer (left_in old course ahead) who end roles spares at from relied begun was live goes (not_254 who.caller caller) at_end grows each-does seen did done)
 
   -- it is refused
   pub unwritten-kept : (refusal : Refusal) → AreUnwritten tells given tape tape' scope first entries old new at from relied begun refusal
       → IsMoving tells given tape' scope first (entries ++ entries_of who end (failure_events roles spares begun at (sectors_of from) refusal)) new carried course buffer (left_in new course ahead)
   unwritten-kept refusal undone =
       subst (λ (n : ℕ). IsMoving tells given tape' scope first (entries ++ entries_of who end (failure_events roles spares begun at (sectors_of from) refusal)) new carried course buffer n) (sym (left-moved given old new course ahead did.moved))
-      (unwritten-moves tells given tape tape' scope first entries old new carried course buffer (left_in old course ahead) who end roles spares at from relied begun was goes (not_254 who.caller caller) at_end grows each-does seen did refusal undone)
+      (unwritten-moves tells given tape tape' scope first entries old new carried course buffer (left_in old course ahead) who end roles spares at from relied begun was live goes (not_254 who.caller caller) at_end grows each-does seen did refusal undone)
 
 -- ---- one call behind another
 
@@ -323,6 +336,16 @@ losses-then a b f g h early late held old mid new one two = record {
       (All-weaker (λ e. IsLossBy (Held b) g h e.event) (λ e. IsLossBy (Held a) f h e.event)
       (λ e loss. loss-around (Held a) (Held b) f g h h held early late (λ slot. omega arith) e.event loss) two.more two.failed);
 }
+
+-- a slot has failed, or has its role still
+pub failed-then : (a b c : Members) (f g h : ℕ → ℕ) → NeverFalls f g → NeverFalls g h → HaveRolesFailed a b f g → HaveRolesFailed b c g h → HaveRolesFailed a c f h
+failed-then a b c f g h early late one two role slot held = elim (one role slot held) [
+  | inl still ↦ elim (two role slot still) [
+    | inl there ↦ inl there
+    | inr failed ↦ inr (faulted_longer slot f g h h (early slot) (omega arith) (late slot) failed)
+  ]
+  | inr failed ↦ inr (faulted_longer slot f f g h (omega arith) (late slot) (early slot) failed)
+]
 
 -- what two calls leave, one behind the other
 pub called-then : {B : Type 0} {tells : Type 0} {given given' : Given} {tape0 tape1 tape2 : List Operation} {f g h : ℕ → ℕ} {a b c : RunningParts B} → given' ≡ given

@@ -20,7 +20,7 @@ use Rattle.flat_history.specs.declared.events.StepKind.TheVariants.{Zeroed as Ze
 use Rattle.flat_history.specs.Plain.{entries_of}
 use Rattle.flat_history.specs.World.{World}
 use Rattle.shape_views.specs.Views.{Ledger}
-use Rattle.shape_changes.specs.Safety.{HasRoomLeft, IsRisen}
+use Rattle.shape_changes.specs.Safety.{HasLiveSlot, HasRoomLeft, IsRisen}
 use Rattle.shape_changes.specs.Steady.{IsSafeOver, KeepsSafe, AreGoneTold, IsUncleanTold}
 use Rattle.views.specs.Moving.{Grows, IsMoved}
 use Rattle.views.specs.Lacking.{AreTooMany, AreLostSince, IsOfStripe, AreOtherRowsKept}
@@ -125,13 +125,13 @@ rows-zeroed {tells = tells} given old new tape' shape stripe zeroed same at stan
 
 module _ {tells : Type 0} {given : Given} {tape tape' : List Operation} {scope : Scope} {first : ℕ} {entries : List Entry} {old new : Members} {carried : ℕ → Bool} (course : Course) {buffer : List ℕ} (ahead : PhasesLeft)
     (who : Who) (end roles spares : ℕ) (is : course ≡ closed course.zeroed) (none : next_window old.newest ≡ None) (was : IsMoving tells given tape scope first entries old carried course buffer (left_in old course ahead))
-    (goes : IsCallGoing entries who) (caller : who.caller ≢ 254) (at_end : tells → end ≡ length tape') (did : IsZeroStep tells given old new tape tape' course.zeroed roles) where
+    (live : HasLiveSlot old) (goes : IsCallGoing entries who) (caller : who.caller ≢ 254) (at_end : tells → end ≡ length tape') (did : IsZeroStep tells given old new tape tape' course.zeroed roles) where
   -- it is refused: the rows that were written of the stripe are written again
   pub zero-refused : (refusal : Refusal) → AreTooMany new refusal
       → IsMoving tells given tape' scope first (entries ++ entries_of who end (losses_of roles spares ++ Refused refusal ∷ [])) new carried course buffer (left_in new course ahead)
   zero-refused refusal many =
       subst (λ (n : ℕ). IsMoving tells given tape' scope first (entries ++ entries_of who end (losses_of roles spares ++ Refused refusal ∷ [])) new carried course buffer n) (sym (left-moved given old new course ahead did.moved))
-      (refused-moves tells given tape tape' scope first entries old new carried course buffer (left_in old course ahead) who end roles spares refusal was goes (not_254 who.caller caller) at_end did.grows
+      (refused-moves tells given tape tape' scope first entries old new carried course buffer (left_in old course ahead) who end roles spares refusal was live goes (not_254 who.caller caller) at_end did.grows
       did.moved (few-roles new.newest did.moved.placed.fit.valid) did.since did.clean (inr many) did.rise did.unused
       (λ t sound among list stands. subst (λ (k : Course). StandsInCourse sound among new k buffer (present given tape') list) (sym is)
       ((zeroes-go-on sound among given old new course.zeroed buffer (present given tape) (present given tape') list was.members_are.placed did.moved (through-of old.newest was.members_are.placed.fit was.members_are.active none) (did.others t)
@@ -144,7 +144,7 @@ module _ {tells : Type 0} {given : Given} {tape tape' : List Operation} {scope :
   zero-done left told more stands =
       subst (λ (n : ℕ). IsMoving tells given tape' scope first (entries ++ entries_of who end (losses_of roles spares ++ Step ZeroesStripe left ∷ [])) new carried (zeroed_more course) buffer n) told
       (subst (λ (k : Course). IsMoving tells given tape' scope first (entries ++ entries_of who end (losses_of roles spares ++ Step ZeroesStripe left ∷ [])) new carried k buffer left) (sym (more-closed course is))
-      (zeroed-moves tells given tape tape' scope first entries old new carried course.zeroed buffer left who end roles spares before goes (not_254 who.caller caller) at_end did.grows
+      (zeroed-moves tells given tape tape' scope first entries old new carried course.zeroed buffer left who end roles spares before live goes (not_254 who.caller caller) at_end did.grows
       (through-of old.newest was.members_are.placed.fit was.members_are.active none) more some did.moved (few-roles new.newest did.moved.placed.fit.valid) did.since did.clean did.rise did.unused did.others stands did.safe))
     where
       falls : left + 1 ≡ left_in old course ahead

@@ -1,11 +1,12 @@
 -- What a write of an array in a reshape enters, and why it isn't done.
-use Rattle.std.specs.Prelude.{◌≡◌, ◌⊎◌, ℕ, ◌<◌, ◌≤◌, ◌++◌, Bool, true, List, Result, Ok, Err}
+use Rattle.std.specs.Prelude.{◌≡◌, ◌⊎◌, ℕ, ◌+◌, ◌-◌, ◌<◌, ◌≤◌, ◌++◌, Bool, true, List, Result, Ok, Err}
 use Rattle.md_base.specs.Sectors.{Sector}
 use Rattle.md_base.specs.declared.answers.Fault.{Fault}
 use Rattle.md_base.specs.declared.answers.Fault.TheVariants.{Refused as IsRefusedWith, NoMemory}
 use Rattle.md_base.specs.declared.answers.Refusal.{Refusal}
 use Rattle.md_base.specs.declared.answers.Who.{Who}
 use Rattle.md_base.specs.declared.places.Span.{Span}
+use Rattle.sb1.specs.declared.sb.Sb.{Sb}
 use Rattle.superblocks.specs.declared.members.Members.{Members}
 use Rattle.flat_history.specs.declared.events.Entry.{Entry}
 use Rattle.flat_history.specs.declared.events.Event.TheVariants.{Step, Wrote}
@@ -17,6 +18,8 @@ use Rattle.call_entries.specs.Losing.{failure_events}
 use Rattle.array_kept.specs.Calls.{IsBehind}
 use Rattle.region_writes.specs.Runs.{IsListUnwritten}
 use Rattle.grow_asked.specs.declared.window.Window.{Window}
+use Rattle.grow_asked.specs.declared.window.Window.TheVariants.{Closed, Entered, Unsure}
+use Rattle.grow_asked.specs.Left.{stripes_in}
 use Rattle.course_kept.specs.Laws.{entered}
 use Rattle.moving_state.specs.Due.{open_in}
 use Rattle.running_words.specs.Parts.{RunningParts}
@@ -27,6 +30,12 @@ pub record IsWindowOpen {B : Type 0} (array : RunningParts B) : Type 0 where
   pub copied : ℕ
   pub sectioned : Bool
   pub is : array.course ≡ entered span copied sectioned
+
+-- the steps that an entered window still has: its stripes that are left to copy, and its recording
+abbrev pub steps_in : Sb → Window → ℕ
+steps_in newest Closed = 0
+steps_in newest (Entered span copied sectioned) = (stripes_in newest span - copied) + 1
+steps_in newest (Unsure span) = 0
 
 -- one of the sectors from this one up to that one lies in the entered window
 abbrev pub TouchesWindow : Window → ℕ → ℕ → Type 0

@@ -7,16 +7,20 @@ ghost use Rattle.flat_history.specs.Flat.{next_number};
 ghost use Rattle.grow_asked.specs.Left.{phases_of, zeroed_by, IsReshapeUnderWay, IsWindowRight};
 ghost use Rattle.running_words.specs.Parts.{left_in};
 
+mod adding;
 mod asking;
 mod ending;
 mod entering;
+mod examining;
 mod failing;
 mod finishing;
 mod moves;
 mod parting;
+mod reading;
 mod recording;
 mod settling;
 mod writing;
+mod stepping;
 mod zeroing;
 
 use bank::Bank;

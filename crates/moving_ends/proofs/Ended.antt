@@ -1,6 +1,6 @@
 -- A reshape that ends in an array that keeps its record in it leaves one that keeps it without a reshape: what is told, and that each mark is safe by what was told
 -- before the end's update or with it.
-use Rattle.std.proofs.Common.{◌≡◌, ◌⊎◌, inl, inr, ℕ, zero, suc, ◌+◌, ◌*◌, ◌<◌, ◌≤◌, ◌==◌, ◌&&◌, ◌||◌, nat_lt, max, min, Bool, true, false, not, cond, Option, Some, None, List, [], ◌∷◌, ◌++◌, length, MatchOption, refl, sym, ◌∙◌, ap, subst, arith, append_assoc, append-nil, le_refl}
+use Rattle.std.proofs.Common.{◌≡◌, ◌⊎◌, inl, inr, ℕ, ◌+◌, ◌*◌, ◌<◌, ◌≤◌, ◌==◌, ◌||◌, nat_lt, max, min, Bool, true, false, cond, Option, Some, None, List, [], ◌∷◌, ◌++◌, length, MatchOption, refl, sym, ◌∙◌, ap, subst, arith, append_assoc, append-nil, le_refl}
 use Rattle.std.specs.Prelude.{IsFalse, IsTrue, IfSome, MatchBool, fold, slice_index_or, unwrap_or, ⊤}
 use Rattle.std.specs.Bool.{OnTrue}
 use Rattle.std.specs.List.{list_any}
@@ -15,15 +15,13 @@ use Rattle.md_base.specs.Sectors.{Sector, zero_sector}
 use Rattle.md_base.specs.Shapes.{data_disks}
 use Rattle.md_base.specs.declared.answers.Who.{Who}
 use Rattle.md_base.specs.declared.places.Shape.{Shape}
-use Rattle.md_base.specs.declared.status.Role.{Role}
-use Rattle.md_base.specs.declared.status.Role.TheVariants.{Whole, Recovering, Missing}
 use Rattle.bank.specs.declared.bank.Operation.{Operation}
 use Rattle.bank.specs.Given.{Given}
 use Rattle.bank.specs.Tape.{IsIn, disk}
 use Rattle.geometry.specs.Geometry.{zeroed_stripes}
 use Rattle.sb1.specs.declared.sb.Sb.{Sb}
 use Rattle.superblocks.specs.declared.members.Members.{Members}
-use Rattle.superblocks.specs.Reading.{Scope, Reading, is_reshaping, is_backward, is_clean, is_whole, shape_of, final_shape, target_of, list_length, role_count, role_state, holder}
+use Rattle.superblocks.specs.Reading.{Scope, Reading, is_reshaping, is_backward, is_clean, shape_of, final_shape, target_of, list_length, role_count}
 use Rattle.superblocks.proofs.Searches.{any_below-some}
 use Rattle.row_io.specs.Rows.{reading_of, present, is_missing}
 use Rattle.flat_history.specs.declared.events.Entry.{Entry}
@@ -49,7 +47,7 @@ use Rattle.shape_changes.specs.Changing.{IsSafeChange}
 use Rattle.shape_changes.specs.Safety.{HasLiveSlot, HasRoomLeft, IsRisen}
 use Rattle.shape_changes.specs.Steady.{IsMoreTold, IsSafeNow, IsSafeOver, AreGoneTold, IsUncleanTold}
 use Rattle.shape_changes.proofs.Steady.{held-read}
-use Rattle.views.proofs.LiveLeft.{holder-left, left-steady, without-left}
+use Rattle.views.proofs.LiveLeft.{left-steady, without-left}
 use Rattle.views.proofs.SoundViews.{throughout-changed}
 use Rattle.views.proofs.Still.{count-still}
 use Rattle.call_entries.specs.Losing.{losses_of}
@@ -83,6 +81,8 @@ use Rattle.history_calls.proofs.Behind.{IsAmong, inner-of, legal-losses}
 use Rattle.moving_ends.proofs.Consistent.{consistent-at}
 use Rattle.moving_ends.proofs.EndedRows.{HaveEnded, ended-short, listed-still}
 use Rattle.moving_ends.proofs.Ending.{length_by, grown_to, ending_events, only-adds, only-gives, only-lost, ending-gives, ending-settles, ending-level, ending-values, ending-length, ending-lost, ending-late, ending-last, ending-comes, ending-ends, behind-all, comes-more, before-step, ArePlannedTo, plans-behind, plans-done, told-longer}
+use Rattle.moving_kept.proofs.Quiet.{safe-now}
+use Rattle.moving_kept.proofs.NoneLeft.{all_below-each, none-held}
 use Rattle.moving_kept.proofs.ReadShapes.{HasShapesOf, IsEitherRead}
 use Rattle.moving_kept.proofs.Steps.{told-behind}
 
@@ -113,15 +113,6 @@ IsPlannedTo world entries old left = left ≡ 0 → ArePlannedTo world (final_sh
 -- As many steps are left as one fewer, or a role is missing, so that more steps may follow the reshape.
 abbrev pub IsStepped : Members → ℕ → ℕ → Type 0
 IsStepped old steps left = (steps ≡ left + 1) ⊎ ((role : ℕ) × (role < role_count old.newest) × (is_missing (reading_of old) role ≡ true))
-
-all_below-each : (n : ℕ) (test : ℕ → Bool) → ((k : ℕ) → k < n → test k ≡ true) → all_below n test ≡ true
-unfolding all_below
-all_below-each zero test each = refl
-all_below-each (suc n) test each = both (all_below n test) (test n) (all_below-each n test (λ k lt. each k (omega (arith, lt)))) (each n (omega arith))
-  where
-    both : (a b : Bool) → a ≡ true → b ≡ true → (a && b) ≡ true
-    both true b e f = f
-    both false b e f = absurd (cc)
 
 module _ (given : Given) (tape : List Operation) (scope : Scope) (first : ℕ) (entries : List Entry) (old new : Members) (carried carried' : ℕ → Bool) (buffer : List ℕ) (zeroed steps left : ℕ)
     (who : Who) (roles spares late late_spares : ℕ) (ops : List Operation) (tells : Type 0) (was : IsMoving tells given tape scope first entries old carried (closed zeroed) buffer steps) (t : tells)
@@ -314,15 +305,6 @@ module _ (given : Given) (tape : List Operation) (scope : Scope) (first : ℕ) (
     | inr (inr has) ↦ gone-lost later entries added role (ending-late who end roles spares left longer size late late_spares role (let few = call.few in omega (arith, lt, few)) has)
   ])
 
-  -- where no live slot is left, all roles are missing
-  all-missing : (HasLiveSlot new → ⊥) → (role : ℕ) → is_missing (reading_of new) role ≡ true
-  all-missing none role = of (role_state (reading_of new) role) refl
-    where
-      of : (state : Role) → role_state (reading_of new) role ≡ state → is_missing (reading_of new) role ≡ true
-      of (Whole slot) is = absurd (none (holder-left given new role slot call.have.placed call.have.unlost (ap holder is)))
-      of (Recovering slot) is = ap (λ (s : Role). not (is_whole s)) is
-      of Missing is = ap (λ (s : Role). not (is_whole s)) is
-
   -- ---- what is told before the end's update
 
   abbrev told : Ledger
@@ -401,8 +383,11 @@ module _ (given : Given) (tape : List Operation) (scope : Scope) (first : ℕ) (
     room-left : HasRoomLeft old tape (tape ++ ops)
     room-left = room-now world ops begun old safe-before.counted room
 
+    live-old : HasLiveSlot old
+    live-old = without-left given old was.members_are.placed was.members_are.unlost call.have.enough
+
     safe-old : IsSafeOver world given told old tape
-    safe-old = now-more (OpensFit world) scope given (told_now world carried true entries) told old (disk given.start tape) told-first (was.now_safe t before.fills before.room before.alike)
+    safe-old = now-more (OpensFit world) scope given (told_now world carried true entries) told old (disk given.start tape) told-first (safe-now was live-old t before.fills before.room before.alike)
 
     abbrev more : Ledger
     more = told_now later carried' reshaping' all
@@ -424,9 +409,6 @@ module _ (given : Given) (tape : List Operation) (scope : Scope) (first : ℕ) (
     change = call.safe told more listed.list room-left finishable (told-gone before) told-lost (ended-gone right) told-unclean (λ dirty. ended-unclean (was.unclean t dirty)) call.numbers safe-old
 
     -- ---- what is read
-
-    live-old : HasLiveSlot old
-    live-old = without-left given old was.members_are.placed was.members_are.unlost call.have.enough
 
     target-is : (sb : Sb) → is_reshaping sb ≡ true → target_of sb ≡ Some (final_shape sb)
     target-is sb active =
@@ -475,7 +457,7 @@ module _ (given : Given) (tape : List Operation) (scope : Scope) (first : ℕ) (
     all-gone grows none =
         let read = call.read told room-left (told-gone before) told-lost told-unclean safe-old in
         ap (λ (o : Option Reading). option_map_or (λ r. all_below (role_count r.newest) (is_gone_after later all)) o false) read.is
-        ∙ all_below-each (role_count read.found.newest) (is_gone_after later all) (λ role lt. ended-gone right role (below read.found.newest read.says role lt) (all-missing none role))
+        ∙ all_below-each (role_count read.found.newest) (is_gone_after later all) (λ role lt. ended-gone right role (below read.found.newest read.says role lt) (none-held given new call.have.placed call.have.unlost none role))
       where
         below : (sb : Sb) → HasShapesOf old.newest sb ⊎ HasShapesOf new.newest sb → (role : ℕ) → role < role_count sb → role < role_count new.newest
         below sb (inl says) role lt =
@@ -624,8 +606,8 @@ module _ (given : Given) (tape : List Operation) (scope : Scope) (first : ℕ) (
         (adding-losses who end losses (Step Finished left ∷ []) (faults-are losses (losses-are roles spares)) refl) (faults-are (losses_of late late_spares) (losses-are late late_spares)) less-early
         (subst (λ (l : List Event). IsSafeChange (OpensFit world) scope given told (told_now later carried' reshaping' (entries ++ entries_of who end l)) new tape (tape ++ ops)) (sym path) change)
         (λ none. subst (λ (l : List Event). IsTrue (is_all_gone later end (entries ++ entries_of who end l))
-        × ((role : ℕ) → (is_gone_after later entries role || list_any (loses later role) (entries_of who end early)) ≡ true → is_gone_after later (entries ++ entries_of who end l) role ≡ true)) (sym path)
-        (all-gone (is-less (list_length old.newest) (list_length new.newest) is) none, gone-early)))
+        × ((role : ℕ) → told.gone role ≡ true → is_gone_after later (entries ++ entries_of who end l) role ≡ true)) (sym path)
+        (all-gone (is-less (list_length old.newest) (list_length new.newest) is) none, λ role was_gone. gone-early role (less-early.gone role was_gone))))
       where
         path : early ++ Resized size ∷ losses_of late late_spares ≡ events
         path = append_assoc losses (Step Finished left ∷ []) (Resized size ∷ losses_of late late_spares) ∙ ap (λ (b : Bool). losses ++ Step Finished left ∷ (length_by b size ++ losses_of late late_spares)) (sym is)

@@ -116,10 +116,10 @@ module _ (tells : Type 0) (given : Given) (tape tape' : List Operation) (scope :
     drawn slot = (now-drawn given tape' slot 8, now-drawn given tape' slot 9)
 
     shapes-of : (sb : Sb) → HasShapesOf flushed.newest sb ⊎ HasShapesOf plan sb → HasShapesOf old.newest sb ⊎ HasShapesOf new.newest sb
-    shapes-of sb (inl says) = inl (record { old = says.old ∙ did.ended.moved.shape; final = says.final ∙ did.ended.moved.reshape.final })
+    shapes-of sb (inl says) = inl (record { old = says.old ∙ did.ended.moved.shape; final = says.final ∙ did.ended.moved.reshape.final; size = says.size ∙ did.ended.moved.size })
     shapes-of sb (inr says) =
         let later = later-says plan new.newest did.ended.update.newest in
-        inr (record { old = says.old ∙ shape-alike plan new.newest later; final = says.final ∙ final-alike plan new.newest later })
+        inr (record { old = says.old ∙ shape-alike plan new.newest later; final = says.final ∙ final-alike plan new.newest later; size = says.size ∙ later.size })
 
     ended-read : IsEitherRead scope (present given tape') old.newest new.newest
     ended-read =

@@ -49,8 +49,8 @@ use Rattle.views.proofs.HeldRows.{shape-without-before}
 use Rattle.views.proofs.LiveLeft.{without-left}
 use Rattle.views.proofs.MarkedSafe.{added-longer, flushed-safe}
 use Rattle.views.proofs.MarkLaws.{few-below}
-use Rattle.views.proofs.MovedLaws.{grows-then, grows-none, moved-same}
-use Rattle.views.proofs.SafeStretch.{safe-then, safe-none}
+use Rattle.views.proofs.MovedLaws.{grows-then, moved-same}
+use Rattle.views.proofs.SafeStretch.{safe-then}
 use Rattle.safe_updates.specs.Unused.{IsUnused}
 use Rattle.safe_updates.proofs.Under.{flushed-fewer}
 use Rattle.call_entries.specs.Losing.{losses_of}
@@ -73,6 +73,7 @@ use Rattle.moving_kept.proofs.MembersMove.{reshaping-moved}
 use Rattle.history_calls.proofs.Quiet.{IsQuiet, stretch-more}
 use Rattle.moving_kept.proofs.Quiet.{carrying-moves, early-moves}
 use Rattle.moving_kept.proofs.Refusals.{quiet-refusal, refused-right}
+use Rattle.moving_kept.proofs.Resting.{resting-moves}
 use Rattle.moving_kept.proofs.Staying.{course-moved}
 use Rattle.moving_kept.proofs.Steps.{AreMissingSince, missing-moved}
 
@@ -260,7 +261,7 @@ module _ (tells : Type 0) (given : Given) (tape mid tape' : List Operation) (sco
   module _ (event : Event) (quiet : IsQuiet event) (tell : TellLeft left who end (event ∷ [])) (legal : (world : World) (before : List Entry) (e : Entry) → IsLegalEvent world before e [] event) where
     spare-moves : IsMoving tells given tape' scope first (entries ++ entries_of who end (losses_of roles spares ++ event ∷ [])) new carried' course buffer left
     spare-moves =
-        carrying-moves tells given tape tape' scope first entries old new carried carried' course course buffer buffer left left who end (losses_of roles spares) (IsAmong roles) event did.carries was goes caller at_end
+        carrying-moves tells given tape tape' scope first entries old new carried carried' course course buffer buffer left left who end (losses_of roles spares) (IsAmong roles) event did.carries was live goes caller at_end
         (grows-then (record { more = λ t. ((did.looked t).0, (did.looked t).2) }) did.grows) quiet (reshaping-moved scope given with_it new did.moved reshaping) (few-roles new.newest did.moved.placed.fit.valid)
         (early-losses roles spares) (missing-moved {old = with_it} roles did.moved did.since) list-same (ap (λ (s : Shape). s.level) did.moved.shape) did.clean
         (course-moved given with_it new course did.moved was.course_is) stored-all
@@ -294,10 +295,10 @@ module _ (tells : Type 0) (given : Given) (tape mid tape' : List Operation) (sco
 -- It failed at the first look, behind flushes alone.
 pub looked-moves : (tells : Type 0) (given : Given) (tape tape' : List Operation) (scope : Scope) (first : ℕ) (entries : List Entry) (m : Members) (carried : ℕ → Bool)
     (course : Course) (buffer : List ℕ) (left : ℕ) (who : Who) (end slot : ℕ)
-    → IsMoving tells given tape scope first entries m carried course buffer left → IsCallGoing entries who → IsFalse (who.caller == 254) → (tells → end ≡ length tape') → (tells → OnlyFlushesAdded tape tape')
+    → IsMoving tells given tape scope first entries m carried course buffer left → HasLiveSlot m → IsCallGoing entries who → IsFalse (who.caller == 254) → (tells → end ≡ length tape') → (tells → OnlyFlushesAdded tape tape')
     → IsMoving tells given tape' scope first (entries ++ entries_of who end (Refused (SlotFault slot) ∷ [])) m carried course buffer left
-looked-moves tells given tape tape' scope first entries m carried course buffer left who end slot was goes caller at_end looked =
-    early-moves tells given tape tape' scope first entries m m carried course course buffer buffer left left who end [] (λ role. ⊥) (Refused (SlotFault slot)) was goes caller at_end
+looked-moves tells given tape tape' scope first entries m carried course buffer left who end slot was live goes caller at_end looked =
+    early-moves tells given tape tape' scope first entries m m carried course course buffer buffer left left who end [] (λ role. ⊥) (Refused (SlotFault slot)) was live goes caller at_end
     (record { more = λ t. ((looked t).0, (looked t).2) }) (quiet-refusal (SlotFault slot)) was.members_are (few-roles m.newest was.members_are.placed.fit.valid) early-none (λ role lt gone. inl (lt, gone)) refl refl refl was.course_is
     (λ t. stored-moves scope given m m course.window buffer (disk given.start tape) (disk given.start tape') (moved-same given given m m refl refl was.members_are.placed was.members_are.unlost)
     (fewer-backup scope course.window (disk given.start tape) (disk given.start tape') (flushed-fewer given.start tape tape' (looked t))) (was.stored t))
@@ -323,12 +324,5 @@ pub unadded-moves : (tells : Type 0) (given : Given) (tape : List Operation) (sc
     → IsMoving tells given tape scope first entries m carried course buffer left → IsCallGoing entries who → IsFalse (who.caller == 254) → (tells → end ≡ length tape) → IsUnaddable given backup slot m refusal
     → IsMoving tells given tape scope first (entries ++ entries_of who end (Refused refusal ∷ [])) m carried course buffer left
 unadded-moves tells given tape scope first entries m carried course buffer left who end backup slot refusal was goes caller at_end why =
-    early-moves tells given tape tape scope first entries m m carried course course buffer buffer left left who end [] (λ role. ⊥) (Refused refusal) was goes caller at_end
-    (grows-none (λ t. refl)) (quiet-refusal refusal) was.members_are (few-roles m.newest was.members_are.placed.fit.valid) early-none (λ role lt gone. inl (lt, gone)) refl refl refl was.course_is was.stored
-    (left-more left entries who end (Refused refusal ∷ []) was.left_told (λ told is. is))
-    (λ t. record {
-      rise = record { left = λ live. live; events = λ u live. omega arith };
-      keeps = λ told fills more room gone unclean before. safe-none (OpensFit (world_in given tape scope first)) scope given told m tape before;
-      listed = was.listed t;
-      legal = λ fills gone level. (unadded-right (world_in given tape scope first) entries given backup slot m was.members_are.placed (was.gone t fills) (was.levelled t fills) refusal why, tt, tt);
-    })
+    resting-moves tells given tape scope first entries m carried course buffer left who end (Refused refusal) was goes caller at_end (quiet-refusal refusal) (λ told is. is)
+    (λ t right. unadded-right (world_in given tape scope first) entries given backup slot m was.members_are.placed (was.gone t right) (was.levelled t right) refusal why)

@@ -18,7 +18,7 @@ use Rattle.flat_history.specs.Plain.{entries_of}
 use Rattle.flat_history.specs.Sound.{OpensFit}
 use Rattle.flat_history.specs.World.{opening_list, World}
 use Rattle.shape_views.specs.Views.{Ledger}
-use Rattle.shape_changes.specs.Safety.{HasRoomLeft, IsRisen}
+use Rattle.shape_changes.specs.Safety.{HasLiveSlot, HasRoomLeft, IsRisen}
 use Rattle.shape_changes.specs.Steady.{IsMoreTold, IsSafeOver, KeepsSafe, AreGoneTold, IsUncleanTold}
 use Rattle.views.specs.Moving.{Grows}
 use Rattle.call_entries.specs.Losing.{losses_of}
@@ -33,7 +33,7 @@ use Rattle.history_calls.proofs.LastStep.{IsWithin, AreWithin, losses-within}
 use Rattle.history_calls.proofs.Quiet.{IsLeftBehind, last-left}
 use Rattle.history_calls.proofs.Adding.{IsAdding, changing-leaves, ChangesEarly, unsettled-last}
 use Rattle.moving_kept.specs.Moving.{AreReshaping, HasListInCourse, IsMoving}
-use Rattle.moving_kept.proofs.Quiet.{listed-later}
+use Rattle.moving_kept.proofs.Quiet.{listed-later, safe-now}
 use Rattle.std.specs.List.{list_any}
 use Rattle.md_base.specs.Sectors.{Sector}
 use Rattle.flat_history.specs.OneShape.{is_unsettled}
@@ -128,7 +128,7 @@ module _ (given : Given) (tape : List Operation) (scope : Scope) (first : ℕ) (
 -- The call keeps the record, by the list that it leaves.
 pub behind-moves : (tells : Type 0) (given : Given) (tape tape' : List Operation) (scope : Scope) (first : ℕ) (entries : List Entry) (old new : Members) (carried : ℕ → Bool) (course course' : Course)
     (buffer buffer' : List ℕ) (left left' : ℕ) (who : Who) (end : ℕ) (early : List Event) (IsTaken : ℕ → Type 0) (event : Event)
-    → IsMoving tells given tape scope first entries old carried course buffer left → IsCallGoing entries who → IsFalse (who.caller == 254) → (tells → end ≡ length tape') → Grows tells tape tape' → IsAdding event
+    → IsMoving tells given tape scope first entries old carried course buffer left → HasLiveSlot old → IsCallGoing entries who → IsFalse (who.caller == 254) → (tells → end ≡ length tape') → Grows tells tape tape' → IsAdding event
     → AreReshaping scope given new → role_count new.newest ≤ 16
     → AreFirst early IsTaken → AreLostOrMissing old new IsTaken
     → list_length new.newest ≡ list_length old.newest → (shape_of new.newest).level ≡ (shape_of old.newest).level
@@ -137,7 +137,7 @@ pub behind-moves : (tells : Type 0) (given : Given) (tape tape' : List Operation
     → IfSome (told_left (entries ++ entries_of who end (early ++ event ∷ []))) (λ n. n ≡ left')
     → (tells → IsAddingBehind given tape scope first entries old new carried course' buffer' who early event tape' end)
     → IsMoving tells given tape' scope first (entries ++ entries_of who end (early ++ event ∷ [])) new carried course' buffer' left'
-behind-moves tells given tape tape' scope first entries old new carried course course' buffer buffer' left left' who end early IsTaken event was goes caller at_end grows adding members few are missing sized level clean
+behind-moves tells given tape tape' scope first entries old new carried course course' buffer buffer' left left' who end early IsTaken event was live goes caller at_end grows adding members few are missing sized level clean
     course_is stored told call = record {
       slots = was.slots;
       members_are = members;
@@ -153,7 +153,6 @@ behind-moves tells given tape tape' scope first entries old new carried course c
       listed = λ t. listed-later given tape scope first entries (entries ++ entries_of who end (early ++ event ∷ [])) new carried course' buffer' tape'
           (now (opening_list (world_in given tape scope first)) (entries ++ entries_of who end (early ++ event ∷ []))) (leaves t) (λ x. refl) (call t).listed;
       safe = λ t. (leaves t).safe;
-      now_safe = λ t. (leaves t).now_safe;
     }
   where
     Then : List Operation → ℕ → Type 0
@@ -170,22 +169,22 @@ behind-moves tells given tape tape' scope first entries old new carried course c
           | inl before ↦ inl before
           | inr wrote ↦ inr (unsettled-last who (length (tape ++ g.0)) early event wrote)
         ]) was.sizes_are
-        (was.gone t) (was.unclean t) (was.recorded t) (was.safe t) (was.now_safe t) (changes given tape scope first entries old new carried course' buffer' who early IsTaken event g.0 are adding (was.recorded t) call_to)))
+        (was.gone t) (was.unclean t) (was.recorded t) (was.safe t) (safe-now was live t) (changes given tape scope first entries old new carried course' buffer' who early IsTaken event g.0 are adding (was.recorded t) call_to)))
         (call t)
 
 -- And so does a call that enters losses before its event.
 pub adding-moves : (tells : Type 0) (given : Given) (tape tape' : List Operation) (scope : Scope) (first : ℕ) (entries : List Entry) (old new : Members) (carried : ℕ → Bool) (course course' : Course)
     (buffer buffer' : List ℕ) (left left' : ℕ) (who : Who) (end roles spares : ℕ) (event : Event)
-    → IsMoving tells given tape scope first entries old carried course buffer left → IsCallGoing entries who → IsFalse (who.caller == 254) → (tells → end ≡ length tape') → Grows tells tape tape' → IsAdding event
+    → IsMoving tells given tape scope first entries old carried course buffer left → HasLiveSlot old → IsCallGoing entries who → IsFalse (who.caller == 254) → (tells → end ≡ length tape') → Grows tells tape tape' → IsAdding event
     → AreReshaping scope given new → role_count new.newest ≤ 16
     → AreLostOrMissing old new (IsAmong roles)
     → list_length new.newest ≡ list_length old.newest → (shape_of new.newest).level ≡ (shape_of old.newest).level → (is_clean new.newest ≡ false → (is_clean old.newest ≡ false) ⊎ (unsettles event ≡ true)) → IsCourseOf new.newest course' → (tells → IsStored scope new course'.window buffer' (disk given.start tape'))
     → IfSome (told_left (entries ++ entries_of who end (losses_of roles spares ++ event ∷ []))) (λ n. n ≡ left')
     → (tells → IsAddingCall given tape scope first entries old new carried course' buffer' who roles spares event tape' end)
     → IsMoving tells given tape' scope first (entries ++ entries_of who end (losses_of roles spares ++ event ∷ [])) new carried course' buffer' left'
-adding-moves tells given tape tape' scope first entries old new carried course course' buffer buffer' left left' who end roles spares event was goes caller at_end grows adding members few missing sized level clean
+adding-moves tells given tape tape' scope first entries old new carried course course' buffer buffer' left left' who end roles spares event was live goes caller at_end grows adding members few missing sized level clean
     course_is stored told call =
-    behind-moves tells given tape tape' scope first entries old new carried course course' buffer buffer' left left' who end (losses_of roles spares) (IsAmong roles) event was goes caller at_end grows adding members few
+    behind-moves tells given tape tape' scope first entries old new carried course course' buffer buffer' left left' who end (losses_of roles spares) (IsAmong roles) event was live goes caller at_end grows adding members few
     (first-of (early-losses roles spares)) missing sized level
     (λ t dirty. elim (clean dirty) [
       | inl before ↦ inl (was.unclean t before)

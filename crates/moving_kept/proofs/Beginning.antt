@@ -39,11 +39,10 @@ use Rattle.call_entries.proofs.PlainLaws.{last_end-call}
 use Rattle.kept_history.specs.Recorded.{IsHistoryKept, IsLegalCall, IsCallGoing, IsOpenBehind, entry_of, ends_reshape, gives_some}
 use Rattle.kept_history.specs.Safe.{world_in, IsFilledRight, IsSafeHistory}
 use Rattle.kept_history.specs.Told.{told_now, told_by}
-use Rattle.kept_history.proofs.Growing.{reading-grown, opening-grown, fit-grown, gone-grown, unsynced-grown, now-grown, alike-before, room-before, room-now}
-use Rattle.kept_history.proofs.Ledgers.{more-alike, more-then, any-gone, unclean-now}
+use Rattle.kept_history.proofs.Growing.{reading-grown, opening-grown, gone-grown, unsynced-grown, now-grown, alike-before, room-before, room-now}
+use Rattle.kept_history.proofs.Ledgers.{more-then, any-gone, unclean-now}
 use Rattle.kept_history.proofs.Longer.{regains-none}
 use Rattle.kept_history.proofs.Calls.{now-live}
-use Rattle.kept_history.proofs.Changes.{either-last}
 use Rattle.kept_history.proofs.Entered.{AreAdding, told-adding, settle-none, values-more, values-adding, length-adding, gone-was, gone-lost}
 use Rattle.kept_history.proofs.KeptCalls.{kept-call}
 use Rattle.kept_history.proofs.Reshapes.{call-ends_none}
@@ -321,7 +320,3 @@ module _ (given : Given) (tape : List Operation) (scope : Scope) (first : ℕ) (
     pub begun-safe : IsSafeHistory ⊤ later given new carried' true all
     begun-safe = either-call ⊤ given tape scope first entries old new carried carried' false true who (Step Begun left ∷ losses_of roles spares) ops told sizes_are begun ends fills was call.rise
         (λ claimed opened mark low high. throughout-changed world given told with_it new ops refl begun change (was.sound tt) opened mark (omega (arith, begun, low)) high) less change (λ none. most right)
-
-    pub begun-now : IsSafeOver later given (told_now later carried' true all) new (tape ++ ops)
-    begun-now = subst (λ (fit : Type 0). IsSafeNow fit scope given with_it new (disk given.start (tape ++ ops))) (sym (fit-grown world ops begun))
-        (either-last world given told with_it with_it new tape (tape ++ ops) change (more-alike with_it) (λ none. most right))

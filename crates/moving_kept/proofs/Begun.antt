@@ -45,7 +45,7 @@ use Rattle.history_calls.specs.Reliable.{IsReliable, HasLastStep}
 use Rattle.history_calls.proofs.Behind.{early-losses}
 use Rattle.history_calls.proofs.LastStep.{keeps-last}
 use Rattle.moving_kept.specs.Moving.{AreReshaping, HasListInCourse, IsStillKept, IsMoving}
-use Rattle.moving_kept.proofs.Beginning.{IsBeginningCall, begun-gone, begun-recorded, begun-level, begun-unclean, begun-values, begun-safe, begun-now, safe-over}
+use Rattle.moving_kept.proofs.Beginning.{IsBeginningCall, begun-gone, begun-recorded, begun-level, begun-unclean, begun-values, begun-safe, safe-over}
 use Rattle.moving_kept.proofs.Quiet.{IsLeftBy}
 
 -- What the members are behind it: the plan's, some of which may have been lost, in a reshape that has just begun.
@@ -147,7 +147,6 @@ module _ (given : Given) (tape : List Operation) (scope : Scope) (first : ℕ) (
     last_step = last-step;
     listed = listed;
     safe = begun-safe given tape scope first entries old plan new carried carried' who left roles spares ops was.sizes_are recorded.begun recorded.ends recorded.sized (was.gone t) call (safe-over was t call.live);
-    now_safe = begun-now given tape scope first entries old plan new carried carried' who left roles spares ops was.sizes_are recorded.begun recorded.ends recorded.sized (was.gone t) call (safe-over was t call.live);
   }
 
 -- So the array is in its reshape: no window is open, and nothing is zeroed yet.
@@ -172,7 +171,6 @@ begun-moves tells given tape tape' scope first entries old plan new carried carr
   stored = λ t. let plain = cleared-plain scope new (disk given.start tape') (cleared t) in record { section = plain.0; sectors = tt; headers = plain.1 };
   listed = λ t. (leaves t).listed;
   safe = λ t. (leaves t).safe;
-  now_safe = λ t. (leaves t).now_safe;
 }
   where
     -- as many steps are left as it tells, if no losses follow

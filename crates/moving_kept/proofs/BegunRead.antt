@@ -22,7 +22,8 @@ use Rattle.reshape_updates.specs.Beginning.{beginning}
 use Rattle.reshape_updates.proofs.BegunPlan.{is-beginning, planned-begun-is, planned-fits-is}
 use Rattle.reshape_ends.specs.Begun.{IsBegunBehind}
 use Rattle.reshape_ends.proofs.Cleared.{marks-of, steady-then, room-longer}
-use Rattle.moving_kept.proofs.ReadShapes.{IsShapeRead, shape-read_since}
+use Rattle.superblocks.specs.Updating.{planned_newest}
+use Rattle.moving_kept.proofs.ReadShapes.{IsShapeRead, IsEitherRead, same-shape, either-read_since}
 
 module _ (tells : Type 0) (sound : Type 0) (scope : Scope) (given : Given) (told : Ledger) (backup : ℕ) (uuid : List ℕ) (to : Shape) (old new : Members) (before after : List Operation)
     (there : scope.backup ≡ Some backup) (array : scope.uuid ≡ uuid) (sixteen : length scope.uuid ≡ 16) (still : is_reshaping old.newest ≡ false) (roles : length old.roles ≡ (shape_of old.newest).disks)
@@ -36,9 +37,14 @@ module _ (tells : Type 0) (sound : Type 0) (scope : Scope) (given : Given) (told
   steady : IsSteady sound scope given told old (disk given.start did.mid)
   steady = steady-then sound scope given told old backup before did.mid there sixteen still live marks safe
 
-  pub begun-read : (c : Contents) → AreDrawn (disk given.start after) c → IsShapeRead scope c (shape_of old.newest)
-  begun-read =
-      shape-read_since scope given (beginning old to) old new did.mid after steady.former steady.since (told-changed t did.update)
+  -- what is read at its end says the shapes that the superblocks said before it, or as planned
+  pub begun-either : (c : Contents) → AreDrawn (disk given.start after) c → IsEitherRead scope c old.newest (planned_newest (beginning old to).shared old.newest)
+  begun-either =
+      either-read_since scope given (beginning old to) old new did.mid after steady.former steady.since (told-changed t did.update)
       (room-longer old before did.mid after (marks.longer tt) room live)
       (taking-is-fit scope steady.former old (beginning old to) (disk given.start did.mid) steady.since (is-beginning old to still roles forced level).taking)
-      (planned-fits-is old to still roles forced level) (planned-begun-is old to still roles forced level).old
+      (planned-fits-is old to still roles forced level)
+
+  pub begun-read : (c : Contents) → AreDrawn (disk given.start after) c → IsShapeRead scope c (shape_of old.newest)
+  begun-read c drawn =
+      same-shape scope c old.newest (planned_newest (beginning old to).shared old.newest) (planned-begun-is old to still roles forced level).old (begun-either c drawn)

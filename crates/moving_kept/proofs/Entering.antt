@@ -19,7 +19,7 @@ use Rattle.flat_history.specs.declared.events.StepKind.TheVariants.{Entered as E
 use Rattle.flat_history.specs.Plain.{entries_of}
 use Rattle.flat_history.specs.Sound.{OpensFit}
 use Rattle.shape_views.specs.Views.{Ledger}
-use Rattle.shape_changes.specs.Safety.{HasRoomLeft, IsRisen}
+use Rattle.shape_changes.specs.Safety.{HasLiveSlot, HasRoomLeft, IsRisen}
 use Rattle.shape_changes.specs.Steady.{IsMoreTold, IsSafeOver, KeepsSafe, AreGoneTold, IsUncleanTold}
 use Rattle.views.specs.Moving.{Grows, IsMoved}
 use Rattle.views.specs.Lacking.{DoesWithout, AreOtherRowsKept}
@@ -47,6 +47,7 @@ use Rattle.moving_kept.proofs.Steps.{AreMissingSince, quiet-step, missing-moved,
 -- is right.
 pub record IsWindowRead (tells : Type 0) (given : Given) (tape tape' : List Operation) (scope : Scope) (first : ℕ) (entries : List Entry) (old new : Members) (carried : ℕ → Bool)
     (span : Span) (former buffer : List ℕ) (roles : ℕ) : Type 0 where
+  pub live : HasLiveSlot old
   pub moved : IsMoved given old new
   pub few : role_count new.newest ≤ 16
   pub since : AreMissingSince old new roles
@@ -71,7 +72,7 @@ module _ (tells : Type 0) (given : Given) (tape tape' : List Operation) (scope :
       → IsMoving tells given tape' scope first (entries ++ entries_of who end (losses_of roles spares ++ Step EntersWindow left ∷ [])) new carried (entered span 0 sectioned) buffer left
   entered-moves sectioned left was some critical stored =
       quiet-moves tells given tape tape' scope first entries old new carried (closed 0) (entered span 0 sectioned) former buffer (left + 1) left who end roles spares (Step EntersWindow left)
-      was goes caller at_end grows (quiet-step EntersWindow left tt some) (reshaping-moved scope given old new moved was.members_are) did.few (missing-moved roles moved did.since)
+      was did.live goes caller at_end grows (quiet-step EntersWindow left tt some) (reshaping-moved scope given old new moved was.members_are) did.few (missing-moved roles moved did.since)
       (list-alike old.newest new.newest moved.reshape moved.shape moved.size) (ap (λ (s : Shape). s.level) moved.shape) did.clean
       (record {
         window = (
@@ -106,7 +107,7 @@ module _ (tells : Type 0) (given : Given) (tape tape' : List Operation) (scope :
       → IsMoving tells given tape' scope first (entries ++ entries_of who end (losses_of roles spares ++ Refused BackupFault ∷ [])) new carried (unsure span) buffer left
   unsure-moves left was stored =
       quiet-moves tells given tape tape' scope first entries old new carried (closed 0) (unsure span) former buffer left left who end roles spares (Refused BackupFault)
-      was goes caller at_end grows (quiet-refusal BackupFault) (reshaping-moved scope given old new moved was.members_are) did.few (missing-moved roles moved did.since)
+      was did.live goes caller at_end grows (quiet-refusal BackupFault) (reshaping-moved scope given old new moved was.members_are) did.few (missing-moved roles moved did.since)
       (list-alike old.newest new.newest moved.reshape moved.shape moved.size) (ap (λ (s : Shape). s.level) moved.shape) did.clean
       (record { window = window-alike old.newest new.newest moved.reshape moved.shape moved.size ∙ did.next; through = λ some. absurd (omega (arith, some)); few = omega arith })
       stored (left-more left entries who end (losses_of roles spares ++ Refused BackupFault ∷ []) was.left_told (left-behind left who end (losses_of roles spares) (Refused BackupFault ∷ []) (losses-are roles spares) (λ told is. is)))

@@ -29,6 +29,7 @@ use Rattle.safe_updates.specs.Unused.{IsUnusedKept}
 use Rattle.views.specs.Moving.{Grows, IsMoved}
 use Rattle.views.specs.Lacking.{DoesWithout, AreTooMany, AreOtherRowsKept}
 use Rattle.views.proofs.Fit.{list-alike}
+use Rattle.views.proofs.LiveLeft.{without-left}
 use Rattle.window_rows.specs.Copies.{tail_of, IsCopied}
 use Rattle.window_calls.specs.Finishing.{IsOfRest, AreStripesCopied, IsOpenWindow}
 use Rattle.call_entries.specs.Losing.{losses_of}
@@ -102,7 +103,7 @@ module _ (tells : Type 0) (given : Given) (tape tape' : List Operation) (scope :
       → IsMoving tells given tape' scope first (entries ++ entries_of who end (losses_of roles spares ++ Step FinishesWindow left ∷ [])) new carried (closed 0) buffer left
   finished-moves former left was some moved stands plain =
       quiet-moves tells given tape tape' scope first entries old new carried (entered span copied sectioned) (closed 0) buffer buffer former left who end roles spares (Step FinishesWindow left)
-      was goes caller at_end grows (quiet-step FinishesWindow left tt some) (reshaping-past scope given old new span was.course_is.window.0 moved was.members_are) did.few (missing-moved roles moved did.since)
+      was (without-left given old was.members_are.placed was.members_are.unlost did.enough) goes caller at_end grows (quiet-step FinishesWindow left tt some) (reshaping-past scope given old new span was.course_is.window.0 moved was.members_are) did.few (missing-moved roles moved did.since)
       (list-alike (moved_past span old).newest new.newest moved.reshape moved.shape moved.size) (ap (λ (s : Shape). s.level) moved.shape) did.clean
       (record { window = tt; through = λ some. absurd (omega (arith, some)); few = omega arith })
       (λ t. let now = plain t (was.stored t).headers in record { section = now.0; sectors = tt; headers = now.1 })
@@ -133,7 +134,7 @@ module _ (tells : Type 0) (given : Given) (tape tape' : List Operation) (scope :
   pub unfinished-moves : (left : ℕ) (refusal : Refusal) → IsMoving tells given tape scope first entries old carried (entered span copied sectioned) buffer left → IsMoved given old new → AreTooMany new refusal
       → IsMoving tells given tape' scope first (entries ++ entries_of who end (losses_of roles spares ++ Refused refusal ∷ [])) new carried (entered span copied sectioned) buffer left
   unfinished-moves left refusal was moved many =
-      refused-moves tells given tape tape' scope first entries old new carried (entered span copied sectioned) buffer left who end roles spares refusal was goes caller at_end grows moved did.few did.since did.clean (inr many) did.rise did.unused
+      refused-moves tells given tape tape' scope first entries old new carried (entered span copied sectioned) buffer left who end roles spares refusal was (without-left given old was.members_are.placed was.members_are.unlost did.enough) goes caller at_end grows moved did.few did.since did.clean (inr many) did.rise did.unused
       (λ t sound among list stands. (rests-go-on sound among given old new span copied sectioned buffer (present given tape) (present given tape') list was.members_are.placed moved was.course_is.window.0
       (plain-of old.newest span copied sectioned was.course_is.window) (did.others t) stands).0)
       (λ t told fills more room gone unclean here.

@@ -23,7 +23,7 @@ use Rattle.flat_history.specs.World.{World, opening_list}
 use Rattle.shape_views.specs.Regions.{DoWithout}
 use Rattle.shape_views.specs.Views.{Ledger}
 use Rattle.shape_changes.specs.Marking.{AreOthersPresent}
-use Rattle.shape_changes.specs.Safety.{HasRoomLeft, IsRisen}
+use Rattle.shape_changes.specs.Safety.{HasLiveSlot, HasRoomLeft, IsRisen}
 use Rattle.shape_changes.specs.Steady.{IsSafeOver, KeepsSafe, AreGoneTold, IsUncleanTold, AreWritesAllowed, settled_ledger}
 use Rattle.views.specs.Lacking.{DoesWithout, AreTooMany}
 use Rattle.views.specs.Moving.{Grows, IsMoved}
@@ -83,7 +83,7 @@ record IsFlushable (given : Given) (tape : List Operation) (scope : Scope) (firs
 
 module _ (tells : Type 0) (given : Given) (tape tape' : List Operation) (scope : Scope) (first : ℕ) (entries : List Entry) (old new : Members) (carried : ℕ → Bool)
     (course : Course) (buffer : List ℕ) (left : ℕ) (who : Who) (end roles spares : ℕ) (unsynced : Bool)
-    (was : IsMoving tells given tape scope first entries old carried course buffer left) (goes : IsCallGoing entries who) (caller : IsFalse (who.caller == 254))
+    (was : IsMoving tells given tape scope first entries old carried course buffer left) (live : HasLiveSlot old) (goes : IsCallGoing entries who) (caller : IsFalse (who.caller == 254))
     (at_end : tells → end ≡ length tape') (grows : Grows tells tape tape')
     (did : AreFlushed tells given tape tape' scope first entries old new roles unsynced) where
   flushable : tells → IsFilledRight (world_in given tape scope first) entries → IsFlushable given tape scope first entries old
@@ -131,7 +131,7 @@ module _ (tells : Type 0) (given : Given) (tape tape' : List Operation) (scope :
   pub flushed-moves : (event : Event) → IsSettling event → AreSettled tells given tape tape' old new unsynced
       → IsMoving tells given tape' scope first (entries ++ entries_of who end (losses_of roles spares ++ event ∷ [])) new carried course buffer left
   flushed-moves event settling done =
-      settling-moves tells given tape tape' scope first entries old new carried unsynced course course buffer buffer left left who end roles spares event was goes caller at_end grows settling
+      settling-moves tells given tape tape' scope first entries old new carried unsynced course course buffer buffer left left who end roles spares event was live goes caller at_end grows settling
       (reshaping-moved scope given old new did.moved was.members_are) did.few (missing-moved roles did.moved did.since) list-same level-same done.clean did.pending
       (course-moved given old new course did.moved was.course_is)
       (λ t. stored-kept scope given old new course.window buffer (disk given.start tape) (disk given.start tape') was.members_are did.moved (did.unused t) (was.stored t))
@@ -154,7 +154,7 @@ module _ (tells : Type 0) (given : Given) (tape tape' : List Operation) (scope :
   pub unflushed-moves : (refusal : Refusal) → AreTooMany new refusal
       → IsMoving tells given tape' scope first (entries ++ entries_of who end (losses_of roles spares ++ Refused refusal ∷ [])) new carried course buffer left
   unflushed-moves refusal many =
-      adding-moves tells given tape tape' scope first entries old new carried course course buffer buffer left left who end roles spares (Refused refusal) was goes caller at_end grows
+      adding-moves tells given tape tape' scope first entries old new carried course course buffer buffer left left who end roles spares (Refused refusal) was live goes caller at_end grows
       (record { adds = refl; gives = refl; ends = refl; level = λ n. refl; other = refl })
       (reshaping-moved scope given old new did.moved was.members_are) did.few (missing-moved roles did.moved did.since) list-same level-same (λ dirty. inr (unsettled refusal many))
       (course-moved given old new course did.moved was.course_is)

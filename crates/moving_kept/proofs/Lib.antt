@@ -1,3 +1,4 @@
+pub mod NoneLeft
 pub mod MembersMove
 pub mod BackupKept
 pub mod Quiet

@@ -24,11 +24,12 @@ use Rattle.shape_views.specs.Regions.{DoWithout}
 use Rattle.shape_views.specs.Views.{AreHeadersFit, Ledger}
 use Rattle.shape_views.specs.Windows.{HasNoSection, moved_past}
 use Rattle.shape_changes.specs.Marking.{AreOthersPresent}
-use Rattle.shape_changes.specs.Safety.{HasRoomLeft, IsRisen}
+use Rattle.shape_changes.specs.Safety.{HasLiveSlot, HasRoomLeft, IsRisen}
 use Rattle.shape_changes.specs.Steady.{IsMoreTold, IsSafeOver, KeepsSafe, AreGoneTold, IsUncleanTold}
 use Rattle.views.specs.Moving.{Grows, IsMoved}
 use Rattle.views.specs.Lacking.{DoesWithout, IsOfStripe, AreOtherRowsKept}
 use Rattle.views.proofs.Fit.{list-alike}
+use Rattle.views.proofs.LiveLeft.{without-left}
 use Rattle.call_entries.specs.Losing.{losses_of}
 use Rattle.call_entries.proofs.CallLaws.{losses-are}
 use Rattle.window_rows.specs.Copies.{tail_of, IsZeroIn}
@@ -55,7 +56,7 @@ use Rattle.moving_kept.proofs.Steps.{AreMissingSince, quiet-step, missing-moved,
 
 pub zeroed-moves : (tells : Type 0) (given : Given) (tape tape' : List Operation) (scope : Scope) (first : ℕ) (entries : List Entry) (old new : Members) (carried : ℕ → Bool)
     (zeroed : ℕ) (buffer : List ℕ) (left : ℕ) (who : Who) (end roles spares : ℕ)
-    → IsMoving tells given tape scope first entries old carried (closed zeroed) buffer (left + 1) → IsCallGoing entries who → IsFalse (who.caller == 254) → (tells → end ≡ length tape') → Grows tells tape tape'
+    → IsMoving tells given tape scope first entries old carried (closed zeroed) buffer (left + 1) → HasLiveSlot old → IsCallGoing entries who → IsFalse (who.caller == 254) → (tells → end ≡ length tape') → Grows tells tape tape'
     → IsThrough old.newest → zeroed < zeroed_stripes (shape_of old.newest) (final_shape old.newest) old.newest.size (is_backward old.newest) → left ≢ 0
     → IsMoved given old new → role_count new.newest ≤ 16 → AreMissingSince old new roles → is_clean new.newest ≡ is_clean old.newest
     → (tells → IsRisen ⊤ old new tape tape') → (tells → IsUnusedKept old (disk given.start tape) (disk given.start tape'))
@@ -65,9 +66,9 @@ pub zeroed-moves : (tells : Type 0) (given : Given) (tape tape' : List Operation
     → (tells → (world : World) → (told : Ledger) → HasRoomLeft old tape tape' → AreGoneTold told new → IsUncleanTold told old
     → IsSafeOver world given told old tape → KeepsSafe world given told new tape tape')
     → IsMoving tells given tape' scope first (entries ++ entries_of who end (losses_of roles spares ++ Step ZeroesStripe left ∷ [])) new carried (closed (zeroed + 1)) buffer left
-zeroed-moves tells given tape tape' scope first entries old new carried zeroed buffer left who end roles spares was goes caller at_end grows through more some moved few since clean rise unused others stands safe =
+zeroed-moves tells given tape tape' scope first entries old new carried zeroed buffer left who end roles spares was live goes caller at_end grows through more some moved few since clean rise unused others stands safe =
     quiet-moves tells given tape tape' scope first entries old new carried (closed zeroed) (closed (zeroed + 1)) buffer buffer (left + 1) left who end roles spares (Step ZeroesStripe left)
-    was goes caller at_end grows (quiet-step ZeroesStripe left tt some) (reshaping-moved scope given old new moved was.members_are) few (missing-moved roles moved since)
+    was live goes caller at_end grows (quiet-step ZeroesStripe left tt some) (reshaping-moved scope given old new moved was.members_are) few (missing-moved roles moved since)
     (list-alike old.newest new.newest moved.reshape moved.shape moved.size) (ap (λ (s : Shape). s.level) moved.shape) clean course_is
     (λ t. stored-kept scope given old new Closed buffer (disk given.start tape) (disk given.start tape') was.members_are moved (unused t) (was.stored t))
     (told-step entries who end (losses_of roles spares) ZeroesStripe left (losses-are roles spares))
@@ -111,7 +112,7 @@ pub recorded-moves : (tells : Type 0) (given : Given) (tape tape' : List Operati
     → IsMoving tells given tape' scope first (entries ++ entries_of who end (losses_of roles spares ++ Step RecordsWindow left ∷ [])) new carried (closed 0) buffer left
 recorded-moves tells given tape tape' scope first entries old new carried span sectioned buffer left who end roles spares was goes caller at_end grows some moved few since does clean rise others plain safe =
     quiet-moves tells given tape tape' scope first entries old new carried (entered span (stripes (final_shape old.newest) span.lo span.hi) sectioned) (closed 0) buffer buffer (left + 1) left who end roles spares (Step RecordsWindow left)
-    was goes caller at_end grows (quiet-step RecordsWindow left tt some) (reshaping-past scope given old new span was.course_is.window.0 moved was.members_are) few (missing-moved roles moved since)
+    was (without-left given old was.members_are.placed was.members_are.unlost does) goes caller at_end grows (quiet-step RecordsWindow left tt some) (reshaping-past scope given old new span was.course_is.window.0 moved was.members_are) few (missing-moved roles moved since)
     (list-alike (moved_past span old).newest new.newest moved.reshape moved.shape moved.size) (ap (λ (s : Shape). s.level) moved.shape) clean
     (record { window = tt; through = λ some. absurd (omega (arith, some)); few = omega arith })
     (λ t. let now = plain t (was.stored t).headers in record { section = now.0; sectors = tt; headers = now.1 })

@@ -21,7 +21,7 @@ use Rattle.flat_history.specs.Plain.{entries_of}
 use Rattle.flat_history.specs.Sound.{OpensFit}
 use Rattle.flat_history.specs.World.{opening_list}
 use Rattle.shape_views.specs.Views.{Ledger}
-use Rattle.shape_changes.specs.Safety.{HasRoomLeft, IsRisen}
+use Rattle.shape_changes.specs.Safety.{HasLiveSlot, HasRoomLeft, IsRisen}
 use Rattle.shape_changes.specs.Steady.{IsMoreTold, IsSafeOver, KeepsSafe, AreGoneTold, IsUncleanTold}
 use Rattle.views.specs.Lacking.{DoesWithout}
 use Rattle.views.specs.Moving.{Grows}
@@ -32,11 +32,21 @@ use Rattle.kept_history.specs.Safe.{world_in, IsFilledRight, IsSafeHistory}
 use Rattle.kept_history.specs.Told.{told_now}
 use Rattle.course_kept.specs.declared.course.Course.{Course}
 use Rattle.course_kept.specs.Course.{IsCourseOf, IsStored, StandsInCourse}
+use Rattle.kept_history.proofs.Calls.{now-live}
 use Rattle.kept_history.proofs.Reshapes.{call-ends_none}
 use Rattle.history_calls.specs.Reliable.{IsReliable, AreToldGone, HasLastStep}
 use Rattle.history_calls.proofs.Behind.{AreEarly, AreLostOrMissing, IsAmong, early-losses, legal-losses, or-false}
 use Rattle.history_calls.proofs.Quiet.{IsQuiet, IsLeftBehind, fit-later, quiet-last, last-left, stretch-more, numbers-leaves, quiet-leaves, quiet-now}
 use Rattle.moving_kept.specs.Moving.{AreReshaping, HasListInCourse, IsMoving}
+
+-- ---- what a stop may leave now
+
+-- While a live slot is left, it is right by the whole history.
+pub safe-now : {tells : Type 0} {given : Given} {tape : List Operation} {scope : Scope} {first : ℕ} {entries : List Entry} {members : Members} {carried : ℕ → Bool} {course : Course} {buffer : List ℕ} {left : ℕ}
+    → IsMoving tells given tape scope first entries members carried course buffer left → HasLiveSlot members → tells
+    → IsFilledRight (world_in given tape scope first) entries → HasRoomForEvents (world_in given tape scope first) → OpensAlike (world_in given tape scope first)
+    → IsSafeOver (world_in given tape scope first) given (told_now (world_in given tape scope first) carried true entries) members tape
+safe-now {given = given} {tape = tape} {scope = scope} {first = first} was live t fills room alike = now-live (world_in given tape scope first) live (was.safe t fills room alike).now
 
 -- ---- the call
 
@@ -92,8 +102,6 @@ pub record IsLeftBy (given : Given) (tape : List Operation) (scope : Scope) (fir
       → HasListInCourse (OpensFit (world_in given tape' scope first)) new course' buffer' (present given tape') (now (opening_list (world_in given tape' scope first)) all)
   pub safe : IsFilledRight (world_in given tape' scope first) all → HasRoomForEvents (world_in given tape' scope first) → OpensAlike (world_in given tape' scope first)
       → IsSafeHistory ⊤ (world_in given tape' scope first) given new carried true all
-  pub now_safe : IsFilledRight (world_in given tape' scope first) all → HasRoomForEvents (world_in given tape' scope first) → OpensAlike (world_in given tape' scope first)
-      → IsSafeOver (world_in given tape' scope first) given (told_now (world_in given tape' scope first) carried true all) new tape'
 
 -- The list of the history that stood in the course stands so by more entries that say the same of it.
 pub listed-later : (given : Given) (tape : List Operation) (scope : Scope) (first : ℕ) (entries all : List Entry) (new : Members) (carried : ℕ → Bool) (course' : Course) (buffer' : List ℕ) (tape' : List Operation) (current : ℕ → Sector)
@@ -114,14 +122,14 @@ listed-later given tape scope first entries all new carried course' buffer' tape
 -- The call keeps the record: the array is in its reshape still, however far that has come then.
 pub early-moves : (tells : Type 0) (given : Given) (tape tape' : List Operation) (scope : Scope) (first : ℕ) (entries : List Entry) (old new : Members) (carried : ℕ → Bool) (course course' : Course)
     (buffer buffer' : List ℕ) (left left' : ℕ) (who : Who) (end : ℕ) (early : List Event) (IsTaken : ℕ → Type 0) (event : Event)
-    → IsMoving tells given tape scope first entries old carried course buffer left → IsCallGoing entries who → IsFalse (who.caller == 254) → (tells → end ≡ length tape') → Grows tells tape tape' → IsQuiet event
+    → IsMoving tells given tape scope first entries old carried course buffer left → HasLiveSlot old → IsCallGoing entries who → IsFalse (who.caller == 254) → (tells → end ≡ length tape') → Grows tells tape tape' → IsQuiet event
     → AreReshaping scope given new → role_count new.newest ≤ 16
     → AreEarly early IsTaken → AreLostOrMissing old new IsTaken
     → list_length new.newest ≡ list_length old.newest → (shape_of new.newest).level ≡ (shape_of old.newest).level → is_clean new.newest ≡ is_clean old.newest → IsCourseOf new.newest course' → (tells → IsStored scope new course'.window buffer' (disk given.start tape'))
     → IfSome (told_left (entries ++ entries_of who end (early ++ event ∷ []))) (λ n. n ≡ left')
     → (tells → IsEarlyCall given tape scope first entries old new carried course' buffer' who early event tape' end)
     → IsMoving tells given tape' scope first (entries ++ entries_of who end (early ++ event ∷ [])) new carried course' buffer' left'
-early-moves tells given tape tape' scope first entries old new carried course course' buffer buffer' left left' who end early IsTaken event was goes caller at_end grows quiet members few are missing sized level clean
+early-moves tells given tape tape' scope first entries old new carried course course' buffer buffer' left left' who end early IsTaken event was live goes caller at_end grows quiet members few are missing sized level clean
     course_is stored told call = record {
       slots = was.slots;
       members_are = members;
@@ -137,7 +145,6 @@ early-moves tells given tape tape' scope first entries old new carried course co
       listed = λ t. listed-later given tape scope first entries (entries ++ entries_of who end (early ++ event ∷ [])) new carried course' buffer' tape' (now (opening_list (world_in given tape scope first)) entries) (leaves t)
           (quiet-now (opening_list (world_in given tape scope first)) entries who end early IsTaken event are quiet) (call t).listed;
       safe = λ t. (leaves t).safe;
-      now_safe = λ t. (leaves t).now_safe;
     }
   where
     Then : List Operation → ℕ → Type 0
@@ -150,20 +157,20 @@ early-moves tells given tape tape' scope first entries old new carried course co
         subst (λ (l : List Operation). Then l end) (sym g.1)
         (subst (Then (tape ++ g.0)) (sym (at_end t ∙ ap (λ (l : List Operation). length l) g.1))
         (λ call_to. quiet-leaves given tape scope first entries old new carried true who early IsTaken event g.0 are goes caller quiet few missing sized clean was.sizes_are
-        (was.gone t) (was.unclean t) (was.recorded t) (was.safe t) (was.now_safe t) (record { rise = call_to.rise; keeps = call_to.keeps; legal = λ all. call_to.legal })))
+        (was.gone t) (was.unclean t) (was.recorded t) (was.safe t) (safe-now was live t) (record { rise = call_to.rise; keeps = call_to.keeps; legal = λ all. call_to.legal })))
         (call t)
 
 -- And so does a call behind which superblocks may bear more numbers.
 pub carrying-moves : (tells : Type 0) (given : Given) (tape tape' : List Operation) (scope : Scope) (first : ℕ) (entries : List Entry) (old new : Members) (carried carried' : ℕ → Bool) (course course' : Course)
     (buffer buffer' : List ℕ) (left left' : ℕ) (who : Who) (end : ℕ) (early : List Event) (IsTaken : ℕ → Type 0) (event : Event)
-    → ((number : ℕ) → carried number ≡ true → carried' number ≡ true) → IsMoving tells given tape scope first entries old carried course buffer left → IsCallGoing entries who → IsFalse (who.caller == 254) → (tells → end ≡ length tape') → Grows tells tape tape' → IsQuiet event
+    → ((number : ℕ) → carried number ≡ true → carried' number ≡ true) → IsMoving tells given tape scope first entries old carried course buffer left → HasLiveSlot old → IsCallGoing entries who → IsFalse (who.caller == 254) → (tells → end ≡ length tape') → Grows tells tape tape' → IsQuiet event
     → AreReshaping scope given new → role_count new.newest ≤ 16
     → AreEarly early IsTaken → AreLostOrMissing old new IsTaken
     → list_length new.newest ≡ list_length old.newest → (shape_of new.newest).level ≡ (shape_of old.newest).level → is_clean new.newest ≡ is_clean old.newest → IsCourseOf new.newest course' → (tells → IsStored scope new course'.window buffer' (disk given.start tape'))
     → IfSome (told_left (entries ++ entries_of who end (early ++ event ∷ []))) (λ n. n ≡ left')
     → (tells → IsCarryingCall given tape scope first entries old new carried carried' course' buffer' who early event tape' end)
     → IsMoving tells given tape' scope first (entries ++ entries_of who end (early ++ event ∷ [])) new carried' course' buffer' left'
-carrying-moves tells given tape tape' scope first entries old new carried carried' course course' buffer buffer' left left' who end early IsTaken event carries was goes caller at_end grows quiet members few are missing sized level clean
+carrying-moves tells given tape tape' scope first entries old new carried carried' course course' buffer buffer' left left' who end early IsTaken event carries was live goes caller at_end grows quiet members few are missing sized level clean
     course_is stored told call = record {
       slots = was.slots;
       members_are = members;
@@ -179,7 +186,6 @@ carrying-moves tells given tape tape' scope first entries old new carried carrie
       listed = λ t. listed-later given tape scope first entries (entries ++ entries_of who end (early ++ event ∷ [])) new carried' course' buffer' tape' (now (opening_list (world_in given tape scope first)) entries) (leaves t)
           (quiet-now (opening_list (world_in given tape scope first)) entries who end early IsTaken event are quiet) (call t).listed;
       safe = λ t. (leaves t).safe;
-      now_safe = λ t. (leaves t).now_safe;
     }
   where
     Then : List Operation → ℕ → Type 0
@@ -194,7 +200,7 @@ carrying-moves tells given tape tape' scope first entries old new carried carrie
         (λ call_to. numbers-leaves given tape scope first entries old new carried carried' true who early IsTaken (event ∷ []) g.0 are carries goes caller (quiet-last who (length (tape ++ g.0)) event quiet)
         (last_end-behind first entries who (length (tape ++ g.0)) early event)
         (call-ends_none (world_in given (tape ++ g.0) scope first) entries who (length (tape ++ g.0)) (early ++ event ∷ []) (are.ends (event ∷ []) (or-false (ends_reshape event) false quiet.ends refl))) few missing sized clean was.sizes_are
-        (was.gone t) (was.unclean t) (was.recorded t) (was.safe t) (was.now_safe t) (record {
+        (was.gone t) (was.unclean t) (was.recorded t) (was.safe t) (safe-now was live t) (record {
           rise = call_to.rise;
           keeps = λ before told right first_more more same_before same_told room gone unclean safe.
               stretch-more (OpensFit (world_in given tape scope first)) scope given (record before { carried = carried' }) told new tape (tape ++ g.0)
@@ -207,16 +213,16 @@ carrying-moves tells given tape tape' scope first entries old new carried carrie
 -- And so does a call that enters losses before its event.
 pub quiet-moves : (tells : Type 0) (given : Given) (tape tape' : List Operation) (scope : Scope) (first : ℕ) (entries : List Entry) (old new : Members) (carried : ℕ → Bool) (course course' : Course)
     (buffer buffer' : List ℕ) (left left' : ℕ) (who : Who) (end roles spares : ℕ) (event : Event)
-    → IsMoving tells given tape scope first entries old carried course buffer left → IsCallGoing entries who → IsFalse (who.caller == 254) → (tells → end ≡ length tape') → Grows tells tape tape' → IsQuiet event
+    → IsMoving tells given tape scope first entries old carried course buffer left → HasLiveSlot old → IsCallGoing entries who → IsFalse (who.caller == 254) → (tells → end ≡ length tape') → Grows tells tape tape' → IsQuiet event
     → AreReshaping scope given new → role_count new.newest ≤ 16
     → AreLostOrMissing old new (IsAmong roles)
     → list_length new.newest ≡ list_length old.newest → (shape_of new.newest).level ≡ (shape_of old.newest).level → is_clean new.newest ≡ is_clean old.newest → IsCourseOf new.newest course' → (tells → IsStored scope new course'.window buffer' (disk given.start tape'))
     → IfSome (told_left (entries ++ entries_of who end (losses_of roles spares ++ event ∷ []))) (λ n. n ≡ left')
     → (tells → IsQuietCall given tape scope first entries old new carried course' buffer' who roles spares event tape' end)
     → IsMoving tells given tape' scope first (entries ++ entries_of who end (losses_of roles spares ++ event ∷ [])) new carried course' buffer' left'
-quiet-moves tells given tape tape' scope first entries old new carried course course' buffer buffer' left left' who end roles spares event was goes caller at_end grows quiet members few missing sized level clean
+quiet-moves tells given tape tape' scope first entries old new carried course course' buffer buffer' left left' who end roles spares event was live goes caller at_end grows quiet members few missing sized level clean
     course_is stored told call =
-    early-moves tells given tape tape' scope first entries old new carried course course' buffer buffer' left left' who end (losses_of roles spares) (IsAmong roles) event was goes caller at_end grows quiet members few
+    early-moves tells given tape tape' scope first entries old new carried course course' buffer buffer' left left' who end (losses_of roles spares) (IsAmong roles) event was live goes caller at_end grows quiet members few
     (early-losses roles spares) missing sized level clean course_is stored told
     (λ t. let of = call t in record {
       rise = of.rise;

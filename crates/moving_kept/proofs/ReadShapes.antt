@@ -30,13 +30,14 @@ pub record IsShapeRead (scope : Scope) (c : Contents) (shape : Shape) : Type 0 w
   pub is : reading scope c ≡ Some found
   pub says : shape_of found.newest ≡ shape
 
--- the superblock says the shapes that the former one did
+-- the superblock says the shapes that the former one did, and its size
 pub record HasShapesOf (former newest : Sb) : Type 0 where
   pub old : shape_of newest ≡ shape_of former
   pub final : final_shape newest ≡ final_shape former
+  pub size : newest.size ≡ former.size
 
 shapes-alike : (former newest : Sb) → SaysSame former newest → HasShapesOf former newest
-shapes-alike former newest same = record { old = sym (shape-alike former newest same); final = sym (final-alike former newest same) }
+shapes-alike former newest same = record { old = sym (shape-alike former newest same); final = sym (final-alike former newest same); size = sym same.size }
 
 -- the superblocks of these contents say the shapes of one of these
 pub record IsEitherRead (scope : Scope) (c : Contents) (former plan : Sb) : Type 0 where
@@ -77,7 +78,7 @@ module _ (scope : Scope) (given : Given) (change : Change) (former : Members) (g
         says =
             let last = shapes-alike r.newest r.reads.found.newest r.reads.same.array in
             let plan = shapes-alike (planned_newest change.shared former.newest) r.newest (later-says (planned_newest change.shared former.newest) r.newest r.later) in
-            inr (record { old = last.old ∙ plan.old; final = last.final ∙ plan.final });
+            inr (record { old = last.old ∙ plan.old; final = last.final ∙ plan.final; size = last.size ∙ plan.size });
       })
       (turning-reads scope held.known (Left scope former gone change (disk given.start before) held fit shapes) Old change Old.lost (Live scope former gone change (disk given.start before) held fit shapes) new.lost new.newest.events
       (disk given.start before) (disk given.start (take (length after) after)) (ready scope former gone change (disk given.start before) held fit shapes first) (λ s is. is) small
@@ -90,7 +91,7 @@ module _ (scope : Scope) (given : Given) (change : Change) (former : Members) (g
   ]
 
 -- where the shape was to stay, that one
-same-shape : (scope : Scope) (c : Contents) (former plan : Sb) → shape_of plan ≡ shape_of former → IsEitherRead scope c former plan → IsShapeRead scope c (shape_of former)
+pub same-shape : (scope : Scope) (c : Contents) (former plan : Sb) → shape_of plan ≡ shape_of former → IsEitherRead scope c former plan → IsShapeRead scope c (shape_of former)
 same-shape scope c former plan same read = record {
   found = read.found;
   is = read.is;
@@ -105,9 +106,3 @@ either-read_since scope given change old new before after former since =
     subst (λ (o : Members). IsChanged ⊤ given change o new before after → HasMarkRoom o before after → IsFitUpdate o change → AreShapesFit (planned_newest change.shared o.newest)
     → (c : Contents) → AreDrawn (disk given.start after) c → IsEitherRead scope c o.newest (planned_newest change.shared o.newest)) (sym since.since)
     (λ did room fit shapes c drawn. either-read scope given change former since.gone new before after did room since.held fit shapes c drawn)
-
-pub shape-read_since : (scope : Scope) (given : Given) (change : Change) (old new : Members) (before after : List Operation) (former : Members) → IsHeldSince scope former old (disk given.start before)
-    → IsChanged ⊤ given change old new before after → HasMarkRoom old before after → IsFitUpdate old change → AreShapesFit (planned_newest change.shared old.newest)
-    → shape_of (planned_newest change.shared old.newest) ≡ shape_of old.newest → (c : Contents) → AreDrawn (disk given.start after) c → IsShapeRead scope c (shape_of old.newest)
-shape-read_since scope given change old new before after former since did room fit shapes same c drawn =
-    same-shape scope c old.newest (planned_newest change.shared old.newest) same (either-read_since scope given change old new before after former since did room fit shapes c drawn)

@@ -20,7 +20,7 @@ use Rattle.flat_history.specs.Plain.{entries_of}
 use Rattle.flat_history.specs.Sound.{OpensFit}
 use Rattle.flat_history.specs.World.{World, opening_list}
 use Rattle.shape_views.specs.Views.{Ledger}
-use Rattle.shape_changes.specs.Safety.{HasRoomLeft, IsRisen}
+use Rattle.shape_changes.specs.Safety.{HasLiveSlot, HasRoomLeft, IsRisen}
 use Rattle.shape_changes.specs.Steady.{IsMoreTold, IsSafeOver, KeepsSafe, AreGoneTold, IsUncleanTold, AreWritesAllowed}
 use Rattle.views.specs.Moving.{Grows}
 use Rattle.call_entries.specs.Losing.{losses_of}
@@ -34,7 +34,7 @@ use Rattle.history_calls.proofs.Behind.{AreLostOrMissing, IsAmong}
 use Rattle.history_calls.proofs.Quiet.{IsLeftBehind, last-left}
 use Rattle.history_calls.proofs.Settling.{IsSettlement, IsSettledBy, takes-newest, settling-ends, settling-leaves, settled-same}
 use Rattle.moving_kept.specs.Moving.{AreReshaping, HasListInCourse, IsMoving}
-use Rattle.moving_kept.proofs.Quiet.{listed-later}
+use Rattle.moving_kept.proofs.Quiet.{listed-later, safe-now}
 
 -- ---- the event
 
@@ -86,7 +86,7 @@ pub record IsSettlingCall (given : Given) (tape : List Operation) (scope : Scope
 -- The call keeps the record: what was written is settled, and the array as unsynced as it was.
 pub settling-moves : (tells : Type 0) (given : Given) (tape tape' : List Operation) (scope : Scope) (first : ℕ) (entries : List Entry) (old new : Members) (carried : ℕ → Bool) (unsynced : Bool) (course course' : Course)
     (buffer buffer' : List ℕ) (left left' : ℕ) (who : Who) (end roles spares : ℕ) (event : Event)
-    → IsMoving tells given tape scope first entries old carried course buffer left → IsCallGoing entries who → IsFalse (who.caller == 254) → (tells → end ≡ length tape') → Grows tells tape tape' → IsSettling event
+    → IsMoving tells given tape scope first entries old carried course buffer left → HasLiveSlot old → IsCallGoing entries who → IsFalse (who.caller == 254) → (tells → end ≡ length tape') → Grows tells tape tape' → IsSettling event
     → AreReshaping scope given new → role_count new.newest ≤ 16
     → AreLostOrMissing old new (IsAmong roles)
     → list_length new.newest ≡ list_length old.newest → (shape_of new.newest).level ≡ (shape_of old.newest).level → (unsynced ≡ false → is_clean new.newest ≡ true)
@@ -94,7 +94,7 @@ pub settling-moves : (tells : Type 0) (given : Given) (tape tape' : List Operati
     → IfSome (told_left (entries ++ entries_of who end (losses_of roles spares ++ event ∷ []))) (λ n. n ≡ left')
     → (tells → IsSettlingCall given tape scope first entries old new carried unsynced course' buffer' who roles spares event tape' end)
     → IsMoving tells given tape' scope first (entries ++ entries_of who end (losses_of roles spares ++ event ∷ [])) new carried course' buffer' left'
-settling-moves tells given tape tape' scope first entries old new carried unsynced course course' buffer buffer' left left' who end roles spares event was goes caller at_end grows settling members few missing sized level clean
+settling-moves tells given tape tape' scope first entries old new carried unsynced course course' buffer buffer' left left' who end roles spares event was live goes caller at_end grows settling members few missing sized level clean
     unsynced_is course_is stored told call = record {
       slots = was.slots;
       members_are = members;
@@ -110,7 +110,6 @@ settling-moves tells given tape tape' scope first entries old new carried unsync
       listed = λ t. listed-later given tape scope first entries (entries ++ entries_of who end (losses_of roles spares ++ event ∷ [])) new carried course' buffer' tape' (now (opening_list (world_in given tape scope first)) entries) (leaves t)
           (settled-same (opening_list (world_in given tape scope first)) entries who end roles spares event (settlement event settling)) (call t).listed;
       safe = λ t. (leaves t).safe;
-      now_safe = λ t. (leaves t).now_safe;
     }
   where
     Then : List Operation → ℕ → Type 0
@@ -123,7 +122,7 @@ settling-moves tells given tape tape' scope first entries old new carried unsync
         subst (λ (l : List Operation). Then l end) (sym g.1)
         (subst (Then (tape ++ g.0)) (sym (at_end t ∙ ap (λ (l : List Operation). length l) g.1))
         (λ call_to. settling-leaves given tape scope first entries old new carried true unsynced who roles spares event g.0 goes caller (settlement event settling) few missing sized clean was.sizes_are
-        (not-ended (is_unsynced (world_in given tape scope first) entries) (is_resync_end event) settling.resync ∙ unsynced_is t) (was.gone t) (was.unclean t) (was.recorded t) (was.safe t) (was.now_safe t)
+        (not-ended (is_unsynced (world_in given tape scope first) entries) (is_resync_end event) settling.resync ∙ unsynced_is t) (was.gone t) (was.unclean t) (was.recorded t) (was.safe t) (safe-now was live t)
         (record {
           rise = call_to.rise;
           keeps = call_to.keeps;

@@ -1,4 +1,4 @@
--- A reshape that makes the list shorter begins in an array that keeps its record without one, from what `begin` leaves where it isn't refused and a live slot is left.
+-- A reshape that makes the list shorter begins in an array that keeps its record without one, from what `begin` leaves where it isn't refused.
 use Rattle.std.proofs.Common.{◌≡◌, ◌≢◌, ◌⊎◌, inl, inr, ℕ, ◌+◌, ◌*◌, ◌<◌, ◌≤◌, ◌==◌, ◌&&◌, nat_le, nat_lt, min, Bool, true, false, Option, Some, None, List, [], ◌∷◌, ◌++◌, length, refl, sym, ◌∙◌, ap, subst, arith, append-nil}
 use Rattle.std.specs.Prelude.{IsFalse, IfSome, ◌^◌, fold}
 use Rattle.std.proofs.lemmas.Bool.{and_parts, leb-true}
@@ -31,7 +31,6 @@ use Rattle.flat_history.specs.Sound.{OpensFit}
 use Rattle.flat_history.specs.World.{World, contents_at, opening_list}
 use Rattle.shape_views.specs.Regions.{DoWithout}
 use Rattle.shape_views.proofs.Stands.{final-still}
-use Rattle.shape_changes.specs.Safety.{HasLiveSlot}
 use Rattle.shape_ends.specs.Ends.{IsCleared}
 use Rattle.shape_ends.specs.Plans.{HasNoneRecovering}
 use Rattle.shape_ends.proofs.EndLaws.{cleared-plain, fewer-pass}
@@ -65,11 +64,11 @@ use Rattle.moving_kept.specs.Moving.{HasListInCourse, IsStillKept, IsMoving}
 use Rattle.moving_kept.proofs.Begun.{AreBegun}
 use Rattle.moving_kept.proofs.BegunCall.{IsBegunBy}
 use Rattle.moving_kept.proofs.BegunMembers.{begun-members, begun-rows}
-use Rattle.moving_kept.proofs.BegunRead.{begun-read}
+use Rattle.moving_kept.proofs.BegunRead.{begun-either}
 use Rattle.moving_kept.proofs.Beginning.{safe-over}
 use Rattle.moving_kept.proofs.Quiet.{IsLeftBy}
-use Rattle.moving_kept.proofs.ReadShapes.{IsShapeRead}
-use Rattle.moving_kept.proofs.Shortening.{IsShorteningCall, shortened-gone, shortened-recorded, shortened-level, shortened-unclean, shortened-values, shortened-safe, shortened-now}
+use Rattle.moving_kept.proofs.ReadShapes.{IsEitherRead}
+use Rattle.moving_kept.proofs.Shortening.{IsShorteningCall, shortened-gone, shortened-recorded, shortened-level, shortened-unclean, shortened-values, shortened-safe}
 
 -- ---- the record
 
@@ -158,7 +157,6 @@ module _ (given : Given) (tape : List Operation) (scope : Scope) (first : ℕ) (
     last_step = last-step;
     listed = listed;
     safe = shortened-safe given tape scope first entries old plan new carried carried' who left n roles spares ops was.sizes_are recorded.begun recorded.ends recorded.sized (was.gone t) call (safe-over was t call.live);
-    now_safe = shortened-now given tape scope first entries old plan new carried carried' who left n roles spares ops was.sizes_are recorded.begun recorded.ends recorded.sized (was.gone t) call (safe-over was t call.live);
   }
 
 -- So the array is in its reshape, with the shorter list.
@@ -183,7 +181,6 @@ shortened-moves tells given tape tape' scope first entries old plan new carried 
   stored = λ t. let plain = cleared-plain scope new (disk given.start tape') (cleared t) in record { section = plain.0; sectors = tt; headers = plain.1 };
   listed = λ t. (leaves t).listed;
   safe = λ t. (leaves t).safe;
-  now_safe = λ t. (leaves t).now_safe;
 }
   where
     -- as many steps are left as it tells, if no losses follow
@@ -234,13 +231,18 @@ is-shorter former to force still back =
 
 module _ (tells : Type 0) (given : Given) (scope : Scope) (first : ℕ) (entries : List Entry) (backup : ℕ) (uuid : List ℕ) (to : Shape) (old new : Members) (carried carried' : ℕ → Bool) (roles : ℕ) (tape : List Operation)
     (was : IsStillKept tells given tape scope first entries old carried) (back : goes_back (shape_of old.newest) to ≡ true) where
-  shortened-call : (ops : List Operation) → tells → IsBegunBy tells given tape (tape ++ ops) scope backup uuid to old new roles → HasLiveSlot new → ((number : ℕ) → carried number ≡ true → carried' number ≡ true)
+  shortened-call : (ops : List Operation) → tells → IsBegunBy tells given tape (tape ++ ops) scope backup uuid to old new roles → ((number : ℕ) → carried number ≡ true → carried' number ≡ true)
       → IsShorteningCall given tape scope first entries old (begun_plan old to) new carried carried' (list_length new.newest) roles (tape ++ ops)
-  shortened-call ops t did live numbers = record {
+  shortened-call ops t did numbers = record {
     live = did.live;
-    left_live = live;
+    placed = did.moved.placed;
+    unlost = did.moved.unlost;
     count = count-still old.newest was.still;
-    planned = shortened-length old.newest (begun_plan old to).newest to (planned-begun-is old to was.still same_roles did.in_force did.level) back ∙ sym (shortened-length old.newest new.newest to did.newest back);
+    planned = shortened-length old.newest (begun_plan old to).newest to begun-is back ∙ sym (shortened-length old.newest new.newest to did.newest back);
+    shape = begun-is.old;
+    size = begun-is.size;
+    counted = count-alike (begun_plan old to).newest new.newest did.moved.reshape did.moved.shape did.moved.size;
+    of_level = (to, did.level, did.in_force.new_valid, shortened-length old.newest new.newest to did.newest back);
     sized = refl;
     shorter = subst (λ (k : ℕ). k < list_length old.newest) (sym (shortened-length old.newest new.newest to did.newest back)) (is-shorter old.newest to did.in_force was.still back);
     few = few-roles new.newest did.moved.placed.fit.valid;
@@ -258,14 +260,17 @@ module _ (tells : Type 0) (given : Given) (scope : Scope) (first : ℕ) (entries
       same_roles : length old.roles ≡ (shape_of old.newest).disks
       same_roles = roles-still given old was.placed was.still
 
+      begun-is : HasBegun old.newest to (begun_plan old to).newest
+      begun-is = planned-begun-is old to was.still same_roles did.in_force did.level
+
       drawn : AreDrawn (disk given.start (tape ++ ops)) (contents given.start (tape ++ ops) (length (tape ++ ops)))
       drawn slot = (now-drawn given (tape ++ ops) slot 8, now-drawn given (tape ++ ops) slot 9)
 
       read : IsReliable (world_in given tape scope first) entries → HasRoomForEvents (world_in given (tape ++ ops) scope first)
-          → IsShapeRead scope (contents_at (world_in given (tape ++ ops) scope first) (length (tape ++ ops))) (shape_of old.newest)
+          → IsEitherRead scope (contents_at (world_in given (tape ++ ops) scope first) (length (tape ++ ops))) old.newest (begun_plan old to).newest
       read right room =
           let safe = safe-over was t did.live right.fills right.room right.alike in
-          begun-read tells (OpensFit (world_in given tape scope first)) scope given (told_now (world_in given tape scope first) carried false entries) backup uuid to old new tape (tape ++ ops)
+          begun-either tells (OpensFit (world_in given tape scope first)) scope given (told_now (world_in given tape scope first) carried false entries) backup uuid to old new tape (tape ++ ops)
           did.backed.backup did.backed.array did.sixteen was.still same_roles did.in_force did.level did.live (room-now (world_in given tape scope first) ops (was.recorded t).begun old safe.counted room) did.begun t
           (now-live (world_in given tape scope first) did.live safe.now) (contents given.start (tape ++ ops) (length (tape ++ ops))) drawn
 
@@ -273,11 +278,11 @@ module _ (tells : Type 0) (given : Given) (scope : Scope) (first : ℕ) (entries
 
   -- So a reshape that makes the list shorter begins in an array that keeps its record and leaves one that keeps it in the reshape: from what `begin` says of its call.
   pub array-shortens : (tape' : List Operation) (did : IsBegunBy tells given tape tape' scope backup uuid to old new roles) → HasNoneRecovering old → AreSparesFree given old → length old.own ≡ 32 → AreSparesFree given new
-      → length new.spares ≤ 32 → HasLiveSlot new → (buffer : List ℕ) (left : ℕ) (who : Who) (end lost_spares : ℕ) → (goes : IsCallGoing entries who) → IsFalse (who.caller == 254) → (tells → end ≡ length tape')
+      → length new.spares ≤ 32 → (buffer : List ℕ) (left : ℕ) (who : Who) (end lost_spares : ℕ) → (goes : IsCallGoing entries who) → IsFalse (who.caller == 254) → (tells → end ≡ length tape')
       → Grows tells tape tape' → IfSome (told_left entries) (λ n. n ≡ left + 1) → left ≢ 0 → ((number : ℕ) → carried number ≡ true → carried' number ≡ true) → (tells → IsCleared scope (disk given.start tape'))
       → (tells → (s k : ℕ) → k ≢ 8 → (s ≢ backup) ⊎ (k ≢ 0) → present given tape' s k ≡ present given tape s k) → (tells → IsOpenBehind (world_in given tape' scope first) goes.call)
       → IsMoving tells given tape' scope first (entries ++ entries_of who end (Step Begun left ∷ Resized (list_length new.newest) ∷ losses_of roles lost_spares)) new carried' (closed 0) buffer left
-  array-shortens tape' did whole free long still_free spares live buffer left who end lost_spares goes caller at_end grows told some numbers cleared others behind =
+  array-shortens tape' did whole free long still_free spares buffer left who end lost_spares goes caller at_end grows told some numbers cleared others behind =
       shortened-moves tells given tape tape' scope first entries old (begun_plan old to) new carried carried' buffer left (list_length new.newest) who end roles lost_spares was goes caller at_end grows told some
       (begun-members tells given tape tape' scope first entries backup uuid to old new carried carried' roles was did whole free long still_free spares)
       ((planned-begun-is old to was.still (roles-still given old was.placed was.still) did.in_force did.level).backward ∙ back) cleared
@@ -289,4 +294,4 @@ module _ (tells : Type 0) (given : Given) (scope : Scope) (first : ℕ) (entries
       call : tells → IsShorteningCall given tape scope first entries old (begun_plan old to) new carried carried' (list_length new.newest) roles tape'
       call t =
           let g = grows.more t in
-          subst Then (sym g.1) (λ by. shortened-call g.0 t by live numbers) did
+          subst Then (sym g.1) (λ by. shortened-call g.0 t by numbers) did

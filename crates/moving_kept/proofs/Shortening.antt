@@ -1,18 +1,21 @@
--- A reshape that makes the list shorter begins in an array that had none, and a live slot is left: the call tells its step, the new length, and what its update lost.
-use Rattle.std.proofs.Common.{◌≡◌, ◌≢◌, ◌⊎◌, inl, inr, ℕ, ◌+◌, ◌<◌, ◌≤◌, ◌==◌, ◌&&◌, ◌||◌, nat_lt, not, Bool, true, false, cond, unwrap_or, Option, Some, None, List, [], ◌∷◌, ◌++◌, length, refl, sym, ◌∙◌, ap, subst, arith, append_assoc, append-nil}
+-- A reshape that makes the list shorter begins in an array that had none: the call tells its step, the new length, and what its update lost. Where no live slot is left, no slot
+-- need have kept that length, but all roles are gone.
+use Rattle.std.proofs.Common.{◌≡◌, ◌≢◌, ◌⊎◌, inl, inr, ℕ, ◌+◌, ◌<◌, ◌≤◌, ◌==◌, ◌&&◌, ◌||◌, nat_lt, max, not, Bool, true, false, cond, unwrap_or, Option, Some, None, List, [], ◌∷◌, ◌++◌, length, refl, sym, ◌∙◌, ap, subst, arith, append_assoc, append-nil}
 use Rattle.std.specs.Prelude.{IsFalse, IsTrue, IfSome, MatchOption, fold, filter, slice_index_or, ⊤}
 use Rattle.std.specs.List.{list_any}
 use Rattle.std.specs.Option.{option_map_or}
 use Rattle.std.proofs.lemmas.Bool.Decides.{nat_tests}
 use Rattle.std.proofs.lemmas.List.Sums.{fold-append}
+use Rattle.md_base.specs.Search.{all_below}
 use Rattle.md_base.specs.Sectors.{Sector}
 use Rattle.md_base.specs.declared.answers.Who.{Who}
 use Rattle.md_base.specs.declared.places.Shape.{Shape}
 use Rattle.bank.specs.declared.bank.Operation.{Operation}
 use Rattle.bank.specs.Given.{Given, sizes}
 use Rattle.bank.specs.Tape.{IsIn, disk}
+use Rattle.sb1.specs.declared.sb.Sb.{Sb}
 use Rattle.superblocks.specs.declared.members.Members.{Members}
-use Rattle.superblocks.specs.Reading.{Scope, Reading, shape_of, list_length, role_count}
+use Rattle.superblocks.specs.Reading.{Scope, Reading, shape_of, final_shape, list_length, role_count}
 use Rattle.row_io.specs.Rows.{reading_of, is_missing}
 use Rattle.flat_history.specs.declared.events.Entry.{Entry}
 use Rattle.flat_history.specs.declared.events.Event.{Event}
@@ -22,7 +25,7 @@ use Rattle.flat_history.specs.Epochs.{HasRoomForEvents, OpensAlike}
 use Rattle.flat_history.specs.Flat.{length_of, values_of, values_after, now, is_same_call, last_of}
 use Rattle.flat_history.specs.Flat.{resized as cut}
 use Rattle.flat_history.specs.Growing.{EndBy}
-use Rattle.flat_history.specs.Legal.{told_left, level_at, level_after, call_before, disturbs, is_loss, last_but_losses, IsResizedAfter, IsResized}
+use Rattle.flat_history.specs.Legal.{told_left, level_at, level_after, call_before, disturbs, is_loss, last_but_losses, is_all_gone, IsLengthOfLevel, IsUnkeptLength, IsResizedAfter, IsResized}
 use Rattle.flat_history.specs.Losses.{is_gone_after, is_unsynced, unsettles, loses}
 use Rattle.flat_history.specs.OneShape.{is_lost, is_unsettled}
 use Rattle.flat_history.specs.Plain.{entries_of}
@@ -32,7 +35,8 @@ use Rattle.history_laws.proofs.OneShapeGrowing.{AreFaults}
 use Rattle.shape_views.specs.Views.{Ledger}
 use Rattle.shape_changes.specs.Changing.{IsSafeChange}
 use Rattle.shape_changes.specs.Safety.{HasLiveSlot, HasRoomLeft, IsRisen}
-use Rattle.shape_changes.specs.Steady.{IsMoreTold, IsSafeNow, IsSafeOver, AreGoneTold}
+use Rattle.views.specs.Placed.{IsPlaced}
+use Rattle.shape_changes.specs.Steady.{AreUnlost, IsMoreTold, IsSafeNow, IsSafeOver, AreGoneTold}
 use Rattle.shape_ends.specs.Ends.{IsToldWith}
 use Rattle.views.proofs.SoundViews.{throughout-changed}
 use Rattle.call_entries.specs.Losing.{losses_of}
@@ -56,15 +60,21 @@ use Rattle.kept_history.proofs.Turns.{turned-length, turned-values, resized-call
 use Rattle.history_calls.specs.Reliable.{IsReliable, AreToldGone}
 use Rattle.moving_kept.proofs.Beginning.{told_before}
 use Rattle.history_calls.proofs.Behind.{IsAmong, early-losses, inner-of, legal-losses, or-false}
-use Rattle.moving_kept.proofs.ReadShapes.{IsShapeRead}
+use Rattle.moving_kept.proofs.NoneLeft.{all_below-each, none-held}
+use Rattle.moving_kept.proofs.ReadShapes.{HasShapesOf, IsEitherRead}
 
 -- What the begin of such a reshape leaves: its update is safe from one ledger to another, what is missing then was missing among the roles of the old shape or is told
--- lost, what is read at its end says the old shape, and the list has its new length.
+-- lost, what is read at its end says the shapes as before or as planned, and the list has its new length, that of a shape of the array's level.
 pub record IsShorteningCall (given : Given) (tape : List Operation) (scope : Scope) (first : ℕ) (entries : List Entry) (old plan new : Members) (carried carried' : ℕ → Bool) (n roles : ℕ) (tape' : List Operation) : Type 0 where
   pub live : HasLiveSlot old
-  pub left_live : HasLiveSlot new
+  pub placed : IsPlaced given new
+  pub unlost : AreUnlost new
   pub count : role_count old.newest ≡ (shape_of old.newest).disks
   pub planned : list_length plan.newest ≡ n
+  pub shape : shape_of plan.newest ≡ shape_of old.newest
+  pub size : plan.newest.size ≡ old.newest.size
+  pub counted : role_count new.newest ≡ role_count plan.newest
+  pub of_level : IsLengthOfLevel old.newest.level old.newest.size n
   pub sized : list_length new.newest ≡ n
   pub shorter : n < list_length old.newest
   pub few : role_count new.newest ≤ 16
@@ -72,7 +82,7 @@ pub record IsShorteningCall (given : Given) (tape : List Operation) (scope : Sco
   pub since : (role : ℕ) → role < role_count new.newest → is_missing (reading_of new) role ≡ true → ((role < (shape_of old.newest).disks) × (is_missing (reading_of old) role ≡ true)) ⊎ IsAmong roles role
   pub fewer : (role : ℕ) → role < role_count plan.newest → is_missing (reading_of plan) role ≡ true → (role < role_count new.newest) × (is_missing (reading_of new) role ≡ true)
   pub rise : IsRisen ⊤ old new tape tape'
-  pub read : IsReliable (world_in given tape scope first) entries → HasRoomForEvents (world_in given tape' scope first) → IsShapeRead scope (contents_at (world_in given tape' scope first) (length tape')) (shape_of old.newest)
+  pub read : IsReliable (world_in given tape scope first) entries → HasRoomForEvents (world_in given tape' scope first) → IsEitherRead scope (contents_at (world_in given tape' scope first) (length tape')) old.newest plan.newest
   pub safe : (told more : Ledger) → HasRoomLeft old tape tape' → IsToldWith told more plan → AreGoneTold told old → AreGoneTold more new → ((number : ℕ) → told.carried number ≡ true → more.carried number ≡ true)
       → IsSafeOver (world_in given tape scope first) given told old tape → IsSafeChange (OpensFit (world_in given tape scope first)) scope given told more new tape tape'
 
@@ -140,12 +150,37 @@ module _ (given : Given) (tape : List Operation) (scope : Scope) (first : ℕ) (
   right-before : IsReliable later all → IsReliable world entries
   right-before right = record { fills = filled-before world ops entries added begun ends right.fills; room = room-before world ops begun right.room; alike = alike-before world ops begun right.alike }
 
+  -- what is read at its end says the old shape, with its size, and has no more roles than the members
+  old-said : (sb : Sb) → HasShapesOf old.newest sb ⊎ HasShapesOf plan.newest sb → shape_of sb ≡ shape_of old.newest
+  old-said sb (inl says) = says.old
+  old-said sb (inr says) = says.old ∙ call.shape
+
+  size-said : (sb : Sb) → HasShapesOf old.newest sb ⊎ HasShapesOf plan.newest sb → sb.size ≡ old.newest.size
+  size-said sb (inl says) = says.size
+  size-said sb (inr says) = says.size ∙ call.size
+
+  count-said : (sb : Sb) → HasShapesOf old.newest sb ⊎ HasShapesOf plan.newest sb → role_count sb ≤ role_count new.newest
+  count-said sb (inl says) =
+      let same : role_count sb ≡ role_count old.newest = (λ i. max (says.old i).disks (says.final i).disks) in
+      let count = call.count in
+      let all = call.counted in
+      let disks = ap (λ (s : Shape). s.disks) call.shape in
+      let most = larger (shape_of plan.newest).disks (final_shape plan.newest).disks in
+      omega (arith, same, count, all, disks, most)
+    where
+      larger : (a b : ℕ) → a ≤ max a b
+      larger a b = omega arith
+  count-said sb (inr says) =
+      let same : role_count sb ≡ role_count plan.newest = (λ i. max (says.old i).disks (says.final i).disks) in
+      let all = call.counted in
+      omega (arith, same, all)
+
   -- a role of the old shape is gone behind it as before
   gone-begun : IsReliable later all → (role : ℕ) → role < disks → is_gone_after later (entries ++ entry ∷ []) role ≡ is_gone_after world entries role
   unfolding reading_at
   gone-begun right role lt =
       let read = call.read (right-before right) right.room in
-      begun-old later entries entry left read.found refl read.is role (let same = ap (λ (s : Shape). s.disks) read.says in omega (arith, lt, same))
+      begun-old later entries entry left read.found refl read.is role (let same = ap (λ (s : Shape). s.disks) (old-said read.found.newest read.says) in omega (arith, lt, same))
       ∙ gone-grown world ops entries role ends
 
   gone-behind : (role : ℕ) → (is_gone_after later (entries ++ entry ∷ []) role || list_any (loses later role) behind_it) ≡ true → is_gone_after later all role ≡ true
@@ -157,6 +192,24 @@ module _ (given : Given) (tape : List Operation) (scope : Scope) (first : ℕ) (
     | inr has ↦ gone-lost later (entries ++ entry ∷ []) behind_it role
         (all-but (λ (l : List Event). is_lost (entries_of who end l) role ≡ true) ((early-losses roles spares).lost who end [] role (let few = call.few in omega (arith, lt, few)) has))
   ])
+
+  -- where no live slot is left, all are
+  all-gone : IsReliable later all → (HasLiveSlot new → ⊥) → is_all_gone later end all ≡ true
+  unfolding reading_at
+  all-gone right none =
+      let read = call.read (right-before right) right.room in
+      ap (λ (o : Option Reading). option_map_or (λ r. all_below (role_count r.newest) (is_gone_after later all)) o false) read.is
+      ∙ all_below-each (role_count read.found.newest) (is_gone_after later all) (λ role lt.
+      shortened-gone right role (let most = count-said read.found.newest read.says in omega (arith, lt, most)) (none-held given new call.placed call.unlost none role))
+
+  -- the length is that of a shape of the level that is read
+  unkept : IsReliable later all → IsUnkeptLength later (entries ++ entry ∷ []) Begun end n
+  unfolding reading_at
+  unkept right =
+      let read = call.read (right-before right) right.room in
+      subst (λ (o : Option Reading). MatchOption o ⊥ (λ r. IsLengthOfLevel r.newest.level r.newest.size n)) (sym read.is)
+      (subst (λ (size : ℕ). IsLengthOfLevel read.found.newest.level size n) (sym (size-said read.found.newest read.says))
+      (subst (λ (level : ℕ). IsLengthOfLevel level old.newest.size n) (sym (ap (λ (s : Shape). s.level) (old-said read.found.newest read.says))) call.of_level))
 
   -- ---- what is told
 
@@ -284,22 +337,22 @@ module _ (given : Given) (tape : List Operation) (scope : Scope) (first : ℕ) (
       right : IsReliable later all
       right = record { fills = fills; room = room; alike = alike }
 
+      -- what is told gone before it is so behind it
+      gone-told : (role : ℕ) → told.gone role ≡ true → is_gone_after later all role ≡ true
+      gone-told role is =
+          let parts = and-parts (is_gone_after world entries role) (nat_lt role disks) is in
+          gone-behind role (gone-was later (entries ++ entry ∷ []) behind_it role (gone-begun right role (below-is disks role parts.1) ∙ parts.0))
+        where
+          below-is : (m k : ℕ) → nat_lt k m ≡ true → k < m
+          below-is m k is = grind (arith, nat_tests, is)
+
       change : IsSafeChange (OpensFit world) scope given told with_it new tape (tape ++ ops)
       change = call.safe told with_it (room-now world ops begun old was.counted room) (told-with right) (gone-old right) (shortened-gone right) call.numbers (safe-old (now-live world call.live was.now))
 
       pub shortened-safe : IsSafeHistory ⊤ later given new carried' true all
       shortened-safe = resized-call ⊤ given tape scope first entries old new carried carried' false true who (Step Begun left ∷ []) n (losses_of roles spares) ops told sizes_are begun ends fills was call.rise
           (λ claimed opened mark low high. throughout-changed world given told with_it new ops refl begun change (was.sound tt) opened mark (omega (arith, begun, low)) high)
-          refl faults less change (λ none. absurd (none call.left_live))
-
-      pub shortened-now : IsSafeOver later given (told_now later carried' true all) new (tape ++ ops)
-      shortened-now = subst (λ (fit : Type 0). IsSafeNow fit scope given with_it new (disk given.start (tape ++ ops))) (sym (fit-grown world ops begun)) (of change)
-        where
-          of : IsSafeChange (OpensFit world) scope given told with_it new tape (tape ++ ops) → IsSafeNow (OpensFit world) scope given with_it new (disk given.start (tape ++ ops))
-          of done = elim done.next [
-            | inl named ↦ inl named.steady
-            | inr spent ↦ absurd (spent.none call.left_live)
-          ]
+          refl faults less change (λ none. (all-gone right none, gone-told))
 
     -- ---- the history
 
@@ -316,7 +369,11 @@ module _ (given : Given) (tape : List Operation) (scope : Scope) (first : ℕ) (
             length-adding (length (opening_list later)) entries (entry ∷ []) refl ∙ ap (λ (l : List Sector). length_of (length l) entries) (opening-grown world ops begun) ∙ recorded in
             let shorter = call.shorter in
             omega (arith, same, shorter);
-        kept = inl (sym length-all ∙ length-now given (tape ++ ops) scope first (told_now later carried' true all) new (shortened-now fills.fills fills.room fills.alike));
+        kept = elim (change fills.fills fills.room fills.alike).next [
+          | inl named ↦ inl (sym length-all ∙ length-now given (tape ++ ops) scope first with_it new
+              (subst (λ (fit : Type 0). IsSafeNow fit scope given with_it new (disk given.start (tape ++ ops))) (sym (fit-grown world ops begun)) (inl named.steady)))
+          | inr spent ↦ inr (ap (λ (l : List Entry). is_all_gone later end l) parts ∙ all-gone fills spent.none, unkept fills)
+        ];
       },
     )
 

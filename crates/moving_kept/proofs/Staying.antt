@@ -22,7 +22,7 @@ use Rattle.flat_history.specs.Legal.{level_at, IsRefusedRight, IsLegalEvent}
 use Rattle.flat_history.specs.Plain.{entries_of}
 use Rattle.flat_history.specs.Sound.{OpensFit}
 use Rattle.shape_views.specs.Views.{Ledger}
-use Rattle.shape_changes.specs.Safety.{HasRoomLeft, IsRisen}
+use Rattle.shape_changes.specs.Safety.{HasLiveSlot, HasRoomLeft, IsRisen}
 use Rattle.shape_changes.specs.Steady.{IsMoreTold, IsSafeOver, KeepsSafe, AreGoneTold, IsUncleanTold}
 use Rattle.views.specs.Placed.{HaveSameReshape}
 use Rattle.views.specs.Moving.{Grows, IsMoved}
@@ -73,7 +73,7 @@ course-moved given old new course moved was = record {
 
 pub stays-moves : (tells : Type 0) (given : Given) (tape tape' : List Operation) (scope : Scope) (first : ℕ) (entries : List Entry) (old new : Members) (carried : ℕ → Bool)
     (course : Course) (buffer : List ℕ) (left : ℕ) (who : Who) (end roles spares : ℕ) (event : Event)
-    → IsMoving tells given tape scope first entries old carried course buffer left → IsCallGoing entries who → IsFalse (who.caller == 254) → (tells → end ≡ length tape') → Grows tells tape tape'
+    → IsMoving tells given tape scope first entries old carried course buffer left → HasLiveSlot old → IsCallGoing entries who → IsFalse (who.caller == 254) → (tells → end ≡ length tape') → Grows tells tape tape'
     → IsQuiet event → TellLeft left who end (event ∷ []) → IsMoved given old new → role_count new.newest ≤ 16 → AreMissingSince old new roles → is_clean new.newest ≡ is_clean old.newest
     → (tells → IsRisen ⊤ old new tape tape') → (tells → IsUnusedKept old (disk given.start tape) (disk given.start tape'))
     → (tells → (sound : Type 0) (among : Shape → Type 0) (list : ℕ → Sector) → StandsInCourse sound among old course buffer (present given tape) list → StandsInCourse sound among new course buffer (present given tape') list)
@@ -84,9 +84,9 @@ pub stays-moves : (tells : Type 0) (given : Given) (tape tape' : List Operation)
     → level_at (world_in given tape' scope first) (entries ++ entries_of who end (losses_of roles spares)) ≡ level_at (world_in given tape scope first) entries
     → IsLegalEvent (world_in given tape' scope first) (entries ++ entries_of who end (losses_of roles spares)) (entry_of who end event) [] event)
     → IsMoving tells given tape' scope first (entries ++ entries_of who end (losses_of roles spares ++ event ∷ [])) new carried course buffer left
-stays-moves tells given tape tape' scope first entries old new carried course buffer left who end roles spares event was goes caller at_end grows quiet tell moved few since clean rise unused stands keeps legal =
+stays-moves tells given tape tape' scope first entries old new carried course buffer left who end roles spares event was live goes caller at_end grows quiet tell moved few since clean rise unused stands keeps legal =
     quiet-moves tells given tape tape' scope first entries old new carried course course buffer buffer left left who end roles spares event
-    was goes caller at_end grows quiet (reshaping-moved scope given old new moved was.members_are) few (missing-moved roles moved since)
+    was live goes caller at_end grows quiet (reshaping-moved scope given old new moved was.members_are) few (missing-moved roles moved since)
     (list-alike old.newest new.newest moved.reshape moved.shape moved.size) (ap (λ (s : Shape). s.level) moved.shape) clean (course-moved given old new course moved was.course_is)
     (λ t. stored-kept scope given old new course.window buffer (disk given.start tape) (disk given.start tape') was.members_are moved (unused t) (was.stored t))
     (left-more left entries who end (losses_of roles spares ++ event ∷ []) was.left_told (left-behind left who end (losses_of roles spares) (event ∷ []) (losses-are roles spares) tell))
@@ -108,15 +108,15 @@ stays-moves tells given tape tape' scope first entries old new carried course bu
 
 pub refused-moves : (tells : Type 0) (given : Given) (tape tape' : List Operation) (scope : Scope) (first : ℕ) (entries : List Entry) (old new : Members) (carried : ℕ → Bool)
     (course : Course) (buffer : List ℕ) (left : ℕ) (who : Who) (end roles spares : ℕ) (refusal : Refusal)
-    → IsMoving tells given tape scope first entries old carried course buffer left → IsCallGoing entries who → IsFalse (who.caller == 254) → (tells → end ≡ length tape') → Grows tells tape tape'
+    → IsMoving tells given tape scope first entries old carried course buffer left → HasLiveSlot old → IsCallGoing entries who → IsFalse (who.caller == 254) → (tells → end ≡ length tape') → Grows tells tape tape'
     → IsMoved given old new → role_count new.newest ≤ 16 → AreMissingSince old new roles → is_clean new.newest ≡ is_clean old.newest → (refusal ≡ BackupFault) ⊎ AreTooMany new refusal
     → (tells → IsRisen ⊤ old new tape tape') → (tells → IsUnusedKept old (disk given.start tape) (disk given.start tape'))
     → (tells → (sound : Type 0) (among : Shape → Type 0) (list : ℕ → Sector) → StandsInCourse sound among old course buffer (present given tape) list → StandsInCourse sound among new course buffer (present given tape') list)
     → (tells → (told : Ledger) → IsFilledRight (world_in given tape scope first) entries → IsMoreTold (told_now (world_in given tape scope first) carried true entries) told
     → HasRoomLeft old tape tape' → AreGoneTold told new → IsUncleanTold told old → IsSafeOver (world_in given tape scope first) given told old tape → KeepsSafe (world_in given tape scope first) given told new tape tape')
     → IsMoving tells given tape' scope first (entries ++ entries_of who end (losses_of roles spares ++ Refused refusal ∷ [])) new carried course buffer left
-refused-moves tells given tape tape' scope first entries old new carried course buffer left who end roles spares refusal was goes caller at_end grows moved few since clean why rise unused stands keeps =
-    stays-moves tells given tape tape' scope first entries old new carried course buffer left who end roles spares (Refused refusal) was goes caller at_end grows (quiet-refusal refusal) (λ told is. is) moved few since clean rise unused stands keeps
+refused-moves tells given tape tape' scope first entries old new carried course buffer left who end roles spares refusal was live goes caller at_end grows moved few since clean why rise unused stands keeps =
+    stays-moves tells given tape tape' scope first entries old new carried course buffer left who end roles spares (Refused refusal) was live goes caller at_end grows (quiet-refusal refusal) (λ told is. is) moved few since clean rise unused stands keeps
     (λ t fills gone level. right t fills gone level why)
   where
     right : tells → IsReliable (world_in given tape scope first) entries → AreToldGone (world_in given tape' scope first) (entries ++ entries_of who end (losses_of roles spares)) new

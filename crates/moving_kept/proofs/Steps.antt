@@ -30,7 +30,7 @@ use Rattle.flat_history.specs.Sound.{OpensFit}
 use Rattle.flat_history.specs.World.{World, opening_list}
 use Rattle.shape_views.specs.Views.{Disk, Ledger}
 use Rattle.shape_views.specs.Windows.{IsCopyable}
-use Rattle.shape_changes.specs.Safety.{HasRoomLeft, IsRisen}
+use Rattle.shape_changes.specs.Safety.{HasLiveSlot, HasRoomLeft, IsRisen}
 use Rattle.shape_changes.specs.Steady.{IsSafeOver, KeepsSafe, AreGoneTold, IsUncleanTold}
 use Rattle.views.specs.Moving.{Grows, IsMoved}
 use Rattle.views.specs.Placed.{is_vacant}
@@ -157,7 +157,7 @@ plain-of newest span copied sectioned window none = by (is_critical (shape_of ne
 
 pub copied-moves : (tells : Type 0) (given : Given) (tape tape' : List Operation) (scope : Scope) (first : ℕ) (entries : List Entry) (old new : Members) (carried : ℕ → Bool)
     (span : Span) (copied : ℕ) (sectioned : Bool) (buffer : List ℕ) (left : ℕ) (who : Who) (end roles spares : ℕ)
-    → IsMoving tells given tape scope first entries old carried (entered span copied sectioned) buffer (left + 1) → IsCallGoing entries who → IsFalse (who.caller == 254) → (tells → end ≡ length tape') → Grows tells tape tape'
+    → IsMoving tells given tape scope first entries old carried (entered span copied sectioned) buffer (left + 1) → HasLiveSlot old → IsCallGoing entries who → IsFalse (who.caller == 254) → (tells → end ≡ length tape') → Grows tells tape tape'
     → copied < stripes (final_shape old.newest) span.lo span.hi → left ≢ 0 → IsMoved given old new → role_count new.newest ≤ 16 → AreMissingSince old new roles → is_clean new.newest ≡ is_clean old.newest
     → (tells → IsRisen ⊤ old new tape tape') → (tells → IsUnusedKept old (disk given.start tape) (disk given.start tape'))
     → (tells → AreOtherRowsKept (IsOfStripe (final_shape old.newest) (next_stripe old span copied)) (reading_of new) (present given tape) (present given tape'))
@@ -166,9 +166,9 @@ pub copied-moves : (tells : Type 0) (given : Given) (tape tape' : List Operation
     → (tells → (world : World) → (told : Ledger) → HasRoomLeft old tape tape' → AreGoneTold told new → IsUncleanTold told old → IsCopyable world.scope old span (disk given.start tape)
     → IsSafeOver world given told old tape → KeepsSafe world given told new tape tape')
     → IsMoving tells given tape' scope first (entries ++ entries_of who end (losses_of roles spares ++ Step CopiesStripe left ∷ [])) new carried (entered span (copied + 1) sectioned) buffer left
-copied-moves tells given tape tape' scope first entries old new carried span copied sectioned buffer left who end roles spares was goes caller at_end grows more some moved few since clean rise unused others stands safe =
+copied-moves tells given tape tape' scope first entries old new carried span copied sectioned buffer left who end roles spares was live goes caller at_end grows more some moved few since clean rise unused others stands safe =
     quiet-moves tells given tape tape' scope first entries old new carried (entered span copied sectioned) (entered span (copied + 1) sectioned) buffer buffer (left + 1) left who end roles spares (Step CopiesStripe left)
-    was goes caller at_end grows (quiet-step CopiesStripe left tt some) (reshaping-moved scope given old new moved was.members_are) few (missing-moved roles moved since)
+    was live goes caller at_end grows (quiet-step CopiesStripe left tt some) (reshaping-moved scope given old new moved was.members_are) few (missing-moved roles moved since)
     (list-alike old.newest new.newest moved.reshape moved.shape moved.size) (ap (λ (s : Shape). s.level) moved.shape) clean course_is (λ t. stored (was.stored t) (unused t)) (told-step entries who end (losses_of roles spares) CopiesStripe left (losses-are roles spares))
     (λ t. record {
       rise = rise t;

@@ -36,7 +36,7 @@ use Rattle.shape_views.specs.Regions.{AreShapesFit, place_by}
 use Rattle.shape_views.specs.Views.{Ledger, IsTailZero}
 use Rattle.shape_views.specs.Windows.{IsShown, AreTailsStanding}
 use Rattle.shape_views.proofs.Alike.{row-below}
-use Rattle.shape_changes.specs.Safety.{HasRoomLeft, IsRisen}
+use Rattle.shape_changes.specs.Safety.{HasLiveSlot, HasRoomLeft, IsRisen}
 use Rattle.shape_changes.specs.Steady.{IsMoreTold, IsSafeOver, KeepsSafe, AreGoneTold, AreWritesAllowed}
 use Rattle.views.specs.Placed.{AreWhole}
 use Rattle.views.specs.Moving.{Grows, IsMoved}
@@ -204,7 +204,7 @@ unrelied-short newest fit relied x lt far = elim (cases_lt relied (list_length n
 
 module _ (tells : Type 0) (given : Given) (tape tape' : List Operation) (scope : Scope) (first : ℕ) (entries : List Entry) (old new : Members) (carried : ℕ → Bool)
     (course : Course) (buffer : List ℕ) (left : ℕ) (who : Who) (end roles spares at : ℕ) (from : List ℕ) (relied : ℕ) (begun : Bool)
-    (was : IsMoving tells given tape scope first entries old carried course buffer left) (goes : IsCallGoing entries who) (caller : IsFalse (who.caller == 254))
+    (was : IsMoving tells given tape scope first entries old carried course buffer left) (live : HasLiveSlot old) (goes : IsCallGoing entries who) (caller : IsFalse (who.caller == 254))
     (at_end : tells → end ≡ length tape') (grows : Grows tells tape tape') (does : (x : ℕ) → at ≤ x → x < at + length from / 512 → DoesWithout (shape_for old.newest x) old)
     (visible : tells → at + length from / 512 ≤ visible_of (length (opening_list (world_in given tape scope first))) entries)
     (did : ArePut tells given tape tape' old new course at from relied roles begun) where
@@ -279,7 +279,7 @@ module _ (tells : Type 0) (given : Given) (tape tape' : List Operation) (scope :
       → IsMoving tells given tape' scope first (entries ++ entries_of who end (losses_of roles spares ++ Wrote at (sectors_of from) ∷ [])) new carried course buffer left
   written-moves done =
       behind-moves tells given tape tape' scope first entries old new carried course course buffer buffer left left who end (losses_of roles spares) (IsAmong roles) (Wrote at (sectors_of from))
-      was goes caller at_end grows (record { adds = refl; gives = refl; ends = refl; level = λ n. refl; other = refl })
+      was live goes caller at_end grows (record { adds = refl; gives = refl; ends = refl; level = λ n. refl; other = refl })
       (reshaping-moved scope given old new did.moved was.members_are) did.few (first-of (early-losses roles spares)) (missing-moved roles did.moved did.since) list-same level-same (λ t dirty. inr refl)
       (course-moved given old new course did.moved was.course_is)
       (λ t. stored-kept scope given old new course.window buffer (disk given.start tape) (disk given.start tape') was.members_are did.moved (did.unused t) (was.stored t))
@@ -378,7 +378,7 @@ module _ (tells : Type 0) (given : Given) (tape tape' : List Operation) (scope :
     torn-moves : begun ≡ true → IsMoving tells given tape' scope first (entries ++ entries_of who end ((losses_of roles spares ++ Torn at (sectors_of from) ∷ []) ++ Refused refusal ∷ [])) new carried course buffer left
     torn-moves is =
         behind-moves tells given tape tape' scope first entries old new carried course course buffer buffer left left who end (losses_of roles spares ++ Torn at (sectors_of from) ∷ []) (IsAmong roles) (Refused refusal)
-        was goes caller at_end grows (record { adds = refl; gives = refl; ends = refl; level = λ n. refl; other = refl })
+        was live goes caller at_end grows (record { adds = refl; gives = refl; ends = refl; level = λ n. refl; other = refl })
         (reshaping-moved scope given old new did.moved was.members_are) did.few
         (first-more (losses_of roles spares) (IsAmong roles) (Torn at (sectors_of from)) (first-of (early-losses roles spares)) refl refl refl (λ n. refl))
         (missing-moved roles did.moved did.since) list-same level-same (λ t dirty. inr (torn-unsettles at (at + length from / 512) new refusal (undone.torn is)))
@@ -443,7 +443,7 @@ module _ (tells : Type 0) (given : Given) (tape tape' : List Operation) (scope :
     unbegun-moves : begun ≡ false → IsMoving tells given tape' scope first (entries ++ entries_of who end (losses_of roles spares ++ Refused refusal ∷ [])) new carried course buffer left
     unbegun-moves is =
         behind-moves tells given tape tape' scope first entries old new carried course course buffer buffer left left who end (losses_of roles spares) (IsAmong roles) (Refused refusal)
-        was goes caller at_end grows (record { adds = refl; gives = refl; ends = refl; level = λ n. refl; other = refl })
+        was live goes caller at_end grows (record { adds = refl; gives = refl; ends = refl; level = λ n. refl; other = refl })
         (reshaping-moved scope given old new did.moved was.members_are) did.few (first-of (early-losses roles spares)) (missing-moved roles did.moved did.since) list-same level-same
         (λ t dirty. clean t undone.refused) (course-moved given old new course did.moved was.course_is)
         (λ t. stored-kept scope given old new course.window buffer (disk given.start tape) (disk given.start tape') was.members_are did.moved (did.unused t) (was.stored t))

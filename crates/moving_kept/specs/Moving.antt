@@ -19,7 +19,7 @@ use Rattle.flat_history.specs.World.{opening_list}
 use Rattle.shape_views.specs.Regions.{ArePlaced, DoWithout, backup_of}
 use Rattle.shape_views.specs.Windows.{ListStands, RowsStand}
 use Rattle.shape_changes.specs.Safety.{HasLiveSlot}
-use Rattle.shape_changes.specs.Steady.{AreUnlost, IsSafeOver}
+use Rattle.shape_changes.specs.Steady.{AreUnlost}
 use Rattle.shape_ends.specs.Grown.{IsZeroPast}
 use Rattle.shape_ends.specs.Plans.{HasNoneRecovering}
 use Rattle.views.specs.Placed.{IsPlaced}
@@ -28,7 +28,6 @@ use Rattle.views.specs.Rebuilding.{AreSparesFree}
 use Rattle.safe_updates.specs.Unused.{IsUnused}
 use Rattle.kept_history.specs.Recorded.{IsHistoryKept}
 use Rattle.kept_history.specs.Safe.{world_in, IsFilledRight, IsSafeHistory}
-use Rattle.kept_history.specs.Told.{told_now}
 use Rattle.history_calls.specs.Reliable.{IsReliable, AreToldGone, IsNonePast, HasLastStep}
 use Rattle.course_kept.specs.declared.course.Course.{Course}
 use Rattle.course_kept.specs.Course.{IsCourseOf, IsStored, StandsInCourse}
@@ -98,5 +97,3 @@ pub record IsMoving (tells : Type 0) (given : Given) (tape : List Operation) (sc
       → HasListInCourse (OpensFit (world_in given tape scope first)) members course buffer (present given tape) (now (opening_list (world_in given tape scope first)) entries)
   pub safe : tells → IsFilledRight (world_in given tape scope first) entries → HasRoomForEvents (world_in given tape scope first) → OpensAlike (world_in given tape scope first)
       → IsSafeHistory ⊤ (world_in given tape scope first) given members carried true entries
-  pub now_safe : tells → IsFilledRight (world_in given tape scope first) entries → HasRoomForEvents (world_in given tape scope first) → OpensAlike (world_in given tape scope first)
-      → IsSafeOver (world_in given tape scope first) given (told_now (world_in given tape scope first) carried true entries) members tape

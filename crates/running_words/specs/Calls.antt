@@ -21,7 +21,6 @@ use Rattle.flat_history.specs.declared.events.StepKind.{StepKind}
 use Rattle.flat_history.specs.CrashSafe.{IsCrashSafe}
 use Rattle.flat_history.specs.Epochs.{world_of}
 use Rattle.flat_history.specs.Legal.{IsLegal}
-use Rattle.flat_history.specs.OneShape.{is_lost}
 use Rattle.flat_history.specs.Reshaped.{IsReshaped}
 use Rattle.flat_history.specs.Sound.{OpensFit, StaysSound}
 use Rattle.flat_history.specs.World.{World}
@@ -47,20 +46,6 @@ pub record IsStatusFor {B : Type 0} (array : RunningParts B) (status : Status) :
   pub roles : status.roles ≡ array.parts.members.roles
   pub spares : status.spares ≡ array.parts.members.spares
 
--- this status tells an array without a reshape as it is
-pub record IsStillStatus {B : Type 0} (array : RunningParts B) (status : Status) : Type 0 where
-  pub shape : status.shape ≡ shape_of array.parts.members.newest
-  pub target : status.target ≡ None
-  pub position : status.position ≡ 0
-  pub size : status.size ≡ array.parts.members.newest.size
-  pub length : status.length ≡ list_length array.parts.members.newest
-  pub visible : status.visible ≡ list_length array.parts.members.newest
-  pub clean : status.clean ≡ is_clean array.parts.members.newest
-  pub events : status.events ≡ array.parts.members.newest.events
-  pub left : status.left ≡ still_left array.parts.work array.parts.members array.ahead
-  pub roles : status.roles ≡ array.parts.members.roles
-  pub spares : status.spares ≡ array.parts.members.spares
-
 -- its world over its bank
 abbrev pub moving_world : {B : Type 0} → Given → List Operation → RunningParts B → World
 moving_world given tape array = world_for given tape array.parts
@@ -83,11 +68,6 @@ pub record IsCalled {B : Type 0} (tells : Type 0) (given : Given) (tape tape' : 
   pub never_falls : NeverFalls before after
   pub work : new.parts.work ≡ old.parts.work
   pub same : IsSameReshape tells old new (moving_world given tape old) (moving_world given tape' new)
-
--- What a stop leaves of the slots that held a role that these new entries don't tell lost: all is as it is, and nothing else, but for the superblocks.
-abbrev pub AreLeftSettled : Members → List Entry → List Entry → Given → List Operation → Type 0
-AreLeftSettled members old new given tape = (role slot k : ℕ) → holder (role_state (reading_of members) role) ≡ Some slot → is_lost (drop (length old) new) role ≡ false → k ≢ 8
-    → disk given.start tape slot k ≡ present given tape slot k ∷ []
 
 -- The epoch that is handed out lies within the tape, is legal, safe at each of its marks, stays sound, and where it opened sound its reshapes end right.
 pub record IsEpochKept (given : Given) (tape : List Operation) (backup : Option ℕ) (epoch : Epoch) : Type 0 where

@@ -1,2 +1,4 @@
 pub mod Parts
 pub mod Calls
+pub mod Adding
+pub mod Still

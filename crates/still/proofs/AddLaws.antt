@@ -1,4 +1,5 @@
 -- A slot that is made a spare, from what `add_member` leaves, or isn't; and a bank of which only counts of faults have risen.
+use Rattle.std.specs.Prelude.{⊤}
 use Rattle.std.proofs.Common.{◌≡◌, ◌≢◌, inl, ℕ, ◌+◌, ◌≤◌, true, false, Option, List, [], ◌∷◌, ◌++◌, length, refl, sym, ◌∙◌, ap₂, subst, arith}
 use Rattle.md_base.specs.Sectors.{Sector}
 use Rattle.md_base.specs.Shapes.{has_slot}
@@ -17,6 +18,7 @@ use Rattle.superblocks.proofs.SlotSets.{none_there}
 use Rattle.flat_history.specs.declared.events.Entry.{Entry}
 use Rattle.flat_history.specs.declared.events.Event.{Event}
 use Rattle.flat_history.specs.declared.events.Event.TheVariants.{Added, Refused}
+use Rattle.flat_history.specs.Epochs.{HasRoomForEvents, OpensAlike}
 use Rattle.flat_history.specs.Flat.{next_number}
 use Rattle.flat_history.specs.Plain.{entries_of}
 use Rattle.flat_history.specs.Sound.{OpensFit}
@@ -35,6 +37,7 @@ use Rattle.array_kept.specs.Calls.{IsUnaddable}
 use Rattle.calls_kept.proofs.AddedKept.{with_carried, AddsSafe}
 use Rattle.calls_kept.proofs.AddedLosses.{IsAddDone, left-carried, left-refused}
 use Rattle.grow_asked.specs.declared.window.PhasesLeft.{PhasesLeft}
+use Rattle.kept_history.specs.Safe.{world_in, IsFilledRight, IsSafeHistory}
 use Rattle.kept_history.proofs.Records.{begins-going}
 use Rattle.still_kept.specs.Still.{IsStill}
 use Rattle.still_kept.proofs.Refusals.{IsRefusedStill}
@@ -116,6 +119,8 @@ still-same {tells = tells} {given = given} {tape' = tape'} {scope = scope} {firs
   members_are = was.members_are;
   sizes_are = was.sizes_are;
   left_told = was.left_told;
+  reshaping = was.reshaping;
+  over = was.over;
   progress = was.progress;
   pending = λ t. (here t).pending t;
   dirty = was.dirty;
@@ -126,7 +131,8 @@ still-same {tells = tells} {given = given} {tape' = tape'} {scope = scope} {firs
   recorded = λ t. (here t).recorded t;
   past = λ t. (here t).past t;
   listed = λ t. (here t).listed t;
-  safe = λ t. (here t).safe t;
+  safe = λ t. subst (λ (l : List Operation). IsFilledRight (world_in given l scope first) entries → HasRoomForEvents (world_in given l scope first) → OpensAlike (world_in given l scope first)
+      → IsSafeHistory ⊤ (world_in given l scope first) given m (is_carried work) was.reshaping entries) (sym (same t)) (was.safe t);
 }
   where
     here : tells → IsStill tells given tape' scope first entries m work left

@@ -32,7 +32,7 @@ use Rattle.history_calls.proofs.Behind.{AreFirst, AreLostOrMissing, and-true}
 use Rattle.history_calls.proofs.Quiet.{IsLeftBehind}
 use Rattle.history_calls.proofs.Adding.{IsAdding, ChangesEarly, changing-leaves}
 use Rattle.still_kept.specs.Still.{HasListStood, IsStill}
-use Rattle.still_kept.proofs.Leaving.{safe-now, rest-moved, none-taken, leaves-stands}
+use Rattle.still_kept.proofs.Leaving.{safe-over, safe-now, rest-moved, none-taken, leaves-stands}
 use Rattle.still_kept.proofs.Staying.{progress-same}
 
 pub changing-stands : (tells : Type 0) (given : Given) (tape tape' : List Operation) (scope : Scope) (first : ℕ) (entries : List Entry) (old new : Members) (work : Work) (left left' : ℕ)
@@ -78,5 +78,5 @@ changing-stands tells given tape tape' scope first entries old new work left lef
           | inl before ↦ inl (was.unclean t before)
           | inr wrote ↦ inr wrote
         ]) was.sizes_are
-        (was.gone t) (was.unclean t) (was.recorded t) (was.safe t) (safe-now was live t) call_to))
+        (was.gone t) (was.unclean t) (was.recorded t) (safe-over was live t) (safe-now was live t) call_to))
         (call t) clean

@@ -17,7 +17,6 @@ use Rattle.flat_history.specs.Losses.{is_unsynced}
 use Rattle.flat_history.specs.Sound.{OpensFit}
 use Rattle.flat_history.specs.World.{opening_list}
 use Rattle.shape_views.specs.Regions.{DoWithout}
-use Rattle.shape_changes.specs.Safety.{HasLiveSlot}
 use Rattle.shape_changes.specs.Steady.{AreUnlost}
 use Rattle.shape_ends.specs.Plans.{HasNoneRecovering}
 use Rattle.shape_ends.proofs.GrownLaws.{row-list}
@@ -30,7 +29,6 @@ use Rattle.views.proofs.Fit.{valid}
 use Rattle.kept_history.specs.Safe.{TakesNone}
 use Rattle.still_kept.specs.Still.{AreNoneMissing}
 use Rattle.kept_history.specs.Safe.{world_in, IsFilledRight, IsSafeHistory}
-use Rattle.moving_kept.proofs.Beginning.{safe-over}
 use Rattle.moving_kept.specs.Moving.{HasListStill, IsStillKept}
 use Rattle.still_kept.specs.Still.{AreAtRest, HasListStood, IsStill}
 use Rattle.still_kept.proofs.Stood.{list-shown, shown-list, rows-shown, shown-rows, sector-inside}
@@ -83,23 +81,25 @@ module _ (tells : Type 0) (given : Given) (tape : List Operation) (scope : Scope
     recorded = was.recorded;
     past = was.past;
     listed = listed;
-    reshaping = false;
-    over = λ live. refl;
+    reshaping = was.reshaping;
+    over = was.over;
     safe = was.safe;
   }
 
--- ---- and the other way, where a live slot is left
+-- ---- and the other way
 
 pub kept-again : (tells : Type 0) (given : Given) (tape : List Operation) (scope : Scope) (first : ℕ) (entries : List Entry) (m : Members) (carried : ℕ → Bool) (work : Work) (left : ℕ)
-    → IsStillKept tells given tape scope first entries m carried → HasLiveSlot m → AreUnlost m → AreSparesFree given m → length m.spares ≤ 32 → HasNoneRecovering m → work.resync ≡ None → is_carried work ≡ carried
+    → IsStillKept tells given tape scope first entries m carried → AreUnlost m → AreSparesFree given m → length m.spares ≤ 32 → HasNoneRecovering m → work.resync ≡ None → is_carried work ≡ carried
     → IfSome (told_left entries) (λ n. n ≡ left) → (tells → is_unsynced (world_in given tape scope first) entries ≡ false)
     → (tells → TakesNone (world_in given tape scope first) entries → AreNoneMissing m)
     → IsStill tells given tape scope first entries m work left
-kept-again tells given tape scope first entries m carried work left was live unlost free spares whole none carries told synced full = record {
+kept-again tells given tape scope first entries m carried work left was unlost free spares whole none carries told synced full = record {
   slots = was.slots;
   members_are = rest;
   sizes_are = was.sizes_are;
   left_told = told;
+  reshaping = was.reshaping;
+  over = was.over;
   progress = subst (λ (o : Option ℕ). IfSome o (λ mended. mended ≤ stripes_of m)) (sym none) tt;
   pending = λ t. synced t ∙ sym (ap (λ (o : Option ℕ). is_some o) none);
   dirty = λ does pending. absurd (let no = sym (ap (λ (o : Option ℕ). is_some o) none) ∙ pending in cc);
@@ -111,7 +111,7 @@ kept-again tells given tape scope first entries m carried work left was live unl
   past = was.past;
   listed = listed;
   safe = subst (λ (c : ℕ → Bool). tells → IsFilledRight (world_in given tape scope first) entries → HasRoomForEvents (world_in given tape scope first) → OpensAlike (world_in given tape scope first)
-      → IsSafeHistory ⊤ (world_in given tape scope first) given m c false entries) (sym carries) (λ t. safe-over was t live);
+      → IsSafeHistory ⊤ (world_in given tape scope first) given m c was.reshaping entries) (sym carries) was.safe;
 }
   where
     rest : AreAtRest given m

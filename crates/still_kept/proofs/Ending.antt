@@ -77,7 +77,7 @@ use Rattle.history_calls.specs.Reliable.{IsReliable}
 use Rattle.history_calls.proofs.Behind.{telling-of, first-of}
 use Rattle.history_calls.proofs.Quiet.{IsLeftBehind, quiet-none}
 use Rattle.history_calls.proofs.Giving.{GivesRole, giving-leaves, telling-then}
-use Rattle.still_kept.proofs.Leaving.{safe-now, leaves-stands}
+use Rattle.still_kept.proofs.Leaving.{safe-over, safe-now, leaves-stands}
 use Rattle.still_kept.proofs.Ends.{EndsNothing, ends-behind, ends-right}
 use Rattle.still_kept.proofs.Resync.{step-between}
 use Rattle.still_kept.proofs.Stood.{stood-moved}
@@ -256,7 +256,7 @@ module _ (tells : Type 0) (given : Given) (tape tape' : List Operation) (scope :
         (subst (Then (tape ++ g.0)) (sym (at_end t ∙ ap (λ (l : List Operation). length l) g.1))
         (λ call_to opens. giving-leaves given tape scope first entries old new (is_carried work) false who early (IsAmong roles) role g.0
         (telling-then (Step RebuildEnded left') (telling-of (first-of (early-losses roles spares))) refl refl (λ n. refl)) goes caller (few-roles new.newest rest.placed.fit.valid) opens
-        missing (ap (λ (s : Role). not (is_whole s)) whole_is) sized did.clean was.sizes_are (was.gone t) (was.unclean t) (was.recorded t) (was.safe t) (safe-now was (without-left given old placed was.members_are.unlost does) t) call_to))
+        missing (ap (λ (s : Role). not (is_whole s)) whole_is) sized did.clean was.sizes_are (was.gone t) (was.unclean t) (was.recorded t) (safe-over was (without-left given old placed was.members_are.unlost does) t) (safe-now was (without-left given old placed was.members_are.unlost does) t) call_to))
         (call t) (open_behind t)
 
     ends : list_any (λ e. is_resync_end e.event) (entries_of who end ((losses_of roles spares ++ Step RebuildEnded left' ∷ []) ++ Rebuilt role ∷ [])) ≡ false

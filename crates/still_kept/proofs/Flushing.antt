@@ -55,7 +55,7 @@ use Rattle.history_calls.proofs.Settling.{IsSettlement, SettlesList, takes-newes
 use Rattle.still_kept.specs.Still.{HasListStood, IsStill}
 use Rattle.still_kept.proofs.Adding.{changing-stands}
 use Rattle.still_kept.proofs.Ends.{EndsNothing, reshaped-behind}
-use Rattle.still_kept.proofs.Leaving.{safe-now, rest-moved, none-taken, leaves-stands}
+use Rattle.still_kept.proofs.Leaving.{safe-over, safe-now, rest-moved, none-taken, leaves-stands}
 use Rattle.still_kept.proofs.Refusals.{too-many-refused, refused-right, unsynced-behind}
 use Rattle.still_kept.proofs.Staying.{missing-since, progress-same}
 use Rattle.still_kept.proofs.Stood.{stood-moved}
@@ -185,7 +185,7 @@ module _ (tells : Type 0) (given : Given) (tape tape' : List Operation) (scope :
           (subst (Then (tape ++ g.0)) (sym (at_end t ∙ ap (λ (l : List Operation). length l) g.1))
           (settling-leaves given tape scope first entries old new (is_carried work) false unsynced who roles spares event g.0 goes caller settling (few-roles new.newest did.moved.placed.fit.valid)
           (missing-since did.moved did.since) (list-alike old.newest new.newest did.moved.reshape did.moved.shape did.moved.size) done.clean was.sizes_are (unsynced_is t)
-          (was.gone t) (was.unclean t) (was.recorded t) (was.safe t) (safe-now was live t)))
+          (was.gone t) (was.unclean t) (was.recorded t) (safe-over was live t) (safe-now was live t)))
           (call t)
 
   -- an event that leaves what is under way

@@ -125,6 +125,8 @@ module _ {tells : Type 0} {given : Given} {tape : List Operation} {scope : Scope
     members_are = record { placed = was.placed; still = was.still; unlost = was.unlost; free = was.free; spares = was.spares };
     sizes_are = was.sizes_are;
     left_told = was.left;
+    reshaping = false;
+    over = λ live. refl;
     progress = was.progress;
     pending = λ t. (was.recorded t).dirty;
     dirty = was.dirty;

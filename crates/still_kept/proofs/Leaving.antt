@@ -1,6 +1,6 @@
 -- What a call leaves of the record, from what it leaves of the history.
 use Rattle.std.proofs.Common.{◌≡◌, ℕ, ◌≤◌, List, length, sym, ◌∙◌, ap, subst}
-use Rattle.std.specs.Prelude.{IfSome, IsSome, is_some, false}
+use Rattle.std.specs.Prelude.{IfSome, IsSome, is_some, false, ⊤}
 use Rattle.md_base.specs.Sectors.{Sector}
 use Rattle.md_base.specs.Shapes.{tolerance_of}
 use Rattle.bank.specs.declared.bank.Operation.{Operation}
@@ -38,8 +38,8 @@ use Rattle.kept_history.proofs.Tests.{neither, none-before}
 use Rattle.kept_history.proofs.Entered.{lost-taken}
 use Rattle.kept_history.proofs.Growing.{takes-grown}
 use Rattle.history_calls.proofs.Behind.{AreLostOrMissing}
-use Rattle.std.proofs.Common.{inl, inr, ◌<◌, ◌++◌, Bool, true, arith, refl}
-use Rattle.kept_history.specs.Safe.{TakesNone}
+use Rattle.std.proofs.Common.{inl, inr, ◌<◌, ◌++◌, Bool, true, false, arith, refl}
+use Rattle.kept_history.specs.Safe.{TakesNone, IsSafeHistory}
 use Rattle.still_kept.specs.Still.{AreNoneMissing}
 use Rattle.kept_history.specs.Safe.{world_in, IsFilledRight}
 use Rattle.kept_history.specs.Told.{told_now}
@@ -51,12 +51,20 @@ use Rattle.still_kept.specs.Still.{AreAtRest, HasListStood, IsStill}
 
 -- ---- what a stop may leave now
 
--- While a live slot is left, it is right by the whole history.
+-- While a live slot is left, no superblocks tell a reshape.
+pub safe-over : {tells : Type 0} {given : Given} {tape : List Operation} {scope : Scope} {first : ℕ} {entries : List Entry} {members : Members} {work : Work} {left : ℕ}
+    → IsStill tells given tape scope first entries members work left → HasLiveSlot members → tells
+    → IsFilledRight (world_in given tape scope first) entries → HasRoomForEvents (world_in given tape scope first) → OpensAlike (world_in given tape scope first)
+    → IsSafeHistory ⊤ (world_in given tape scope first) given members (is_carried work) false entries
+safe-over {given = given} {tape = tape} {scope = scope} {first = first} {entries = entries} {members = members} {work = work} was live t fills room alike =
+    subst (λ (b : Bool). IsSafeHistory ⊤ (world_in given tape scope first) given members (is_carried work) b entries) (was.over live) (was.safe t fills room alike)
+
+-- And it is right by the whole history.
 pub safe-now : {tells : Type 0} {given : Given} {tape : List Operation} {scope : Scope} {first : ℕ} {entries : List Entry} {members : Members} {work : Work} {left : ℕ}
     → IsStill tells given tape scope first entries members work left → HasLiveSlot members → tells
     → IsFilledRight (world_in given tape scope first) entries → HasRoomForEvents (world_in given tape scope first) → OpensAlike (world_in given tape scope first)
     → IsSafeOver (world_in given tape scope first) given (told_now (world_in given tape scope first) (is_carried work) false entries) members tape
-safe-now {given = given} {tape = tape} {scope = scope} {first = first} was live t fills room alike = now-live (world_in given tape scope first) live (was.safe t fills room alike).now
+safe-now {given = given} {tape = tape} {scope = scope} {first = first} was live t fills room alike = now-live (world_in given tape scope first) live (safe-over was live t fills room alike).now
 
 -- ---- the opening, later
 
@@ -131,6 +139,8 @@ leaves-stands tells given tape tape' scope first entries all old new work work' 
   members_are = members;
   sizes_are = was.sizes_are;
   left_told = told;
+  reshaping = false;
+  over = λ live. refl;
   progress = progress;
   pending = λ t. unsynced-later given scope first all grows (λ u. (was.recorded u).begun) t ∙ pending t;
   dirty = dirty;

@@ -38,7 +38,7 @@ use Rattle.kept_history.proofs.Ledgers.{unsynced-still, none-ends}
 use Rattle.history_calls.proofs.Behind.{or-false, AreEarly, AreLostOrMissing}
 use Rattle.history_calls.proofs.Quiet.{IsQuiet, AreQuietLast, quiet-last, LeavesNumbers, LeavesList, IsLeftBehind, numbers-leaves, numbers-of, last-now}
 use Rattle.still_kept.specs.Still.{AreAtRest, HasListStood, IsStill}
-use Rattle.still_kept.proofs.Leaving.{safe-now, rest-moved, none-taken, leaves-stands}
+use Rattle.still_kept.proofs.Leaving.{safe-over, safe-now, rest-moved, none-taken, leaves-stands}
 
 -- The call keeps the record, with no event behind those or one: its members are at rest, in the same shape, what is missing of them is told, and the list stands on them. What is under way then has a
 -- resync pending just so, and knows no fewer device numbers.
@@ -85,7 +85,7 @@ tail-stands tells given tape tape' scope first entries old new work work' left l
         subst (λ (l : List Operation). Then l end) (sym g.1)
         (subst (Then (tape ++ g.0)) (sym (at_end t ∙ ap (λ (l : List Operation). length l) g.1))
         (λ quiet_here ended_here reshaped_here. numbers-leaves given tape scope first entries old new (is_carried work) (is_carried work') false who early IsTaken tail g.0 are carries goes caller quiet_here ended_here reshaped_here (few-roles new.newest rest.placed.fit.valid) missing
-        sized clean was.sizes_are (was.gone t) (was.unclean t) (was.recorded t) (was.safe t) (safe-now was live t)))
+        sized clean was.sizes_are (was.gone t) (was.unclean t) (was.recorded t) (safe-over was live t) (safe-now was live t)))
         quiet ended (reshaped t) (call t)
 
 -- So it is with one event.

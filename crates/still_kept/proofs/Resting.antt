@@ -105,10 +105,10 @@ module _ (tells : Type 0) (given : Given) (tape : List Operation) (scope : Scope
       → (told_now (world_in given tape scope first) (is_carried work) false (entries ++ entries_of who end (event ∷ []))).unclean ≡ true
   unclean t is_told = (now-adding (world_in given tape scope first) (is_carried work) false entries (entries_of who end (event ∷ [])) (adds end) (none end)).unclean is_told
 
-  safe : tells → IsFilledRight world (entries ++ added) → HasRoomForEvents world → OpensAlike world → IsSafeHistory ⊤ world given m (is_carried work) false (entries ++ added)
+  safe : tells → IsFilledRight world (entries ++ added) → HasRoomForEvents world → OpensAlike world → IsSafeHistory ⊤ world given m (is_carried work) was.reshaping (entries ++ added)
   safe t fills room alike =
-      subst (λ (n : ℕ). IsFilledRight (world_in given tape scope first) (entries ++ entries_of who n (event ∷ [])) → IsSafeHistory ⊤ (world_in given tape scope first) given m (is_carried work) false (entries ++ entries_of who n (event ∷ []))) (sym (at_end t))
-      (λ right. idle-call ⊤ given tape scope first entries m (is_carried work) false who (event ∷ []) was.sizes_are (was.recorded t).begun (was.recorded t).ends right
+      subst (λ (n : ℕ). IsFilledRight (world_in given tape scope first) (entries ++ entries_of who n (event ∷ [])) → IsSafeHistory ⊤ (world_in given tape scope first) given m (is_carried work) was.reshaping (entries ++ entries_of who n (event ∷ []))) (sym (at_end t))
+      (λ right. idle-call ⊤ given tape scope first entries m (is_carried work) was.reshaping who (event ∷ []) was.sizes_are (was.recorded t).begun (was.recorded t).ends right
       (was.safe t ((rested t).fills fills) room alike) (adds (length tape)) (none (length tape)))
       fills
 
@@ -125,6 +125,8 @@ module _ (tells : Type 0) (given : Given) (tape : List Operation) (scope : Scope
     members_are = was.members_are;
     sizes_are = was.sizes_are;
     left_told = told;
+    reshaping = was.reshaping;
+    over = was.over;
     progress = was.progress;
     pending = λ t. unsynced-still (world_in given tape scope first) entries added (none-ends added (settle-none added (adds end))) ∙ was.pending t;
     dirty = was.dirty;

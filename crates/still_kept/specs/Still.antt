@@ -1,5 +1,5 @@
 -- What an array keeps without an active reshape, also behind one that ended, over plain data.
-use Rattle.std.specs.Prelude.{◌≡◌, ℕ, ◌*◌, ◌<◌, ◌≤◌, ◌||◌, true, false, List, length, Option, IfSome, IsSome, is_some, ⊤}
+use Rattle.std.specs.Prelude.{◌≡◌, ℕ, ◌*◌, ◌<◌, ◌≤◌, ◌||◌, Bool, true, false, List, length, Option, IfSome, IsSome, is_some, ⊤}
 use Rattle.md_base.specs.Sectors.{Sector}
 use Rattle.md_base.specs.Shapes.{data_disks, tolerance, tolerance_of}
 use Rattle.bank.specs.declared.bank.Operation.{Operation}
@@ -17,6 +17,7 @@ use Rattle.flat_history.specs.OneShape.{is_unsettled}
 use Rattle.flat_history.specs.Sound.{OpensFit}
 use Rattle.flat_history.specs.World.{opening_list}
 use Rattle.shape_views.specs.Regions.{DoWithout}
+use Rattle.shape_changes.specs.Safety.{HasLiveSlot}
 use Rattle.shape_changes.specs.Steady.{AreUnlost}
 use Rattle.views.specs.declared.work.Work.{Work}
 use Rattle.views.specs.Lacking.{ListStands, RowsStandBelow, mended_rows}
@@ -55,12 +56,14 @@ AreNoneMissing members = (role : ℕ) → role < role_count members.newest → i
 
 -- No reshape is active in the array, whether some were before or not; this is under way in it, and so many steps are left. What is missing was told so, and a
 -- dirty mark, and a pending resync; where no role was told lost, each is whole; over a bank that tells its contents the history is legal, reaches to the tape's end and tells nothing past the list's, the list stands where what is filled
--- in is right, as long as the members suffice, and each mark so far is safe.
+-- in is right, as long as the members suffice, and each mark so far is safe. Superblocks may tell a reshape still only where no live slot is left.
 pub record IsStill (tells : Type 0) (given : Given) (tape : List Operation) (scope : Scope) (first : ℕ) (entries : List Entry) (members : Members) (work : Work) (left : ℕ) : Type 0 where
   pub slots : given.slots ≤ 32
   pub members_are : AreAtRest given members
   pub sizes_are : scope.sizes ≡ sizes given
   pub left_told : IfSome (told_left entries) (λ n. n ≡ left)
+  pub reshaping : Bool
+  pub over : HasLiveSlot members → reshaping ≡ false
   pub progress : IfSome work.resync (λ mended. mended ≤ stripes_of members)
   pub pending : tells → is_unsynced (world_in given tape scope first) entries ≡ is_some work.resync
   pub dirty : DoWithout members → IsSome work.resync → is_clean members.newest ≡ false
@@ -73,4 +76,4 @@ pub record IsStill (tells : Type 0) (given : Given) (tape : List Operation) (sco
   pub listed : tells → DoWithout members → IsFilledRight (world_in given tape scope first) entries
       → HasListStood (OpensFit (world_in given tape scope first)) work members (present given tape) (now (opening_list (world_in given tape scope first)) entries)
   pub safe : tells → IsFilledRight (world_in given tape scope first) entries → HasRoomForEvents (world_in given tape scope first) → OpensAlike (world_in given tape scope first)
-      → IsSafeHistory ⊤ (world_in given tape scope first) given members (is_carried work) false entries
+      → IsSafeHistory ⊤ (world_in given tape scope first) given members (is_carried work) reshaping entries

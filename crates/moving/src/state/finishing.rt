@@ -18,7 +18,7 @@ ghost use Rattle.shape_changes.specs.Steady.{AreUnlost, IsSafeOver, KeepsSafe, A
 ghost use Rattle.views.specs.Placed.{IsPlaced};
 ghost use Rattle.views.specs.Moving.{Grows, IsMoved};
 ghost use Rattle.views.specs.Rebuilding.{AreSparesFree};
-ghost use Rattle.views.specs.Lacking.{AreLostSince, AreTooMany, AreOtherRowsKept};
+ghost use Rattle.views.specs.Lacking.{HaveFailedSince, HaveRolesFailed, AreLostSince, AreTooMany, AreOtherRowsKept};
 ghost use Rattle.safe_updates.specs.Unused.{IsUnusedKept};
 ghost use Rattle.window_rows.specs.Copies.{tail_of, IsCopied};
 ghost use Rattle.window_calls.specs.Finishing.{IsOfRest, AreStripesCopied, IsOpenWindow};
@@ -27,7 +27,7 @@ ghost use Rattle.kept_history.specs.Recorded.{IsCallGoing};
 ghost use Rattle.course_kept.specs.Laws.{closed};
 ghost use Rattle.running_words.specs.Parts.{left_in};
 ghost use Rattle.running_words.specs.Calls.{IsCalled, IsStepTaken};
-ghost use Rattle.moving.specs.Writing.{IsWindowOpen};
+ghost use Rattle.moving.specs.Writing.{IsWindowOpen, steps_in};
 
 use crate::state::moves::check_going;
 use crate::state::{Moving, steps_left};
@@ -71,6 +71,7 @@ fn finish_rest<B: Bank>(
     requires scratch { 8192 ≤ length scratch.old }
     ensures moved { MatchOption result.refusal (IsMoved (B.given bank.old) (moved_past span.now members.old) members.new) (λ refusal. IsMoved (B.given bank.old) members.old members.new) }
     ensures since { AreLostSince members.old members.new result.roles result.spares (B.faults_of bank.old) (B.faults_of bank.new) }
+    ensures failed { HaveFailedSince members.old members.new result.spares (B.faults_of bank.old) (B.faults_of bank.new) }
     ensures refused { MatchOption result.refusal ⊤ (AreTooMany members.new) }
     ensures grows { Grows B.tells (B.tape bank.old) (B.tape bank.new) }
     ensures clean { is_clean members.new.newest ≡ is_clean members.old.newest }
@@ -120,6 +121,8 @@ impl<B: Bank> Moving<B> {
         ensures called { IsCalled B.tells (B.given self.old.parts.bank) (B.tape self.old.parts.bank) (B.tape self.new.parts.bank) (B.faults_of self.old.parts.bank) (B.faults_of self.new.parts.bank) self.old self.new }
         ensures clean { is_clean self.new.parts.members.newest ≡ is_clean self.old.parts.members.newest }
         ensures caused { IsCausedBy (list_length self.old.parts.members.newest) 0 AreTooMany self.old.parts.members self.new.parts.members result }
+        ensures failed { HaveRolesFailed self.old.parts.members self.new.parts.members (B.faults_of self.old.parts.bank) (B.faults_of self.new.parts.bank) }
+        ensures left { OnOk result (left_in self.new.parts.members self.new.course self.new.ahead + steps_in self.old.parts.members.newest self.old.course.window ≡ left_in self.old.parts.members self.old.course self.old.ahead) }
         ensures closed { OnOk result (self.new.course ≡ closed 0) }
         ensures course { OnErr result (self.new.course ≡ self.old.course) }
         ensures room { self.new.parts.steps + 1 ≡ self.old.parts.steps }

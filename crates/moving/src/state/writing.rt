@@ -6,7 +6,7 @@ ghost use Rattle.superblocks.specs.Reading.{is_clean, list_length};
 ghost use Rattle.flat_history.specs.Flat.{next_number};
 ghost use Rattle.flat_history.specs.Stands.{covers};
 ghost use Rattle.flat_history.specs.declared.events.StepKind.TheVariants.{WindowFinished as FinishesWindow};
-ghost use Rattle.views.specs.Lacking.{AreTooMany};
+ghost use Rattle.views.specs.Lacking.{HaveRolesFailed, AreTooMany};
 ghost use Rattle.array_kept.specs.Calls.{IsCausedBy, OnNoMemory};
 ghost use Rattle.region_writes.specs.Runs.{IsListUnwritten};
 ghost use Rattle.kept_history.specs.Recorded.{IsCallGoing};
@@ -46,6 +46,7 @@ impl<B: Bank> Moving<B> {
         ensures called { IsCalled B.tells (B.given self.old.parts.bank) (B.tape self.old.parts.bank) (B.tape self.new.parts.bank) (B.faults_of self.old.parts.bank) (B.faults_of self.new.parts.bank) self.old self.new }
         ensures caused { IsCausedBy (list_length self.old.parts.members.newest) (at + length from.now / 512) (IsListUnwritten (list_length self.old.parts.members.newest) at (at + length from.now / 512))
             self.old.parts.members self.new.parts.members result }
+        ensures failed { HaveRolesFailed self.old.parts.members self.new.parts.members (B.faults_of self.old.parts.bank) (B.faults_of self.new.parts.bank) }
         ensures dirty { OnOk result (is_clean self.new.parts.members.newest ≡ false) }
         ensures left { left_in self.new.parts.members self.new.course self.new.ahead ≡ left_in self.old.parts.members self.old.course self.old.ahead }
         ensures course { self.new.course ≡ self.old.course }
@@ -106,6 +107,7 @@ impl<B: Bank> Moving<B> {
         ensures called { IsCalled B.tells (B.given self.old.parts.bank) (B.tape self.old.parts.bank) (B.tape self.new.parts.bank) (B.faults_of self.old.parts.bank) (B.faults_of self.new.parts.bank) self.old self.new }
         ensures caused { IsCausedBy (list_length self.old.parts.members.newest) (at + count)
             (λ m refusal. IsListUnwritten (list_length self.old.parts.members.newest) at (at + count) m refusal ⊎ AreTooMany m refusal) self.old.parts.members self.new.parts.members result }
+        ensures failed { HaveRolesFailed self.old.parts.members self.new.parts.members (B.faults_of self.old.parts.bank) (B.faults_of self.new.parts.bank) }
         ensures closed { OnOk result (self.new.course ≡ closed 0) }
         ensures room { self.new.parts.steps + 1 ≡ self.old.parts.steps }
         ensures given { B.given self.new.parts.bank ≡ B.given self.old.parts.bank }
@@ -137,6 +139,7 @@ impl<B: Bank> Moving<B> {
         ensures called { IsCalled B.tells (B.given self.old.parts.bank) (B.tape self.old.parts.bank) (B.tape self.new.parts.bank) (B.faults_of self.old.parts.bank) (B.faults_of self.new.parts.bank) self.old self.new }
         ensures caused { IsCausedBy (list_length self.old.parts.members.newest) (at + length from.now / 512)
             (IsWriteLacked self.old.course.window (list_length self.old.parts.members.newest) at (at + length from.now / 512)) self.old.parts.members self.new.parts.members result }
+        ensures failed { HaveRolesFailed self.old.parts.members self.new.parts.members (B.faults_of self.old.parts.bank) (B.faults_of self.new.parts.bank) }
         ensures dirty { OnOk result (is_clean self.new.parts.members.newest ≡ false) }
         ensures course { (TouchesWindow self.old.course.window at (at + length from.now / 512) → ⊥) → self.new.course ≡ self.old.course }
         ensures closed { OnOk result (TouchesWindow self.old.course.window at (at + length from.now / 512) → self.new.course ≡ closed 0) }

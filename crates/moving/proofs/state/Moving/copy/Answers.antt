@@ -31,7 +31,7 @@ use Rattle.moving.specs.Ready.{bytes_in}
 use Rattle.running_words.specs.Calls.{IsCopyDue}
 use Rattle.moving.proofs.Called.{not_254, called, alone-lossless}
 use Rattle.moving.proofs.Copied.{due-is, IsStripeTried, copied-more, copied-kept, uncopied-kept}
-use Rattle.moving.proofs.Kept.{ready, shapes-same, shapes-moved, alone-keeps, behind-keeps, behind-whole, with-buffer}
+use Rattle.moving.proofs.Kept.{ready, shapes-same, shapes-moved, alone-keeps, behind-keeps, behind-whole, with-buffer, live-of}
 use Rattle.moving.proofs.Settled.{risen-told, many-of}
 use Rattle.moving.proofs.state.Moving.copy.Goals as goal
 
@@ -104,7 +104,7 @@ invariant_of-self-in-Some-refusal g c =
       safe = did.safe;
     } in
     let kept = uncopied-kept g.B.Bank.tells given tape tape' scope a.epoch.first a.epoch.entries.items a.members m (is_carried a.work) a.course a.ahead a.window.items
-    c.in-Entered.span c.in-Entered.copied c.in-Entered.sectioned c.args.who end roles spares was.kept due.0 due.1 goes (not_254 c.args.who.caller c.requires.caller) c.ops-end-2.ensures.count did.grows tried
+    c.in-Entered.span c.in-Entered.copied c.in-Entered.sectioned c.args.who end roles spares was.kept due.0 (live-of was.kept c.in_default.ensures) due.1 goes (not_254 c.args.who.caller c.requires.caller) c.ops-end-2.ensures.count did.grows tried
     refusal (many-of m c.copy_next-moved.result.refusal refusal c.in-Some-refusal.is did.refused) in
     with-buffer (let len = (with_items a.buffer c.copy_next-moved.new.scratch).ok.0 in let ok = a.buffer.ok.0 in omega (arith, len, ok, was.buffer_fits))
     (ready (entries_of c.args.who end (losses_of roles spares ++ Refused refusal ∷ [])) was did.grows (shapes-moved given a.members m did.moved) kept
@@ -161,7 +161,7 @@ invariant_of-self-2 g c =
       safe = did.safe;
     } in
     let kept = copied-kept g.B.Bank.tells given tape tape' scope a.epoch.first a.epoch.entries.items a.members m (is_carried a.work) a.course a.ahead a.window.items
-    c.in-Entered.span c.in-Entered.copied c.in-Entered.sectioned c.args.who end roles spares was.kept due.0 due.1 goes (not_254 c.args.who.caller c.requires.caller) c.ops-end-2.ensures.count did.grows tried
+    c.in-Entered.span c.in-Entered.copied c.in-Entered.sectioned c.args.who end roles spares was.kept due.0 (live-of was.kept c.in_default.ensures) due.1 goes (not_254 c.args.who.caller c.requires.caller) c.ops-end-2.ensures.count did.grows tried
     left c.steps_left-left.ensures (λ t list copied. did.stands c.in_default-refusal.is t list (subst (λ (l : List ℕ). IsCopied span (take (512 * (span.hi - span.lo)) l) (tail_of a.members.newest) list) (sym c.as_slice.ensures.value) copied)) in
     with-buffer (let len = (with_items a.buffer c.copy_next-moved.new.scratch).ok.0 in let ok = a.buffer.ok.0 in omega (arith, len, ok, was.buffer_fits))
     (ready (entries_of c.args.who end (losses_of roles spares ++ Step CopiesStripe left ∷ [])) was did.grows (shapes-moved given a.members m did.moved) kept

@@ -10,6 +10,7 @@ use Rattle.flat_history.specs.declared.events.LostCause.TheVariants.{Command}
 use Rattle.flat_history.specs.Flat.{next_number}
 use Rattle.flat_history.specs.Plain.{entries_of}
 use Rattle.views.specs.Numbers.{is_carried}
+use Rattle.views.proofs.LiveLeft.{holder-left}
 use Rattle.views.proofs.HeldRows.{vacant-moved}
 use Rattle.views.proofs.MovedLaws.{grows-none, moved-same}
 use Rattle.call_entries.specs.Losing.{losses_of}
@@ -167,7 +168,7 @@ invariant_of-self-2 g c =
     (subst (λ (n : ℕ). IsMoving g.B.Bank.tells given tape' scope a.epoch.first (a.epoch.entries.items ++ entries_of c.args.who end ((Lost role Command ∷ losses_of roles spares) ++ Failed role ∷ [])) m (is_carried a.work) a.course buffer n)
     (sym (left-moved given a.members m a.course a.ahead moved))
     (failed-moves g.B.Bank.tells given tape tape' scope a.epoch.first a.epoch.entries.items a.members m (is_carried a.work) a.course buffer (left_in a.members a.course a.ahead) c.args.who end role roles spares
-    was.kept (begins-going a.epoch.entries.items c.args.who number) (not_254 c.args.who.caller c.requires.caller) c.ops-end-2.ensures.count did.grows out))
+    was.kept (holder-left given a.members role c.in-Some.slot here.placed here.unlost c.in-Some.ensures.held) (begins-going a.epoch.entries.items c.args.who number) (not_254 c.args.who.caller c.requires.caller) c.ops-end-2.ensures.count did.grows out))
     refl did.counts (record { long = (behind-keeps c.args.who end roles spares (Failed role) (λ n. refl) refl).long; free = (behind-keeps c.args.who end roles spares (Failed role) (λ n. refl) refl).free })
     (λ none whole. takes-lost (world_in given tape' scope a.epoch.first) role a.epoch.entries.items (entries_of c.args.who end ((Lost role Command ∷ losses_of roles spares) ++ Failed role ∷ [])) (lost-here role c.args.who end Command (losses_of roles spares ++ Failed role ∷ [])) none) did.given (scope-same given (Some a.backup) did.given (c.enter_behind.ensures.uuid ∙ c.enter-2.ensures.uuid) (c.enter_behind.ensures.given ∙ c.enter-2.ensures.given)) (c.enter_behind.ensures.first ∙ c.enter-2.ensures.first)
     c.make_room.ensures.items items (omega (arith, c.enter_behind.ensures.room, c.enter-2.ensures.room, c.in-Ok.ensures.ok))

@@ -1,4 +1,4 @@
-use Rattle.std.proofs.Common.{◌≤◌, ◌+◌, ℕ, [], ◌∷◌, Some, refl, sym, subst, arith}
+use Rattle.std.proofs.Common.{inl, ◌≤◌, ◌+◌, ℕ, [], ◌∷◌, Some, refl, sym, subst, arith}
 use Rattle.md_base.specs.declared.answers.Refusal.{Refusal}
 use Rattle.superblocks.specs.Reading.{list_length}
 use Rattle.flat_history.specs.declared.events.Event.TheVariants.{Refused}
@@ -79,3 +79,6 @@ returns-clause-caused g c =
     let fine = subst (λ p. (to ≤ list_length p.parts.members.newest) × ((refusal : Refusal) → IsListUnwritten (list_length p.parts.members.newest) c.args.at to p.parts.members refusal → ⊥)) c.self.view_is
     (omega (arith, size, within), c.in_default.ensures.why.1) in
     finish-caused (list_length m.newest) to (IsListUnwritten (list_length m.newest) c.args.at to) m c.finish_window.new.self.parts.members c.finish_window.result fine.0 fine.1 c.finish_window.ensures.caused
+
+pub returns-in-Some-clause-failed : goal.returns-in-Some-clause-failed
+returns-in-Some-clause-failed g c = rw (← c.self.view_is) (λ role slot held. inl held)

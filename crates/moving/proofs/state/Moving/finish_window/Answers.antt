@@ -1,4 +1,4 @@
-use Rattle.std.proofs.Common.{◌≤◌, ℕ, ◌-◌, ◌*◌, List, [], ◌∷◌, ◌++◌, take, Some, refl, sym, subst, arith}
+use Rattle.std.proofs.Common.{inl, ◌≤◌, ℕ, ◌-◌, ◌*◌, List, [], ◌∷◌, ◌++◌, take, Some, refl, sym, subst, arith}
 use Rattle.std.specs.Vec.{with_items}
 use Rattle.superblocks.specs.Reading.{final_shape, list_length}
 use Rattle.flat_history.specs.declared.events.Event.TheVariants.{Refused, Step}
@@ -31,7 +31,7 @@ use Rattle.moving.proofs.Called.{not_254, called, alone-lossless}
 use Rattle.moving.proofs.Kept.{ready, shapes-same, shapes-moved, alone-keeps, behind-keeps, behind-whole, with-buffer}
 use Rattle.moving.proofs.RecordLaws.{moved-if, moved-none, shapes-past}
 use Rattle.moving.proofs.Settled.{many-of}
-use Rattle.moving.proofs.WriteLaws.{finished-missing, open-is, finish-done, finish-refused}
+use Rattle.moving.proofs.WriteLaws.{finished-missing, open-is, finish-left, finish-done, finish-refused}
 use Rattle.moving.proofs.state.Moving.finish_window.Goals as goal
 
 -- ---- the members lack too many
@@ -269,3 +269,23 @@ returns-clause-called g c =
 
 pub returns-clause-caused : goal.returns-clause-caused
 returns-clause-caused g c = rw (← c.self.view_is) (omega arith, λ refusal many. never-both c.self.inside.members refusal c.in_default.ensures many)
+
+-- ---- what failed, and what is left
+
+pub returns-in-Some-clause-failed : goal.returns-in-Some-clause-failed
+returns-in-Some-clause-failed g c = rw (← c.self.view_is) (λ role slot held. inl held)
+
+pub returns-in-Some-refusal-clause-failed : goal.returns-in-Some-refusal-clause-failed
+returns-in-Some-refusal-clause-failed g c = rw (← c.self.view_is) c.finish_rest-rest.ensures.failed.roles
+
+pub returns-clause-failed : goal.returns-clause-failed
+returns-clause-failed g c = rw (← c.self.view_is) c.finish_rest-rest.ensures.failed.roles
+
+pub returns-clause-left : goal.returns-clause-left
+returns-clause-left g c =
+    let a = c.self.inside in
+    let m = c.finish_rest-rest.new.members in
+    let span = c.in-Entered.span in
+    let due = open-is _ span c.in-Entered.copied c.in-Entered.sectioned (subst (λ p. IsWindowOpen p) (sym c.self.view_is) c.requires.due) c.in-Entered.is in
+    rw (← c.self.view_is) (finish-left (g.B.Bank.given a.bank) a.members m a.course a.ahead span c.in-Entered.copied c.in-Entered.sectioned due
+    (moved-none (g.B.Bank.given a.bank) span a.members m c.finish_rest-rest.result.refusal c.in_default-refusal.is c.finish_rest-rest.ensures.moved) c.self.invariant.kept.members_are.active)

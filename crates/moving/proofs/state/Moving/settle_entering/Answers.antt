@@ -19,7 +19,7 @@ use Rattle.moving_kept.proofs.Resting.{resting-moves}
 use Rattle.moving_kept.proofs.Steps.{missing-since}
 use Rattle.running_words.specs.Parts.{left_in}
 use Rattle.moving.specs.Ready.{bytes_in}
-use Rattle.moving.proofs.Kept.{ready, shapes-same, shapes-moved, left-moved, alone-keeps, behind-keeps, behind-whole}
+use Rattle.moving.proofs.Kept.{ready, shapes-same, shapes-moved, left-moved, alone-keeps, behind-keeps, behind-whole, live-of}
 use Rattle.moving.proofs.Called.{not_254, alone-lossless}
 use Rattle.moving.proofs.Settled.{settling-long, settling-free, settles-so, risen-told, many-of}
 use Rattle.moving.proofs.state.Moving.settle_entering.Goals as goal
@@ -81,7 +81,7 @@ invariant_of-self-2 g c =
       safe = did.safe;
     } in
     let kept = flushed-moves g.B.Bank.tells given tape tape' scope a.epoch.first a.epoch.entries.items a.members m (is_carried a.work) a.course (bytes_in a.course.window a.window.items) (left_in a.members a.course a.ahead)
-    c.args.who end roles spares false was.kept (begins-going a.epoch.entries.items c.args.who number) (not_254 c.args.who.caller c.requires.caller) c.ops-end-2.ensures.count did.grows flushed c.args.event (settles-so c.args.event c.requires.event)
+    c.args.who end roles spares false was.kept (live-of was.kept c.in_default.ensures) (begins-going a.epoch.entries.items c.args.who number) (not_254 c.args.who.caller c.requires.caller) c.ops-end-2.ensures.count did.grows flushed c.args.event (settles-so c.args.event c.requires.event)
     (record { clean = did.clean c.in_default-refusal.is; settled = did.settled c.in_default-refusal.is }) in
     ready (entries_of c.args.who end (losses_of roles spares ++ c.args.event ∷ [])) was did.grows (shapes-moved given a.members m did.moved)
     (subst (λ (left : ℕ). IsMoving g.B.Bank.tells given tape' scope a.epoch.first (a.epoch.entries.items ++ entries_of c.args.who end (losses_of roles spares ++ c.args.event ∷ [])) m (is_carried a.work) a.course (bytes_in a.course.window a.window.items) left)
@@ -119,7 +119,7 @@ invariant_of-self-in-Some-refusal g c =
       safe = did.safe;
     } in
     let kept = unflushed-moves g.B.Bank.tells given tape tape' scope a.epoch.first a.epoch.entries.items a.members m (is_carried a.work) a.course (bytes_in a.course.window a.window.items) (left_in a.members a.course a.ahead)
-    c.args.who end roles spares false was.kept (begins-going a.epoch.entries.items c.args.who number) (not_254 c.args.who.caller c.requires.caller) c.ops-end-2.ensures.count did.grows flushed refusal
+    c.args.who end roles spares false was.kept (live-of was.kept c.in_default.ensures) (begins-going a.epoch.entries.items c.args.who number) (not_254 c.args.who.caller c.requires.caller) c.ops-end-2.ensures.count did.grows flushed refusal
     (many-of m c.settle-settled.result.refusal refusal c.in-Some-refusal.is did.refused) in
     ready (entries_of c.args.who end (losses_of roles spares ++ Refused refusal ∷ [])) was did.grows (shapes-moved given a.members m did.moved)
     (subst (λ (left : ℕ). IsMoving g.B.Bank.tells given tape' scope a.epoch.first (a.epoch.entries.items ++ entries_of c.args.who end (losses_of roles spares ++ Refused refusal ∷ [])) m (is_carried a.work) a.course (bytes_in a.course.window a.window.items) left)

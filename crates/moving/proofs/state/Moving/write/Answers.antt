@@ -1,4 +1,4 @@
-use Rattle.std.proofs.Common.{◌≡◌, ◌≤◌, ◌<◌, ◌+◌, ◌/◌, ℕ, true, false, Option, Err, List, [], length, refl, sym, ◌∙◌, ap, subst, arith, append-nil}
+use Rattle.std.proofs.Common.{inl, ◌≡◌, ◌≤◌, ◌<◌, ◌+◌, ◌/◌, ℕ, true, false, Option, Err, List, [], length, refl, sym, ◌∙◌, ap, subst, arith, append-nil}
 use Rattle.std.proofs.lemmas.List.Elements.{All-nil}
 use Rattle.md_base.specs.Sectors.{sectors_of}
 use Rattle.md_base.specs.declared.places.Span.{Span}
@@ -17,7 +17,7 @@ use Rattle.running_words.specs.Parts.{left_in}
 use Rattle.moving.specs.Writing.{TouchesWindow, IsWriteLacked, IsWriteEntered}
 use Rattle.moving.proofs.Called.{called}
 use Rattle.moving.proofs.Kept.{roomier, long-same}
-use Rattle.moving.proofs.WriteLaws.{beside-of, touched-open, roomed, called-then, called-roomed, alone-caused, refused-caused, behind-caused, alone-entered, refused-entered, behind-entered, untouched, never-ok}
+use Rattle.moving.proofs.WriteLaws.{failed-then, beside-of, touched-open, roomed, called-then, called-roomed, alone-caused, refused-caused, behind-caused, alone-entered, refused-entered, behind-entered, untouched, never-ok}
 use Rattle.moving.proofs.state.Moving.write.Goals as goal
 
 -- ---- memory is short
@@ -138,3 +138,25 @@ returns-clause-caused g c =
     let long : list_length mid.parts.members.newest ≡ list_length a.members.newest = long-same a.members.newest mid.parts.members.newest (record { shape = same.array.shape; final = same.final; size = same.array.size }) in
     rw (← c.self.view_is) (behind-caused a.course.window (list_length a.members.newest) (list_length mid.parts.members.newest) c.args.at to a.members mid.parts.members new.parts.members c.write_beside-2.result c.args.who
     mid.parts.entries new.parts.entries (sectors_of c.args.from.now) long c.in-Ok-finish_for.ensures.caused c.write_beside-2.ensures.entered c.write_beside-2.ensures.caused)
+
+-- ---- what failed
+
+pub returns-in-Err-clause-failed : goal.returns-in-Err-clause-failed
+returns-in-Err-clause-failed g c = λ role slot held. inl held
+
+pub returns-in-Err-make_room-clause-failed : goal.returns-in-Err-make_room-clause-failed
+returns-in-Err-make_room-clause-failed g c = rw (← c.self.view_is) (λ role slot held. inl held)
+
+pub returns-then-not-meets-clause-failed : goal.returns-then-not-meets-clause-failed
+returns-then-not-meets-clause-failed g c = rw (← c.self.view_is) c.write_beside.ensures.failed
+
+pub returns-in-Err-finish_for-clause-failed : goal.returns-in-Err-finish_for-clause-failed
+returns-in-Err-finish_for-clause-failed g c = rw (← c.self.view_is) c.in-Err-finish_for.ensures.failed
+
+pub returns-clause-failed : goal.returns-clause-failed
+returns-clause-failed g c =
+    let a = c.self.inside in
+    let mid = c.finish_for.new.self in
+    let new = c.write_beside-2.new.self in
+    rw (← c.self.view_is) (failed-then a.members mid.parts.members new.parts.members (g.B.Bank.faults_of a.bank) (g.B.Bank.faults_of mid.parts.bank) (g.B.Bank.faults_of new.parts.bank)
+    c.in-Ok-finish_for.ensures.called.never_falls c.write_beside-2.ensures.called.never_falls c.in-Ok-finish_for.ensures.failed c.write_beside-2.ensures.failed)

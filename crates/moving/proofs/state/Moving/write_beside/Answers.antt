@@ -1,4 +1,4 @@
-use Rattle.std.proofs.Common.{◌≡◌, ◌≤◌, ◌<◌, ◌+◌, ◌/◌, ℕ, false, List, [], ◌∷◌, ◌++◌, length, Some, refl, sym, ◌∙◌, ap, subst, arith}
+use Rattle.std.proofs.Common.{inl, ◌≡◌, ◌≤◌, ◌<◌, ◌+◌, ◌/◌, ℕ, false, List, [], ◌∷◌, ◌++◌, length, Some, refl, sym, ◌∙◌, ap, subst, arith}
 use Rattle.md_base.specs.Sectors.{Sector, sectors_of}
 use Rattle.md_base.specs.declared.answers.Refusal.{Refusal}
 use Rattle.superblocks.specs.Reading.{list_length}
@@ -159,7 +159,7 @@ invariant_of-self-in-Some-refusal g c =
       unused = did.unused;
       safe = did.safe;
     } in
-    let kept = unwritten-kept a.course a.ahead (bytes_in a.course.window a.window.items) c.args.who end roles spares at from relied begun was.kept goes c.requires.caller c.ops-end-2.ensures.count did.grows was.unlimited fine put refusal
+    let kept = unwritten-kept a.course a.ahead (bytes_in a.course.window a.window.items) c.args.who end roles spares at from relied begun was.kept goes c.requires.caller c.ops-end-2.ensures.count did.grows was.unlimited c.requires.some fine put refusal
     (record {
       refused = some-of (IsListUnwritten relied at to m) c.put_list-done.result.refusal refusal is did.refused;
       torn = λ begun. some-of (IsListTorn at to m) c.put_list-done.result.refusal refusal is (did.torn begun);
@@ -271,7 +271,7 @@ invariant_of-self-2 g c =
       unused = did.unused;
       safe = did.safe;
     } in
-    let kept = wrote-kept a.course a.ahead (bytes_in a.course.window a.window.items) c.args.who end roles spares at from relied begun was.kept goes c.requires.caller c.ops-end-2.ensures.count did.grows was.unlimited fine put
+    let kept = wrote-kept a.course a.ahead (bytes_in a.course.window a.window.items) c.args.who end roles spares at from relied begun was.kept goes c.requires.caller c.ops-end-2.ensures.count did.grows was.unlimited c.requires.some fine put
     (record { bytes = λ i. (c.type_inv.from i).fits; put = did.put none; tail = did.tail none; others = did.others; good = did.good none }) in
     with-rooms did.rows did.buffer did.far_rows did.far_buffer
     (ready (entries_of c.args.who end (losses_of roles spares ++ Wrote at (sectors_of from) ∷ [])) was did.grows (shapes-moved given a.members m did.moved) kept
@@ -328,3 +328,14 @@ pub returns-clause-left : goal.returns-clause-left
 returns-clause-left g c =
     let a = c.self.inside in
     rw (← c.self.view_is) (left-moved (g.B.Bank.given a.bank) a.members c.put_list-done.new.members a.course a.ahead c.put_list-done.ensures.moved)
+
+-- ---- what failed
+
+pub returns-in-Some-clause-failed : goal.returns-in-Some-clause-failed
+returns-in-Some-clause-failed g c = rw (← c.self.view_is) (λ role slot held. inl held)
+
+pub returns-in-Some-refusal-clause-failed : goal.returns-in-Some-refusal-clause-failed
+returns-in-Some-refusal-clause-failed g c = rw (← c.self.view_is) c.put_list-done.ensures.failed.roles
+
+pub returns-clause-failed : goal.returns-clause-failed
+returns-clause-failed g c = rw (← c.self.view_is) c.put_list-done.ensures.failed.roles

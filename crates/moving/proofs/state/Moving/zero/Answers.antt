@@ -28,7 +28,7 @@ use Rattle.running_words.specs.Calls.{IsZeroDue}
 use Rattle.running_words.specs.Parts.{left_in}
 use Rattle.moving.specs.Ready.{bytes_in}
 use Rattle.moving.proofs.Called.{not_254, called, alone-lossless}
-use Rattle.moving.proofs.Kept.{ready, shapes-same, shapes-moved, alone-keeps, behind-keeps, behind-whole, with-buffer}
+use Rattle.moving.proofs.Kept.{ready, shapes-same, shapes-moved, alone-keeps, behind-keeps, behind-whole, with-buffer, live-of}
 use Rattle.moving.proofs.Settled.{many-of}
 use Rattle.moving.proofs.ZeroLaws.{closed-at, zero-step, rows-zeroed, zero-refused, zero-done}
 use Rattle.moving.proofs.state.Moving.zero.Goals as goal
@@ -132,7 +132,7 @@ invariant_of-self-in-Some-refusal g c =
     (c.len-count.ensures ∙ here.backed.roles) c.vacant_roles-before.ensures c.newly_vacant-roles.ensures in
     let step = zero-step given a.members m tape tape' c.final_in-shape.result c.stripe_to_zero-stripe.result a.course.zeroed roles spares before after c.final_in-shape.ensures c.stripe_to_zero-stripe.ensures.value
     did.moved did.grows since did.clean did.rise did.unused did.others did.safe in
-    let kept = zero-refused a.course a.ahead c.args.who end roles spares is due.through was.kept goes c.requires.caller c.ops-end-2.ensures.count step refusal
+    let kept = zero-refused a.course a.ahead c.args.who end roles spares is due.through was.kept (live-of was.kept c.in_default.ensures) goes c.requires.caller c.ops-end-2.ensures.count step refusal
     (many-of m c.zero-done.result.refusal refusal c.in-Some-refusal.is did.refused) in
     with-buffer (let len = (with_items a.buffer c.zero-done.new.scratch).ok.0 in let ok = a.buffer.ok.0 in omega (arith, len, ok, was.buffer_fits))
     (ready (entries_of c.args.who end (losses_of roles spares ++ Refused refusal ∷ [])) was did.grows (shapes-moved given a.members m did.moved) kept
@@ -208,7 +208,7 @@ invariant_of-self-2 g c =
     (c.len-count.ensures ∙ here.backed.roles) c.vacant_roles-before.ensures c.newly_vacant-roles.ensures in
     let step = zero-step given a.members m tape tape' c.final_in-shape.result c.stripe_to_zero-stripe.result a.course.zeroed roles spares before after c.final_in-shape.ensures c.stripe_to_zero-stripe.ensures.value
     did.moved did.grows since did.clean did.rise did.unused did.others did.safe in
-    let kept = zero-done a.course a.ahead c.args.who end roles spares is due.through was.kept goes c.requires.caller c.ops-end-2.ensures.count step left c.steps_left-left.ensures more
+    let kept = zero-done a.course a.ahead c.args.who end roles spares is due.through was.kept (live-of was.kept c.in_default.ensures) goes c.requires.caller c.ops-end-2.ensures.count step left c.steps_left-left.ensures more
     (rows-zeroed given a.members m tape' c.final_in-shape.result c.stripe_to_zero-stripe.result a.course.zeroed c.final_in-shape.ensures c.stripe_to_zero-stripe.ensures.value (did.stands c.in_default-refusal.is)) in
     with-buffer (let len = (with_items a.buffer c.zero-done.new.scratch).ok.0 in let ok = a.buffer.ok.0 in omega (arith, len, ok, was.buffer_fits))
     (ready (entries_of c.args.who end (losses_of roles spares ++ Step ZeroesStripe left ∷ [])) was did.grows (shapes-moved given a.members m did.moved) kept

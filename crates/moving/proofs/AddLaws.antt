@@ -1,0 +1,228 @@
+-- A slot is made a spare in a reshape, from what `add_member` says of it: what is kept, done or refused, and what the call leaves.
+use Rattle.std.proofs.Common.{◌≡◌, ◌≢◌, inl, inr, ℕ, ◌≤◌, ◌==◌, Bool, true, false, List, [], length, slice_set, get_or, Some, refl, sym, ◌∙◌, ap, subst, arith, append-nil}
+use Rattle.std.proofs.lemmas.Bool.{cases_lt}
+use Rattle.std.proofs.lemmas.Bool.Decides.{nat_tests}
+use Rattle.std.proofs.lemmas.List.Elements.{All-nil}
+use Rattle.std.proofs.lemmas.List.{get_or-set_same, get_or_past, length-set}
+use Rattle.md_base.specs.Sectors.{Sector}
+use Rattle.md_base.specs.declared.answers.Refusal.{Refusal}
+use Rattle.bank.specs.declared.bank.Operation.{Operation}
+use Rattle.bank.specs.Given.{Given}
+use Rattle.bank.specs.Tape.{IsIn, disk}
+use Rattle.sb1.specs.declared.sb.Sb.{Sb}
+use Rattle.superblocks.specs.declared.members.Members.{Members}
+use Rattle.superblocks.specs.Reading.{Scope}
+use Rattle.superblocks.specs.Held.{IsSecondHalf}
+use Rattle.flat_history.specs.declared.events.Entry.{Entry}
+use Rattle.flat_history.specs.Epochs.{HasRoomForEvents, OpensAlike}
+use Rattle.flat_history.specs.Sound.{OpensFit}
+use Rattle.shape_views.specs.Regions.{DoWithout, backup_of}
+use Rattle.shape_changes.specs.Safety.{HasLiveSlot}
+use Rattle.shape_changes.specs.Steady.{IsMoreTold, IsSafeOver}
+use Rattle.views.specs.declared.work.Work.{Work}
+use Rattle.views.specs.Flushing.{OnlyFlushesAdded}
+use Rattle.views.specs.Lacking.{AreLostSince}
+use Rattle.views.specs.Moving.{Grows}
+use Rattle.views.specs.Numbers.{is_carried, free_number, IsOfScope}
+use Rattle.views.specs.Placed.{IsPlaced}
+use Rattle.views.specs.Rebuilding.{Held, with_spare}
+use Rattle.views.specs.Under.{IsRestKept}
+use Rattle.views.proofs.MovedLaws.{grows-none, grows-then}
+use Rattle.array_kept.specs.Kept.{scope_in}
+use Rattle.array_kept.specs.Calls.{IsUnaddable, IsLossBy, AreLossesOf, IsEndOf, IsWorkAdded}
+use Rattle.array_kept.proofs.ReadyLaws.{list-same}
+use Rattle.calls_kept.proofs.AddLaws.{slot-free}
+use Rattle.calls_kept.proofs.AddedKept.{AddsSafe, with_carried, carries-number, carries-only}
+use Rattle.calls_kept.proofs.AddedLosses.{IsAddDone, spares-added}
+use Rattle.kept_history.specs.Safe.{world_in, IsFilledRight}
+use Rattle.kept_history.specs.Told.{told_now}
+use Rattle.kept_history.proofs.Seen.{now-more}
+use Rattle.grow_asked.specs.declared.window.PhasesLeft.{PhasesLeft}
+use Rattle.course_kept.specs.declared.course.Course.{Course}
+use Rattle.moving_kept.specs.Moving.{IsMoving}
+use Rattle.moving_kept.proofs.Quiet.{safe-now}
+use Rattle.moving_kept.proofs.AddedSpare.{IsSpareMade}
+use Rattle.moving_kept.proofs.Steps.{missing-since}
+use Rattle.running_words.specs.Parts.{RunningParts}
+use Rattle.running_words.specs.Calls.{IsCalled}
+use Rattle.running_words.specs.Adding.{IsAddCalled}
+use Rattle.moving.specs.Ready.{IsReady}
+
+-- ---- the numbers that superblocks may bear
+
+number-known : (l : List Bool) (number : ℕ) → get_or (slice_set l number true) number true ≡ true
+number-known l number = elim (cases_lt number (length l)) [
+  | inl within ↦ get_or-set_same l number true true within
+  | inr past ↦ get_or_past (slice_set l number true) number true (let long = length-set l number true in omega (arith, past, long))
+]
+
+-- an array that keeps its record keeps it where more numbers are known
+more-numbers : {tells : Type 0} {given : Given} {tape : List Operation} {scope : Scope} {first : ℕ} {entries : List Entry} {members : Members} {carried : ℕ → Bool} {course : Course} {buffer : List ℕ} {left : ℕ}
+    (more : ℕ → Bool) → ((number : ℕ) → carried number ≡ true → more number ≡ true)
+    → IsMoving tells given tape scope first entries members carried course buffer left → HasLiveSlot members → IsMoving tells given tape scope first entries members more course buffer left
+more-numbers {tells = tells} {given = given} {tape = tape} {scope = scope} {first = first} {entries = entries} {members = members} {carried = carried} more carries was live = record {
+  slots = was.slots;
+  members_are = was.members_are;
+  course_is = was.course_is;
+  sizes_are = was.sizes_are;
+  left_told = was.left_told;
+  levelled = was.levelled;
+  gone = was.gone;
+  unclean = was.unclean;
+  recorded = was.recorded;
+  stored = was.stored;
+  listed = was.listed;
+  safe = λ t fills room alike. let s = was.safe t fills room alike in record { past = s.past; sound = s.sound; now = inl (now t fills room alike); counted = s.counted };
+  last_step = was.last_step;
+}
+  where
+    told : IsMoreTold (told_now (world_in given tape scope first) carried true entries) (told_now (world_in given tape scope first) more true entries)
+    told = record { size = refl; values = λ x lt v may. may; gone = λ role is. is; unclean = λ is. is; reshaping = λ is. is; carried = carries }
+
+    now : tells → IsFilledRight (world_in given tape scope first) entries → HasRoomForEvents (world_in given tape scope first) → OpensAlike (world_in given tape scope first)
+        → IsSafeOver (world_in given tape scope first) given (told_now (world_in given tape scope first) more true entries) members tape
+    now t fills room alike = now-more (OpensFit (world_in given tape scope first)) scope given (told_now (world_in given tape scope first) carried true entries) (told_now (world_in given tape scope first) more true entries)
+        members (disk given.start tape) told (safe-now was live t fills room alike)
+
+pub with-number : {tells : Type 0} {given : Given} {tape : List Operation} {scope : Scope} {first : ℕ} {entries : List Entry} {members : Members} {work : Work} {course : Course} {ahead : PhasesLeft}
+    {window : List ℕ} {faults : ℕ → ℕ} {steps room rows buffer far_rows far_buffer : ℕ} (number : ℕ)
+    → HasLiveSlot members → IsReady tells given tape scope first entries members work course ahead window faults steps room rows buffer far_rows far_buffer
+    → IsReady tells given tape scope first entries members (with_carried number work) course ahead window faults steps room rows buffer far_rows far_buffer
+with-number {work = work} number live was = record {
+  kept = more-numbers (is_carried (with_carried number work)) (carries-number number work) was.kept live;
+  synced = was.synced;
+  sized = was.sized;
+  unlimited = was.unlimited;
+  full = was.full;
+  settled = was.settled;
+  planned = was.planned;
+  wide = was.wide;
+  failed = was.failed;
+  room_left = was.room_left;
+  rows_fit = was.rows_fit;
+  buffer_fits = was.buffer_fits;
+  far_rows_fit = was.far_rows_fit;
+  far_buffer_fits = was.far_buffer_fits;
+}
+
+-- ---- what an update that makes a slot a spare leaves
+
+-- a slot that may be made a spare isn't the backup
+pub apart-from : (given : Given) (backup slot : ℕ) (m : Members) → IsPlaced given m → ((refusal : Refusal) → IsUnaddable given (Some backup) slot m refusal → ⊥) → backup ≢ slot
+apart-from given backup slot m placed addable same = slot-free given (Some backup) slot m placed addable (inl (equal backup slot same))
+  where
+    equal : (a b : ℕ) → a ≡ b → (a == b) ≡ true
+    equal a b same = grind (arith, nat_tests, same)
+
+-- flushes are made where a slot is looked at
+pub looked-grows : {tells : Type 0} {tape mid : List Operation} → (tells → OnlyFlushesAdded tape mid) → Grows tells tape mid
+looked-grows looked = record { more = λ t. ((looked t).0, (looked t).2) }
+
+module _ {tells : Type 0} {given : Given} {tape mid tape' : List Operation} {slot : ℕ} {sb : Sb} {old new : Members} {lost : ℕ} {before after : ℕ → ℕ} (scope : Scope) (work : Work) (number roles spares : ℕ)
+    (did : IsAddDone tells given slot sb old new lost mid tape' before after) where
+  pub spare-made : backup_of scope ≢ slot → DoWithout old → IsOfScope scope given slot sb → sb.dev_number ≡ number → is_carried work number ≡ false → (tells → OnlyFlushesAdded tape mid)
+      → (tells → (sector : Sector) → IsIn (disk given.start mid slot 9) sector → IsSecondHalf sb sector) → (tells → IsRestKept (with_spare slot sb old) (disk given.start mid) (disk given.start tape'))
+      → AddsSafe tells given slot sb old new mid tape' → AreLostSince old new roles spares before after
+      → IsSpareMade tells given tape mid tape' scope old new (is_carried work) (is_carried (with_carried number work)) slot sb roles
+  spare-made apart does of_scope is unknown looked second rest safe since = record {
+    there = did.there;
+    apart = apart;
+    untaken = did.untaken;
+    does = does;
+    made = did.made;
+    own = did.own;
+    of_scope = of_scope;
+    unknown = ap (is_carried work) is ∙ unknown;
+    carries = carries-number number work;
+    known = ap (is_carried (with_carried number work)) is ∙ number-known work.carried number;
+    looked = looked;
+    second = second;
+    moved = did.moved;
+    since = missing-since roles did.moved since.vacant;
+    clean = did.clean;
+    grows = did.grows;
+    others = did.others;
+    rest = rest;
+    rise = did.rise;
+    safe = safe;
+  }
+
+-- ---- what the call leaves
+
+-- nothing is done
+pub still-called : {B : Type 0} {tells : Type 0} {given : Given} {tape : List Operation} {faults : ℕ → ℕ} {slot : ℕ} (array : RunningParts B)
+    → IsEndOf tells array.parts.first array.parts.entries tape → IsAddCalled tells given tape tape faults faults slot array array
+still-called {faults = faults} array ended = record {
+  grows = grows-none (λ t. refl);
+  ended = ended;
+  held = λ role s held. held;
+  spares = λ s is. inl is;
+  losses = record { more = []; grown = sym (append-nil array.parts.entries); failed = All-nil (λ e. IsLossBy (Held array.parts.members) faults faults e.event) };
+  never_falls = λ s. omega arith;
+  work = record { resync = refl; rebuilt = refl; carried = λ number is. is; one = λ number is. inl is };
+  same = record { array = record { uuid = refl; given = refl; first = refl; backup = refl; shape = refl; size = refl; list = λ t. refl }; final = refl; backward = refl; ahead = refl };
+}
+
+-- no slot is made one
+pub none-added : {B : Type 0} {tells : Type 0} {given : Given} {tape tape' : List Operation} {before after : ℕ → ℕ} {slot : ℕ} {old new : RunningParts B}
+    → IsCalled tells given tape tape' before after old new → IsAddCalled tells given tape tape' before after slot old new
+none-added was = record {
+  grows = was.grows;
+  ended = was.ended;
+  held = was.held;
+  spares = λ s is. inl (was.spares s is);
+  losses = was.losses;
+  never_falls = was.never_falls;
+  work = record {
+    resync = ap (λ (w : Work). w.resync) was.work;
+    rebuilt = ap (λ (w : Work). w.rebuilt) was.work;
+    carried = λ number is. ap (λ (w : Work). is_carried w number) was.work ∙ is;
+    one = λ number is. inl (sym (ap (λ (w : Work). is_carried w number) was.work) ∙ is);
+  };
+  same = was.same;
+}
+
+-- What an add does over the same bank: the epoch and the phases ahead are those that they were, and one number more is known.
+pub record AddsNumber {B : Type 0} (number : ℕ) (old new : RunningParts B) : Type 0 where
+  pub uuid : new.parts.uuid ≡ old.parts.uuid
+  pub given : new.parts.given ≡ old.parts.given
+  pub first : new.parts.first ≡ old.parts.first
+  pub backup : new.parts.backup ≡ old.parts.backup
+  pub work : new.parts.work ≡ with_carried number old.parts.work
+  pub ahead : new.ahead ≡ old.ahead
+
+-- the one number is the free one
+pub adds-one : (newest : Sb) (number : ℕ) (work : Work) → free_number newest work ≡ Some number → IsWorkAdded newest work (with_carried number work)
+adds-one newest number work free = record { resync = refl; rebuilt = refl; carried = carries-number number work; one = carries-only newest number work free }
+
+pub add-called : {B : Type 0} {tells : Type 0} {given : Given} {tape mid tape' : List Operation} {before after : ℕ → ℕ} {slot : ℕ} {sb : Sb} {lost : ℕ} {old new : RunningParts B} (number : ℕ)
+    → (tells → OnlyFlushesAdded tape mid) → IsAddDone tells given slot sb old.parts.members new.parts.members lost mid tape' before after → IsEndOf tells new.parts.first new.parts.entries tape'
+    → AreLossesOf old.parts.members before after old.parts.entries new.parts.entries → free_number old.parts.members.newest old.parts.work ≡ Some number → AddsNumber number old new
+    → (tells → old.parts.first ≤ length tape) → IsAddCalled tells given tape tape' before after slot old new
+add-called {tells = tells} {given = given} {tape = tape} {tape' = tape'} {old = old} {new = new} number looked did ended losses free epoch begun = record {
+  grows = grows;
+  ended = ended;
+  held = did.moved.held;
+  spares = spares-added did;
+  losses = losses;
+  never_falls = did.counts;
+  work = subst (λ (w : Work). IsWorkAdded old.parts.members.newest old.parts.work w) (sym epoch.work) (adds-one old.parts.members.newest number old.parts.work free);
+  same = record {
+    array = record {
+      uuid = epoch.uuid;
+      given = epoch.given;
+      first = epoch.first;
+      backup = epoch.backup;
+      shape = did.moved.shape;
+      size = did.moved.size;
+      list = list-same given (scope_in given old.parts.uuid old.parts.given old.parts.backup) old.parts.first refl
+          (λ i. scope_in given (epoch.uuid i) (epoch.given i) (epoch.backup i)) epoch.first grows begun;
+    };
+    final = did.moved.reshape.final;
+    backward = did.moved.reshape.backward;
+    ahead = epoch.ahead;
+  };
+}
+  where
+    grows : Grows tells tape tape'
+    grows = grows-then (looked-grows looked) did.grows

@@ -1,0 +1,61 @@
+-- What an array in a reshape keeps over a bank of which only counts of faults have risen.
+use Rattle.std.proofs.Common.{◌≡◌, ℕ, ◌≤◌, Bool, List, Option, sym, subst, arith}
+use Rattle.bank.specs.Given.{Given}
+use Rattle.bank.specs.declared.bank.Operation.{Operation}
+use Rattle.superblocks.specs.declared.members.Members.{Members}
+use Rattle.superblocks.specs.Reading.{Scope}
+use Rattle.flat_history.specs.declared.events.Entry.{Entry}
+use Rattle.views.specs.declared.work.Work.{Work}
+use Rattle.array_kept.specs.Kept.{scope_in}
+use Rattle.grow_asked.specs.declared.window.PhasesLeft.{PhasesLeft}
+use Rattle.course_kept.specs.declared.course.Course.{Course}
+use Rattle.moving_kept.specs.Moving.{IsMoving}
+use Rattle.moving.specs.Ready.{IsReady}
+
+-- nothing was written
+moving-still : {tells : Type 0} {given : Given} {tape tape' : List Operation} {scope : Scope} {first : ℕ} {entries : List Entry} {members : Members} {carried : ℕ → Bool} {course : Course} {buffer : List ℕ} {left : ℕ}
+    → (tells → tape' ≡ tape) → IsMoving tells given tape scope first entries members carried course buffer left → IsMoving tells given tape' scope first entries members carried course buffer left
+moving-still {tells = tells} {given = given} {tape' = tape'} {scope = scope} {first = first} {entries = entries} {members = members} {carried = carried} {course = course} {buffer = buffer} {left = left} same was = record {
+  slots = was.slots;
+  members_are = was.members_are;
+  course_is = was.course_is;
+  sizes_are = was.sizes_are;
+  left_told = was.left_told;
+  levelled = λ t. (there t).levelled t;
+  gone = λ t. (there t).gone t;
+  unclean = λ t. (there t).unclean t;
+  recorded = λ t. (there t).recorded t;
+  stored = λ t. (there t).stored t;
+  listed = λ t. (there t).listed t;
+  safe = λ t. (there t).safe t;
+  last_step = λ t. (there t).last_step t;
+}
+  where
+    there : tells → IsMoving tells given tape' scope first entries members carried course buffer left
+    there t = subst (λ (l : List Operation). IsMoving tells given l scope first entries members carried course buffer left) (sym (same t)) was
+
+pub ready-still : {tells : Type 0} {given given' : Given} {tape tape' : List Operation} {uuid : List ℕ} {slots : ℕ} {backup : Option ℕ} {first : ℕ} {entries : List Entry} {members : Members} {work : Work} {course : Course}
+    {ahead : PhasesLeft} {window : List ℕ} {faults faults' : ℕ → ℕ} {steps room rows buffer far_rows far_buffer : ℕ} → given' ≡ given → (tells → tape' ≡ tape) → ((s : ℕ) → faults s ≤ faults' s)
+    → IsReady tells given tape (scope_in given uuid slots backup) first entries members work course ahead window faults steps room rows buffer far_rows far_buffer
+    → IsReady tells given' tape' (scope_in given' uuid slots backup) first entries members work course ahead window faults' steps room rows buffer far_rows far_buffer
+ready-still {tells = tells} {given = given} {tape' = tape'} {uuid = uuid} {slots = slots} {backup = backup} {first = first} {entries = entries} {members = members} {work = work} {course = course} {ahead = ahead} {window = window}
+    {faults = faults} {faults' = faults'} {steps = steps} {room = room} {rows = rows} {buffer = buffer} {far_rows = far_rows} {far_buffer = far_buffer} known same rose was =
+    subst (λ (g : Given). IsReady tells g tape' (scope_in g uuid slots backup) first entries members work course ahead window faults' steps room rows buffer far_rows far_buffer) (sym known) (record {
+      kept = moving-still same was.kept;
+      synced = was.synced;
+      sized = was.sized;
+      unlimited = was.unlimited;
+      full = λ t. (there t).full t;
+      settled = λ t. (there t).settled t;
+      planned = was.planned;
+      wide = was.wide;
+      failed = λ slot lt lost. let before = was.failed slot lt lost in let more = rose slot in omega (arith, before, more);
+      room_left = was.room_left;
+      rows_fit = was.rows_fit;
+      buffer_fits = was.buffer_fits;
+      far_rows_fit = was.far_rows_fit;
+      far_buffer_fits = was.far_buffer_fits;
+    })
+  where
+    there : tells → IsReady tells given tape' (scope_in given uuid slots backup) first entries members work course ahead window faults steps room rows buffer far_rows far_buffer
+    there t = subst (λ (l : List Operation). IsReady tells given l (scope_in given uuid slots backup) first entries members work course ahead window faults steps room rows buffer far_rows far_buffer) (sym (same t)) was

@@ -1,0 +1,92 @@
+use Rattle.std.proofs.Common.{◌≡◌, ℕ, List, [], ◌∷◌, ◌++◌, Option, Some, Err, refl, sym, ◌∙◌, ap, subst, arith}
+use denote.Builtin.{unit}
+use Rattle.md_base.specs.declared.answers.Refusal.{Refusal}
+use Rattle.md_base.specs.declared.answers.Refusal.TheVariants.{SlotFault}
+use Rattle.md_base.specs.declared.answers.Fault.TheVariants.{Refused as IsRefusedWith}
+use Rattle.bank.specs.Given.{Given}
+use Rattle.superblocks.specs.declared.members.Members.{Members}
+use Rattle.superblocks.specs.Reading.{list_length}
+use Rattle.flat_history.specs.declared.events.Entry.{Entry}
+use Rattle.flat_history.specs.declared.events.Event.TheVariants.{Refused}
+use Rattle.flat_history.specs.Flat.{next_number}
+use Rattle.flat_history.specs.Plain.{entries_of}
+use Rattle.views.specs.Numbers.{is_carried}
+use Rattle.views.proofs.MovedLaws.{grows-none, moved-same}
+use Rattle.array_kept.specs.Kept.{scope_in}
+use Rattle.array_kept.specs.Calls.{IsUnaddable, IsAddedFor}
+use Rattle.array_kept.proofs.LossLaws.{ended-behind}
+use Rattle.array_kept.proofs.ReadyLaws.{scope-same}
+use Rattle.calls_kept.proofs.AddLaws.{slot-there, unadded_reply}
+use Rattle.kept_history.proofs.Records.{begins-going}
+use Rattle.moving_kept.proofs.AddedSpare.{unadded-moves}
+use Rattle.running_words.specs.Parts.{left_in}
+use Rattle.moving.specs.Ready.{bytes_in}
+use Rattle.moving.proofs.AddLaws.{still-called, none-added}
+use Rattle.moving.proofs.Called.{not_254, called, alone-lossless}
+use Rattle.moving.proofs.Kept.{ready, shapes-same, alone-keeps}
+use Rattle.moving.proofs.state.Moving.add.Goals as goal
+
+-- a refusal before the slot is touched
+unadded-for : (T : Type 0) (given : Given) (backup : Option ℕ) (slot : ℕ) (old new : Members) (before after : ℕ → ℕ) (refusal : Refusal) → IsUnaddable given backup slot old refusal → new ≡ old
+    → IsAddedFor {T = T} given backup slot old new before after (Err (IsRefusedWith refusal))
+unadded-for T given backup slot old new before after (SlotFault failed) why same = absurd why
+unadded-for T given backup slot old new before after refusal why same = (why, same)
+
+pub is_held_up-requires : goal.is_held_up-requires
+is_held_up-requires g c =
+    let a = c.self.inside in
+    rw (← c.self.view_is) (record { slot = slot-there (g.B.Bank.given a.bank) (Some a.backup) c.args.slot a.members c.self.invariant.kept.members_are.placed c.in_default.ensures })
+
+pub make_spare-requires-clause-addable : goal.make_spare-requires-clause-addable
+make_spare-requires-clause-addable g c = rw (← c.self.view_is) c.in_default.ensures
+
+pub returns-then-is_held_up-clause-called : goal.returns-then-is_held_up-clause-called
+returns-then-is_held_up-clause-called g c = rw (← c.self.view_is) (still-called _ (λ t. (c.self.invariant.kept.recorded t).ended))
+
+-- ---- it may not be one
+
+pub invariant_of-self-2 : goal.invariant_of-self-2
+invariant_of-self-2 g c =
+    let was = c.self.invariant in
+    let a = c.self.inside in
+    let given = g.B.Bank.given a.bank in
+    let refusal = c.in-Some.refusal in
+    let end = c.ops-end.result in
+    let number : c.args.who.number ≡ next_number c.args.who.caller a.epoch.entries.items = c.requires.next ∙ ap (λ p. next_number c.args.who.caller p.parts.entries) (sym c.self.view_is) in
+    ready (entries_of c.args.who end (Refused refusal ∷ [])) was (grows-none (λ t. refl)) (shapes-same a.members.newest)
+    (unadded-moves g.B.Bank.tells given (g.B.Bank.tape a.bank) (scope_in given a.epoch.uuid a.epoch.given (Some a.backup)) a.epoch.first a.epoch.entries.items a.members (is_carried a.work) a.course
+    (bytes_in a.course.window a.window.items) (left_in a.members a.course a.ahead) c.args.who end (Some a.backup) c.args.slot refusal
+    was.kept (begins-going a.epoch.entries.items c.args.who number) (not_254 c.args.who.caller c.requires.caller) c.ops-end.ensures.count c.in-Some.ensures)
+    refl (λ slot. omega arith) (alone-keeps c.args.who end (Refused refusal) (λ n. refl) refl) (λ none whole. whole) refl (scope-same given (Some a.backup) refl c.enter.ensures.uuid c.enter.ensures.given) c.enter.ensures.first c.make_room.ensures.items c.enter.ensures.items
+    (omega (arith, c.enter.ensures.room, c.in-Ok.ensures.ok))
+
+pub returns-clause-answered : goal.returns-clause-answered
+returns-clause-answered g c =
+    let refusal = c.in-Some.refusal in
+    let a = c.self.inside in
+    let number : c.args.who.number ≡ next_number c.args.who.caller a.epoch.entries.items = c.requires.next ∙ ap (λ p. next_number c.args.who.caller p.parts.entries) (sym c.self.view_is) in
+    rw (← c.self.view_is) (unadded_reply (g.B.Bank.given a.bank) (Some a.backup) a.members (list_length a.members.newest) c.args.who a.epoch.entries.items c.enter.new.epoch.entries.items
+    c.ops-end.result c.args.slot refusal c.in-Some.ensures
+    (c.enter.ensures.items ∙ ap (λ (l : List Entry). l ++ entries_of c.args.who c.ops-end.result (Refused refusal ∷ [])) c.make_room.ensures.items) number)
+
+pub returns-clause-caused : goal.returns-clause-caused
+returns-clause-caused g c =
+    let now = c.args.self.now.parts in
+    let a = c.self.inside in
+    unadded-for unit.Denot (g.B.Bank.given now.bank) now.backup c.args.slot now.members a.members (g.B.Bank.faults_of now.bank) (g.B.Bank.faults_of a.bank) c.in-Some.refusal
+    (subst (λ p. IsUnaddable (g.B.Bank.given p.parts.bank) p.parts.backup c.args.slot p.parts.members c.in-Some.refusal) c.self.view_is c.in-Some.ensures) (ap (λ p. p.parts.members) c.self.view_is)
+
+pub returns-clause-called : goal.returns-clause-called
+returns-clause-called g c =
+    let was = c.self.invariant in
+    let a = c.self.inside in
+    let given = g.B.Bank.given a.bank in
+    let faults = g.B.Bank.faults_of a.bank in
+    let end = c.ops-end.result in
+    let refusal = c.in-Some.refusal in
+    rw (← c.self.view_is) (none-added (called (grows-none (λ t. refl)) (moved-same given given a.members a.members refl refl was.kept.members_are.placed was.kept.members_are.unlost)
+    (ended-behind (g.B.Bank.tape a.bank) c.enter.new.epoch.first c.make_room.new.self.items c.args.who end [] (Refused refusal) c.enter.ensures.items c.ops-end.ensures.count)
+    (alone-lossless a.members faults faults a.epoch.entries.items c.make_room.new.self.items c.enter.new.epoch.entries.items c.args.who end (Refused refusal) tt c.make_room.ensures.items c.enter.ensures.items)
+    (λ slot. omega arith)
+    (record { uuid = c.enter.ensures.uuid; given = c.enter.ensures.given; first = c.enter.ensures.first; backup = refl; work = refl; ahead = refl })
+    (λ t. (was.kept.recorded t).begun)))

@@ -1,0 +1,13 @@
+use Rattle.std.proofs.Common.{arith}
+use Rattle.superblocks.proofs.ValidFields.{few-roles}
+use Rattle.moving.proofs.state.Moving.is_held_up.Goals as goal
+
+pub has_unnamed-requires-clause-few : goal.has_unnamed-requires-clause-few
+has_unnamed-requires-clause-few g c =
+    let placed = c.self.invariant.kept.members_are.placed in
+    let few = few-roles c.self.inside.members.newest placed.fit.valid in
+    let n = placed.roles in
+    omega (arith, few, n)
+
+pub returns-then-faults-eq0 : goal.returns-then-faults-eq0
+returns-then-faults-eq0 g c = rw (← c.self.view_is) (record { fresh = λ no lost zero. c.has_unnamed.ensures.none no })

@@ -1,0 +1,447 @@
+use Rattle.std.proofs.Common.{◌≡◌, inr, ◌+◌, ◌≤◌, ℕ, true, List, [], ◌∷◌, ◌++◌, Some, refl, sym, ◌∙◌, ap, subst, arith}
+use Rattle.md_base.specs.Shapes.{has_slot}
+use Rattle.md_base.specs.declared.answers.Refusal.{Refusal}
+use Rattle.md_base.specs.declared.answers.Refusal.TheVariants.{SlotFault}
+use Rattle.bank.specs.Given.{Given}
+use Rattle.bank.specs.Tape.{disk}
+use Rattle.superblocks.specs.Reading.{list_length}
+use Rattle.superblocks.proofs.ValidFields.{few-roles}
+use Rattle.flat_history.specs.declared.events.Entry.{Entry}
+use Rattle.flat_history.specs.declared.events.Event.TheVariants.{Refused, Added}
+use Rattle.flat_history.specs.Flat.{next_number}
+use Rattle.flat_history.specs.Plain.{entries_of}
+use Rattle.views.specs.Lacking.{AreUnnamed}
+use Rattle.views.specs.Numbers.{is_carried, free_number}
+use Rattle.views.specs.Placed.{IsPlaced}
+use Rattle.views.specs.Rebuilding.{AreSparesFree, with_spare}
+use Rattle.views.specs.Under.{IsRestKept}
+use Rattle.views.proofs.Flushed.{contents-added}
+use Rattle.views.proofs.MovedLaws.{grows-then, moved-same}
+use Rattle.call_entries.specs.Losing.{losses_of}
+use Rattle.call_entries.proofs.CallLaws.{losses-are}
+use Rattle.array_kept.specs.Kept.{scope_in}
+use Rattle.array_kept.specs.Calls.{IsFirstOffset, IsUnaddable}
+use Rattle.array_kept.proofs.LossLaws.{losses-behind, ended-behind}
+use Rattle.array_kept.proofs.ReadyLaws.{scope-same}
+use Rattle.calls_kept.proofs.AddLaws.{slot-there, slot-free, slot-does, slot-unspare, slot-fits, slot-room, slot-of-scope, is-free, second-half, stored-as, added_reply, faulted_reply}
+use Rattle.calls_kept.proofs.AddedKept.{AddsSafe, with_carried}
+use Rattle.calls_kept.proofs.AddedLosses.{add-done, others-lost, since-added}
+use Rattle.kept_history.proofs.Records.{begins-going}
+use Rattle.moving_kept.specs.Moving.{IsMoving}
+use Rattle.moving_kept.proofs.AddedSpare.{looked-moves, added-moves, added-lost-moves}
+use Rattle.running_words.specs.Parts.{left_in}
+use Rattle.moving.specs.Ready.{bytes_in}
+use Rattle.moving.proofs.AddLaws.{with-number, apart-from, looked-grows, spare-made, none-added, add-called}
+use Rattle.moving.proofs.Called.{not_254, called, alone-lossless}
+use Rattle.moving.proofs.Kept.{ready, shapes-same, shapes-moved, left-moved, alone-keeps, behind-keeps, behind-whole, live-of}
+use Rattle.moving.proofs.state.Moving.make_spare.Goals as goal
+
+pub look_at-requires-clause-slot : goal.look_at-requires-clause-slot
+look_at-requires-clause-slot g c =
+    let addable = subst (λ p. (refusal : Refusal) → IsUnaddable (g.B.Bank.given p.parts.bank) p.parts.backup c.args.slot p.parts.members refusal → ⊥) (sym c.self.view_is) c.requires.addable in
+    slot-there (g.B.Bank.given c.self.inside.bank) (Some c.self.inside.backup) c.args.slot c.self.inside.members c.self.invariant.kept.members_are.placed addable
+
+pub look_at-requires-clause-room : goal.look_at-requires-clause-room
+look_at-requires-clause-room g c =
+    let addable = subst (λ p. (refusal : Refusal) → IsUnaddable (g.B.Bank.given p.parts.bank) p.parts.backup c.args.slot p.parts.members refusal → ⊥) (sym c.self.view_is) c.requires.addable in
+    slot-room (g.B.Bank.given c.self.inside.bank) (Some c.self.inside.backup) c.args.slot c.self.inside.members c.self.invariant.kept.members_are.placed addable
+
+-- ---- where it fails at the first look
+
+pub invariant_of-self-in_default : goal.invariant_of-self-in_default
+invariant_of-self-in_default g c =
+    let addable = subst (λ p. (refusal : Refusal) → IsUnaddable (g.B.Bank.given p.parts.bank) p.parts.backup c.args.slot p.parts.members refusal → ⊥) (sym c.self.view_is) c.requires.addable in
+    let was = c.self.invariant in
+    let a = c.self.inside in
+    let given = g.B.Bank.given a.bank in
+    let number : c.args.who.number ≡ next_number c.args.who.caller a.epoch.entries.items = c.requires.next ∙ ap (λ p. next_number c.args.who.caller p.parts.entries) (sym c.self.view_is) in
+    let look = c.look_at.ensures in
+    let end = c.ops-end.result in
+    ready (entries_of c.args.who end (Refused (SlotFault c.args.slot) ∷ [])) was (looked-grows look.tape) (shapes-same a.members.newest)
+    (looked-moves g.B.Bank.tells given (g.B.Bank.tape a.bank) (g.B.Bank.tape c.look_at.new.bank) (scope_in given a.epoch.uuid a.epoch.given (Some a.backup)) a.epoch.first a.epoch.entries.items a.members (is_carried a.work)
+    a.course (bytes_in a.course.window a.window.items) (left_in a.members a.course a.ahead) c.args.who end c.args.slot
+    was.kept (live-of was.kept (slot-does given (Some a.backup) c.args.slot a.members was.kept.members_are.placed addable)) (begins-going a.epoch.entries.items c.args.who number) (not_254 c.args.who.caller c.requires.caller) c.ops-end.ensures.count look.tape)
+    refl look.counts (alone-keeps c.args.who end (Refused (SlotFault c.args.slot)) (λ n. refl) refl) (λ none whole. whole) look.given (scope-same given (Some a.backup) look.given c.enter.ensures.uuid c.enter.ensures.given) c.enter.ensures.first c.make_room.ensures.items c.enter.ensures.items
+    (omega (arith, c.enter.ensures.room, c.in-Ok.ensures.ok))
+
+pub returns-in_default-clause-answered : goal.returns-in_default-clause-answered
+returns-in_default-clause-answered g c =
+    faulted_reply (list_length c.args.self.now.parts.members.newest) c.args.who c.args.self.now.parts.entries c.enter.new.epoch.entries.items c.ops-end.result c.args.slot [] tt
+    (c.enter.ensures.items ∙ ap (λ (l : List Entry). l ++ entries_of c.args.who c.ops-end.result (Refused (SlotFault c.args.slot) ∷ [])) (c.make_room.ensures.items ∙ ap (λ p. p.parts.entries) c.self.view_is))
+    c.requires.next
+
+pub returns-in_default-clause-caused : goal.returns-in_default-clause-caused
+returns-in_default-clause-caused g c =
+    let addable = subst (λ p. (refusal : Refusal) → IsUnaddable (g.B.Bank.given p.parts.bank) p.parts.backup c.args.slot p.parts.members refusal → ⊥) (sym c.self.view_is) c.requires.addable in
+    let a = c.self.inside in
+    rw (← c.self.view_is) (
+      refl,
+      addable,
+      c.in_default.ensures.failed,
+      slot-unspare (g.B.Bank.given a.bank) (Some a.backup) c.args.slot a.members c.self.invariant.kept.members_are.placed addable,
+    )
+
+pub returns-in_default-clause-called : goal.returns-in_default-clause-called
+returns-in_default-clause-called g c =
+    let was = c.self.invariant in
+    let a = c.self.inside in
+    let given = g.B.Bank.given a.bank in
+    let before = g.B.Bank.faults_of a.bank in
+    let after = g.B.Bank.faults_of c.look_at.new.bank in
+    let look = c.look_at.ensures in
+    let end = c.ops-end.result in
+    let event = Refused (SlotFault c.args.slot) in
+    rw (← c.self.view_is) (none-added (called (looked-grows look.tape) (moved-same given given a.members a.members refl refl was.kept.members_are.placed was.kept.members_are.unlost)
+    (ended-behind (g.B.Bank.tape c.look_at.new.bank) c.enter.new.epoch.first c.make_room.new.self.items c.args.who end [] event c.enter.ensures.items c.ops-end.ensures.count)
+    (alone-lossless a.members before after a.epoch.entries.items c.make_room.new.self.items c.enter.new.epoch.entries.items c.args.who end event tt c.make_room.ensures.items c.enter.ensures.items)
+    look.counts
+    (record { uuid = c.enter.ensures.uuid; given = c.enter.ensures.given; first = c.enter.ensures.first; backup = refl; work = refl; ahead = refl })
+    (λ t. (was.kept.recorded t).begun)))
+
+pub returns-in_default-clause-others : goal.returns-in_default-clause-others
+returns-in_default-clause-others g c =
+    let a = c.self.inside in
+    let given = g.B.Bank.given a.bank in
+    rw (← c.self.view_is) (λ t s k apart i. contents-added given.start (g.B.Bank.tape a.bank) (g.B.Bank.tape c.look_at.new.bank) (c.look_at.ensures.tape t) i s k)
+
+-- ---- what the update needs
+
+pub spare_for-sb-requires-clause-placed : goal.spare_for-sb-requires-clause-placed
+spare_for-sb-requires-clause-placed g c =
+    subst (λ (b : Given). IsPlaced b c.self.inside.members) (sym c.look_at.ensures.given) c.self.invariant.kept.members_are.placed
+
+pub spare_for-sb-requires-clause-slot : goal.spare_for-sb-requires-clause-slot
+spare_for-sb-requires-clause-slot g c =
+    let addable = subst (λ p. (refusal : Refusal) → IsUnaddable (g.B.Bank.given p.parts.bank) p.parts.backup c.args.slot p.parts.members refusal → ⊥) (sym c.self.view_is) c.requires.addable in
+    rw (c.look_at.ensures.given) (slot-there (g.B.Bank.given c.self.inside.bank) (Some c.self.inside.backup) c.args.slot c.self.inside.members c.self.invariant.kept.members_are.placed addable)
+
+pub spare_for-sb-requires-clause-does : goal.spare_for-sb-requires-clause-does
+spare_for-sb-requires-clause-does g c =
+    let addable = subst (λ p. (refusal : Refusal) → IsUnaddable (g.B.Bank.given p.parts.bank) p.parts.backup c.args.slot p.parts.members refusal → ⊥) (sym c.self.view_is) c.requires.addable in
+    slot-does (g.B.Bank.given c.self.inside.bank) (Some c.self.inside.backup) c.args.slot c.self.inside.members c.self.invariant.kept.members_are.placed addable
+
+pub spare_for-sb-requires-clause-fits : goal.spare_for-sb-requires-clause-fits
+spare_for-sb-requires-clause-fits g c =
+    let addable = subst (λ p. (refusal : Refusal) → IsUnaddable (g.B.Bank.given p.parts.bank) p.parts.backup c.args.slot p.parts.members refusal → ⊥) (sym c.self.view_is) c.requires.addable in
+    subst (λ (b : Given). (offset : ℕ) → IsFirstOffset c.self.inside.members offset → offset + c.self.inside.members.newest.size ≤ b.sectors c.args.slot) (sym c.look_at.ensures.given)
+    (slot-fits (g.B.Bank.given c.self.inside.bank) (Some c.self.inside.backup) c.args.slot c.self.inside.members c.self.invariant.kept.members_are.placed addable)
+
+pub spare_for-sb-requires-clause-few : goal.spare_for-sb-requires-clause-few
+spare_for-sb-requires-clause-few g c =
+    let free = is-free c.self.inside.members.newest c.self.inside.work c.args.number (subst (λ p. free_number p.parts.members.newest p.parts.work ≡ Some c.args.number) (sym c.self.view_is) c.requires.number) in
+    free.0
+
+pub spare_for-sb-requires-clause-free : goal.spare_for-sb-requires-clause-free
+spare_for-sb-requires-clause-free g c =
+    let free = is-free c.self.inside.members.newest c.self.inside.work c.args.number (subst (λ p. free_number p.parts.members.newest p.parts.work ≡ Some c.args.number) (sym c.self.view_is) c.requires.number) in
+    free.2
+
+pub overflow_cast-count : goal.overflow_cast-count
+overflow_cast-count g c =
+    let members = c.self.invariant.kept.members_are in
+    let few = few-roles c.self.inside.members.newest members.placed.fit.valid in
+    let roles = members.backed.roles in
+    let long = c.len-count.ensures in
+    omega (arith, few, roles, long)
+
+pub vacant_roles-before-requires-clause-few : goal.vacant_roles-before-requires-clause-few
+vacant_roles-before-requires-clause-few g c =
+    let members = c.self.invariant.kept.members_are in
+    let few = few-roles c.self.inside.members.newest members.placed.fit.valid in
+    let roles = members.backed.roles in
+    let long = c.len-count.ensures in
+    omega (arith, few, roles, long)
+
+pub newly_vacant-roles-requires-clause-few : goal.newly_vacant-roles-requires-clause-few
+newly_vacant-roles-requires-clause-few g c =
+    let members = c.self.invariant.kept.members_are in
+    let few = few-roles c.self.inside.members.newest members.placed.fit.valid in
+    let roles = members.backed.roles in
+    let long = c.len-count.ensures in
+    omega (arith, few, roles, long)
+
+pub add_member-lost-requires-clause-placed : goal.add_member-lost-requires-clause-placed
+add_member-lost-requires-clause-placed g c =
+    subst (λ (b : Given). IsPlaced b c.self.inside.members) (sym c.look_at.ensures.given) c.self.invariant.kept.members_are.placed
+
+pub add_member-lost-requires-clause-free : goal.add_member-lost-requires-clause-free
+add_member-lost-requires-clause-free g c =
+    subst (λ (b : Given). AreSparesFree b c.self.inside.members) (sym c.look_at.ensures.given) c.self.invariant.kept.members_are.free
+
+pub add_member-lost-requires-clause-slot : goal.add_member-lost-requires-clause-slot
+add_member-lost-requires-clause-slot g c =
+    let addable = subst (λ p. (refusal : Refusal) → IsUnaddable (g.B.Bank.given p.parts.bank) p.parts.backup c.args.slot p.parts.members refusal → ⊥) (sym c.self.view_is) c.requires.addable in
+    rw (c.look_at.ensures.given) (slot-there (g.B.Bank.given c.self.inside.bank) (Some c.self.inside.backup) c.args.slot c.self.inside.members c.self.invariant.kept.members_are.placed addable)
+
+pub add_member-lost-requires-clause-untaken : goal.add_member-lost-requires-clause-untaken
+add_member-lost-requires-clause-untaken g c =
+    let addable = subst (λ p. (refusal : Refusal) → IsUnaddable (g.B.Bank.given p.parts.bank) p.parts.backup c.args.slot p.parts.members refusal → ⊥) (sym c.self.view_is) c.requires.addable in
+    λ role may. slot-free (g.B.Bank.given c.self.inside.bank) (Some c.self.inside.backup) c.args.slot c.self.inside.members c.self.invariant.kept.members_are.placed addable (inr (role, may))
+
+-- a slot that was lost didn't fail: then nothing that is missing is named
+pub add_member-lost-requires-clause-fresh : goal.add_member-lost-requires-clause-fresh
+add_member-lost-requires-clause-fresh g c =
+    λ lost. subst (λ p. has_slot p.parts.members.lost c.args.slot ≡ true → g.B.Bank.faults_of p.parts.bank c.args.slot ≡ 0 → AreUnnamed p.parts.members) (sym c.self.view_is) c.requires.fresh lost c.in-Some.ensures.sound
+
+pub with-requires : goal.with-requires
+with-requires g c =
+    let addable = subst (λ p. (refusal : Refusal) → IsUnaddable (g.B.Bank.given p.parts.bank) p.parts.backup c.args.slot p.parts.members refusal → ⊥) (sym c.self.view_is) c.requires.addable in
+    let few = c.self.invariant.kept.slots in
+    let lt = slot-there (g.B.Bank.given c.self.inside.bank) (Some c.self.inside.backup) c.args.slot c.self.inside.members c.self.invariant.kept.members_are.placed addable in
+    omega (arith, few, lt)
+
+pub contains-requires : goal.contains-requires
+contains-requires g c =
+    let addable = subst (λ p. (refusal : Refusal) → IsUnaddable (g.B.Bank.given p.parts.bank) p.parts.backup c.args.slot p.parts.members refusal → ⊥) (sym c.self.view_is) c.requires.addable in
+    let few = c.self.invariant.kept.slots in
+    let lt = slot-there (g.B.Bank.given c.self.inside.bank) (Some c.self.inside.backup) c.args.slot c.self.inside.members c.self.invariant.kept.members_are.placed addable in
+    omega (arith, few, lt)
+
+-- ---- where it was lost in the update
+
+pub invariant_of-self-then-contains : goal.invariant_of-self-then-contains
+invariant_of-self-then-contains g c =
+    let addable = subst (λ p. (refusal : Refusal) → IsUnaddable (g.B.Bank.given p.parts.bank) p.parts.backup c.args.slot p.parts.members refusal → ⊥) (sym c.self.view_is) c.requires.addable in
+    let was = c.self.invariant in
+    let a = c.self.inside in
+    let given = g.B.Bank.given a.bank in
+    let number : c.args.who.number ≡ next_number c.args.who.caller a.epoch.entries.items = c.requires.next ∙ ap (λ p. next_number c.args.who.caller p.parts.entries) (sym c.self.view_is) in
+    let here = was.kept.members_are in
+    let slot = c.args.slot in
+    let there = slot-there given (Some a.backup) slot a.members here.placed addable in
+    let e = c.add_member-lost.ensures in
+    let look = c.look_at.ensures in
+    let did = add-done look.given was.kept.slots here.placed here.unlost here.free there (λ role may. slot-free given (Some a.backup) slot a.members here.placed addable (inr (role, may))) look.counts
+    c.spare_for-sb.ensures.made e.own e.moved e.failed e.lost e.grows e.others e.clean e.rise e.counts in
+    let m = c.add_member-lost.new.members in
+    let roles = c.newly_vacant-roles.result in
+    let spares = c.without-spares.result in
+    let since = since-added did c.len-count.result c.vacant_roles-before.result roles spares (c.len-count.ensures ∙ here.backed.roles) c.vacant_roles-before.ensures c.newly_vacant-roles.ensures
+    (others-lost slot c.add_member-lost.result c.with.result spares c.with.ensures c.without-spares.ensures (omega (arith, c.without-spares.type_inv))) in
+    let first = subst (λ p. free_number p.parts.members.newest p.parts.work ≡ Some c.args.number) (sym c.self.view_is) c.requires.number in
+    let free = is-free a.members.newest a.work c.args.number first in
+    let sb = c.spare_for-sb.result in
+    let scope = scope_in given a.epoch.uuid a.epoch.given (Some a.backup) in
+    let work = with_carried c.args.number a.work in
+    let tape = g.B.Bank.tape a.bank in
+    let mid = g.B.Bank.tape c.look_at.new.bank in
+    let tape' = g.B.Bank.tape c.add_member-lost.new.bank in
+    let end = c.ops-end-2.result in
+    let made = spare-made scope a.work c.args.number roles spares did (apart-from given a.backup slot a.members here.placed addable) (slot-does given (Some a.backup) slot a.members here.placed addable)
+    (slot-of-scope given (Some a.backup) slot a.members here.placed addable a.epoch.uuid a.epoch.given sb (g.B.Bank.faults_of a.bank) was.failed c.in-Some.ensures.sound c.spare_for-sb.ensures.uuid)
+    c.spare_for-sb.ensures.number free.1 look.tape (λ t sector may. second-half sb c.in-Some.second sector c.spare_for-sb.ensures.second (c.in-Some.ensures.second t sector may))
+    (subst (λ (b : Given). g.B.Bank.tells → IsRestKept (with_spare slot sb a.members) (disk b.start mid) (disk b.start tape')) look.given e.rest)
+    (subst (λ (b : Given). AddsSafe g.B.Bank.tells b slot sb a.members m mid tape') look.given e.safe) since in
+    let given_is = e.given ∙ look.given in
+    let events = losses_of roles spares ++ Refused (SlotFault slot) ∷ [] in
+    ready (entries_of c.args.who end events) (with-number c.args.number (live-of was.kept (slot-does given (Some a.backup) slot a.members here.placed addable)) was) (grows-then (looked-grows look.tape) did.grows) (shapes-moved given (with_spare slot sb a.members) m did.moved)
+    (subst (λ (n : ℕ). IsMoving g.B.Bank.tells given tape' scope a.epoch.first (a.epoch.entries.items ++ entries_of c.args.who end events) m (is_carried work) a.course (bytes_in a.course.window a.window.items) n)
+    (sym (left-moved given (with_spare slot sb a.members) m a.course a.ahead did.moved))
+    (added-lost-moves g.B.Bank.tells given tape mid tape' scope a.epoch.first a.epoch.entries.items a.members m (is_carried a.work) (is_carried work) a.course (bytes_in a.course.window a.window.items)
+    (left_in a.members a.course a.ahead) c.args.who end slot sb roles spares was.kept (begins-going a.epoch.entries.items c.args.who number) (not_254 c.args.who.caller c.requires.caller) c.ops-end-2.ensures.count made))
+    refl did.counts (behind-keeps c.args.who end roles spares (Refused (SlotFault slot)) (λ n. refl) refl)
+    (behind-whole tape' scope a.epoch.first a.epoch.entries.items c.args.who end roles spares (Refused (SlotFault slot)) did.moved made.since) given_is (scope-same given (Some a.backup) given_is c.enter_behind.ensures.uuid c.enter_behind.ensures.given) c.enter_behind.ensures.first c.make_room.ensures.items c.enter_behind.ensures.items
+    (omega (arith, c.enter_behind.ensures.room, c.in-Ok.ensures.ok))
+
+pub returns-then-contains-clause-answered : goal.returns-then-contains-clause-answered
+returns-then-contains-clause-answered g c =
+    let losses = losses_of c.newly_vacant-roles.result c.without-spares.result in
+    faulted_reply (list_length c.args.self.now.parts.members.newest) c.args.who c.args.self.now.parts.entries c.enter_behind.new.epoch.entries.items c.ops-end-2.result c.args.slot losses
+    (losses-are c.newly_vacant-roles.result c.without-spares.result)
+    (c.enter_behind.ensures.items ∙ ap (λ (l : List Entry). l ++ entries_of c.args.who c.ops-end-2.result (losses ++ Refused (SlotFault c.args.slot) ∷ [])) (c.make_room.ensures.items ∙ ap (λ p. p.parts.entries) c.self.view_is))
+    c.requires.next
+
+pub returns-then-contains-clause-caused : goal.returns-then-contains-clause-caused
+returns-then-contains-clause-caused g c =
+    let addable = subst (λ p. (refusal : Refusal) → IsUnaddable (g.B.Bank.given p.parts.bank) p.parts.backup c.args.slot p.parts.members refusal → ⊥) (sym c.self.view_is) c.requires.addable in
+    let was = c.self.invariant in
+    let a = c.self.inside in
+    let given = g.B.Bank.given a.bank in
+    let here = was.kept.members_are in
+    let slot = c.args.slot in
+    let there = slot-there given (Some a.backup) slot a.members here.placed addable in
+    let e = c.add_member-lost.ensures in
+    let look = c.look_at.ensures in
+    let did = add-done look.given was.kept.slots here.placed here.unlost here.free there (λ role may. slot-free given (Some a.backup) slot a.members here.placed addable (inr (role, may))) look.counts
+    c.spare_for-sb.ensures.made e.own e.moved e.failed e.lost e.grows e.others e.clean e.rise e.counts in
+    let gone = sym c.contains.ensures ∙ c.if-contains.true in
+    rw (← c.self.view_is) (refl, addable, did.failed.spares_are slot gone, e.lost gone)
+
+pub returns-then-contains-clause-called : goal.returns-then-contains-clause-called
+returns-then-contains-clause-called g c =
+    let addable = subst (λ p. (refusal : Refusal) → IsUnaddable (g.B.Bank.given p.parts.bank) p.parts.backup c.args.slot p.parts.members refusal → ⊥) (sym c.self.view_is) c.requires.addable in
+    let was = c.self.invariant in
+    let a = c.self.inside in
+    let given = g.B.Bank.given a.bank in
+    let here = was.kept.members_are in
+    let slot = c.args.slot in
+    let there = slot-there given (Some a.backup) slot a.members here.placed addable in
+    let e = c.add_member-lost.ensures in
+    let look = c.look_at.ensures in
+    let did = add-done look.given was.kept.slots here.placed here.unlost here.free there (λ role may. slot-free given (Some a.backup) slot a.members here.placed addable (inr (role, may))) look.counts
+    c.spare_for-sb.ensures.made e.own e.moved e.failed e.lost e.grows e.others e.clean e.rise e.counts in
+    let m = c.add_member-lost.new.members in
+    let roles = c.newly_vacant-roles.result in
+    let spares = c.without-spares.result in
+    let since = since-added did c.len-count.result c.vacant_roles-before.result roles spares (c.len-count.ensures ∙ here.backed.roles) c.vacant_roles-before.ensures c.newly_vacant-roles.ensures
+    (others-lost slot c.add_member-lost.result c.with.result spares c.with.ensures c.without-spares.ensures (omega (arith, c.without-spares.type_inv))) in
+    let first = subst (λ p. free_number p.parts.members.newest p.parts.work ≡ Some c.args.number) (sym c.self.view_is) c.requires.number in
+    let end = c.ops-end-2.result in
+    let event = Refused (SlotFault slot) in
+    rw (← c.self.view_is) (add-called c.args.number look.tape did
+    (ended-behind (g.B.Bank.tape c.add_member-lost.new.bank) c.enter_behind.new.epoch.first c.make_room.new.self.items c.args.who end (losses_of roles spares) event c.enter_behind.ensures.items c.ops-end-2.ensures.count)
+    (losses-behind a.members m (g.B.Bank.faults_of a.bank) (g.B.Bank.faults_of c.add_member-lost.new.bank) a.epoch.entries.items c.make_room.new.self.items c.enter_behind.new.epoch.entries.items c.args.who end roles spares
+    event since tt c.make_room.ensures.items c.enter_behind.ensures.items)
+    first
+    (record { uuid = c.enter_behind.ensures.uuid; given = c.enter_behind.ensures.given; first = c.enter_behind.ensures.first; backup = refl; work = refl; ahead = refl })
+    (λ t. (was.kept.recorded t).begun))
+
+pub returns-then-contains-clause-others : goal.returns-then-contains-clause-others
+returns-then-contains-clause-others g c =
+    let addable = subst (λ p. (refusal : Refusal) → IsUnaddable (g.B.Bank.given p.parts.bank) p.parts.backup c.args.slot p.parts.members refusal → ⊥) (sym c.self.view_is) c.requires.addable in
+    let was = c.self.invariant in
+    let a = c.self.inside in
+    let given = g.B.Bank.given a.bank in
+    let here = was.kept.members_are in
+    let slot = c.args.slot in
+    let there = slot-there given (Some a.backup) slot a.members here.placed addable in
+    let e = c.add_member-lost.ensures in
+    let look = c.look_at.ensures in
+    let did = add-done look.given was.kept.slots here.placed here.unlost here.free there (λ role may. slot-free given (Some a.backup) slot a.members here.placed addable (inr (role, may))) look.counts
+    c.spare_for-sb.ensures.made e.own e.moved e.failed e.lost e.grows e.others e.clean e.rise e.counts in
+    rw (← c.self.view_is) (λ t s k other. did.others t s k other ∙ (λ i. contents-added given.start (g.B.Bank.tape a.bank) (g.B.Bank.tape c.look_at.new.bank) (look.tape t) i s k))
+
+pub returns-then-contains-clause-failed : goal.returns-then-contains-clause-failed
+returns-then-contains-clause-failed g c =
+    let addable = subst (λ p. (refusal : Refusal) → IsUnaddable (g.B.Bank.given p.parts.bank) p.parts.backup c.args.slot p.parts.members refusal → ⊥) (sym c.self.view_is) c.requires.addable in
+    let was = c.self.invariant in
+    let a = c.self.inside in
+    let given = g.B.Bank.given a.bank in
+    let here = was.kept.members_are in
+    let slot = c.args.slot in
+    let there = slot-there given (Some a.backup) slot a.members here.placed addable in
+    let e = c.add_member-lost.ensures in
+    let look = c.look_at.ensures in
+    let did = add-done look.given was.kept.slots here.placed here.unlost here.free there (λ role may. slot-free given (Some a.backup) slot a.members here.placed addable (inr (role, may))) look.counts
+    c.spare_for-sb.ensures.made e.own e.moved e.failed e.lost e.grows e.others e.clean e.rise e.counts in
+    rw (← c.self.view_is) did.failed.roles
+
+-- ---- where it wasn't
+
+pub invariant_of-self-2 : goal.invariant_of-self-2
+invariant_of-self-2 g c =
+    let addable = subst (λ p. (refusal : Refusal) → IsUnaddable (g.B.Bank.given p.parts.bank) p.parts.backup c.args.slot p.parts.members refusal → ⊥) (sym c.self.view_is) c.requires.addable in
+    let was = c.self.invariant in
+    let a = c.self.inside in
+    let given = g.B.Bank.given a.bank in
+    let number : c.args.who.number ≡ next_number c.args.who.caller a.epoch.entries.items = c.requires.next ∙ ap (λ p. next_number c.args.who.caller p.parts.entries) (sym c.self.view_is) in
+    let here = was.kept.members_are in
+    let slot = c.args.slot in
+    let there = slot-there given (Some a.backup) slot a.members here.placed addable in
+    let e = c.add_member-lost.ensures in
+    let look = c.look_at.ensures in
+    let did = add-done look.given was.kept.slots here.placed here.unlost here.free there (λ role may. slot-free given (Some a.backup) slot a.members here.placed addable (inr (role, may))) look.counts
+    c.spare_for-sb.ensures.made e.own e.moved e.failed e.lost e.grows e.others e.clean e.rise e.counts in
+    let m = c.add_member-lost.new.members in
+    let roles = c.newly_vacant-roles.result in
+    let spares = c.without-spares.result in
+    let since = since-added did c.len-count.result c.vacant_roles-before.result roles spares (c.len-count.ensures ∙ here.backed.roles) c.vacant_roles-before.ensures c.newly_vacant-roles.ensures
+    (others-lost slot c.add_member-lost.result c.with.result spares c.with.ensures c.without-spares.ensures (omega (arith, c.without-spares.type_inv))) in
+    let first = subst (λ p. free_number p.parts.members.newest p.parts.work ≡ Some c.args.number) (sym c.self.view_is) c.requires.number in
+    let free = is-free a.members.newest a.work c.args.number first in
+    let sb = c.spare_for-sb.result in
+    let scope = scope_in given a.epoch.uuid a.epoch.given (Some a.backup) in
+    let work = with_carried c.args.number a.work in
+    let tape = g.B.Bank.tape a.bank in
+    let mid = g.B.Bank.tape c.look_at.new.bank in
+    let tape' = g.B.Bank.tape c.add_member-lost.new.bank in
+    let end = c.ops-end-2.result in
+    let made = spare-made scope a.work c.args.number roles spares did (apart-from given a.backup slot a.members here.placed addable) (slot-does given (Some a.backup) slot a.members here.placed addable)
+    (slot-of-scope given (Some a.backup) slot a.members here.placed addable a.epoch.uuid a.epoch.given sb (g.B.Bank.faults_of a.bank) was.failed c.in-Some.ensures.sound c.spare_for-sb.ensures.uuid)
+    c.spare_for-sb.ensures.number free.1 look.tape (λ t sector may. second-half sb c.in-Some.second sector c.spare_for-sb.ensures.second (c.in-Some.ensures.second t sector may))
+    (subst (λ (b : Given). g.B.Bank.tells → IsRestKept (with_spare slot sb a.members) (disk b.start mid) (disk b.start tape')) look.given e.rest)
+    (subst (λ (b : Given). AddsSafe g.B.Bank.tells b slot sb a.members m mid tape') look.given e.safe) since in
+    let given_is = e.given ∙ look.given in
+    let events = losses_of roles spares ++ Added slot ∷ [] in
+    ready (entries_of c.args.who end events) (with-number c.args.number (live-of was.kept (slot-does given (Some a.backup) slot a.members here.placed addable)) was) (grows-then (looked-grows look.tape) did.grows) (shapes-moved given (with_spare slot sb a.members) m did.moved)
+    (subst (λ (n : ℕ). IsMoving g.B.Bank.tells given tape' scope a.epoch.first (a.epoch.entries.items ++ entries_of c.args.who end events) m (is_carried work) a.course (bytes_in a.course.window a.window.items) n)
+    (sym (left-moved given (with_spare slot sb a.members) m a.course a.ahead did.moved))
+    (added-moves g.B.Bank.tells given tape mid tape' scope a.epoch.first a.epoch.entries.items a.members m (is_carried a.work) (is_carried work) a.course (bytes_in a.course.window a.window.items)
+    (left_in a.members a.course a.ahead) c.args.who end slot sb roles spares was.kept (begins-going a.epoch.entries.items c.args.who number) (not_254 c.args.who.caller c.requires.caller) c.ops-end-2.ensures.count made))
+    refl did.counts (behind-keeps c.args.who end roles spares (Added slot) (λ n. refl) refl)
+    (behind-whole tape' scope a.epoch.first a.epoch.entries.items c.args.who end roles spares (Added slot) did.moved made.since) given_is (scope-same given (Some a.backup) given_is c.enter_behind-2.ensures.uuid c.enter_behind-2.ensures.given) c.enter_behind-2.ensures.first c.make_room.ensures.items c.enter_behind-2.ensures.items
+    (omega (arith, c.enter_behind-2.ensures.room, c.in-Ok.ensures.ok))
+
+pub returns-clause-answered : goal.returns-clause-answered
+returns-clause-answered g c =
+    let roles = c.newly_vacant-roles.result in
+    let spares = c.without-spares.result in
+    added_reply (list_length c.args.self.now.parts.members.newest) c.args.who c.args.self.now.parts.entries c.enter_behind-2.new.epoch.entries.items c.ops-end-2.result c.args.slot roles spares
+    (c.enter_behind-2.ensures.items ∙ ap (λ (l : List Entry). l ++ entries_of c.args.who c.ops-end-2.result (losses_of roles spares ++ Added c.args.slot ∷ [])) (c.make_room.ensures.items ∙ ap (λ p. p.parts.entries) c.self.view_is))
+    c.requires.next
+
+pub returns-clause-stored : goal.returns-clause-stored
+returns-clause-stored g c =
+    let e = c.add_member-lost.ensures in
+    rw (← c.self.view_is) (stored-as c.add_member-lost.new.members c.self.inside.members c.self.inside.work c.args.slot c.args.number c.spare_for-sb.result
+    (subst (λ p. free_number p.parts.members.newest p.parts.work ≡ Some c.args.number) (sym c.self.view_is) c.requires.number) c.spare_for-sb.ensures.number c.spare_for-sb.ensures.offset
+    (e.stored (sym c.contains.ensures ∙ c.if-contains.false)))
+
+pub returns-clause-called : goal.returns-clause-called
+returns-clause-called g c =
+    let addable = subst (λ p. (refusal : Refusal) → IsUnaddable (g.B.Bank.given p.parts.bank) p.parts.backup c.args.slot p.parts.members refusal → ⊥) (sym c.self.view_is) c.requires.addable in
+    let was = c.self.invariant in
+    let a = c.self.inside in
+    let given = g.B.Bank.given a.bank in
+    let here = was.kept.members_are in
+    let slot = c.args.slot in
+    let there = slot-there given (Some a.backup) slot a.members here.placed addable in
+    let e = c.add_member-lost.ensures in
+    let look = c.look_at.ensures in
+    let did = add-done look.given was.kept.slots here.placed here.unlost here.free there (λ role may. slot-free given (Some a.backup) slot a.members here.placed addable (inr (role, may))) look.counts
+    c.spare_for-sb.ensures.made e.own e.moved e.failed e.lost e.grows e.others e.clean e.rise e.counts in
+    let m = c.add_member-lost.new.members in
+    let roles = c.newly_vacant-roles.result in
+    let spares = c.without-spares.result in
+    let since = since-added did c.len-count.result c.vacant_roles-before.result roles spares (c.len-count.ensures ∙ here.backed.roles) c.vacant_roles-before.ensures c.newly_vacant-roles.ensures
+    (others-lost slot c.add_member-lost.result c.with.result spares c.with.ensures c.without-spares.ensures (omega (arith, c.without-spares.type_inv))) in
+    let first = subst (λ p. free_number p.parts.members.newest p.parts.work ≡ Some c.args.number) (sym c.self.view_is) c.requires.number in
+    let end = c.ops-end-2.result in
+    let event = Added slot in
+    rw (← c.self.view_is) (add-called c.args.number look.tape did
+    (ended-behind (g.B.Bank.tape c.add_member-lost.new.bank) c.enter_behind-2.new.epoch.first c.make_room.new.self.items c.args.who end (losses_of roles spares) event c.enter_behind-2.ensures.items c.ops-end-2.ensures.count)
+    (losses-behind a.members m (g.B.Bank.faults_of a.bank) (g.B.Bank.faults_of c.add_member-lost.new.bank) a.epoch.entries.items c.make_room.new.self.items c.enter_behind-2.new.epoch.entries.items c.args.who end roles spares
+    event since tt c.make_room.ensures.items c.enter_behind-2.ensures.items)
+    first
+    (record { uuid = c.enter_behind-2.ensures.uuid; given = c.enter_behind-2.ensures.given; first = c.enter_behind-2.ensures.first; backup = refl; work = refl; ahead = refl })
+    (λ t. (was.kept.recorded t).begun))
+
+pub returns-clause-others : goal.returns-clause-others
+returns-clause-others g c =
+    let addable = subst (λ p. (refusal : Refusal) → IsUnaddable (g.B.Bank.given p.parts.bank) p.parts.backup c.args.slot p.parts.members refusal → ⊥) (sym c.self.view_is) c.requires.addable in
+    let was = c.self.invariant in
+    let a = c.self.inside in
+    let given = g.B.Bank.given a.bank in
+    let here = was.kept.members_are in
+    let slot = c.args.slot in
+    let there = slot-there given (Some a.backup) slot a.members here.placed addable in
+    let e = c.add_member-lost.ensures in
+    let look = c.look_at.ensures in
+    let did = add-done look.given was.kept.slots here.placed here.unlost here.free there (λ role may. slot-free given (Some a.backup) slot a.members here.placed addable (inr (role, may))) look.counts
+    c.spare_for-sb.ensures.made e.own e.moved e.failed e.lost e.grows e.others e.clean e.rise e.counts in
+    rw (← c.self.view_is) (λ t s k other. did.others t s k other ∙ (λ i. contents-added given.start (g.B.Bank.tape a.bank) (g.B.Bank.tape c.look_at.new.bank) (look.tape t) i s k))
+
+pub returns-clause-failed : goal.returns-clause-failed
+returns-clause-failed g c =
+    let addable = subst (λ p. (refusal : Refusal) → IsUnaddable (g.B.Bank.given p.parts.bank) p.parts.backup c.args.slot p.parts.members refusal → ⊥) (sym c.self.view_is) c.requires.addable in
+    let was = c.self.invariant in
+    let a = c.self.inside in
+    let given = g.B.Bank.given a.bank in
+    let here = was.kept.members_are in
+    let slot = c.args.slot in
+    let there = slot-there given (Some a.backup) slot a.members here.placed addable in
+    let e = c.add_member-lost.ensures in
+    let look = c.look_at.ensures in
+    let did = add-done look.given was.kept.slots here.placed here.unlost here.free there (λ role may. slot-free given (Some a.backup) slot a.members here.placed addable (inr (role, may))) look.counts
+    c.spare_for-sb.ensures.made e.own e.moved e.failed e.lost e.grows e.others e.clean e.rise e.counts in
+    rw (← c.self.view_is) did.failed.roles
