@@ -7,5 +7,6 @@ pub mod ZeroLaws
 pub mod Copied
 pub mod RecordLaws
 pub mod WriteLaws
+pub mod WriteReplies
 pub mod EnterLaws
 pub mod Entered
