@@ -1,5 +1,5 @@
 -- The reply of a write fits its request, also behind a window that it finished first.
-use Rattle.std.proofs.Common.{◌≡◌, ◌⊎◌, inl, inr, ℕ, ◌+◌, ◌<◌, ◌≤◌, Bool, true, false, cond, Option, None, Result, Ok, Err, List, [], ◌∷◌, ◌++◌, length, refl, sym, ◌∙◌, ap, subst, append_assoc, append-nil}
+use Rattle.std.proofs.Common.{◌≡◌, inl, inr, ℕ, ◌+◌, ◌<◌, ◌≤◌, Bool, true, false, cond, Option, None, Result, Ok, Err, List, [], ◌∷◌, ◌++◌, length, refl, sym, ◌∙◌, ap, subst, append_assoc, append-nil}
 use Rattle.std.specs.Prelude.{fold, reverse}
 use Rattle.std.specs.List.{All}
 use Rattle.std.proofs.lemmas.List.{reverse-append}
@@ -26,7 +26,7 @@ use Rattle.flat_history.specs.Plain.{entries_of}
 use Rattle.call_entries.specs.Losing.{losses_of, failure_events}
 use Rattle.call_entries.proofs.CallLaws.{AreLossEvents, losses-are, length-losses, limit-losses, torn-losses, torn-both, torn-reverse}
 use Rattle.call_entries.proofs.LosingLaws.{entries-both}
-use Rattle.array_kept.specs.Calls.{StandsInside, IsBehind, IsRefusedFor, IsCausedBy}
+use Rattle.array_kept.specs.Calls.{StandsInside, IsRefusedFor, IsCausedBy}
 use Rattle.array_kept.proofs.NowLaws.{visible-is, length-more, limit-more}
 use Rattle.array_kept.proofs.ReplyLaws.{IsOfMissing, none_before, too-many-of, write_kind}
 use Rattle.grow_asked.specs.declared.window.Window.{Window}
