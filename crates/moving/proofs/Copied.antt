@@ -1,9 +1,8 @@
 -- A stripe of the open window is copied: what the array keeps, and what it answers.
-use Rattle.std.proofs.Common.{◌≡◌, ◌≢◌, inr, ℕ, ◌+◌, ◌-◌, ◌*◌, ◌<◌, ◌≤◌, ◌==◌, Bool, true, false, cond, List, [], ◌∷◌, ◌++◌, length, take, drop, sym, ◌∙◌, ap, subst, arith, append-nil, length-append}
+use Rattle.std.proofs.Common.{◌≡◌, ◌≢◌, inr, ℕ, ◌+◌, ◌-◌, ◌*◌, ◌<◌, ◌≤◌, ◌==◌, Bool, true, false, cond, List, [], ◌∷◌, ◌++◌, length, take, sym, ◌∙◌, ap, subst, arith, append-nil}
 use Rattle.std.specs.Prelude.{IsFalse, fold, ⊤}
 use Rattle.std.specs.List.{All}
 use Rattle.std.proofs.lemmas.Bool.Decides.{nat_tests}
-use Rattle.std.proofs.lemmas.List.{length-take-le, length-drop}
 use Rattle.std.proofs.lemmas.List.Elements.{All-head, All-tail}
 use Rattle.std.proofs.lemmas.List.Sums.{fold-append}
 use Rattle.md_base.specs.Sectors.{Sector}
@@ -31,7 +30,6 @@ use Rattle.shape_views.specs.Views.{Ledger}
 use Rattle.shape_views.specs.Windows.{IsCopyable}
 use Rattle.shape_changes.specs.Safety.{HasRoomLeft, IsRisen}
 use Rattle.shape_changes.specs.Steady.{IsSafeOver, KeepsSafe, AreGoneTold, IsUncleanTold}
-use Rattle.views.specs.declared.work.Work.{Work}
 use Rattle.views.specs.Moving.{Grows, IsMoved}
 use Rattle.views.specs.Lacking.{AreTooMany, AreOtherRowsKept, IsOfStripe}
 use Rattle.safe_updates.specs.Unused.{IsUnusedKept}
@@ -50,7 +48,7 @@ use Rattle.moving_kept.specs.Moving.{IsMoving}
 use Rattle.moving_kept.proofs.Staying.{refused-moves}
 use Rattle.moving_kept.proofs.Steps.{AreMissingSince, able-kept, plain-of, copied-moves}
 use Rattle.running_words.specs.Parts.{RunningParts, left_in}
-use Rattle.moving.specs.Ready.{bytes_in, IsReady}
+use Rattle.moving.specs.Ready.{bytes_in}
 use Rattle.running_words.specs.Calls.{IsCopyDue}
 use Rattle.moving.proofs.Kept.{left-moved}
 
@@ -106,6 +104,15 @@ due-is array span copied sectioned due window =
 -- the course with one more stripe copied
 abbrev pub one_more : Course → Span → ℕ → Bool → Course
 one_more course span copied sectioned = record course { window = Entered span (copied + 1) sectioned }
+
+-- it is that of the entered window with one more
+pub copied-more : (course : Course) (span s : Span) (copied n : ℕ) (sectioned b : Bool) → course.window ≡ Entered span copied sectioned → course ≡ entered s n b → one_more course span copied sectioned ≡ entered s (n + 1) b
+copied-more course span s copied n sectioned b window is =
+    let same : Entered span copied sectioned ≡ Entered s n b = sym window ∙ ap (λ (c : Course). c.window) is in
+    let spans = same-span span s copied n sectioned b same in
+    let counts = same-count span s copied n sectioned b same in
+    let flags = same-flag span s copied n sectioned b same in
+    λ i. one_more (is i) (spans i) (counts i) (flags i)
 
 -- ---- the steps that are left
 
@@ -184,25 +191,8 @@ module _ (tells : Type 0) (given : Given) (tape tape' : List Operation) (scope :
       (subst (λ (c : Course). IsMoving tells given tape' scope first (entries ++ entries_of who end (losses_of roles spares ++ Refused refusal ∷ [])) new carried c (bytes_in c.window window) (left_in old course ahead)) (sym is)
       (refused-moves tells given tape tape' scope first entries old new carried (entered span copied sectioned) bytes (left_in old course ahead) who end roles spares refusal
       opened goes caller at_end grows did.moved few did.since did.clean (inr many) did.rise did.unused
-      (λ t sound list stands.
-      (copies-go-on sound given old new span copied sectioned bytes (present given tape) (present given tape') list was.members_are.placed did.moved opened.course_is.window.0 more
+      (λ t sound among list stands.
+      (copies-go-on sound among given old new span copied sectioned bytes (present given tape) (present given tape') list was.members_are.placed did.moved opened.course_is.window.0 more
       (plain-of old.newest span copied sectioned opened.course_is.window) (did.others t) stands).0)
       (λ t told fills more_told room gone unclean now. did.safe t (world_in given tape scope first) told room gone unclean
       (able-kept scope given old span copied sectioned (disk given.start tape) opened.course_is.window (opened.stored t).section) now)))
-
--- ---- the buffer that a copy writes in
-
--- a vector that is written as a slice stays as long
-pub same-long : (n : ℕ) (items written : List ℕ) → n ≡ length items → length (take n (written ++ drop (length written) items)) ≡ length items
-same-long n items written is =
-    let whole = length-append written (drop (length written) items) in
-    let rest = length-drop (length written) items in
-    length-take-le n (written ++ drop (length written) items) (omega (arith, whole, rest, is)) ∙ is
-
-pub refilled : {tells : Type 0} {given : Given} {tape : List Operation} {scope : Scope} {first : ℕ} {entries : List Entry} {members : Members} {work : Work} {course : Course} {ahead : PhasesLeft}
-    {window : List ℕ} {faults : ℕ → ℕ} {steps room rows buffer buffer' far_rows far_buffer : ℕ} → buffer' ≡ buffer
-    → IsReady tells given tape scope first entries members work course ahead window faults steps room rows buffer far_rows far_buffer
-    → IsReady tells given tape scope first entries members work course ahead window faults steps room rows buffer' far_rows far_buffer
-refilled {tells = tells} {given = given} {tape = tape} {scope = scope} {first = first} {entries = entries} {members = members} {work = work} {course = course} {ahead = ahead} {window = window} {faults = faults}
-    {steps = steps} {room = room} {rows = rows} {far_rows = far_rows} {far_buffer = far_buffer} is was =
-    subst (λ (n : ℕ). IsReady tells given tape scope first entries members work course ahead window faults steps room rows n far_rows far_buffer) (sym is) was

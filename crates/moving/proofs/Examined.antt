@@ -43,6 +43,9 @@ ready-still {tells = tells} {given = given} {tape' = tape'} {uuid = uuid} {slots
     subst (λ (g : Given). IsReady tells g tape' (scope_in g uuid slots backup) first entries members work course ahead window faults' steps room rows buffer far_rows far_buffer) (sym known) (record {
       kept = moving-still same was.kept;
       synced = was.synced;
+      sized = was.sized;
+      unlimited = was.unlimited;
+      full = λ t. (there t).full t;
       settled = λ t. (there t).settled t;
       planned = was.planned;
       wide = was.wide;

@@ -1,21 +1,37 @@
 -- What an array in a reshape keeps, after a call.
-use Rattle.std.proofs.Common.{◌≡◌, ℕ, ◌+◌, ◌-◌, ◌*◌, ◌<◌, ◌≤◌, ◌&&◌, ◌||◌, Bool, true, false, not, cond, List, ◌++◌, length, refl, sym, ◌∙◌, ap, subst, arith}
-use Rattle.std.specs.Prelude.{min}
+use Rattle.std.proofs.Common.{◌≡◌, ℕ, ◌+◌, ◌-◌, ◌*◌, ◌<◌, ◌≤◌, ◌==◌, ◌&&◌, ◌||◌, Bool, true, false, inl, inr, not, cond, Option, None, List, [], ◌∷◌, ◌++◌, length, take, take_all, drop, refl, sym, ◌∙◌, ap, subst, arith}
+use Rattle.std.specs.Prelude.{min, fold}
 use Rattle.std.specs.List.{list_any}
+use Rattle.std.proofs.lemmas.Bool.Decides.{nat_tests}
+use Rattle.std.proofs.lemmas.List.{take-append-le}
 use Rattle.std.proofs.lemmas.List.Folds.{list_any-append}
 use Rattle.md_base.specs.Shapes.{data_disks}
 use Rattle.md_base.specs.declared.wishes.Phase.{Phase}
 use Rattle.bank.specs.declared.bank.Operation.{Operation}
+use Rattle.md_base.specs.declared.answers.Who.{Who}
+use Rattle.call_entries.specs.Losing.{losses_of}
+use Rattle.call_entries.proofs.CallLaws.{losses-are, length-losses, limit-losses}
+use Rattle.array_kept.proofs.NowLaws.{length-more, limit-more}
 use Rattle.bank.specs.Given.{Given, NeverFalls}
 use Rattle.sb1.specs.declared.sb.Sb.{Sb}
 use Rattle.geometry.specs.Geometry.{unit, steps_of, stripes, beyond}
 use Rattle.grow_plan.specs.Plans.{AreSound, phases_steps}
 use Rattle.superblocks.specs.declared.members.Members.{Members}
-use Rattle.superblocks.specs.Reading.{Scope, shape_of, final_shape}
+use Rattle.superblocks.specs.Reading.{Scope, shape_of, final_shape, list_length}
+use Rattle.superblocks.proofs.ValidFields.{few-roles}
+use Rattle.row_io.specs.Rows.{reading_of, is_missing}
 use Rattle.flat_history.specs.declared.events.Entry.{Entry}
-use Rattle.flat_history.specs.Losses.{was_dirty, is_resync_end, is_unsynced}
+use Rattle.flat_history.specs.declared.events.Event.{Event}
+use Rattle.flat_history.specs.declared.events.Event.TheVariants.{Lost}
+use Rattle.flat_history.specs.declared.events.LostCause.{LostCause}
+use Rattle.flat_history.specs.Flat.{length_of, length_after, limit_after}
+use Rattle.flat_history.specs.Growing.{EndBy}
+use Rattle.flat_history.specs.OneShape.{is_lost}
+use Rattle.flat_history.specs.Plain.{entries_of}
+use Rattle.flat_history.specs.Losses.{was_dirty, is_resync_end, is_unsynced, loses}
+use Rattle.flat_history.specs.World.{World}
 use Rattle.flat_history.specs.Stands.{reach_of}
-use Rattle.views.specs.Placed.{HaveSameReshape}
+use Rattle.views.specs.Placed.{AreWhole, HaveSameReshape}
 use Rattle.views.specs.declared.work.Work.{Work}
 use Rattle.views.specs.Moving.{Grows, IsMoved}
 use Rattle.views.specs.Numbers.{is_carried}
@@ -23,10 +39,14 @@ use Rattle.grow_asked.specs.declared.window.Window.{Window}
 use Rattle.grow_asked.specs.declared.window.Window.TheVariants.{Closed, Entered, Unsure}
 use Rattle.grow_asked.specs.declared.window.PhasesLeft.{PhasesLeft}
 use Rattle.grow_asked.specs.Left.{phases_of, grow_left, reshape_left}
-use Rattle.kept_history.specs.Safe.{world_in}
-use Rattle.kept_history.proofs.Growing.{unsynced-grown}
+use Rattle.kept_history.specs.Safe.{world_in, TakesNone}
+use Rattle.kept_history.proofs.Entered.{lost-taken}
+use Rattle.kept_history.proofs.Growing.{unsynced-grown, takes-grown}
+use Rattle.kept_history.proofs.Tests.{neither, none-before}
+use Rattle.history_calls.proofs.Behind.{early-losses}
 use Rattle.course_kept.specs.declared.course.Course.{Course}
 use Rattle.moving_kept.specs.Moving.{IsMoving}
+use Rattle.moving_kept.proofs.Steps.{AreMissingSince, missing-moved}
 use Rattle.running_words.specs.Parts.{left_in}
 use Rattle.moving.specs.Ready.{bytes_in, IsReady}
 
@@ -46,6 +66,9 @@ shapes-moved given old new moved = record { shape = moved.shape; final = moved.r
 
 reach-same : (old new : Sb) → AreSameShapes old new → reach_of new ≡ reach_of old
 reach-same old new same = λ i. min (unit (same.shape i) (same.final i)) (min (data_disks (same.shape i)) (data_disks (same.final i)) * same.size i)
+
+long-same : (old new : Sb) → AreSameShapes old new → list_length new ≡ list_length old
+long-same old new same = λ i. min (data_disks (same.shape i)) (data_disks (same.final i)) * same.size i
 
 -- the steps that are left are the same
 left-alike : (old new : Sb) (window : Window) (zeroed : ℕ) (ahead : List Phase) → HaveSameReshape old new → shape_of new ≡ shape_of old → new.size ≡ old.size
@@ -79,26 +102,93 @@ settled-later {tape = tape} given scope first entries added grows begun was t =
     ∙ ap (λ (b : Bool). was_dirty world && not b) (list_any-append (λ e. is_resync_end e.event) entries added)
     ∙ settled-more (was_dirty world) (list_any (λ e. is_resync_end e.event) entries) (list_any (λ e. is_resync_end e.event) added) (was t))
 
+-- ---- the length of the list
+
+-- these entries change neither the length of the list, nor what is visible of it
+pub record IsLengthKept (added : List Entry) : Type 0 where
+  pub long : (n : ℕ) → fold (λ m e. length_after m e.event) n added ≡ n
+  pub free : fold (λ (limit : Option ℕ) e. limit_after limit e.event) None added ≡ None
+
+-- those of one event
+pub alone-keeps : (who : Who) (end : ℕ) (event : Event) → ((n : ℕ) → length_after n event ≡ n) → limit_after None event ≡ None → IsLengthKept (entries_of who end (event ∷ []))
+alone-keeps who end event long free = record { long = long; free = free }
+
+-- and those of one behind losses
+pub behind-keeps : (who : Who) (end roles spares : ℕ) (event : Event) → ((n : ℕ) → length_after n event ≡ n) → limit_after None event ≡ None → IsLengthKept (entries_of who end (losses_of roles spares ++ event ∷ []))
+behind-keeps who end roles spares event long free = record {
+  long = λ n. length-losses who end (losses_of roles spares) (event ∷ []) (losses-are roles spares) n ∙ long n;
+  free = limit-losses who end (losses_of roles spares) (event ∷ []) (losses-are roles spares) None ∙ free;
+}
+
+-- ---- no role is missing where no entry takes one
+
+-- what no entry takes, none of the last ones does
+takes-last : (world : World) (role : ℕ) (entries added : List Entry) → TakesNone world (entries ++ added) → list_any (loses world role) added ≡ false
+takes-last world role entries added none =
+    (neither (list_any (loses world role) entries) (list_any (loses world role) added) (sym (list_any-append (loses world role) entries added) ∙ none role)).1
+
+-- a role that a call tells lost is taken
+pub takes-lost : {P : Type 0} (world : World) (role : ℕ) (entries added : List Entry) → is_lost added role ≡ true → TakesNone world (entries ++ added) → P
+takes-lost world role entries added lost none = absurd (let both : true ≡ false = sym (lost-taken world role added lost) ∙ takes-last world role entries added none in cc)
+
+-- as is one that it tells lost first
+pub lost-here : (role : ℕ) (who : Who) (end : ℕ) (cause : LostCause) (rest : List Event) → is_lost (entries_of who end (Lost role cause ∷ rest)) role ≡ true
+lost-here role who end cause rest = ap (λ (b : Bool). b || is_lost (entries_of who end rest) role) (self role)
+  where
+    self : (n : ℕ) → (n == n) ≡ true
+    self n = grind (arith, nat_tests)
+
+-- so where none was missing, and a call tells what it lost
+pub behind-whole : {given : Given} {old new : Members} (tape' : List Operation) (scope : Scope) (first : ℕ) (entries : List Entry) (who : Who) (end roles spares : ℕ) (event : Event)
+    → IsMoved given old new → AreMissingSince old new roles
+    → TakesNone (world_in given tape' scope first) (entries ++ entries_of who end (losses_of roles spares ++ event ∷ [])) → AreWhole old → AreWhole new
+behind-whole {given = given} {old = old} {new = new} tape' scope first entries who end roles spares event moved since none whole role lt = by (is_missing (reading_of new) role) refl
+  where
+    by : (b : Bool) → is_missing (reading_of new) role ≡ b → b ≡ false
+    by false is = refl
+    by true is = elim (missing-moved roles moved since role lt is) [
+      | inl was ↦ absurd (let both : true ≡ false = sym was.1 ∙ whole role was.0 in cc)
+      | inr has ↦
+          let few = few-roles new.newest moved.placed.fit.valid in
+          takes-lost (world_in given tape' scope first) role entries (entries_of who end (losses_of roles spares ++ event ∷ []))
+          ((early-losses roles spares).lost who end (event ∷ []) role (omega (arith, lt, few)) has) none
+    ]
+
+-- what no entry takes in the end, none took before
+pub takes-before : {tells : Type 0} {tape tape' : List Operation} (given : Given) (scope : Scope) (first : ℕ) (entries added : List Entry) → Grows tells tape tape' → (tells → EndBy (length tape) entries)
+    → tells → TakesNone (world_in given tape' scope first) (entries ++ added) → TakesNone (world_in given tape scope first) entries
+takes-before {tape = tape} {tape' = tape'} given scope first entries added grows ends t none role =
+    let g = grows.more t in
+    sym (takes-grown (world_in given tape scope first) g.0 entries role (ends t))
+    ∙ subst (λ (l : List Operation). list_any (loses (world_in given l scope first) role) entries ≡ false) g.1
+    (none-before (loses (world_in given tape' scope first) role) entries added (none role))
+
 -- ---- after a call's last step in memory
 
-pub ready : {tells : Type 0} {given given' : Given} {tape tape' : List Operation} {scope scope' : Scope} {first first' : ℕ} {entries mid entries' : List Entry} {members members' : Members}
-    {work : Work} {course course' : Course} {ahead : PhasesLeft} {window window' : List ℕ} {steps steps' room room' rows buffer far_rows far_buffer : ℕ} {before after : ℕ → ℕ} (added : List Entry)
+-- where the work may have changed too, but for the resync
+pub ready-with : {tells : Type 0} {given given' : Given} {tape tape' : List Operation} {scope scope' : Scope} {first first' : ℕ} {entries mid entries' : List Entry} {members members' : Members}
+    {work work' : Work} {course course' : Course} {ahead : PhasesLeft} {window window' : List ℕ} {steps steps' room room' rows buffer far_rows far_buffer : ℕ} {before after : ℕ → ℕ} (added : List Entry)
     → IsReady tells given tape scope first entries members work course ahead window before steps room rows buffer far_rows far_buffer
     → Grows tells tape tape' → AreSameShapes members.newest members'.newest
-    → IsMoving tells given tape' scope first (entries ++ added) members' (is_carried work) course' (bytes_in course'.window window') (left_in members' course' ahead)
-    → length window' ≡ length window → NeverFalls before after
+    → IsMoving tells given tape' scope first (entries ++ added) members' (is_carried work') course' (bytes_in course'.window window') (left_in members' course' ahead)
+    → work'.resync ≡ work.resync → length window' ≡ length window → NeverFalls before after → IsLengthKept added
+    → (TakesNone (world_in given tape' scope first) (entries ++ added) → AreWhole members → AreWhole members')
     → given' ≡ given → scope' ≡ scope → first' ≡ first → mid ≡ entries → entries' ≡ mid ++ added → 50 * steps' < room'
-    → IsReady tells given' tape' scope' first' entries' members' work course' ahead window' after steps' room' rows buffer far_rows far_buffer
-ready {tells = tells} {given = given} {given' = given'} {tape' = tape'} {scope = scope} {scope' = scope'} {first = first} {first' = first'} {entries = entries} {mid = mid} {members = members} {members' = members'}
-    {work = work} {course' = course'} {ahead = ahead} {window' = window'} {steps' = steps'} {room' = room'} {rows = rows} {buffer = buffer} {far_rows = far_rows} {far_buffer = far_buffer} {after = after}
-    added was grows same kept long rises same_given scope_is first_is mid_is is room_left =
-    subst (λ (l : List Entry). IsReady tells given' tape' scope' first' l members' work course' ahead window' after steps' room' rows buffer far_rows far_buffer) (sym (is ∙ ap (λ (l : List Entry). l ++ added) mid_is))
-    (subst (λ (n : ℕ). IsReady tells given' tape' scope' n (entries ++ added) members' work course' ahead window' after steps' room' rows buffer far_rows far_buffer) (sym first_is)
-    (subst (λ (s : Scope). IsReady tells given' tape' s first (entries ++ added) members' work course' ahead window' after steps' room' rows buffer far_rows far_buffer) (sym scope_is)
-    (subst (λ (g : Given). IsReady tells g tape' scope first (entries ++ added) members' work course' ahead window' after steps' room' rows buffer far_rows far_buffer) (sym same_given)
+    → IsReady tells given' tape' scope' first' entries' members' work' course' ahead window' after steps' room' rows buffer far_rows far_buffer
+ready-with {tells = tells} {given = given} {given' = given'} {tape' = tape'} {scope = scope} {scope' = scope'} {first = first} {first' = first'} {entries = entries} {mid = mid} {members = members} {members' = members'}
+    {work' = work'} {course' = course'} {ahead = ahead} {window' = window'} {steps' = steps'} {room' = room'} {rows = rows} {buffer = buffer} {far_rows = far_rows} {far_buffer = far_buffer} {after = after}
+    added was grows same kept resync long rises quiet whole same_given scope_is first_is mid_is is room_left =
+    subst (λ (l : List Entry). IsReady tells given' tape' scope' first' l members' work' course' ahead window' after steps' room' rows buffer far_rows far_buffer) (sym (is ∙ ap (λ (l : List Entry). l ++ added) mid_is))
+    (subst (λ (n : ℕ). IsReady tells given' tape' scope' n (entries ++ added) members' work' course' ahead window' after steps' room' rows buffer far_rows far_buffer) (sym first_is)
+    (subst (λ (s : Scope). IsReady tells given' tape' s first (entries ++ added) members' work' course' ahead window' after steps' room' rows buffer far_rows far_buffer) (sym scope_is)
+    (subst (λ (g : Given). IsReady tells g tape' scope first (entries ++ added) members' work' course' ahead window' after steps' room' rows buffer far_rows far_buffer) (sym same_given)
     (record {
       kept = kept;
-      synced = was.synced;
+      synced = resync ∙ was.synced;
+      sized = subst (λ (n : ℕ). length_of n (entries ++ added) ≡ n) (sym (long-same members.newest members'.newest same))
+          (length-more (list_length members.newest) entries added was.sized (quiet.long (list_length members.newest)));
+      unlimited = limit-more entries added was.unlimited quiet.free;
+      full = λ t none. whole none (was.full t (takes-before given scope first entries added grows (λ t. (was.kept.recorded t).ends) t none));
       settled = settled-later given scope first entries added grows (λ t. (was.kept.recorded t).begun) was.settled;
       planned = subst (λ (n : ℕ). AreSound (final_shape members'.newest) n (phases_of ahead)) (sym same.size)
           (subst (λ s. AreSound s members.newest.size (phases_of ahead)) (sym same.final) was.planned);
@@ -110,3 +200,67 @@ ready {tells = tells} {given = given} {given' = given'} {tape' = tape'} {scope =
       far_rows_fit = was.far_rows_fit;
       far_buffer_fits = was.far_buffer_fits;
     }))))
+
+-- where it is as it was
+pub ready : {tells : Type 0} {given given' : Given} {tape tape' : List Operation} {scope scope' : Scope} {first first' : ℕ} {entries mid entries' : List Entry} {members members' : Members}
+    {work : Work} {course course' : Course} {ahead : PhasesLeft} {window window' : List ℕ} {steps steps' room room' rows buffer far_rows far_buffer : ℕ} {before after : ℕ → ℕ} (added : List Entry)
+    → IsReady tells given tape scope first entries members work course ahead window before steps room rows buffer far_rows far_buffer
+    → Grows tells tape tape' → AreSameShapes members.newest members'.newest
+    → IsMoving tells given tape' scope first (entries ++ added) members' (is_carried work) course' (bytes_in course'.window window') (left_in members' course' ahead)
+    → length window' ≡ length window → NeverFalls before after → IsLengthKept added
+    → (TakesNone (world_in given tape' scope first) (entries ++ added) → AreWhole members → AreWhole members')
+    → given' ≡ given → scope' ≡ scope → first' ≡ first → mid ≡ entries → entries' ≡ mid ++ added → 50 * steps' < room'
+    → IsReady tells given' tape' scope' first' entries' members' work course' ahead window' after steps' room' rows buffer far_rows far_buffer
+ready added was grows same kept = ready-with added was grows same kept refl
+
+-- with another buffer for rows
+pub with-buffer : {tells : Type 0} {given : Given} {tape : List Operation} {scope : Scope} {first : ℕ} {entries : List Entry} {members : Members}
+    {work : Work} {course : Course} {ahead : PhasesLeft} {window : List ℕ} {steps room rows buffer buffer' far_rows far_buffer : ℕ} {faults : ℕ → ℕ} → 1048576 ≤ buffer'
+    → IsReady tells given tape scope first entries members work course ahead window faults steps room rows buffer far_rows far_buffer
+    → IsReady tells given tape scope first entries members work course ahead window faults steps room rows buffer' far_rows far_buffer
+with-buffer fits was = record {
+  kept = was.kept;
+  synced = was.synced;
+  sized = was.sized;
+  unlimited = was.unlimited;
+  full = was.full;
+  settled = was.settled;
+  planned = was.planned;
+  wide = was.wide;
+  failed = was.failed;
+  room_left = was.room_left;
+  rows_fit = was.rows_fit;
+  buffer_fits = fits;
+  far_rows_fit = was.far_rows_fit;
+  far_buffer_fits = was.far_buffer_fits;
+}
+
+-- with room for more entries
+pub roomier : {tells : Type 0} {given : Given} {tape : List Operation} {scope : Scope} {first : ℕ} {entries entries' : List Entry} {members : Members}
+    {work : Work} {course : Course} {ahead : PhasesLeft} {window : List ℕ} {steps room room' rows buffer far_rows far_buffer : ℕ} {faults : ℕ → ℕ}
+    → IsReady tells given tape scope first entries members work course ahead window faults steps room rows buffer far_rows far_buffer → entries' ≡ entries → room ≤ room'
+    → IsReady tells given tape scope first entries' members work course ahead window faults steps room' rows buffer far_rows far_buffer
+roomier {tells = tells} {given = given} {tape = tape} {scope = scope} {first = first} {members = members} {work = work} {course = course} {ahead = ahead} {window = window} {steps = steps} {room' = room'}
+    {rows = rows} {buffer = buffer} {far_rows = far_rows} {far_buffer = far_buffer} {faults = faults} was same more =
+    subst (λ (l : List Entry). IsReady tells given tape scope first l members work course ahead window faults steps room' rows buffer far_rows far_buffer) (sym same) (record {
+      kept = was.kept;
+      synced = was.synced;
+      sized = was.sized;
+      unlimited = was.unlimited;
+      full = was.full;
+      settled = was.settled;
+      planned = was.planned;
+      wide = was.wide;
+      failed = was.failed;
+      room_left = (let had = was.room_left in omega (arith, had, more));
+      rows_fit = was.rows_fit;
+      buffer_fits = was.buffer_fits;
+      far_rows_fit = was.far_rows_fit;
+      far_buffer_fits = was.far_buffer_fits;
+    })
+
+-- ---- the bytes
+
+-- bytes that were written whole
+pub written-whole : (n : ℕ) (bytes written : List ℕ) → length written ≡ length bytes → n ≡ length bytes → take n (written ++ drop (length written) bytes) ≡ written
+written-whole n bytes written len ok = take-append-le n written (drop (length written) bytes) (omega (arith, len, ok)) ∙ take_all n written (omega (arith, len, ok))

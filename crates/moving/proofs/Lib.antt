@@ -8,3 +8,5 @@ pub mod Copied
 pub mod RecordLaws
 pub mod AddLaws
 pub mod Examined
+pub mod EnterLaws
+pub mod Entered

@@ -1,10 +1,11 @@
 -- A flush of an array in a reshape, from what `settle` says of it.
-use Rattle.std.proofs.Common.{◌≡◌, inl, inr, Option, Some, List, sym, subst}
+use Rattle.std.proofs.Common.{◌≡◌, inl, inr, ℕ, Option, Some, None, List, sym, ap, subst}
 use Rattle.std.specs.Prelude.{MatchOption, ⊤}
 use Rattle.md_base.specs.declared.answers.Refusal.{Refusal}
 use Rattle.superblocks.specs.declared.members.Members.{Members}
 use Rattle.bank.specs.declared.bank.Operation.{Operation}
 use Rattle.flat_history.specs.declared.events.Event.{Event}
+use Rattle.flat_history.specs.Flat.{length_after, limit_after}
 use Rattle.shape_changes.specs.Safety.{IsRisen}
 use Rattle.views.specs.Lacking.{AreTooMany}
 use Rattle.array_kept.specs.Calls.{IsSettling}
@@ -14,6 +15,15 @@ use Rattle.moving_kept.proofs.Settling as law
 pub settles-so : (event : Event) → IsSettling event → law.IsSettling event
 settles-so event (inl is) = subst law.IsSettling (sym is) law.flush-is
 settles-so event (inr is) = subst law.IsSettling (sym is) law.stop-is
+
+-- and it leaves the length of the list, and what is visible of it
+pub settling-long : (event : Event) → IsSettling event → (n : ℕ) → length_after n event ≡ n
+settling-long event (inl is) n = ap (length_after n) is
+settling-long event (inr is) n = ap (length_after n) is
+
+pub settling-free : (event : Event) → IsSettling event → limit_after None event ≡ None
+settling-free event (inl is) = ap (limit_after None) is
+settling-free event (inr is) = ap (limit_after None) is
 
 pub risen-told : {tells : Type 0} {old new : Members} {before after : List Operation} → IsRisen tells old new before after → tells → IsRisen ⊤ old new before after
 risen-told rise t = record { left = rise.left; events = λ none live. rise.events t live }

@@ -1,5 +1,5 @@
 -- A stripe behind the list is zeroed, from what `zero` of `window_steps` says of it: what is kept, done or refused.
-use Rattle.std.proofs.Common.{◌≡◌, ◌≢◌, inr, ℕ, ◌+◌, ◌<◌, ◌≤◌, Bool, true, None, List, [], ◌∷◌, ◌++◌, length, sym, ◌∙◌, ap, subst, arith}
+use Rattle.std.proofs.Common.{◌≡◌, ◌≢◌, inr, ℕ, ◌+◌, ◌<◌, Bool, true, None, List, [], ◌∷◌, ◌++◌, length, sym, ◌∙◌, ap, subst, arith}
 use Rattle.std.specs.Prelude.{⊤}
 use Rattle.md_base.specs.Sectors.{Sector}
 use Rattle.md_base.specs.declared.answers.Refusal.{Refusal}
@@ -22,7 +22,6 @@ use Rattle.flat_history.specs.World.{World}
 use Rattle.shape_views.specs.Views.{Ledger}
 use Rattle.shape_changes.specs.Safety.{HasRoomLeft, IsRisen}
 use Rattle.shape_changes.specs.Steady.{IsSafeOver, KeepsSafe, AreGoneTold, IsUncleanTold}
-use Rattle.views.specs.declared.work.Work.{Work}
 use Rattle.views.specs.Moving.{Grows, IsMoved}
 use Rattle.views.specs.Lacking.{AreTooMany, AreLostSince, IsOfStripe, AreOtherRowsKept}
 use Rattle.window_rows.specs.Copies.{tail_of, IsZeroIn}
@@ -45,7 +44,6 @@ use Rattle.moving_kept.proofs.MoreSteps.{zeroed-moves}
 use Rattle.moving_kept.proofs.Staying.{refused-moves}
 use Rattle.moving_kept.proofs.Steps.{AreMissingSince, missing-since}
 use Rattle.running_words.specs.Parts.{left_in}
-use Rattle.moving.specs.Ready.{IsReady}
 use Rattle.moving.proofs.Called.{not_254}
 use Rattle.moving.proofs.Kept.{left-moved}
 use Rattle.moving.proofs.Settled.{risen-told}
@@ -135,9 +133,9 @@ module _ {tells : Type 0} {given : Given} {tape tape' : List Operation} {scope :
       subst (λ (n : ℕ). IsMoving tells given tape' scope first (entries ++ entries_of who end (losses_of roles spares ++ Refused refusal ∷ [])) new carried course buffer n) (sym (left-moved given old new course ahead did.moved))
       (refused-moves tells given tape tape' scope first entries old new carried course buffer (left_in old course ahead) who end roles spares refusal was goes (not_254 who.caller caller) at_end did.grows
       did.moved (few-roles new.newest did.moved.placed.fit.valid) did.since did.clean (inr many) did.rise did.unused
-      (λ t sound list stands. subst (λ (k : Course). StandsInCourse sound new k buffer (present given tape') list) (sym is)
-      ((zeroes-go-on sound given old new course.zeroed buffer (present given tape) (present given tape') list was.members_are.placed did.moved (through-of old.newest was.members_are.placed.fit was.members_are.active none) (did.others t)
-      (subst (λ (k : Course). StandsInCourse sound old k buffer (present given tape) list) is stands)).0))
+      (λ t sound among list stands. subst (λ (k : Course). StandsInCourse sound among new k buffer (present given tape') list) (sym is)
+      ((zeroes-go-on sound among given old new course.zeroed buffer (present given tape) (present given tape') list was.members_are.placed did.moved (through-of old.newest was.members_are.placed.fit was.members_are.active none) (did.others t)
+      (subst (λ (k : Course). StandsInCourse sound among old k buffer (present given tape) list) is stands)).0))
       (λ t told filled more room gone unclean. did.safe t (world_in given tape scope first) told room gone unclean))
 
   -- it is done
@@ -158,23 +156,3 @@ module _ {tells : Type 0} {given : Given} {tape tape' : List Operation} {scope :
 
       some : left ≢ 0
       some zero = absurd (zero-some given old new course ahead did.moved was.members_are.active more (sym told ∙ zero))
-
--- ---- between the calls
-
--- a buffer that was written has room as before
-pub buffer-other : {tells : Type 0} {given : Given} {tape : List Operation} {scope : Scope} {first : ℕ} {entries : List Entry} {members : Members} {work : Work} {course : Course} {ahead : PhasesLeft}
-    {window : List ℕ} {faults : ℕ → ℕ} {steps room rows buffer buffer' far_rows far_buffer : ℕ} → IsReady tells given tape scope first entries members work course ahead window faults steps room rows buffer far_rows far_buffer
-    → 1048576 ≤ buffer' → IsReady tells given tape scope first entries members work course ahead window faults steps room rows buffer' far_rows far_buffer
-buffer-other was fits = record {
-  kept = was.kept;
-  synced = was.synced;
-  settled = was.settled;
-  planned = was.planned;
-  wide = was.wide;
-  failed = was.failed;
-  room_left = was.room_left;
-  rows_fit = was.rows_fit;
-  buffer_fits = fits;
-  far_rows_fit = was.far_rows_fit;
-  far_buffer_fits = was.far_buffer_fits;
-}

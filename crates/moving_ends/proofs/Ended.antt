@@ -72,8 +72,9 @@ use Rattle.kept_history.proofs.Seen.{now-more}
 use Rattle.kept_history.proofs.Turned.{filled-before}
 use Rattle.kept_history.proofs.Turns.{either-call, resized-call}
 use Rattle.reshape_ends.specs.Finished.{IsFinishable}
-use Rattle.course_kept.specs.Course.{StandsInCourse}
+use Rattle.course_kept.specs.Course.{AnyShape, StandsInCourse}
 use Rattle.course_kept.specs.Laws.{closed}
+use Rattle.course_kept.proofs.Frames.{stands-whole, list-whole, rows-whole}
 use Rattle.course_kept.proofs.Courses.{zeroes-are-all}
 use Rattle.history_calls.specs.Reliable.{IsReliable, AreToldGone}
 use Rattle.moving_kept.specs.Moving.{HasListInCourse, HasListStill, IsMoving}
@@ -96,7 +97,7 @@ pub record IsEndingCall (given : Given) (tape : List Operation) (scope : Scope) 
   pub since : (role : ℕ) → role < role_count new.newest → is_missing (reading_of new) role ≡ true
       → ((role < role_count old.newest) × (is_missing (reading_of old) role ≡ true)) ⊎ (IsAmong roles role ⊎ IsAmong late role)
   pub rise : IsRisen ⊤ old new tape tape'
-  pub stands : (list : ℕ → Sector) → StandsInCourse (OpensFit (world_in given tape scope first)) old (closed zeroed) buffer (present given tape) list
+  pub stands : (list : ℕ → Sector) → StandsInCourse (OpensFit (world_in given tape scope first)) AnyShape old (closed zeroed) buffer (present given tape) list
       → ListStands None new (present given tape') list × (OpensFit (world_in given tape scope first) → RowsStand None new (present given tape') list)
   pub read : (told : Ledger) → HasRoomLeft old tape tape' → AreGoneTold told old → ((role : ℕ) → IsAmong roles role → told.gone role ≡ true) → IsUncleanTold told old
       → IsSafeOver (world_in given tape scope first) given told old tape → IsEitherRead scope (present given tape') old.newest new.newest
@@ -373,11 +374,15 @@ module _ (given : Given) (tape : List Operation) (scope : Scope) (first : ℕ) (
         ))
   ]
 
+  -- it stands by each shape in force
+  whole-list : (l : HasListInCourse (OpensFit world) old (closed zeroed) buffer (present given tape) (now (opening_list world) entries)) → StandsInCourse (OpensFit world) AnyShape old (closed zeroed) buffer (present given tape) l.list
+  whole-list l = stands-whole (OpensFit world) old (closed zeroed) buffer (present given tape) l.list call.have.enough l.stands
+
   pub ended-listed : IsFilledRight later all → HasListStill (OpensFit later) new (present given (tape ++ ops)) (now (opening_list later) all)
   ended-listed fills =
       let before = filled-before world ops entries added begun recorded.ends fills in
-      let l = was.listed t call.have.enough before in
-      let there = call.stands l.list l.stands in
+      let l = was.listed t before in
+      let there = call.stands l.list (whole-list l) in
       listed-still scope given new call.have.placed call.have.still (present given (tape ++ ops)) (OpensFit later) l.list (now (opening_list later) all)
       (λ x lt. (list-then before l x lt).0) there.0 (λ fit. there.1 (fit-before world ops begun fit))
 
@@ -405,16 +410,16 @@ module _ (given : Given) (tape : List Operation) (scope : Scope) (first : ℕ) (
     more = told_now later carried' reshaping' all
 
     listed : HasListInCourse (OpensFit world) old (closed zeroed) buffer (present given tape) (now (opening_list world) entries)
-    listed = was.listed t call.have.enough before.fills
+    listed = was.listed t before.fills
 
     finishable : IsFinishable (OpensFit world) more old (present given tape) listed.list
     finishable = record {
       sized = length-later ∙ long;
       allowed = λ x lt. (list-then before.fills listed x (subst (λ (n : ℕ). x < n) length-later lt)).1;
-      stands = listed.stands.stands;
-      rows = λ clean does so. listed.stands.rows so;
+      stands = list-whole (OpensFit world) old (closed zeroed) buffer (present given tape) listed.list (whole-list listed);
+      rows = λ clean does so. rows-whole (OpensFit world) old (closed zeroed) buffer (present given tape) listed.list (whole-list listed) so;
       behind = λ forth. zeroes-are-all (OpensFit world) given old buffer (present given tape) listed.list was.members_are.placed was.members_are.active forth
-          (subst (λ (k : ℕ). StandsInCourse (OpensFit world) old (closed k) buffer (present given tape) listed.list) all_zeroed listed.stands);
+          (subst (λ (k : ℕ). StandsInCourse (OpensFit world) AnyShape old (closed k) buffer (present given tape) listed.list) all_zeroed (whole-list listed));
     }
 
     change : IsSafeChange (OpensFit world) scope given told more new tape (tape ++ ops)
@@ -561,7 +566,7 @@ module _ (given : Given) (tape : List Operation) (scope : Scope) (first : ℕ) (
         subst (λ (l : List Entry). IsConsistentAt later l end (final_shape old.newest)) parts
         (subst (λ (s : Shape). IsConsistentAt later all end s) call.have.shape
         (consistent-at (OpensFit world) later given all told more new tape (tape ++ ops) listed.list call.have.placed call.have.unlost call.have.still refl (ended-gone right) change
-        (λ does. (call.stands listed.list listed.stands).1 (fit-before world ops begun fit))))
+        (λ does. (call.stands listed.list (whole-list listed)).1 (fit-before world ops begun fit))))
 
     comes : behind comes_with_finish step rest ≡ rest
     comes = behind-all comes_with_finish who end (Step Finished left) tail (ending-comes who end roles spares left longer size late late_spares)

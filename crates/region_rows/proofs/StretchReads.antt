@@ -18,14 +18,14 @@ use Rattle.superblocks.specs.Reading.{data_offset_of}
 use Rattle.row_io.specs.Rows.{reading_of, held_slot}
 use Rattle.list_io.specs.Full.{DataStands, RowStands}
 use Rattle.flat_history.specs.Stands.{shape_for}
-use Rattle.shape_views.specs.Windows.{IsShown, ListStands}
+use Rattle.shape_views.specs.Windows.{IsShown}
 use Rattle.shape_views.proofs.Stands.{data-from}
 use Rattle.views.specs.Placed.{AreWhole, IsPlaced, IsInForce}
 use Rattle.views.specs.Moving.{IsMoved}
 use Rattle.views.proofs.Fit.{force-valid}
 use Rattle.views.proofs.HeldRows.{held-moved}
 use Rattle.views.proofs.LackingLists.{row-moved}
-use Rattle.region_rows.specs.Stretches.{RowsStandTo, relied_rows}
+use Rattle.region_rows.specs.Stretches.{ListStandsIn, RowsStandIn, relied_rows}
 use Rattle.region_rows.proofs.StretchLaws.{relied-below}
 
 -- ---- the bytes
@@ -101,24 +101,33 @@ module _ (m : Members) (c : Contents) (shape : Shape) (x : ℕ) (list : ℕ → 
 module _ (given : Given) (old mid new : Members) (moved : IsMoved given old mid) (was : IsPlaced given old) (c : Contents) (shape : Shape) (force : IsInForce old.newest shape)
     (relied rows : ℕ) (same : rows ≡ relied_rows old.newest relied shape) (x : ℕ) (placed : shape_for old.newest x ≡ shape) (v : Sector)
     (read : (list : ℕ → Sector) → DataStands (reading_of mid) c shape list (place shape x).row → ((place shape x).row < rows → AreWhole new ⊎ RowStands (reading_of mid) c shape list (place shape x).row) → v ≡ list x)
-    (hidden : Option Span) (list : ℕ → Sector) (stands : ListStands hidden old c list) (shown : IsShown hidden old.newest x) where
+    (among : Shape → Type 0) (read-by : among (shape_for old.newest x)) (hidden : Option Span) (list : ℕ → Sector) (stands : ListStandsIn among hidden old c list) (shown : IsShown hidden old.newest x) where
   -- the sector stands on the members that are there
   own : (slot : ℕ) → held_slot (reading_of mid) (place shape x).role (place shape x).row ≡ Some slot → c slot (data_offset_of (reading_of mid) slot + (place shape x).row) ≡ list x
   own slot held =
       ap (λ (n : ℕ). c slot (n + (place shape x).row)) (moved.offsets slot)
       ∙ subst (λ (s : Shape). held_slot (reading_of old) (place s x).role (place s x).row ≡ Some slot → c slot (data_offset_of (reading_of old) slot + (place s x).row) ≡ list x) placed
-      (stands x slot shown) (held-moved moved (place shape x).role (place shape x).row slot held)
+      (stands x slot read-by shown) (held-moved moved (place shape x).role (place shape x).row slot held)
 
   alone : ((place shape x).row < rows → AreWhole new ⊎ RowStands (reading_of mid) c shape (stood mid c shape x list) (place shape x).row) → v ≡ list x
   alone fills = read (stood mid c shape x list) (stood-data mid c shape x list (force-valid old.newest was.fit shape force) own) fills ∙ stood-here mid c shape x list
 
-  pub sector-read : AreWhole new ⊎ RowsStandTo hidden relied old c list → v ≡ list x
+  pub sector-read : AreWhole new ⊎ RowsStandIn among hidden relied old c list → v ≡ list x
   sector-read (inl whole) = alone (λ low. inl whole)
   sector-read (inr stand) = elim (cases_lt (place shape x).row rows) [
     | inl low ↦
         let below : x < relied = relied-below old.newest was.fit shape force relied x shown.within (subst (λ (n : ℕ). (place shape x).row < n) same low) in
-        let row : RowStands (reading_of old) c shape list (place shape x).row = subst (λ (s : Shape). RowStands (reading_of old) c s list (place s x).row) placed (stand x below shown) in
+        let row : RowStands (reading_of old) c shape list (place shape x).row = subst (λ (s : Shape). RowStands (reading_of old) c s list (place s x).row) placed (stand x below read-by shown) in
         let still : RowStands (reading_of mid) c shape list (place shape x).row = row-moved given old mid c c list moved was (λ s k other. refl) (place shape x).row shape row in
         read list still.sectors (λ near. inr still)
     | inr high ↦ alone (λ low. absurd (omega (arith, low, high)))
   ]
+
+-- ---- the list by fewer shapes
+
+module _ (among wider : Shape → Type 0) (within : (s : Shape) → among s → wider s) (hidden : Option Span) (m : Members) (c : Contents) (list : ℕ → Sector) where
+  pub list-among : ListStandsIn wider hidden m c list → ListStandsIn among hidden m c list
+  list-among stands x slot own shown held = stands x slot (within (shape_for m.newest x) own) shown held
+
+  pub rows-among : (relied : ℕ) → RowsStandIn wider hidden relied m c list → RowsStandIn among hidden relied m c list
+  rows-among relied stands x below own shown = stands x below (within (shape_for m.newest x) own) shown

@@ -1,5 +1,5 @@
 -- Stretches of the list that are placed by one shape, and how far the parity of their rows is to be relied on.
-use Rattle.std.specs.Prelude.{◌≡◌, ◌⊎◌, ℕ, ◌*◌, ◌/◌, ◌<◌, ◌≤◌, nat_le, true, if◌then◌else◌, Option}
+use Rattle.std.specs.Prelude.{◌≡◌, ◌⊎◌, ℕ, ◌+◌, ◌*◌, ◌/◌, ◌<◌, ◌≤◌, nat_le, true, if◌then◌else◌, Option, Some}
 use Rattle.md_base.specs.declared.places.Shape.{Shape}
 use Rattle.md_base.specs.declared.places.Span.{Span}
 use Rattle.md_base.specs.declared.answers.Refusal.{Refusal}
@@ -9,8 +9,8 @@ use Rattle.md_base.specs.Shapes.{stripe_sectors, tolerance}
 use Rattle.sb1.specs.declared.sb.Sb.{Sb}
 use Rattle.bank.specs.Tape.{Contents}
 use Rattle.superblocks.specs.declared.members.Members.{Members}
-use Rattle.superblocks.specs.Reading.{list_length}
-use Rattle.row_io.specs.Rows.{reading_of, is_missing}
+use Rattle.superblocks.specs.Reading.{list_length, data_offset_of}
+use Rattle.row_io.specs.Rows.{reading_of, is_missing, held_slot}
 use Rattle.list_io.specs.Full.{RowStands}
 use Rattle.flat_history.specs.Stands.{shape_for}
 use Rattle.shape_views.specs.Regions.{place_by}
@@ -28,6 +28,23 @@ relied_rows newest relied shape = if nat_le (list_length newest) relied then new
 -- of the sectors below this one, each that isn't hidden stands in a row that stands as the list
 abbrev pub RowsStandTo : Option Span → ℕ → Members → Contents → (ℕ → Sector) → Type 0
 RowsStandTo hidden relied m c list = (x : ℕ) → x < relied → IsShown hidden m.newest x → RowStands (reading_of m) c (shape_for m.newest x) list (place_by m.newest x).row
+
+-- ---- where the list stands
+
+-- one of these sectors is placed by this shape
+abbrev pub IsShapeOf : Sb → ℕ → ℕ → Shape → Type 0
+IsShapeOf newest from to shape = (x : ℕ) × (from ≤ x) × (x < to) × (shape_for newest x ≡ shape)
+
+-- each sector that isn't hidden, and is placed by one of these shapes, stands where its place is held
+abbrev pub ListStandsIn : (Shape → Type 0) → Option Span → Members → Contents → (ℕ → Sector) → Type 0
+ListStandsIn among hidden m c list = (x slot : ℕ) → among (shape_for m.newest x) → IsShown hidden m.newest x
+    → held_slot (reading_of m) (place_by m.newest x).role (place_by m.newest x).row ≡ Some slot → c slot (data_offset_of (reading_of m) slot + (place_by m.newest x).row) ≡ list x
+
+-- and its row stands as the list, as far as to this sector
+abbrev pub RowsStandIn : (Shape → Type 0) → Option Span → ℕ → Members → Contents → (ℕ → Sector) → Type 0
+RowsStandIn among hidden relied m c list = (x : ℕ) → x < relied → among (shape_for m.newest x) → IsShown hidden m.newest x → RowStands (reading_of m) c (shape_for m.newest x) list (place_by m.newest x).row
+
+-- ---- why it isn't read
 
 -- this sector lies on a missing role, in a row whose parity isn't to be relied on
 abbrev pub IsUnrelied : ℕ → Members → ℕ → Type 0

@@ -12,7 +12,7 @@ ghost use Rattle.flat_history.specs.Stands.{shape_for};
 ghost use Rattle.flat_history.specs.World.{World};
 ghost use Rattle.shape_views.specs.Regions.{AreShapesFit};
 ghost use Rattle.shape_views.specs.Views.{Ledger};
-ghost use Rattle.shape_views.specs.Windows.{IsShown, ListStands};
+ghost use Rattle.shape_views.specs.Windows.{IsShown};
 ghost use Rattle.shape_changes.specs.Steady.{AreUnlost, IsSafeOver, KeepsSafe, AreGoneTold, IsUncleanTold};
 ghost use Rattle.shape_changes.specs.Marking.{AreOthersPresent};
 ghost use Rattle.shape_changes.specs.Safety.{HasRoomLeft, IsRisen};
@@ -21,7 +21,7 @@ ghost use Rattle.views.specs.Placed.{AreWhole, IsPlaced};
 ghost use Rattle.views.specs.Rebuilding.{AreSparesFree};
 ghost use Rattle.views.specs.Moving.{Grows, IsMoved};
 ghost use Rattle.views.specs.Lacking.{HaveFailedSince, DoesWithout, LacksTooMany};
-ghost use Rattle.region_rows.specs.Stretches.{RowsStandTo, IsLacked, IsListUnread};
+ghost use Rattle.region_rows.specs.Stretches.{IsShapeOf, ListStandsIn, RowsStandIn, IsLacked, IsListUnread};
 
 use crate::stretches::{relied_rows, stretch_at};
 use bank::Bank;
@@ -97,8 +97,8 @@ fn read_stretches<B: Bank>(
     ensures from { first ≤ result }
     ensures within { result ≤ first + length into.old / 512 }
     ensures unread { result < first + length into.old / 512 → (x : ℕ) × (result ≤ x) × (x < first + length into.old / 512) × IsLacked relied members.new x }
-    ensures holds { B.tells → (hidden : Option Span) → (list : ℕ → Sector) → ListStands hidden members.old (present (B.given bank.old) (B.tape bank.old)) list
-        → AreWhole members.new ⊎ RowsStandTo hidden relied members.old (present (B.given bank.old) (B.tape bank.old)) list
+    ensures holds { B.tells → (hidden : Option Span) → (list : ℕ → Sector) → ListStandsIn (IsShapeOf members.old.newest first (first + length into.old / 512)) hidden members.old (present (B.given bank.old) (B.tape bank.old)) list
+        → AreWhole members.new ⊎ RowsStandIn (IsShapeOf members.old.newest first (first + length into.old / 512)) hidden relied members.old (present (B.given bank.old) (B.tape bank.old)) list
         → (i : ℕ) → first + i < result → IsShown hidden members.old.newest (first + i) → sector_of into.new i ≡ list (first + i) }
     ensures tape { B.tells → B.tape bank.new ≡ B.tape bank.old }
     ensures given { B.given bank.new ≡ B.given bank.old }
@@ -139,8 +139,8 @@ pub fn read_regions<B: Bank>(
     ensures failed { HaveFailedSince members.old members.new 0 (B.faults_of bank.old) (B.faults_of bank.new) }
     ensures kept { AreWhole members.new → members.new ≡ members.old }
     ensures refused { MatchOption result ⊤ (IsListUnread relied first (first + length into.old / 512) members.new) }
-    ensures holds { result ≡ None → B.tells → (hidden : Option Span) → (list : ℕ → Sector) → ListStands hidden members.old (present (B.given bank.old) (B.tape bank.old)) list
-        → AreWhole members.new ⊎ RowsStandTo hidden relied members.old (present (B.given bank.old) (B.tape bank.old)) list
+    ensures holds { result ≡ None → B.tells → (hidden : Option Span) → (list : ℕ → Sector) → ListStandsIn (IsShapeOf members.old.newest first (first + length into.old / 512)) hidden members.old (present (B.given bank.old) (B.tape bank.old)) list
+        → AreWhole members.new ⊎ RowsStandIn (IsShapeOf members.old.newest first (first + length into.old / 512)) hidden relied members.old (present (B.given bank.old) (B.tape bank.old)) list
         → (i : ℕ) → i < length into.old / 512 → IsShown hidden members.old.newest (first + i) → sector_of into.new i ≡ list (first + i) }
     ensures tape { B.tells → B.tape bank.new ≡ B.tape bank.old }
     ensures given { B.given bank.new ≡ B.given bank.old }
@@ -177,8 +177,8 @@ pub fn fetch_list<B: Bank>(
     ensures grows { Grows B.tells (B.tape bank.old) (B.tape bank.new) }
     ensures others { B.tells → AreOthersPresent (present (B.given bank.old) (B.tape bank.old)) (present (B.given bank.old) (B.tape bank.new)) }
     ensures unused { B.tells → IsUnusedKept members.old (disk (B.given bank.old).start (B.tape bank.old)) (disk (B.given bank.old).start (B.tape bank.new)) }
-    ensures holds { result.refusal ≡ None → B.tells → (hidden : Option Span) → (list : ℕ → Sector) → ListStands hidden members.old (present (B.given bank.old) (B.tape bank.old)) list
-        → AreWhole members.new ⊎ RowsStandTo hidden relied members.old (present (B.given bank.old) (B.tape bank.old)) list
+    ensures holds { result.refusal ≡ None → B.tells → (hidden : Option Span) → (list : ℕ → Sector) → ListStandsIn (IsShapeOf members.old.newest first (first + length into.old / 512)) hidden members.old (present (B.given bank.old) (B.tape bank.old)) list
+        → AreWhole members.new ⊎ RowsStandIn (IsShapeOf members.old.newest first (first + length into.old / 512)) hidden relied members.old (present (B.given bank.old) (B.tape bank.old)) list
         → (i : ℕ) → i < length into.old / 512 → IsShown hidden members.old.newest (first + i) → sector_of into.new i ≡ list (first + i) }
     ensures clean { is_clean members.new.newest ≡ is_clean members.old.newest }
     ensures kept { AreWhole members.new → members.new ≡ members.old }

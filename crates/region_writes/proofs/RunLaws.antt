@@ -1,25 +1,30 @@
 -- Which rows a run touches, and why two runs aren't written.
-use Rattle.std.proofs.Common.{◌≡◌, inl, inr, ℕ, ◌+◌, ◌-◌, ◌*◌, ◌^◌, ◌<◌, ◌≤◌, Bool, true, false, Option, Some, None, is_some, Result, Ok, Err, refl, sym, ◌∙◌, ap, subst, arith}
+use Rattle.std.proofs.Common.{◌≡◌, inl, inr, ℕ, zero, suc, ◌+◌, ◌-◌, ◌*◌, ◌^◌, ◌<◌, ◌≤◌, Bool, true, false, cond, Option, Some, None, is_some, Result, Ok, Err, refl, sym, ◌∙◌, ap, subst, arith}
 use Rattle.std.specs.Prelude.{MatchOption, ⊤}
 use Rattle.std.specs.Result.{is_ok, is_err}
 use Rattle.std.proofs.lemmas.Bool.{cases_lt}
 use Rattle.md_base.specs.declared.places.Shape.{Shape}
 use Rattle.md_base.specs.declared.answers.Refusal.{Refusal}
-use Rattle.md_base.specs.Shapes.{data_disks}
+use Rattle.md_base.specs.Search.{count_below}
+use Rattle.md_base.specs.Shapes.{data_disks, tolerance, tolerance_of}
 use Rattle.sb1.specs.declared.sb.Sb.{Sb}
 use Rattle.layout.specs.Layout.{place}
+use Rattle.layout.proofs.Places.{data_some}
 use Rattle.superblocks.specs.declared.members.Members.{Members}
-use Rattle.superblocks.specs.Reading.{list_length}
+use Rattle.superblocks.specs.Reading.{shape_of, list_length}
+use Rattle.row_io.specs.Rows.{reading_of, is_missing}
 use Rattle.list_io.specs.Buffers.{IsTouched}
 use Rattle.flat_history.specs.Stands.{shape_for}
 use Rattle.shape_views.specs.Regions.{AreShapesFit, place_by}
+use Rattle.views.specs.Placed.{IsInForce}
 use Rattle.views.specs.Lacking.{DoesWithout, LacksTooMany, IsNotResynced}
+use Rattle.views.proofs.Fit.{force-valid}
 use Rattle.safe_updates.specs.First.{write_refusal}
 use Rattle.safe_updates.proofs.RefusingLaws.{write-cause}
 use Rattle.region_rows.specs.Stretches.{relied_rows}
 use Rattle.region_rows.proofs.StretchLaws.{list-short, data-few}
 use Rattle.region_writes.specs.declared.runs.Run.{Run}
-use Rattle.region_writes.specs.Runs.{IsRun, IsRelied, AreRuns, IsListTouched, IsListTorn, IsListUnwritten, AreRunsTorn, AreRunsUnwritten}
+use Rattle.region_writes.specs.Runs.{IsRun, IsRelied, AreRuns, IsListTouched, IsTornTouched, IsListTorn, IsListUnwritten, AreRunsTorn, AreRunsUnwritten}
 use Rattle.region_writes.proofs.Together.{together-shape, rows-together, mates-together}
 
 -- ---- rows
@@ -101,7 +106,81 @@ module _ (newest : Sb) (fit : AreShapesFit newest) (relied first to : ℕ) (low 
       let ends = are.ends in
       (t.0, omega (arith, from, begins, some, meet), omega (arith, end, ends), t.3)
 
+-- ---- the rows of a write that is cut
+
+-- of more disks no fewer are counted
+count-wider : (few more : ℕ) (test : ℕ → Bool) → few ≤ more → count_below few test ≤ count_below more test
+unfolding count_below
+count-wider few zero test le = subst (λ (n : ℕ). count_below n test ≤ 0) (none few le) (omega arith)
+  where
+    none : (n : ℕ) → n ≤ 0 → 0 ≡ n
+    none n le = omega (arith, le)
+count-wider few (suc more) test le = elim (cases_lt few (suc more)) [
+  | inl less ↦ beyond (count_below few test) (count_below more test) (cond (test more) 1 0) (count-wider few more test (omega (arith, less)))
+  | inr all ↦ (let same : suc more ≡ few = omega (arith, le, all) in subst (λ (n : ℕ). count_below n test ≤ count_below (suc more) test) same (omega arith))
+]
+  where
+    beyond : (a b c : ℕ) → a ≤ b → a ≤ b + c
+    beyond a b c le = omega (arith, le)
+
+-- a shape in force has the array's level
+level-in : (newest : Sb) → AreShapesFit newest → (shape : Shape) → IsInForce newest shape → shape.level ≡ (shape_of newest).level
+level-in newest fit shape (inl same) = ap (λ (s : Shape). s.level) same
+level-in newest fit shape (inr same) = ap (λ (s : Shape). s.level) same ∙ fit.level
+
+-- one that misses too many doesn't do without them
+pub never-does : (shape : Shape) (m : Members) (refusal : Refusal) → LacksTooMany shape m refusal → DoesWithout shape m → ⊥
+never-does shape m refusal many few = let above = many.above in absurd (omega (arith, above, few))
+
+module _ (newest : Sb) (fit : AreShapesFit newest) (relied first to : ℕ) (low high : Run) (are : AreRuns newest relied first to low high) (m : Members) where
+  -- the first run's shape has as many disks or more, and tolerates as many
+  same-tolerance : tolerance low.shape ≡ tolerance high.shape
+  same-tolerance = ap tolerance_of (level-in newest fit low.shape are.low.force ∙ sym (level-in newest fit high.shape are.high.force))
+
+  more-disks : high.shape.disks ≤ low.shape.disks
+  more-disks =
+      let wide = are.wider in
+      let same = same-tolerance in
+      let some = data_some high.shape (force-valid newest fit high.shape are.high.force) in
+      omega (arith, wide, same, some)
+
+  -- so it misses too many where the second one's does
+  pub low-torn : (refusal : Refusal) → LacksTooMany high.shape m refusal → DoesWithout low.shape m → ⊥
+  low-torn refusal many few =
+      let above = many.above in
+      let more = count-wider high.shape.disks low.shape.disks (is_missing (reading_of m)) more-disks in
+      let same = same-tolerance in
+      absurd (omega (arith, above, more, same, few))
+
+  -- a row of a run whose shape misses too many has a sector of that shape
+  pub torn-low : (row : ℕ) → IsRunRow low row → (DoesWithout low.shape m → ⊥) → IsTornTouched newest first to m row
+  torn-low row touch torn =
+      let t = run-sector newest fit low are.low row touch in
+      let from = t.1 in
+      let end = t.2 in
+      let begins = are.begins in
+      let order = are.high.order in
+      let meet = are.meet in
+      let ends = are.ends in
+      (t.0, omega (arith, from, begins), omega (arith, end, order, meet, ends), λ does. torn (subst (λ (s : Shape). DoesWithout s m) (are.low.one t.0 t.1 t.2) does), t.3)
+
+  pub torn-high : (row : ℕ) → IsRunRow high row → (DoesWithout high.shape m → ⊥) → IsTornTouched newest first to m row
+  torn-high row touch torn =
+      let t = run-sector newest fit high are.high row touch in
+      let from = t.1 in
+      let end = t.2 in
+      let begins = are.begins in
+      let some = are.some in
+      let meet = are.meet in
+      let ends = are.ends in
+      (t.0, omega (arith, from, begins, some, meet), omega (arith, end, ends), λ does. torn (subst (λ (s : Shape). DoesWithout s m) (are.high.one t.0 t.1 t.2) does), t.3)
+
 -- ---- refusals
+
+-- what holds in any case, where something was told
+pub told-always : (A : Type 0) (found : Option Refusal) → A → MatchOption found ⊤ (λ refusal. A)
+told-always A None is = tt
+told-always A (Some refusal) is = is
 
 -- a refusal told in other words
 pub told-as : (A : Type 0) (P Q : Refusal → Type 0) (found : Option Refusal) → ((refusal : Refusal) → P refusal → Q refusal) → MatchOption found A P → MatchOption found ⊤ Q

@@ -40,7 +40,8 @@ use Rattle.views.proofs.LackingLists.{data-held}
 use Rattle.views.proofs.LackingWrites.{list-in, list-in-is, list-with, list-with-is}
 use Rattle.region_rows.proofs.StretchLaws.{relied-below}
 use Rattle.region_writes.specs.declared.runs.Run.{Run}
-use Rattle.region_writes.specs.Runs.{IsRun, IsRelied, AreRuns, AreRowsOf, AreFull, StayRebuilt, MayBeHidden, ListStandsIn, RowsStandIn}
+use Rattle.region_rows.specs.Stretches.{ListStandsIn, RowsStandIn}
+use Rattle.region_writes.specs.Runs.{IsRun, IsRelied, AreRuns, AreRowsOf, AreFull, StayRebuilt, MayBeHidden}
 use Rattle.region_writes.proofs.Together.{mates-together, together-shape, shown-mate}
 use Rattle.region_writes.proofs.RunLaws.{run-sector, run-region, run-mate, mate-shape}
 use Rattle.region_writes.proofs.Tails.{is_listed, listed-is, tailed-is, listed-or-tail, tail-run, tail-before}

@@ -9,7 +9,7 @@ use Rattle.bank.specs.Given.{Given}
 use Rattle.bank.specs.Tape.{Contents}
 use Rattle.sb1.specs.declared.sb.Sb.{Sb}
 use Rattle.superblocks.specs.declared.members.Members.{Members}
-use Rattle.superblocks.specs.Reading.{shape_of, holder, data_offset_of}
+use Rattle.superblocks.specs.Reading.{Reading, shape_of, holder, data_offset_of}
 use Rattle.row_io.specs.Rows.{reading_of, held_slot}
 use Rattle.row_io.proofs.Losses.{holder-of}
 use Rattle.list_io.specs.Buffers.{AreStanding}
@@ -31,6 +31,10 @@ some-none None some none = absurd (cc)
 some-none (Some x) some none = absurd (cc)
 
 -- ---- rows that were written
+
+-- where each of these rows is one of those, others than those are kept where others than these are
+pub rows-in : (r : Reading) (before after : Contents) (own among : ℕ → Type 0) → ((row : ℕ) → own row → among row) → AreOtherRowsKept own r before after → AreOtherRowsKept among r before after
+rows-in r before after own among each kept row out role slot held = kept row (λ has. out (each row has)) role slot held
 
 module _ (shape : Shape) (first : ℕ) (from rows : List ℕ) (next : ℕ) (m : Members) (before after : Contents) (buffer buffer' : List ℕ)
     (done : AreRowsWritten shape first from rows 0 next m before after buffer buffer') (within : next ≤ length rows) where

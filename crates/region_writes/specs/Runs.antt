@@ -1,5 +1,5 @@
 -- A write of the list of an array in a reshape: the runs that it is cut in, which rows it touches, and why it isn't done.
-use Rattle.std.specs.Prelude.{◌≡◌, ◌⊎◌, ℕ, ◌+◌, ◌-◌, ◌<◌, ◌≤◌, true, false, List, length, Contains, Option, Some}
+use Rattle.std.specs.Prelude.{◌≡◌, ◌⊎◌, ℕ, ◌-◌, ◌<◌, ◌≤◌, true, false, List, length, Contains, Option, Some}
 use Rattle.md_base.specs.declared.places.Span.{Span}
 use Rattle.md_base.specs.declared.places.Shape.{Shape}
 use Rattle.md_base.specs.Shapes.{data_disks}
@@ -9,14 +9,12 @@ use Rattle.sb1.specs.declared.sb.Sb.{Sb}
 use Rattle.bank.specs.Tape.{Contents}
 use Rattle.layout.specs.Layout.{place}
 use Rattle.superblocks.specs.declared.members.Members.{Members}
-use Rattle.superblocks.specs.Reading.{is_reshaping, list_length, next_window, data_offset_of}
-use Rattle.row_io.specs.Rows.{reading_of, held_slot}
+use Rattle.superblocks.specs.Reading.{is_reshaping, list_length, next_window}
+use Rattle.row_io.specs.Rows.{reading_of}
 use Rattle.list_io.specs.Buffers.{AreTouched}
-use Rattle.list_io.specs.Full.{RowStands}
 use Rattle.list_io.specs.Writing.{IsWritten, AreDataFrom, IsFull, StaysRebuilt}
 use Rattle.flat_history.specs.Stands.{shape_for}
 use Rattle.shape_views.specs.Regions.{place_by}
-use Rattle.shape_views.specs.Windows.{IsShown}
 use Rattle.views.specs.Placed.{IsInForce}
 use Rattle.views.specs.Lacking.{DoesWithout, LacksTooMany, IsNotResynced}
 use Rattle.region_rows.specs.Stretches.{IsStretch, relied_rows}
@@ -68,24 +66,13 @@ StayRebuilt new before after shape first from rows buffer = (list list' : ℕ �
 abbrev pub IsListTouched : Sb → ℕ → ℕ → ℕ → Type 0
 IsListTouched newest from to row = (x : ℕ) × (from ≤ x) × (x < to) × ((place_by newest x).row ≡ row)
 
+-- so it is of one of these sectors whose shape misses more roles than it tolerates
+abbrev pub IsTornTouched : Sb → ℕ → ℕ → Members → ℕ → Type 0
+IsTornTouched newest from to m row = (x : ℕ) × (from ≤ x) × (x < to) × (DoesWithout (shape_for newest x) m → ⊥) × ((place_by newest x).row ≡ row)
+
 -- the sectors that are hidden, if any, are those of the next window
 abbrev pub MayBeHidden : Sb → Option Span → Type 0
 MayBeHidden newest hidden = (span : Span) → hidden ≡ Some span → next_window newest ≡ Some span
-
--- ---- where the list stands
-
--- one of these sectors is placed by this shape
-abbrev pub IsShapeOf : Sb → ℕ → ℕ → Shape → Type 0
-IsShapeOf newest from to shape = (x : ℕ) × (from ≤ x) × (x < to) × (shape_for newest x ≡ shape)
-
--- each sector that isn't hidden, and is placed by one of these shapes, stands where its place is held
-abbrev pub ListStandsIn : (Shape → Type 0) → Option Span → Members → Contents → (ℕ → Sector) → Type 0
-ListStandsIn among hidden m c list = (x slot : ℕ) → among (shape_for m.newest x) → IsShown hidden m.newest x
-    → held_slot (reading_of m) (place_by m.newest x).role (place_by m.newest x).row ≡ Some slot → c slot (data_offset_of (reading_of m) slot + (place_by m.newest x).row) ≡ list x
-
--- and its row stands as the list, as far as to this sector
-abbrev pub RowsStandIn : (Shape → Type 0) → Option Span → ℕ → Members → Contents → (ℕ → Sector) → Type 0
-RowsStandIn among hidden relied m c list = (x : ℕ) → x < relied → among (shape_for m.newest x) → IsShown hidden m.newest x → RowStands (reading_of m) c (shape_for m.newest x) list (place_by m.newest x).row
 
 -- ---- why a write isn't done
 

@@ -22,11 +22,11 @@ ghost use Rattle.shape_changes.specs.Safety.{HasRoomLeft, IsRisen};
 ghost use Rattle.views.specs.Placed.{AreWhole, IsPlaced, IsInForce};
 ghost use Rattle.views.specs.Rebuilding.{AreSparesFree};
 ghost use Rattle.views.specs.Moving.{Grows, IsMoved};
-ghost use Rattle.views.specs.Lacking.{HaveFailedSince, DoesWithout, AreOtherRowsKept, AreBytes, AreRowsRead};
+ghost use Rattle.views.specs.Lacking.{HaveFailedSince, DoesWithout, LacksTooMany, AreOtherRowsKept, AreBytes, AreRowsRead};
 ghost use Rattle.safe_updates.specs.First.{write_refusal};
 ghost use Rattle.safe_updates.specs.Unused.{IsUnusedKept};
-ghost use Rattle.region_rows.specs.Stretches.{RowsStandTo};
-ghost use Rattle.region_writes.specs.Runs.{IsShapeOf, ListStandsIn, RowsStandIn, IsRun, AreRowsOf, AreFull, StayRebuilt, IsListTouched, MayBeHidden, IsListTorn, IsListUnwritten, AreRunsTorn, AreRunsUnwritten};
+ghost use Rattle.region_rows.specs.Stretches.{RowsStandTo, IsShapeOf, ListStandsIn, RowsStandIn};
+ghost use Rattle.region_writes.specs.Runs.{IsRun, AreRowsOf, AreFull, StayRebuilt, IsListTouched, IsTornTouched, MayBeHidden, IsListTorn, IsListUnwritten, AreRunsTorn, AreRunsUnwritten};
 
 use crate::runs::{Run, runs_of, too_many_runs, unwritten_runs};
 use bank::Bank;
@@ -201,6 +201,8 @@ fn write_runs<B: Bank>(
     ensures moved { IsMoved (B.given bank.old) members.old members.new }
     ensures failed { HaveFailedSince members.old members.new result.spares (B.faults_of bank.old) (B.faults_of bank.new) }
     ensures refused { MatchOption result.refusal ⊤ (AreRunsTorn low.now high.now members.new) }
+    ensures torn { MatchOption result.refusal ⊤ (λ refusal. LacksTooMany high.now.shape members.new refusal ⊎ (LacksTooMany low.now.shape members.new refusal
+        × (B.tells → AreOtherRowsKept (Contains rows.now) (reading_of members.new) (present (B.given bank.old) (B.tape bank.old)) (present (B.given bank.old) (B.tape bank.new))))) }
     ensures grows { Grows B.tells (B.tape bank.old) (B.tape bank.new) }
     ensures low { result.refusal ≡ None → B.tells → AreFull members.new (present (B.given bank.old) (B.tape bank.new)) low.now.shape first from.now rows.now buffer.old.items }
     ensures high { result.refusal ≡ None → B.tells → AreFull members.new (present (B.given bank.old) (B.tape bank.new)) high.now.shape first from.now far_rows.now far_buffer.old.items }
@@ -247,8 +249,9 @@ fn write_runs<B: Bank>(
 /// Puts the sectors of `from`, 1 to 128, into the list from `first` on, each by the shape of its region: the rows that they touch are
 /// read, those of the region below the position into `buffer` and the others into `far_buffer`, the array is marked dirty where it is
 /// clean, those that are missing are named, and the rows are written with their parity, those below the position first, whose shape has
-/// at least as many data disks. It ends where more roles of one of the shapes are missing than it tolerates, or, in rows whose parity
-/// isn't to be relied on, one that has data; parity is to be relied on up to sector `relied` of the list.
+/// at least as many data disks: where that is cut off, the shape of each row that was written misses more roles than it tolerates. It ends
+/// where more roles of one of the shapes are missing than it tolerates, or, in rows whose parity isn't to be relied on, one that has data;
+/// parity is to be relied on up to sector `relied` of the list.
 pub fn put_list<B: Bank>(
     members: &mut Members,
     bank: &mut B,
@@ -277,6 +280,8 @@ pub fn put_list<B: Bank>(
     ensures refused { MatchOption result.refusal ⊤ (IsListUnwritten relied first (first + length from.now / 512) members.new) }
     ensures begun { result.begun ≡ true → (x : ℕ) → first ≤ x → x < first + length from.now / 512 → DoesWithout (shape_for members.old.newest x) members.old }
     ensures torn { result.begun ≡ true → MatchOption result.refusal ⊤ (IsListTorn first (first + length from.now / 512) members.new) }
+    ensures torn_rows { MatchOption result.refusal ⊤ (λ refusal. B.tells → AreOtherRowsKept (IsTornTouched members.old.newest first (first + length from.now / 512) members.new) (reading_of members.new)
+        (present (B.given bank.old) (B.tape bank.old)) (present (B.given bank.old) (B.tape bank.new))) }
     ensures grows { Grows B.tells (B.tape bank.old) (B.tape bank.new) }
     ensures put { result.refusal ≡ None → B.tells → (among : Shape → Bool) → (hidden : Option Span) → (list list' : ℕ → Sector) → IsWritten list list' first from.now
         → ListStandsIn (λ s. among s ≡ true) hidden members.old (present (B.given bank.old) (B.tape bank.old)) list

@@ -1,13 +1,16 @@
 -- What the calls of an array in a reshape tell of it, and what none of them changes.
-use Rattle.std.specs.Prelude.{◌≡◌, ℕ, ◌<◌, ◌≤◌, Bool, List, length, Option, Some, None, Result, Ok, Err}
+use Rattle.std.specs.Prelude.{◌≡◌, ◌⊎◌, ℕ, ◌<◌, ◌≤◌, Bool, true, IfSome, List, length, Option, Some, None, Result, Ok, Err}
 use Rattle.md_base.specs.declared.answers.Fault.{Fault}
 use Rattle.md_base.specs.declared.answers.Fault.TheVariants.{Refused as IsRefusedWith, NoMemory}
+use Rattle.md_base.specs.declared.answers.Refusal.{Refusal}
+use Rattle.md_base.specs.declared.answers.Refusal.TheVariants.{BackupFault}
 use Rattle.md_base.specs.declared.answers.Who.{Who}
 use Rattle.md_base.specs.declared.places.Span.{Span}
 use Rattle.md_base.specs.declared.status.Status.{Status}
-use Rattle.geometry.specs.Geometry.{stripes, zeroed_stripes}
-use Rattle.bank.specs.Given.{Given, NeverFalls}
+use Rattle.geometry.specs.Geometry.{stripes, zeroed_stripes, is_critical}
+use Rattle.bank.specs.Given.{Given, IsFaulted, NeverFalls}
 use Rattle.bank.specs.declared.bank.Operation.{Operation}
+use Rattle.superblocks.specs.declared.members.Members.{Members}
 use Rattle.superblocks.specs.Reading.{is_backward, is_clean, shape_of, final_shape, list_length, next_window}
 use Rattle.flat_history.specs.declared.events.Entry.{Entry}
 use Rattle.flat_history.specs.declared.events.Epoch.{Epoch}
@@ -20,9 +23,11 @@ use Rattle.flat_history.specs.Reshaped.{IsReshaped}
 use Rattle.flat_history.specs.Sound.{OpensFit, StaysSound}
 use Rattle.flat_history.specs.World.{World}
 use Rattle.views.specs.Placed.{AreStillHeld}
+use Rattle.views.specs.Lacking.{AreTooMany}
 use Rattle.views.specs.Moving.{Grows}
 use Rattle.array_kept.specs.Calls.{world_for, IsBehind, AreSparesFewer, AreLossesOf, IsEndOf, IsSameArray}
-use Rattle.course_kept.specs.Laws.{entered, closed}
+use Rattle.course_kept.specs.declared.course.Course.{Course}
+use Rattle.course_kept.specs.Laws.{entered, closed, unsure}
 use Rattle.running_words.specs.Parts.{RunningParts, left_in}
 
 -- this status tells the array as it is
@@ -78,6 +83,28 @@ abbrev pub IsStepTaken : {T : Type 0} → Who → List Entry → List Entry → 
 IsStepTaken who old new kind left (Ok x) = IsBehind who old new (Step kind left)
 IsStepTaken who old new kind left (Err (IsRefusedWith refusal)) = IsBehind who old new (Refused refusal)
 IsStepTaken who old new kind left (Err NoMemory) = ⊥
+
+-- no window is open, and the next one is to be entered
+pub record IsEnterDue {B : Type 0} (array : RunningParts B) : Type 0 where
+  pub span : Span
+  pub is : array.course ≡ closed 0
+  pub next : next_window array.parts.members.newest ≡ Some span
+
+-- the window that was the next is entered, with nothing copied, and its section is stored exactly where it is critical
+abbrev pub IsNextOpen : Members → Course → Type 0
+IsNextOpen members course = (span : Span) → next_window members.newest ≡ Some span
+    → course ≡ entered span 0 (is_critical (shape_of members.newest) (final_shape members.newest) members.newest.size (is_backward members.newest) span)
+
+-- it is critical, and a stop may leave its section stored or not
+abbrev pub IsNextUnsure : Members → Course → Type 0
+IsNextUnsure members course = (span : Span) × (next_window members.newest ≡ Some span)
+    × (is_critical (shape_of members.newest) (final_shape members.newest) members.newest.size (is_backward members.newest) span ≡ true) × (course ≡ unsure span)
+
+-- A window is entered only where the array does without what it misses, before and behind it; and it is refused only where more is missing behind it, or the backup failed.
+abbrev pub IsEnterCaused : {T : Type 0} → Option ℕ → Members → Members → (ℕ → ℕ) → (ℕ → ℕ) → Result T Fault → Type 0
+IsEnterCaused backup old new before after (Ok x) = ((refusal : Refusal) → AreTooMany old refusal → ⊥) × ((refusal : Refusal) → AreTooMany new refusal → ⊥)
+IsEnterCaused backup old new before after (Err (IsRefusedWith refusal)) = AreTooMany new refusal ⊎ ((refusal ≡ BackupFault) × IfSome backup (λ slot. IsFaulted slot before after))
+IsEnterCaused backup old new before after (Err NoMemory) = ⊥
 
 -- a stripe of the open window is to be copied next
 pub record IsCopyDue {B : Type 0} (array : RunningParts B) : Type 0 where

@@ -6,12 +6,14 @@ use Rattle.md_base.specs.Sectors.{Sector}
 use Rattle.md_base.specs.declared.places.Shape.{Shape}
 use Rattle.md_base.specs.declared.places.Span.{Span}
 use Rattle.md_base.specs.declared.answers.Refusal.{Refusal}
+use Rattle.sb1.specs.declared.sb.Sb.{Sb}
 use Rattle.bank.specs.Given.{Given}
 use Rattle.bank.specs.Tape.{Contents}
 use Rattle.layout.specs.Layout.{place}
 use Rattle.parity.specs.Rows.{sector_of}
 use Rattle.superblocks.specs.declared.members.Members.{Members}
-use Rattle.row_io.specs.Rows.{reading_of}
+use Rattle.superblocks.specs.Reading.{data_offset_of}
+use Rattle.row_io.specs.Rows.{reading_of, held_slot}
 use Rattle.list_io.specs.Full.{RowStands}
 use Rattle.flat_history.specs.Stands.{covers, shape_for}
 use Rattle.shape_views.specs.Regions.{place_by}
@@ -20,10 +22,11 @@ use Rattle.shape_views.proofs.UnderWay.{in-or-out}
 use Rattle.views.specs.Placed.{IsPlaced}
 use Rattle.views.specs.Moving.{IsMoved}
 use Rattle.views.proofs.Fit.{list-alike, for-alike}
+use Rattle.views.proofs.HeldRows.{held-moved}
 use Rattle.views.proofs.LackingLists.{row-moved}
-use Rattle.region_rows.specs.Stretches.{RowsStandTo, IsListUnread}
+use Rattle.region_rows.specs.Stretches.{IsShapeOf, ListStandsIn, RowsStandIn, IsListUnread}
 use Rattle.region_rows.proofs.StretchReads.{part-long, sector-here, sector-before}
-use Rattle.window_calls.specs.Fetching.{IsUnreadBeside}
+use Rattle.window_calls.specs.Fetching.{IsShapeBeside, IsUnreadBeside}
 
 -- ---- the sectors outside the window
 
@@ -42,6 +45,14 @@ unread-beside hidden relied from to first last m early late out (Some refusal) t
     let low = told.1 in
     let high = told.2 in
     (told.0, omega (arith, early, low), omega (arith, late, high), out told.0 low high, told.3)
+
+-- the shape of one of some sectors outside is that of one of the request outside
+pub shape-beside : (hidden : Option Span) (newest : Sb) (from to first last : ℕ) → first ≤ from → to ≤ last → ((x : ℕ) → from ≤ x → x < to → covers hidden x ≡ false) → (s : Shape)
+    → IsShapeOf newest from to s → IsShapeBeside hidden newest first last s
+shape-beside hidden newest from to first last early late out s own =
+    let low = own.1 in
+    let high = own.2 in
+    (own.0, omega (arith, early, low), omega (arith, late, high), out own.0 low high, own.3)
 
 -- ---- the bytes
 
@@ -101,12 +112,23 @@ module _ (bytes one two three : List ℕ) (d e n len : ℕ) (is : len ≡ 512 * 
 
 -- ---- the list, once slots were lost
 
-module _ (given : Given) (old new : Members) (c : Contents) (list : ℕ → Sector) (moved : IsMoved given old new) (was : IsPlaced given old) (hidden : Option Span) (relied : ℕ) where
-  pub rows-to-moved : RowsStandTo hidden relied old c list → RowsStandTo hidden relied new c list
-  rows-to-moved stands x below shown =
-      let shown-then : IsShown hidden old.newest x = record {
-        within = subst (λ (n : ℕ). x < n) (list-alike old.newest new.newest moved.reshape moved.shape moved.size) shown.within;
-        outside = shown.outside;
-      } in
-      subst (λ (s : Shape). RowStands (reading_of new) c s list (place s x).row) (sym (for-alike old.newest new.newest moved.reshape moved.shape moved.size x))
-      (row-moved given old new c c list moved was (λ s k other. refl) (place_by old.newest x).row (shape_for old.newest x) (stands x below shown-then))
+module _ (given : Given) (old new : Members) (c : Contents) (list : ℕ → Sector) (moved : IsMoved given old new) (was : IsPlaced given old) (hidden : Option Span) (among : Shape → Type 0) where
+  same-shape : (x : ℕ) → shape_for new.newest x ≡ shape_for old.newest x
+  same-shape x = for-alike old.newest new.newest moved.reshape moved.shape moved.size x
+
+  shown-then : (x : ℕ) → IsShown hidden new.newest x → IsShown hidden old.newest x
+  shown-then x shown = record {
+    within = subst (λ (n : ℕ). x < n) (list-alike old.newest new.newest moved.reshape moved.shape moved.size) shown.within;
+    outside = shown.outside;
+  }
+
+  pub list-to-moved : ListStandsIn among hidden old c list → ListStandsIn among hidden new c list
+  list-to-moved stands x slot own shown held =
+      subst (λ (s : Shape). held_slot (reading_of new) (place s x).role (place s x).row ≡ Some slot → c slot (data_offset_of (reading_of new) slot + (place s x).row) ≡ list x) (sym (same-shape x))
+      (λ here. ap (λ (n : ℕ). c slot (n + (place_by old.newest x).row)) (moved.offsets slot)
+      ∙ stands x slot (subst among (same-shape x) own) (shown-then x shown) (held-moved moved (place_by old.newest x).role (place_by old.newest x).row slot here)) held
+
+  pub rows-to-moved : (relied : ℕ) → RowsStandIn among hidden relied old c list → RowsStandIn among hidden relied new c list
+  rows-to-moved relied stands x below own shown =
+      subst (λ (s : Shape). RowStands (reading_of new) c s list (place s x).row) (sym (same-shape x))
+      (row-moved given old new c c list moved was (λ s k other. refl) (place_by old.newest x).row (shape_for old.newest x) (stands x below (subst among (same-shape x) own) (shown-then x shown)))

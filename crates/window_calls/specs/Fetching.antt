@@ -1,13 +1,19 @@
 -- Why sectors of the list can't be read beside an open window, whose own sectors lie in its buffer.
 use Rattle.std.specs.Prelude.{◌≡◌, ◌⊎◌, ℕ, ◌<◌, ◌≤◌, false, Option}
+use Rattle.md_base.specs.declared.places.Shape.{Shape}
 use Rattle.md_base.specs.declared.places.Span.{Span}
 use Rattle.md_base.specs.declared.answers.Refusal.{Refusal}
 use Rattle.md_base.specs.declared.answers.Refusal.TheVariants.{NotResynced as Unsynced}
+use Rattle.sb1.specs.declared.sb.Sb.{Sb}
 use Rattle.superblocks.specs.declared.members.Members.{Members}
 use Rattle.flat_history.specs.Stands.{shape_for, covers}
 use Rattle.shape_views.specs.Regions.{place_by}
 use Rattle.views.specs.Lacking.{LacksTooMany}
 use Rattle.region_rows.specs.Stretches.{IsUnrelied}
+
+-- one of them outside the window is placed by this shape
+abbrev pub IsShapeBeside : Option Span → Sb → ℕ → ℕ → Shape → Type 0
+IsShapeBeside hidden newest from to shape = (x : ℕ) × (from ≤ x) × (x < to) × (covers hidden x ≡ false) × (shape_for newest x ≡ shape)
 
 -- more roles of the shape of one of them outside the window are missing than that tolerates, or that one can't be had
 abbrev pub IsUnreadBeside : Option Span → ℕ → ℕ → ℕ → Members → Refusal → Type 0

@@ -10,7 +10,6 @@ ghost use Rattle.row_io.specs.Rows.{present, members_without};
 ghost use Rattle.flat_history.specs.Stands.{covers};
 ghost use Rattle.flat_history.specs.World.{World};
 ghost use Rattle.shape_views.specs.Views.{Ledger};
-ghost use Rattle.shape_views.specs.Windows.{ListStands};
 ghost use Rattle.shape_changes.specs.Steady.{AreUnlost, IsSafeOver, KeepsSafe, AreGoneTold, IsUncleanTold};
 ghost use Rattle.shape_changes.specs.Marking.{AreOthersPresent};
 ghost use Rattle.shape_changes.specs.Safety.{HasRoomLeft, IsRisen};
@@ -20,8 +19,8 @@ ghost use Rattle.views.specs.Rebuilding.{AreSparesFree};
 ghost use Rattle.views.specs.Moving.{Grows, IsMoved};
 ghost use Rattle.views.specs.Lacking.{HaveFailedSince};
 ghost use Rattle.window_rows.specs.Copies.{HasWindow, IsRoomFor};
-ghost use Rattle.region_rows.specs.Stretches.{RowsStandTo};
-ghost use Rattle.window_calls.specs.Fetching.{IsUnreadBeside};
+ghost use Rattle.region_rows.specs.Stretches.{ListStandsIn, RowsStandIn};
+ghost use Rattle.window_calls.specs.Fetching.{IsShapeBeside, IsUnreadBeside};
 
 use bank::Bank;
 use md_base::{Refusal, Span};
@@ -85,9 +84,9 @@ fn read_beside<B: Bank>(
     ensures failed { HaveFailedSince members.old members.new 0 (B.faults_of bank.old) (B.faults_of bank.new) }
     ensures kept { AreWhole members.new → members.new ≡ members.old }
     ensures refused { MatchOption result ⊤ (IsUnreadBeside (Some span.now) relied first (first + length into.old / 512) members.new) }
-    ensures holds { result ≡ None → B.tells → (list : ℕ → Sector) → ListStands (Some span.now) members.old (present (B.given bank.old) (B.tape bank.old)) list
+    ensures holds { result ≡ None → B.tells → (list : ℕ → Sector) → ListStandsIn (IsShapeBeside (Some span.now) members.old.newest first (first + length into.old / 512)) (Some span.now) members.old (present (B.given bank.old) (B.tape bank.old)) list
         → HasWindow span.now buffer.now list
-        → AreWhole members.new ⊎ RowsStandTo (Some span.now) relied members.old (present (B.given bank.old) (B.tape bank.old)) list
+        → AreWhole members.new ⊎ RowsStandIn (IsShapeBeside (Some span.now) members.old.newest first (first + length into.old / 512)) (Some span.now) relied members.old (present (B.given bank.old) (B.tape bank.old)) list
         → (i : ℕ) → i < length into.old / 512 → sector_of into.new i ≡ list (first + i) }
     ensures tape { B.tells → B.tape bank.new ≡ B.tape bank.old }
     ensures given { B.given bank.new ≡ B.given bank.old }
@@ -137,9 +136,9 @@ fn fetch_around<B: Bank>(
     ensures grows { Grows B.tells (B.tape bank.old) (B.tape bank.new) }
     ensures others { B.tells → AreOthersPresent (present (B.given bank.old) (B.tape bank.old)) (present (B.given bank.old) (B.tape bank.new)) }
     ensures unused { B.tells → IsUnusedKept members.old (disk (B.given bank.old).start (B.tape bank.old)) (disk (B.given bank.old).start (B.tape bank.new)) }
-    ensures holds { result.refusal ≡ None → B.tells → (list : ℕ → Sector) → ListStands (Some span.now) members.old (present (B.given bank.old) (B.tape bank.old)) list
+    ensures holds { result.refusal ≡ None → B.tells → (list : ℕ → Sector) → ListStandsIn (IsShapeBeside (Some span.now) members.old.newest first (first + length into.old / 512)) (Some span.now) members.old (present (B.given bank.old) (B.tape bank.old)) list
         → HasWindow span.now buffer.now list
-        → AreWhole members.new ⊎ RowsStandTo (Some span.now) relied members.old (present (B.given bank.old) (B.tape bank.old)) list
+        → AreWhole members.new ⊎ RowsStandIn (IsShapeBeside (Some span.now) members.old.newest first (first + length into.old / 512)) (Some span.now) relied members.old (present (B.given bank.old) (B.tape bank.old)) list
         → (i : ℕ) → i < length into.old / 512 → sector_of into.new i ≡ list (first + i) }
     ensures clean { is_clean members.new.newest ≡ is_clean members.old.newest }
     ensures kept { AreWhole members.new → members.new ≡ members.old }
@@ -189,9 +188,9 @@ pub fn fetch_beside<B: Bank>(
     ensures grows { Grows B.tells (B.tape bank.old) (B.tape bank.new) }
     ensures others { B.tells → AreOthersPresent (present (B.given bank.old) (B.tape bank.old)) (present (B.given bank.old) (B.tape bank.new)) }
     ensures unused { B.tells → IsUnusedKept members.old (disk (B.given bank.old).start (B.tape bank.old)) (disk (B.given bank.old).start (B.tape bank.new)) }
-    ensures holds { result.refusal ≡ None → B.tells → (list : ℕ → Sector) → ListStands hidden members.old (present (B.given bank.old) (B.tape bank.old)) list
+    ensures holds { result.refusal ≡ None → B.tells → (list : ℕ → Sector) → ListStandsIn (IsShapeBeside hidden members.old.newest first (first + length into.old / 512)) hidden members.old (present (B.given bank.old) (B.tape bank.old)) list
         → IfSome hidden (λ span. HasWindow span buffer.now list)
-        → AreWhole members.new ⊎ RowsStandTo hidden relied members.old (present (B.given bank.old) (B.tape bank.old)) list
+        → AreWhole members.new ⊎ RowsStandIn (IsShapeBeside hidden members.old.newest first (first + length into.old / 512)) hidden relied members.old (present (B.given bank.old) (B.tape bank.old)) list
         → (i : ℕ) → i < length into.old / 512 → sector_of into.new i ≡ list (first + i) }
     ensures clean { is_clean members.new.newest ≡ is_clean members.old.newest }
     ensures kept { AreWhole members.new → members.new ≡ members.old }

@@ -1,7 +1,8 @@
 //! The steps of a reshape between its begin and its end.
 
-ghost use Rattle.std.specs.Prelude.{◌≡◌, ◌≢◌, ◌+◌, ◌-◌, ◌*◌, ◌<◌, ◌≤◌, ℕ, length, take, None, Some, MatchOption, OnOk, OnErr, ⊤};
+ghost use Rattle.std.specs.Prelude.{◌≡◌, ◌≢◌, ◌+◌, ◌-◌, ◌*◌, ◌<◌, ◌≤◌, ℕ, Bool, length, take, None, Some, MatchOption, OnOk, OnErr, ⊤};
 ghost use Rattle.md_base.specs.Sectors.{Sector};
+ghost use Rattle.md_base.specs.declared.places.Span.{Span};
 ghost use Rattle.bank.specs.Given.{NeverFalls};
 ghost use Rattle.bank.specs.Tape.{disk};
 ghost use Rattle.superblocks.specs.Reading.{is_clean, final_shape, list_length, next_window};
@@ -20,7 +21,7 @@ ghost use Rattle.views.specs.Lacking.{AreLostSince, AreTooMany, AreOtherRowsKept
 ghost use Rattle.safe_updates.specs.Unused.{IsUnusedKept};
 ghost use Rattle.grow_asked.specs.Left.{stripes_in};
 ghost use Rattle.window_rows.specs.Copies.{tail_of, IsCopied};
-ghost use Rattle.course_kept.specs.Laws.{next_stripe};
+ghost use Rattle.course_kept.specs.Laws.{entered, next_stripe};
 ghost use Rattle.array_kept.specs.Calls.{IsCausedBy};
 ghost use Rattle.kept_history.specs.Recorded.{IsCallGoing};
 ghost use Rattle.running_words.specs.Parts.{left_in};
@@ -125,6 +126,7 @@ impl<B: Bank> Moving<B> {
         ensures clean { is_clean self.new.parts.members.newest ≡ is_clean self.old.parts.members.newest }
         ensures caused { IsCausedBy (list_length self.old.parts.members.newest) 0 AreTooMany self.old.parts.members self.new.parts.members result }
         ensures left { OnOk result (left_in self.new.parts.members self.new.course self.new.ahead + 1 ≡ left_in self.old.parts.members self.old.course self.old.ahead) }
+        ensures copied { OnOk result ((span : Span) → (copied : ℕ) → (sectioned : Bool) → self.old.course ≡ entered span copied sectioned → self.new.course ≡ entered span (copied + 1) sectioned) }
         ensures course { OnErr result (self.new.course ≡ self.old.course) }
         ensures room { self.new.parts.steps + 1 ≡ self.old.parts.steps }
         ensures given { B.given self.new.parts.bank ≡ B.given self.old.parts.bank }

@@ -1,6 +1,6 @@
 //! Flushes of an array in a reshape.
 
-ghost use Rattle.std.specs.Prelude.{◌≡◌, ◌≢◌, length, true, None, OnOk};
+ghost use Rattle.std.specs.Prelude.{◌≡◌, ◌≢◌, length, true, OnOk};
 ghost use Rattle.superblocks.specs.Reading.{is_clean, list_length};
 ghost use Rattle.row_io.specs.Rows.{reading_of, present};
 ghost use Rattle.flat_history.specs.Flat.{next_number};

@@ -21,7 +21,7 @@ use Rattle.views.proofs.MovedLaws.{moved-same, moved-lost, moved-then, lost-none
 use Rattle.views.proofs.LackingLaws.{since-same, since-lost, since-then, in-second}
 use Rattle.views.proofs.LackingWrites.{lost-of}
 use Rattle.safe_updates.proofs.RefusingLaws.{not-err}
-use Rattle.region_rows.specs.Stretches.{IsStretch, relied_rows}
+use Rattle.region_rows.specs.Stretches.{IsStretch, IsShapeOf, relied_rows}
 use Rattle.region_rows.proofs.StretchLaws.{list-short, data-few}
 use Rattle.region_rows.proofs.UnreadLaws.{answer-lacked}
 use Rattle.region_rows.proofs.StretchReads.{part-count, part-long, sector-here, sector-before, sector-read}
@@ -292,7 +292,8 @@ loop-at-preserved g c =
             (λ list0. read1 list0 j (omega (arith, count, late, high, from, more)))) in
             sector-here c.loop-at.into part d e within some (c.read_parts-read.auto.into ∙ long) i (omega (arith, late, from)) (omega (arith, high, from))
             ∙ sector-read given old mid new was.moved c.requires.placed c0 shape (force-old old mid was.lost.0 was.lost.1 shape stretch.force) c.args.relied rows
-            (subst (λ (sb : Sb). rows ≡ relied_rows sb c.args.relied shape) newest c.relied_rows-rows.ensures.rows) x placed (sector_of part j) read hidden list stands shown fills
+            (subst (λ (sb : Sb). rows ≡ relied_rows sb c.args.relied shape) newest c.relied_rows-rows.ensures.rows) x placed (sector_of part j) read (IsShapeOf old.newest c.args.first (c.args.first + length c.args.into.now / 512))
+            (x, omega arith, (let last = stretch.within in omega (arith, high, last)), refl) hidden list stands shown fills
       ];
       tape = λ told. did.tape told ∙ was.tape told;
       given = did.given ∙ was.given;

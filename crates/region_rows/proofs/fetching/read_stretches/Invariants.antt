@@ -4,11 +4,11 @@ use Rattle.md_base.specs.Sectors.{Sector}
 use Rattle.md_base.specs.declared.places.Span.{Span}
 use Rattle.parity.specs.Rows.{sector_of}
 use Rattle.row_io.specs.Rows.{present, members_without}
-use Rattle.shape_views.specs.Windows.{IsShown, ListStands}
+use Rattle.shape_views.specs.Windows.{IsShown}
 use Rattle.views.specs.Placed.{AreWhole}
 use Rattle.views.specs.Moving.{IsMoved}
 use Rattle.views.specs.Lacking.{HaveFailedSince}
-use Rattle.region_rows.specs.Stretches.{RowsStandTo}
+use Rattle.region_rows.specs.Stretches.{IsShapeOf, ListStandsIn, RowsStandIn}
 use Rattle.region_rows.proofs.fetching.read_stretches.Given as goal
 
 abbrev pub decreases-loop-at : goal.decreases-loop-at
@@ -22,8 +22,8 @@ invariant-loop-at g l = record {
   kept : AreWhole l.members → l.members ≡ l.fn.members;
   from : l.first ≤ l.at;
   within : l.at ≤ l.to;
-  holds : g.B.Bank.tells → (hidden : Option Span) → (list : ℕ → Sector) → ListStands hidden l.fn.members (present (g.B.Bank.given l.fn.bank) (g.B.Bank.tape l.fn.bank)) list
-      → AreWhole l.members ⊎ RowsStandTo hidden l.relied l.fn.members (present (g.B.Bank.given l.fn.bank) (g.B.Bank.tape l.fn.bank)) list
+  holds : g.B.Bank.tells → (hidden : Option Span) → (list : ℕ → Sector) → ListStandsIn (IsShapeOf l.fn.members.newest l.first l.to) hidden l.fn.members (present (g.B.Bank.given l.fn.bank) (g.B.Bank.tape l.fn.bank)) list
+      → AreWhole l.members ⊎ RowsStandIn (IsShapeOf l.fn.members.newest l.first l.to) hidden l.relied l.fn.members (present (g.B.Bank.given l.fn.bank) (g.B.Bank.tape l.fn.bank)) list
       → (i : ℕ) → l.first + i < l.at → IsShown hidden l.fn.members.newest (l.first + i) → sector_of l.into i ≡ list (l.first + i);
   tape : g.B.Bank.tells → g.B.Bank.tape l.bank ≡ g.B.Bank.tape l.fn.bank;
   given : g.B.Bank.given l.bank ≡ g.B.Bank.given l.fn.bank;

@@ -1,5 +1,6 @@
 use Rattle.std.proofs.Common.{◌≡◌, ◌⊎◌, inl, inr, ◌+◌, ◌-◌, ◌/◌, ◌<◌, ◌≤◌, ℕ, true, List, length, refl, sym, ◌∙◌, subst, arith}
 use Rattle.std.specs.Prelude.{Contains, slice_index, None}
+use Rattle.md_base.specs.declared.answers.Refusal.{Refusal}
 use Rattle.md_base.specs.declared.places.Shape.{Shape}
 use Rattle.bank.specs.Given.{Given}
 use Rattle.bank.specs.Tape.{disk}
@@ -10,22 +11,23 @@ use Rattle.shape_views.specs.Regions.{place_by}
 use Rattle.shape_views.specs.Windows.{IsOfRegion, IsShown}
 use Rattle.views.specs.Moving.{IsMoved}
 use Rattle.views.specs.Rebuilding.{AreSparesFree}
-use Rattle.views.specs.Lacking.{AreOtherRowsKept}
+use Rattle.views.specs.Lacking.{DoesWithout, LacksTooMany, AreOtherRowsKept}
 use Rattle.views.proofs.Fit.{alike-force}
 use Rattle.views.proofs.HeldRows.{shape-without-before}
 use Rattle.views.proofs.MovedLaws.{moved-then, moved-same, moved-from, grows-then}
 use Rattle.views.proofs.LackingLaws.{since-then, in-either}
 use Rattle.views.proofs.LackingLists.{none-of, sectors-whole}
-use Rattle.views.proofs.LackingWrites.{standing-later, others-same}
+use Rattle.views.proofs.LackingWrites.{standing-later, others-same, others-then}
 use Rattle.views.proofs.SafeStretch.{gone-before, safe-then, allowed-later, zeros-later, region-later, grows-longer, over-at, keeps-from}
 use Rattle.superblocks.specs.Reading.{list_length}
 use Rattle.flat_history.specs.Sound.{OpensFit}
 use Rattle.shape_changes.proofs.Risen.{risen-then, room-first, room-then}
 use Rattle.region_rows.proofs.StretchLaws.{list-short, data-few}
-use Rattle.region_writes.specs.Runs.{AreRowsOf, AreFull, StayRebuilt, IsListTouched, IsShapeOf}
-use Rattle.region_writes.proofs.RunLaws.{told-as, high-sector, each-does, runs-apart, runs-torn, runs-unwritten, touched-low, touched-high, run-region}
+use Rattle.region_rows.specs.Stretches.{IsShapeOf}
+use Rattle.region_writes.specs.Runs.{AreRowsOf, AreFull, StayRebuilt, IsListTouched, IsTornTouched}
+use Rattle.region_writes.proofs.RunLaws.{told-as, told-always, never-does, low-torn, torn-low, torn-high, high-sector, each-does, runs-apart, runs-torn, runs-unwritten, touched-low, touched-high, run-region}
 use Rattle.region_writes.proofs.RunLists.{list-in-one, rows-in-one, tails-in-one, others-kept, list-written, tails-written, rows-written, rebuilt-written, choose, chosen-allowed}
-use Rattle.region_writes.proofs.WriteLaws.{some-none, runs-alike}
+use Rattle.region_writes.proofs.WriteLaws.{some-none, rows-in, runs-alike}
 use Rattle.safe_updates.specs.Unused.{IsUnusedKept}
 use Rattle.safe_updates.proofs.Unused.{unused-then}
 use Rattle.region_writes.proofs.writing.put_list.Goals as goal
@@ -103,6 +105,18 @@ returns-then-is_some-clause-others g c =
     let are = c.runs_of-cut.ensures in
     let to = c.args.first + length c.args.from.now / 512 in
     λ told. others-same given (IsListTouched m.newest c.args.first to) m n (present given tape0) (present given tape1) did.moved c.requires.placed (did.others told)
+
+pub returns-then-is_some-clause-torn_rows : goal.returns-then-is_some-clause-torn_rows
+returns-then-is_some-clause-torn_rows g c =
+    let m = c.args.members.now in
+    let n = c.prepare_runs-begun.new.members in
+    let given = g.B.Bank.given c.args.bank.now in
+    let did = c.prepare_runs-begun.ensures in
+    let tape0 = g.B.Bank.tape c.args.bank.now in
+    let tape1 = g.B.Bank.tape c.prepare_runs-begun.new.bank in
+    let to = c.args.first + length c.args.from.now / 512 in
+    told-always _ c.prepare_runs-begun.result.refusal
+    (λ told. others-same given (IsTornTouched m.newest c.args.first to n) m n (present given tape0) (present given tape1) did.moved c.requires.placed (did.others told))
 
 pub returns-then-is_some-clause-safe : goal.returns-then-is_some-clause-safe
 returns-then-is_some-clause-safe g c =
@@ -359,6 +373,48 @@ returns-clause-torn g c =
     let all : IsMoved given m p = moved-then given m n p did.moved two in
     let still = runs-alike m.newest p.newest all.reshape all.shape all.size c.args.relied c.args.first to cut.low cut.high are in
     told-as _ _ _ c.write_runs-done.result.refusal (runs-torn p c.args.relied c.args.first to cut.low cut.high still) did2.refused
+
+pub returns-clause-torn_rows : goal.returns-clause-torn_rows
+returns-clause-torn_rows g c =
+    let m = c.args.members.now in
+    let n = c.prepare_runs-begun.new.members in
+    let given = g.B.Bank.given c.args.bank.now in
+    let given1 = g.B.Bank.given c.prepare_runs-begun.new.bank in
+    let did = c.prepare_runs-begun.ensures in
+    let tape0 = g.B.Bank.tape c.args.bank.now in
+    let tape1 = g.B.Bank.tape c.prepare_runs-begun.new.bank in
+    let cut = c.runs_of-cut.result in
+    let are = c.runs_of-cut.ensures in
+    let to = c.args.first + length c.args.from.now / 512 in
+    let none = none-of c.prepare_runs-begun.result.refusal (sym c.is_some.ensures ∙ c.if-is_some.false) in
+    let rows = c.prepare_runs-begun.new.rows.items in
+    let far_rows = c.prepare_runs-begun.new.far_rows.items in
+    let p = c.write_runs-done.new.members in
+    let did2 = c.write_runs-done.ensures in
+    let tape2 = g.B.Bank.tape c.write_runs-done.new.bank in
+    let two : IsMoved given n p = moved-from given given1 n n p did.given refl did2.moved in
+    let among : ℕ → Type 0 = λ row. IsTornTouched m.newest c.args.first to p row in
+    let from_low : (DoesWithout cut.low.shape p → ⊥) → (row : ℕ) → Contains rows row → IsTornTouched m.newest c.args.first to p row =
+    λ never row has. torn-low m.newest c.requires.placed.fit c.args.relied c.args.first to cut.low cut.high are p row ((did.low_rows none).touched.only row has) never in
+    let from_high : (DoesWithout cut.high.shape p → ⊥) → (row : ℕ) → Contains far_rows row → IsTornTouched m.newest c.args.first to p row =
+    λ never row has. torn-high m.newest c.requires.placed.fit c.args.relied c.args.first to cut.low cut.high are p row ((did.high_rows none).touched.only row has) never in
+    let each : (refusal : Refusal) → LacksTooMany cut.high.shape p refusal
+    ⊎ (LacksTooMany cut.low.shape p refusal × (g.B.Bank.tells → AreOtherRowsKept (Contains c.as_slice.result.now) (reading_of p) (present given1 tape1) (present given1 tape2)))
+    → g.B.Bank.tells → AreOtherRowsKept (IsTornTouched m.newest c.args.first to p) (reading_of p) (present given tape0) (present given tape2) =
+    λ refusal why told.
+    others-then given among m n p (present given tape0) (present given tape1) (present given tape2) two
+    (others-same given among m n (present given tape0) (present given tape1) did.moved c.requires.placed (did.others told))
+    (subst (λ (b : Given). AreOtherRowsKept among (reading_of p) (present b tape1) (present b tape2)) did.given
+    (elim why [
+      | inl many ↦ rows-in (reading_of p) (present given1 tape1) (present given1 tape2) (λ row. Contains c.as_slice.result.now row ⊎ Contains c.as_slice-2.result.now row) among
+          (λ row which. elim which [
+            | inl has ↦ from_low (low-torn m.newest c.requires.placed.fit c.args.relied c.args.first to cut.low cut.high are p refusal many) row (subst (λ (l : List ℕ). Contains l row) c.as_slice.ensures.value has)
+            | inr has ↦ from_high (never-does cut.high.shape p refusal many) row (subst (λ (l : List ℕ). Contains l row) c.as_slice-2.ensures.value has)
+          ]) (did2.others told)
+      | inr near ↦ rows-in (reading_of p) (present given1 tape1) (present given1 tape2) (Contains c.as_slice.result.now) among
+          (λ row has. from_low (never-does cut.low.shape p refusal near.0) row (subst (λ (l : List ℕ). Contains l row) c.as_slice.ensures.value has)) (near.1 told)
+    ])) in
+    told-as _ _ _ c.write_runs-done.result.refusal each did2.torn
 
 pub returns-clause-grows : goal.returns-clause-grows
 returns-clause-grows g c =

@@ -109,6 +109,21 @@ pub returns-then-is_some-clause-refused : goal.returns-then-is_some-clause-refus
 returns-then-is_some-clause-refused g c =
     told-as _ _ _ c.put_rows-near.result.refusal (λ refusal many. inl many) c.put_rows-near.ensures.refused
 
+pub returns-then-is_some-clause-torn : goal.returns-then-is_some-clause-torn
+returns-then-is_some-clause-torn g c =
+    let n = c.put_rows-near.new.members in
+    let given = g.B.Bank.given c.args.bank.now in
+    let did = c.put_rows-near.ensures in
+    let tape0 = g.B.Bank.tape c.args.bank.now in
+    let tape1 = g.B.Bank.tape c.put_rows-near.new.bank in
+    let low = c.args.low.now in
+    let rows = c.args.rows.now in
+    told-as _ _ _ c.put_rows-near.result.refusal (λ refusal many. inr (
+      many,
+      λ told. rows-apart low.shape c.args.first c.args.from.now rows c.put_rows-near.result.next n (present given tape0) (present given tape1)
+          c.args.buffer.now.items c.put_rows-near.new.buffer.items (did.written told) did.within (Contains rows) (λ row has. has),
+    )) c.put_rows-near.ensures.refused
+
 pub returns-then-is_some-clause-low : goal.returns-then-is_some-clause-low
 returns-then-is_some-clause-low g c =
     λ none. absurd (some-none c.put_rows-near.result.refusal (sym c.is_some.ensures ∙ c.if-is_some.true) none)
@@ -184,6 +199,10 @@ returns-clause-failed g c =
 pub returns-clause-refused : goal.returns-clause-refused
 returns-clause-refused g c =
     told-as _ _ _ c.put_rows-far.result.refusal (λ refusal many. inr many) c.put_rows-far.ensures.refused
+
+pub returns-clause-torn : goal.returns-clause-torn
+returns-clause-torn g c =
+    told-as _ _ _ c.put_rows-far.result.refusal (λ refusal many. inl many) c.put_rows-far.ensures.refused
 
 pub returns-clause-grows : goal.returns-clause-grows
 returns-clause-grows g c =

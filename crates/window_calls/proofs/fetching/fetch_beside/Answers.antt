@@ -1,13 +1,14 @@
 use Rattle.std.proofs.Common.{inl, inr, ◌+◌, ◌/◌, length, Option, sym, ap, subst, arith}
 use Rattle.std.specs.Prelude.{MatchOption, IfSome, ⊤}
+use Rattle.md_base.specs.declared.places.Shape.{Shape}
 use Rattle.md_base.specs.declared.places.Span.{Span}
 use Rattle.row_io.specs.Rows.{present}
 use Rattle.flat_history.specs.Stands.{covers}
-use Rattle.shape_views.specs.Windows.{ListStands}
 use Rattle.window_rows.specs.Copies.{HasWindow, IsRoomFor}
-use Rattle.region_rows.specs.Stretches.{RowsStandTo}
-use Rattle.window_calls.specs.Fetching.{IsUnreadBeside}
-use Rattle.window_calls.proofs.Beside.{unread-beside}
+use Rattle.region_rows.specs.Stretches.{IsShapeOf, ListStandsIn, RowsStandIn}
+use Rattle.region_rows.proofs.StretchReads.{list-among, rows-among}
+use Rattle.window_calls.specs.Fetching.{IsShapeBeside, IsUnreadBeside}
+use Rattle.window_calls.proofs.Beside.{unread-beside, shape-beside}
 use Rattle.window_calls.proofs.fetching.fetch_beside.Goals as goal
 
 pub returns-in-None-clause-refused : goal.returns-in-None-clause-refused
@@ -19,7 +20,15 @@ returns-in-None-clause-refused g c =
 pub returns-in-None-clause-holds : goal.returns-in-None-clause-holds
 returns-in-None-clause-holds g c = λ ok told list stands buffered fills i lt.
     let within = c.requires.within in
-    c.fetch_list.ensures.holds ok told c.args.hidden list stands fills i lt
+    let m = c.args.members.now in
+    let now = present (g.B.Bank.given c.args.bank.now) (g.B.Bank.tape c.args.bank.now) in
+    let to = c.args.first + length c.args.into.now / 512 in
+    let asked : Shape → Type 0 = λ s. IsShapeOf m.newest c.args.first to s in
+    let beside : Shape → Type 0 = λ s. IsShapeBeside c.args.hidden m.newest c.args.first to s in
+    let wider : (s : Shape) → IsShapeOf m.newest c.args.first to s → IsShapeBeside c.args.hidden m.newest c.args.first to s =
+    shape-beside c.args.hidden m.newest c.args.first to c.args.first to (omega arith) (omega arith) (λ x low high. ap (λ (h : Option Span). covers h x) c.in-None.is) in
+    c.fetch_list.ensures.holds ok told c.args.hidden list (list-among asked beside wider c.args.hidden m now list stands)
+    (elim fills [ inl all ↦ inl all | inr rows ↦ inr (rows-among asked beside wider c.args.hidden m now list c.args.relied rows) ]) i lt
     (record { within = omega (arith, within, lt); outside = ap (λ (h : Option Span). covers h (c.args.first + i)) c.in-None.is })
 
 pub fetch_around-requires-clause-buffer : goal.fetch_around-requires-clause-buffer
@@ -33,6 +42,7 @@ pub returns-in-Some-clause-holds : goal.returns-in-Some-clause-holds
 returns-in-Some-clause-holds g c = λ ok told list stands buffered fills i lt.
     let now = present (g.B.Bank.given c.args.bank.now) (g.B.Bank.tape c.args.bank.now) in
     let m = c.args.members.now in
-    c.fetch_around.ensures.holds ok told list (subst (λ (h : Option Span). ListStands h m now list) c.in-Some.is stands)
+    let to = c.args.first + length c.args.into.now / 512 in
+    c.fetch_around.ensures.holds ok told list (subst (λ (h : Option Span). ListStandsIn (IsShapeBeside h m.newest c.args.first to) h m now list) c.in-Some.is stands)
     (subst (λ (h : Option Span). IfSome h (λ span. HasWindow span c.args.buffer.now list)) c.in-Some.is buffered)
-    (elim fills [ inl all ↦ inl all | inr rows ↦ inr (subst (λ (h : Option Span). RowsStandTo h c.args.relied m now list) c.in-Some.is rows) ]) i lt
+    (elim fills [ inl all ↦ inl all | inr rows ↦ inr (subst (λ (h : Option Span). RowsStandIn (IsShapeBeside h m.newest c.args.first to) h c.args.relied m now list) c.in-Some.is rows) ]) i lt

@@ -3,22 +3,23 @@ use Rattle.std.specs.Prelude.{bit_or}
 use Rattle.std.proofs.lemmas.Bool.{cases_lt}
 use borrow.Rule.Slice.PartMut.{put_mid}
 use Rattle.md_base.specs.declared.answers.Refusal.{Refusal}
+use Rattle.md_base.specs.declared.places.Shape.{Shape}
 use Rattle.bank.specs.Tape.{Contents}
+use Rattle.sb1.specs.declared.sb.Sb.{Sb}
 use Rattle.superblocks.specs.declared.members.Members.{Members}
 use Rattle.superblocks.specs.Reading.{list_length}
 use Rattle.row_io.specs.Rows.{present, members_without}
 use Rattle.list_io.proofs.LossLaws.{members_then}
 use Rattle.list_io.proofs.ListLaws.{present_same}
-use Rattle.shape_views.specs.Windows.{ListStands}
 use Rattle.views.specs.Moving.{IsMoved}
 use Rattle.views.proofs.MovedLaws.{moved-then, moved-from}
 use Rattle.views.proofs.LackingLaws.{since-then, in-second}
 use Rattle.views.proofs.LackingLists.{none-of}
-use Rattle.safe_updates.proofs.Under.{shown-moved}
-use Rattle.region_rows.specs.Stretches.{RowsStandTo}
-use Rattle.region_rows.proofs.StretchReads.{part-long}
+use Rattle.region_rows.specs.Stretches.{IsShapeOf, ListStandsIn, RowsStandIn}
+use Rattle.region_rows.proofs.StretchReads.{part-long, list-among, rows-among}
 use Rattle.region_rows.proofs.StretchLaws.{list-short, data-few}
-use Rattle.window_calls.proofs.Beside.{unread-beside, put-long, before-part, window-part, behind-part, rows-to-moved}
+use Rattle.window_calls.specs.Fetching.{IsShapeBeside}
+use Rattle.window_calls.proofs.Beside.{unread-beside, shape-beside, put-long, before-part, window-part, behind-part, list-to-moved, rows-to-moved}
 use Rattle.window_calls.proofs.fetching.read_beside.Goals as goal
 
 pub overflow_add-first : goal.overflow_add-first
@@ -305,13 +306,25 @@ returns-clause-holds g c = λ none told list stands buffered fills i lt.
     let three = c.read_regions.new.into in
     let long3 : length three ≡ 512 * n - 512 * e = c.read_regions.auto.into ∙ part3 in
     let within = c.requires.within in
-    let long : list_length k.newest ≡ list_length m.newest = ap (λ (m : Members). list_length m.newest) did.lost.1 in
+    let said : k.newest ≡ m.newest = ap (λ (m : Members). m.newest) did.lost.1 in
+    let long : list_length k.newest ≡ list_length m.newest = ap list_length said in
     let now = present given tape0 in
     let same : present given1 tape1 ≡ now = present_same did.given (did.tape told) in
+    let hidden = Some c.args.span.now in
+    let asked : Shape → Type 0 = λ s. IsShapeBeside hidden m.newest first (first + n) s in
+    let near_end : ℕ = first + length (take (512 * d - 512 * 0) (drop (512 * 0) bytes)) / 512 in
+    let near : Shape → Type 0 = λ s. IsShapeOf m.newest first near_end s in
+    let near_within : (s : Shape) → IsShapeOf m.newest first near_end s → IsShapeBeside hidden m.newest first (first + n) s =
+    shape-beside hidden m.newest first near_end first (first + n) (omega arith) (omega (arith, part1, de, en)) (λ x low high. part.before x low (omega (arith, high, part1, begins))) in
+    let far_end : ℕ = hi + length (take (length bytes - 512 * e) (drop (512 * e) twice)) / 512 in
+    let far : Shape → Type 0 = λ s. IsShapeOf k.newest hi far_end s in
+    let far_within : (s : Shape) → IsShapeOf k.newest hi far_end s → IsShapeBeside hidden m.newest first (first + n) s =
+    λ s own. shape-beside hidden m.newest hi far_end first (first + n) (omega (arith, begins, order)) (omega (arith, part3, begins, order, ends, whole))
+    (λ x low high. part.behind x low (omega (arith, high, part3, begins, order, ends, whole))) s (subst (λ (sb : Sb). IsShapeOf sb hi far_end s) said own) in
     elim (cases_lt i d) [
       | inl early ↦ before-part bytes one two three d e n (length bytes) whole whole de en long1 long2 long3 i early
-          ∙ did.holds (none-of c.read_regions-refusal.result (sym c.is_some.ensures ∙ c.if-is_some.false)) told (Some c.args.span.now) list stands
-          (elim fills [ inl all ↦ inl (moved2.whole all) | inr rows ↦ inr rows ]) i (omega (arith, part1, early))
+          ∙ did.holds (none-of c.read_regions-refusal.result (sym c.is_some.ensures ∙ c.if-is_some.false)) told hidden list (list-among near asked near_within hidden m now list stands)
+          (elim fills [ inl all ↦ inl (moved2.whole all) | inr rows ↦ inr (rows-among near asked near_within hidden m now list c.args.relied rows) ]) i (omega (arith, part1, early))
           (record { within = omega (arith, within, lt); outside = part.before (first + i) (omega arith) (omega (arith, early, begins)) })
       | inr late ↦ elim (cases_lt i e) [
         | inl inside ↦
@@ -321,13 +334,13 @@ returns-clause-holds g c = λ none told list stands buffered fills i lt.
         | inr past ↦
             let here : hi + (i - e) ≡ first + i = omega (arith, past, begins, order) in
             behind-part bytes one two three d e n (length bytes) whole whole de en long1 long2 long3 i past lt
-            ∙ then.holds none told (Some c.args.span.now) list
-            (subst (λ (l : Contents). ListStands (Some c.args.span.now) k l list) (sym same)
-            (shown-moved given m k now now list did.moved c.requires.placed (λ s j other. refl) (Some c.args.span.now) stands))
+            ∙ then.holds none told hidden list
+            (list-among far asked far_within hidden k (present given1 tape1) list
+            (subst (λ (l : Contents). ListStandsIn asked hidden k l list) (sym same) (list-to-moved given m k now list did.moved c.requires.placed hidden asked stands)))
             (elim fills [
               | inl all ↦ inl all
-              | inr rows ↦ inr (subst (λ (l : Contents). RowsStandTo (Some c.args.span.now) c.args.relied k l list) (sym same)
-                  (rows-to-moved given m k now list did.moved c.requires.placed (Some c.args.span.now) c.args.relied rows))
+              | inr rows ↦ inr (rows-among far asked far_within hidden k (present given1 tape1) list c.args.relied
+                  (subst (λ (l : Contents). RowsStandIn asked hidden c.args.relied k l list) (sym same) (rows-to-moved given m k now list did.moved c.requires.placed hidden asked c.args.relied rows)))
             ]) (i - e) (omega (arith, past, lt, part3, whole))
             (record { within = omega (arith, within, lt, here, long); outside = part.behind (hi + (i - e)) (omega arith) (omega (arith, here, lt)) })
             ∙ ap list here

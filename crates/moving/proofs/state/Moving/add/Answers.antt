@@ -21,9 +21,9 @@ use Rattle.kept_history.proofs.Records.{begins-going}
 use Rattle.moving_kept.proofs.AddedSpare.{unadded-moves}
 use Rattle.running_words.specs.Parts.{left_in}
 use Rattle.moving.specs.Ready.{bytes_in}
-use Rattle.moving.proofs.AddLaws.{still-called, none-added}
+use Rattle.moving.proofs.AddLaws.{with-room, still-called, none-added}
 use Rattle.moving.proofs.Called.{not_254, called, alone-lossless}
-use Rattle.moving.proofs.Kept.{ready, shapes-same}
+use Rattle.moving.proofs.Kept.{ready, shapes-same, alone-keeps}
 use Rattle.moving.proofs.state.Moving.add.Goals as goal
 
 -- a refusal before the slot is touched
@@ -40,8 +40,19 @@ is_held_up-requires g c =
 pub make_spare-requires-clause-addable : goal.make_spare-requires-clause-addable
 make_spare-requires-clause-addable g c = rw (← c.self.view_is) c.in_default.ensures
 
+-- ---- want of memory, or of a number
+
+pub returns-in_default-free_number-clause-called : goal.returns-in_default-free_number-clause-called
+returns-in_default-free_number-clause-called g c = rw (← c.self.view_is) (still-called refl refl (λ t. (c.self.invariant.kept.recorded t).ended))
+
 pub returns-then-is_held_up-clause-called : goal.returns-then-is_held_up-clause-called
-returns-then-is_held_up-clause-called g c = rw (← c.self.view_is) (still-called _ (λ t. (c.self.invariant.kept.recorded t).ended))
+returns-then-is_held_up-clause-called g c = rw (← c.self.view_is) (still-called refl refl (λ t. (c.self.invariant.kept.recorded t).ended))
+
+pub invariant_of-self : goal.invariant_of-self
+invariant_of-self g c = with-room c.make_room.ensures.items (omega (arith, c.self.invariant.room_left, c.in-Err.ensures.keeps)) c.self.invariant
+
+pub returns-in-Err-clause-called : goal.returns-in-Err-clause-called
+returns-in-Err-clause-called g c = rw (← c.self.view_is) (still-called c.make_room.ensures.items refl (λ t. (c.self.invariant.kept.recorded t).ended))
 
 -- ---- it may not be one
 
@@ -57,7 +68,7 @@ invariant_of-self-2 g c =
     (unadded-moves g.B.Bank.tells given (g.B.Bank.tape a.bank) (scope_in given a.epoch.uuid a.epoch.given (Some a.backup)) a.epoch.first a.epoch.entries.items a.members (is_carried a.work) a.course
     (bytes_in a.course.window a.window.items) (left_in a.members a.course a.ahead) c.args.who end (Some a.backup) c.args.slot refusal
     was.kept (begins-going a.epoch.entries.items c.args.who number) (not_254 c.args.who.caller c.requires.caller) c.ops-end.ensures.count c.in-Some.ensures)
-    refl (λ slot. omega arith) refl (scope-same given (Some a.backup) refl c.enter.ensures.uuid c.enter.ensures.given) c.enter.ensures.first c.make_room.ensures.items c.enter.ensures.items
+    refl (λ slot. omega arith) (alone-keeps c.args.who end (Refused refusal) (λ n. refl) refl) (λ none whole. whole) refl (scope-same given (Some a.backup) refl c.enter.ensures.uuid c.enter.ensures.given) c.enter.ensures.first c.make_room.ensures.items c.enter.ensures.items
     (omega (arith, c.enter.ensures.room, c.in-Ok.ensures.ok))
 
 pub returns-clause-answered : goal.returns-clause-answered

@@ -1,4 +1,5 @@
-use Rattle.std.proofs.Common.{◌≤◌, ℕ, ◌-◌, ◌*◌, List, [], ◌∷◌, ◌++◌, take, Some, refl, sym, subst, arith}
+use Rattle.std.proofs.Common.{◌≤◌, ℕ, ◌-◌, ◌*◌, List, [], ◌∷◌, ◌++◌, take, Some, refl, sym, ◌∙◌, ap, subst, arith}
+use Rattle.std.specs.Vec.{with_items}
 use Rattle.md_base.specs.Shapes.{stripe_sectors}
 use Rattle.geometry.proofs.ClosedForms.{ceiling_below}
 use Rattle.geometry.proofs.Valid.{bounded}
@@ -29,8 +30,8 @@ use Rattle.running_words.specs.Parts.{left_in}
 use Rattle.moving.specs.Ready.{bytes_in}
 use Rattle.running_words.specs.Calls.{IsCopyDue}
 use Rattle.moving.proofs.Called.{not_254, called, alone-lossless}
-use Rattle.moving.proofs.Copied.{due-is, IsStripeTried, copied-kept, uncopied-kept, refilled, same-long}
-use Rattle.moving.proofs.Kept.{ready, shapes-same, shapes-moved}
+use Rattle.moving.proofs.Copied.{due-is, IsStripeTried, copied-more, copied-kept, uncopied-kept}
+use Rattle.moving.proofs.Kept.{ready, shapes-same, shapes-moved, alone-keeps, behind-keeps, behind-whole, with-buffer}
 use Rattle.moving.proofs.Settled.{risen-told, many-of}
 use Rattle.moving.proofs.state.Moving.copy.Goals as goal
 
@@ -51,7 +52,7 @@ invariant_of-self g c =
     c.args.who end (Refused refusal) was.kept goes (not_254 c.args.who.caller c.requires.caller) c.ops-end.ensures.count (quiet-refusal refusal) (λ told is. is)
     (λ t right. refused-right (world_in given tape scope a.epoch.first) a.epoch.entries.items given a.members was.kept.members_are.placed (was.kept.gone t right) (was.kept.levelled t right) refusal c.in-Some.ensures) in
     ready (entries_of c.args.who end (Refused refusal ∷ [])) was (grows-none (λ t. refl)) (shapes-same a.members.newest) kept
-    refl (λ slot. omega arith) refl (scope-same given (Some a.backup) refl c.enter.ensures.uuid c.enter.ensures.given) c.enter.ensures.first refl c.enter.ensures.items
+    refl (λ slot. omega arith) (alone-keeps c.args.who end (Refused refusal) (λ n. refl) refl) (λ none whole. whole) refl (scope-same given (Some a.backup) refl c.enter.ensures.uuid c.enter.ensures.given) c.enter.ensures.first refl c.enter.ensures.items
     (let had = was.room_left in let room = c.enter.ensures.room in omega (arith, room, had, steps))
 
 pub returns-in-Some-clause-called : goal.returns-in-Some-clause-called
@@ -105,9 +106,9 @@ invariant_of-self-in-Some-refusal g c =
     let kept = uncopied-kept g.B.Bank.tells given tape tape' scope a.epoch.first a.epoch.entries.items a.members m (is_carried a.work) a.course a.ahead a.window.items
     c.in-Entered.span c.in-Entered.copied c.in-Entered.sectioned c.args.who end roles spares was.kept due.0 due.1 goes (not_254 c.args.who.caller c.requires.caller) c.ops-end-2.ensures.count did.grows tried
     refusal (many-of m c.copy_next-moved.result.refusal refusal c.in-Some-refusal.is did.refused) in
-    refilled (same-long a.buffer.len a.buffer.items c.copy_next-moved.new.scratch a.buffer.ok.0)
+    with-buffer (let len = (with_items a.buffer c.copy_next-moved.new.scratch).ok.0 in let ok = a.buffer.ok.0 in omega (arith, len, ok, was.buffer_fits))
     (ready (entries_of c.args.who end (losses_of roles spares ++ Refused refusal ∷ [])) was did.grows (shapes-moved given a.members m did.moved) kept
-    refl did.counts did.given (scope-same given (Some a.backup) did.given c.enter_behind.ensures.uuid c.enter_behind.ensures.given) c.enter_behind.ensures.first refl c.enter_behind.ensures.items
+    refl did.counts (behind-keeps c.args.who end roles spares (Refused refusal) (λ n. refl) refl) (behind-whole tape' (scope_in given a.epoch.uuid a.epoch.given (Some a.backup)) a.epoch.first a.epoch.entries.items c.args.who end roles spares (Refused refusal) did.moved (missing-since roles did.moved did.since.vacant)) did.given (scope-same given (Some a.backup) did.given c.enter_behind.ensures.uuid c.enter_behind.ensures.given) c.enter_behind.ensures.first refl c.enter_behind.ensures.items
     (let had = was.room_left in let room = c.enter_behind.ensures.room in omega (arith, room, had, steps)))
 
 pub returns-in-Some-refusal-clause-called : goal.returns-in-Some-refusal-clause-called
@@ -162,9 +163,9 @@ invariant_of-self-2 g c =
     let kept = copied-kept g.B.Bank.tells given tape tape' scope a.epoch.first a.epoch.entries.items a.members m (is_carried a.work) a.course a.ahead a.window.items
     c.in-Entered.span c.in-Entered.copied c.in-Entered.sectioned c.args.who end roles spares was.kept due.0 due.1 goes (not_254 c.args.who.caller c.requires.caller) c.ops-end-2.ensures.count did.grows tried
     left c.steps_left-left.ensures (λ t list copied. did.stands c.in_default-refusal.is t list (subst (λ (l : List ℕ). IsCopied span (take (512 * (span.hi - span.lo)) l) (tail_of a.members.newest) list) (sym c.as_slice.ensures.value) copied)) in
-    refilled (same-long a.buffer.len a.buffer.items c.copy_next-moved.new.scratch a.buffer.ok.0)
+    with-buffer (let len = (with_items a.buffer c.copy_next-moved.new.scratch).ok.0 in let ok = a.buffer.ok.0 in omega (arith, len, ok, was.buffer_fits))
     (ready (entries_of c.args.who end (losses_of roles spares ++ Step CopiesStripe left ∷ [])) was did.grows (shapes-moved given a.members m did.moved) kept
-    refl did.counts did.given (scope-same given (Some a.backup) did.given c.enter_behind-2.ensures.uuid c.enter_behind-2.ensures.given) c.enter_behind-2.ensures.first refl c.enter_behind-2.ensures.items
+    refl did.counts (behind-keeps c.args.who end roles spares (Step CopiesStripe left) (λ n. refl) refl) (behind-whole tape' (scope_in given a.epoch.uuid a.epoch.given (Some a.backup)) a.epoch.first a.epoch.entries.items c.args.who end roles spares (Step CopiesStripe left) did.moved (missing-since roles did.moved did.since.vacant)) did.given (scope-same given (Some a.backup) did.given c.enter_behind-2.ensures.uuid c.enter_behind-2.ensures.given) c.enter_behind-2.ensures.first refl c.enter_behind-2.ensures.items
     (let had = was.room_left in let room = c.enter_behind-2.ensures.room in omega (arith, room, had, steps)))
 
 pub returns-clause-called : goal.returns-clause-called
@@ -185,6 +186,10 @@ returns-clause-called g c =
     did.counts
     (record { uuid = c.enter_behind-2.ensures.uuid; given = c.enter_behind-2.ensures.given; first = c.enter_behind-2.ensures.first; backup = refl; work = refl; ahead = refl })
     (λ t. (was.kept.recorded t).begun))
+
+pub returns-clause-copied : goal.returns-clause-copied
+returns-clause-copied g c = λ s n b is.
+    copied-more c.self.inside.course c.in-Entered.span s c.in-Entered.copied n c.in-Entered.sectioned b c.in-Entered.is (ap (λ p. p.course) c.self.view_is ∙ is)
 
 pub returns-clause-caused : goal.returns-clause-caused
 returns-clause-caused g c = rw (← c.self.view_is) (omega arith, λ refusal many. never-both c.self.inside.members refusal c.in_default.ensures many)

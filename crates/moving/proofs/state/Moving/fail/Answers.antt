@@ -19,6 +19,7 @@ use Rattle.array_kept.proofs.ReadyLaws.{scope-same}
 use Rattle.array_kept.proofs.ReplyLaws.{fail_reply, no_role_reply}
 use Rattle.array_kept.proofs.LossLaws.{losses-failed, ended-behind}
 use Rattle.calls_kept.proofs.FailedLaws.{placed-out, unlost-out, moved-out, out-vacant}
+use Rattle.kept_history.specs.Safe.{world_in}
 use Rattle.kept_history.proofs.Records.{begins-going}
 use Rattle.moving_kept.specs.Moving.{IsMoving}
 use Rattle.moving_kept.proofs.Failing.{failed-moves}
@@ -27,7 +28,7 @@ use Rattle.moving_kept.proofs.Resting.{resting-moves}
 use Rattle.running_words.specs.Parts.{left_in}
 use Rattle.moving.specs.Ready.{bytes_in}
 use Rattle.moving.proofs.Called.{not_254, called, alone-lossless}
-use Rattle.moving.proofs.Kept.{ready, shapes-same, shapes-moved, left-moved}
+use Rattle.moving.proofs.Kept.{ready, shapes-same, shapes-moved, left-moved, alone-keeps, behind-keeps, takes-lost, lost-here}
 use Rattle.moving.proofs.TakenOut.{moved-all, since-out, taken-out}
 use Rattle.moving.proofs.state.Moving.fail.Goals as goal
 
@@ -113,7 +114,7 @@ invariant_of-self-in_default g c =
     (resting-moves g.B.Bank.tells given tape (scope_in given a.epoch.uuid a.epoch.given (Some a.backup)) a.epoch.first a.epoch.entries.items a.members (is_carried a.work) a.course
     (bytes_in a.course.window a.window.items) (left_in a.members a.course a.ahead) c.args.who c.ops-end.result (Refused (NoSuchRole c.args.role))
     was.kept (begins-going a.epoch.entries.items c.args.who number) (not_254 c.args.who.caller c.requires.caller) c.ops-end.ensures.count (quiet-refusal (NoSuchRole c.args.role)) (λ told is. is) (λ t fills. tt))
-    refl (λ slot. omega arith) refl (scope-same given (Some a.backup) refl c.enter.ensures.uuid c.enter.ensures.given) c.enter.ensures.first c.make_room.ensures.items c.enter.ensures.items
+    refl (λ slot. omega arith) (alone-keeps c.args.who c.ops-end.result (Refused (NoSuchRole c.args.role)) (λ n. refl) refl) (λ none whole. whole) refl (scope-same given (Some a.backup) refl c.enter.ensures.uuid c.enter.ensures.given) c.enter.ensures.first c.make_room.ensures.items c.enter.ensures.items
     (omega (arith, c.enter.ensures.room, c.in-Ok.ensures.ok))
 
 pub returns-in_default-clause-answered : goal.returns-in_default-clause-answered
@@ -167,7 +168,8 @@ invariant_of-self-2 g c =
     (sym (left-moved given a.members m a.course a.ahead moved))
     (failed-moves g.B.Bank.tells given tape tape' scope a.epoch.first a.epoch.entries.items a.members m (is_carried a.work) a.course buffer (left_in a.members a.course a.ahead) c.args.who end role roles spares
     was.kept (begins-going a.epoch.entries.items c.args.who number) (not_254 c.args.who.caller c.requires.caller) c.ops-end-2.ensures.count did.grows out))
-    refl did.counts did.given (scope-same given (Some a.backup) did.given (c.enter_behind.ensures.uuid ∙ c.enter-2.ensures.uuid) (c.enter_behind.ensures.given ∙ c.enter-2.ensures.given)) (c.enter_behind.ensures.first ∙ c.enter-2.ensures.first)
+    refl did.counts (record { long = (behind-keeps c.args.who end roles spares (Failed role) (λ n. refl) refl).long; free = (behind-keeps c.args.who end roles spares (Failed role) (λ n. refl) refl).free })
+    (λ none whole. takes-lost (world_in given tape' scope a.epoch.first) role a.epoch.entries.items (entries_of c.args.who end ((Lost role Command ∷ losses_of roles spares) ++ Failed role ∷ [])) (lost-here role c.args.who end Command (losses_of roles spares ++ Failed role ∷ [])) none) did.given (scope-same given (Some a.backup) did.given (c.enter_behind.ensures.uuid ∙ c.enter-2.ensures.uuid) (c.enter_behind.ensures.given ∙ c.enter-2.ensures.given)) (c.enter_behind.ensures.first ∙ c.enter-2.ensures.first)
     c.make_room.ensures.items items (omega (arith, c.enter_behind.ensures.room, c.enter-2.ensures.room, c.in-Ok.ensures.ok))
 
 pub returns-clause-answered : goal.returns-clause-answered

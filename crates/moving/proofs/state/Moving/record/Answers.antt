@@ -4,6 +4,7 @@ use Rattle.superblocks.proofs.ValidFields.{few-roles}
 use Rattle.flat_history.specs.declared.events.Event.TheVariants.{Refused, Step}
 use Rattle.flat_history.specs.declared.events.StepKind.TheVariants.{Checkpointed as RecordsWindow}
 use Rattle.flat_history.specs.Plain.{entries_of}
+use Rattle.shape_views.specs.Windows.{moved_past}
 use Rattle.views.specs.Lacking.{AreTooMany}
 use Rattle.views.proofs.LackingLaws.{lost-since, never-both}
 use Rattle.views.proofs.MovedLaws.{grows-none, moved-same}
@@ -19,11 +20,12 @@ use Rattle.md_base.specs.declared.places.Span.{Span}
 use Rattle.course_kept.specs.declared.course.Course.{Course}
 use Rattle.moving_kept.proofs.Refusals.{quiet-refusal, refused-right}
 use Rattle.moving_kept.proofs.Resting.{resting-moves}
+use Rattle.moving_kept.proofs.Steps.{missing-since}
 use Rattle.running_words.specs.Calls.{IsRecordDue}
 use Rattle.running_words.specs.Parts.{left_in}
 use Rattle.moving.specs.Ready.{bytes_in}
 use Rattle.moving.proofs.Called.{not_254, called, alone-lossless}
-use Rattle.moving.proofs.Kept.{ready, shapes-same, shapes-moved}
+use Rattle.moving.proofs.Kept.{ready, shapes-same, shapes-moved, alone-keeps, behind-keeps, behind-whole}
 use Rattle.moving.proofs.Settled.{many-of}
 use Rattle.moving.proofs.RecordLaws.{window-next, same-span, all_copied, moved-if, moved-none, safe-none-of, shapes-past, since-past, record-refused, record-done}
 use Rattle.moving.proofs.state.Moving.record.Goals as goal
@@ -45,7 +47,7 @@ invariant_of-self g c =
     c.args.who end (Refused refusal) was.kept goes (not_254 c.args.who.caller c.requires.caller) c.ops-end.ensures.count (quiet-refusal refusal) (λ told is. is)
     (λ t right. refused-right (world_in given tape scope a.epoch.first) a.epoch.entries.items given a.members was.kept.members_are.placed (was.kept.gone t right) (was.kept.levelled t right) refusal c.in-Some.ensures) in
     ready (entries_of c.args.who end (Refused refusal ∷ [])) was (grows-none (λ t. refl)) (shapes-same a.members.newest) kept
-    refl (λ slot. omega arith) refl (scope-same given (Some a.backup) refl c.enter.ensures.uuid c.enter.ensures.given) c.enter.ensures.first refl c.enter.ensures.items
+    refl (λ slot. omega arith) (alone-keeps c.args.who end (Refused refusal) (λ n. refl) refl) (λ none whole. whole) refl (scope-same given (Some a.backup) refl c.enter.ensures.uuid c.enter.ensures.given) c.enter.ensures.first refl c.enter.ensures.items
     (omega (arith, c.enter.ensures.room, was.room_left, some))
 
 pub returns-in-Some-clause-entered : goal.returns-in-Some-clause-entered
@@ -119,7 +121,7 @@ invariant_of-self-in-Some-refusal g c =
     let kept = record-refused a.course a.ahead c.in-Entered.span c.args.who end roles spares was.kept goes c.requires.caller c.ops-end-2.ensures.count did.grows since did.clean did.rise did.others
     c.record-done.result.refusal refusal c.in-Some-refusal.is moved (many-of m c.record-done.result.refusal refusal c.in-Some-refusal.is did.refused) did.unused did.safe in
     ready (entries_of c.args.who end (losses_of roles spares ++ Refused refusal ∷ [])) was did.grows (shapes-moved given a.members m moved) kept
-    refl did.counts did.given (scope-same given (Some a.backup) did.given c.enter_behind.ensures.uuid c.enter_behind.ensures.given) c.enter_behind.ensures.first refl c.enter_behind.ensures.items
+    refl did.counts (behind-keeps c.args.who end roles spares (Refused refusal) (λ n. refl) refl) (behind-whole tape' (scope_in given a.epoch.uuid a.epoch.given (Some a.backup)) a.epoch.first a.epoch.entries.items c.args.who end roles spares (Refused refusal) moved (missing-since roles moved since.vacant)) did.given (scope-same given (Some a.backup) did.given c.enter_behind.ensures.uuid c.enter_behind.ensures.given) c.enter_behind.ensures.first refl c.enter_behind.ensures.items
     (omega (arith, c.enter_behind.ensures.room, was.room_left, some))
 
 pub returns-in-Some-refusal-clause-called : goal.returns-in-Some-refusal-clause-called
@@ -185,7 +187,7 @@ invariant_of-self-2 g c =
     let kept = record-done a.course a.ahead c.in-Entered.span c.args.who end roles spares was.kept goes c.requires.caller c.ops-end-2.ensures.count did.grows since did.clean did.rise did.others
     due.sectioned left is c.steps_left-left.ensures moved c.in_default.ensures (λ t. did.plain none t (scope_in given a.epoch.uuid a.epoch.given (Some a.backup))) (safe-none-of c.record-done.result.refusal none did.safe) in
     ready (entries_of c.args.who end (losses_of roles spares ++ Step RecordsWindow left ∷ [])) was did.grows (shapes-past given a.members m c.in-Entered.span moved) kept
-    refl did.counts did.given (scope-same given (Some a.backup) did.given c.enter_behind-2.ensures.uuid c.enter_behind-2.ensures.given) c.enter_behind-2.ensures.first refl c.enter_behind-2.ensures.items
+    refl did.counts (behind-keeps c.args.who end roles spares (Step RecordsWindow left) (λ n. refl) refl) (behind-whole {old = moved_past c.in-Entered.span a.members} tape' (scope_in given a.epoch.uuid a.epoch.given (Some a.backup)) a.epoch.first a.epoch.entries.items c.args.who end roles spares (Step RecordsWindow left) moved (missing-since {old = moved_past c.in-Entered.span a.members} roles moved since.vacant)) did.given (scope-same given (Some a.backup) did.given c.enter_behind-2.ensures.uuid c.enter_behind-2.ensures.given) c.enter_behind-2.ensures.first refl c.enter_behind-2.ensures.items
     (omega (arith, c.enter_behind-2.ensures.room, was.room_left, some))
 
 pub returns-clause-called : goal.returns-clause-called

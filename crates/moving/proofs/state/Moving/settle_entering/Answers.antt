@@ -19,9 +19,9 @@ use Rattle.moving_kept.proofs.Resting.{resting-moves}
 use Rattle.moving_kept.proofs.Steps.{missing-since}
 use Rattle.running_words.specs.Parts.{left_in}
 use Rattle.moving.specs.Ready.{bytes_in}
-use Rattle.moving.proofs.Kept.{ready, shapes-same, shapes-moved, left-moved}
+use Rattle.moving.proofs.Kept.{ready, shapes-same, shapes-moved, left-moved, alone-keeps, behind-keeps, behind-whole}
 use Rattle.moving.proofs.Called.{not_254, alone-lossless}
-use Rattle.moving.proofs.Settled.{settles-so, risen-told, many-of}
+use Rattle.moving.proofs.Settled.{settling-long, settling-free, settles-so, risen-told, many-of}
 use Rattle.moving.proofs.state.Moving.settle_entering.Goals as goal
 
 pub overflow_cast-count : goal.overflow_cast-count
@@ -86,7 +86,7 @@ invariant_of-self-2 g c =
     ready (entries_of c.args.who end (losses_of roles spares ++ c.args.event ∷ [])) was did.grows (shapes-moved given a.members m did.moved)
     (subst (λ (left : ℕ). IsMoving g.B.Bank.tells given tape' scope a.epoch.first (a.epoch.entries.items ++ entries_of c.args.who end (losses_of roles spares ++ c.args.event ∷ [])) m (is_carried a.work) a.course (bytes_in a.course.window a.window.items) left)
     (sym (left-moved given a.members m a.course a.ahead did.moved)) kept)
-    refl did.counts did.given (scope-same given (Some a.backup) did.given c.enter_behind-2.ensures.uuid c.enter_behind-2.ensures.given) c.enter_behind-2.ensures.first c.make_room.ensures.items c.enter_behind-2.ensures.items
+    refl did.counts (behind-keeps c.args.who end roles spares c.args.event (settling-long c.args.event c.requires.event) (settling-free c.args.event c.requires.event)) (behind-whole tape' (scope_in given a.epoch.uuid a.epoch.given (Some a.backup)) a.epoch.first a.epoch.entries.items c.args.who end roles spares c.args.event did.moved (missing-since roles did.moved since.vacant)) did.given (scope-same given (Some a.backup) did.given c.enter_behind-2.ensures.uuid c.enter_behind-2.ensures.given) c.enter_behind-2.ensures.first c.make_room.ensures.items c.enter_behind-2.ensures.items
     (omega (arith, c.enter_behind-2.ensures.room, c.in-Ok.ensures.ok))
 
 pub invariant_of-self-in-Some-refusal : goal.invariant_of-self-in-Some-refusal
@@ -124,7 +124,7 @@ invariant_of-self-in-Some-refusal g c =
     ready (entries_of c.args.who end (losses_of roles spares ++ Refused refusal ∷ [])) was did.grows (shapes-moved given a.members m did.moved)
     (subst (λ (left : ℕ). IsMoving g.B.Bank.tells given tape' scope a.epoch.first (a.epoch.entries.items ++ entries_of c.args.who end (losses_of roles spares ++ Refused refusal ∷ [])) m (is_carried a.work) a.course (bytes_in a.course.window a.window.items) left)
     (sym (left-moved given a.members m a.course a.ahead did.moved)) kept)
-    refl did.counts did.given (scope-same given (Some a.backup) did.given c.enter_behind.ensures.uuid c.enter_behind.ensures.given) c.enter_behind.ensures.first c.make_room.ensures.items c.enter_behind.ensures.items
+    refl did.counts (behind-keeps c.args.who end roles spares (Refused refusal) (λ n. refl) refl) (behind-whole tape' (scope_in given a.epoch.uuid a.epoch.given (Some a.backup)) a.epoch.first a.epoch.entries.items c.args.who end roles spares (Refused refusal) did.moved (missing-since roles did.moved since.vacant)) did.given (scope-same given (Some a.backup) did.given c.enter_behind.ensures.uuid c.enter_behind.ensures.given) c.enter_behind.ensures.first c.make_room.ensures.items c.enter_behind.ensures.items
     (omega (arith, c.enter_behind.ensures.room, c.in-Ok.ensures.ok))
 
 pub returns-clause-called : goal.returns-clause-called
@@ -197,7 +197,7 @@ invariant_of-self-in-Some g c =
     c.args.who end (Refused refusal) was.kept (begins-going a.epoch.entries.items c.args.who number) (not_254 c.args.who.caller c.requires.caller) c.ops-end.ensures.count (quiet-refusal refusal) (λ told is. is)
     (λ t right. refused-right (world_in given tape scope a.epoch.first) a.epoch.entries.items given a.members was.kept.members_are.placed (was.kept.gone t right) (was.kept.levelled t right) refusal c.in-Some.ensures) in
     ready (entries_of c.args.who end (Refused refusal ∷ [])) was (grows-none (λ t. refl)) (shapes-same a.members.newest) kept
-    refl (λ slot. omega arith) refl (scope-same given (Some a.backup) refl c.enter.ensures.uuid c.enter.ensures.given) c.enter.ensures.first c.make_room.ensures.items c.enter.ensures.items
+    refl (λ slot. omega arith) (alone-keeps c.args.who end (Refused refusal) (λ n. refl) refl) (λ none whole. whole) refl (scope-same given (Some a.backup) refl c.enter.ensures.uuid c.enter.ensures.given) c.enter.ensures.first c.make_room.ensures.items c.enter.ensures.items
     (omega (arith, c.enter.ensures.room, c.in-Ok.ensures.ok))
 
 pub returns-in-Some-clause-called : goal.returns-in-Some-clause-called

@@ -9,9 +9,12 @@ use Rattle.views.proofs.MovedLaws.{grows-none}
 use Rattle.array_kept.proofs.LossLaws.{ended-behind}
 use Rattle.array_kept.proofs.ReadyLaws.{scope-same}
 use Rattle.running_words.specs.Parts.{left_in}
-use Rattle.moving.proofs.Kept.{ready, shapes-same}
+use Rattle.moving.proofs.Kept.{ready, roomier, shapes-same, alone-keeps}
 use Rattle.moving.proofs.Asking.{status-same, shown-moves}
 use Rattle.moving.proofs.state.Moving.status.Goals as goal
+
+pub invariant_of-self : goal.invariant_of-self
+invariant_of-self g c = roomier c.self.invariant c.make_room.ensures.items c.make_room.ensures.keeps
 
 pub invariant_of-self-2 : goal.invariant_of-self-2
 invariant_of-self-2 g c =
@@ -22,7 +25,7 @@ invariant_of-self-2 g c =
     let steps : c.in-Ok.shown.left ≡ left_in a.members a.course a.ahead = c.in-Ok.ensures.left ∙ ap (λ p. left_in p.parts.members p.course p.ahead) (sym c.self.view_is) in
     ready (entries_of c.args.who c.ops-end.result (Shown c.in-Ok.shown ∷ [])) was (grows-none (λ t. refl)) (shapes-same a.members.newest)
     (shown-moves c.args.who c.ops-end.result was.kept number c.requires.caller c.ops-end.ensures.count c.in-Ok.shown steps)
-    refl (λ slot. omega arith) refl (scope-same given (Some a.backup) refl c.enter.ensures.uuid c.enter.ensures.given) c.enter.ensures.first c.make_room.ensures.items c.enter.ensures.items
+    refl (λ slot. omega arith) (alone-keeps c.args.who c.ops-end.result (Shown c.in-Ok.shown) (λ n. refl) refl) (λ none whole. whole) refl (scope-same given (Some a.backup) refl c.enter.ensures.uuid c.enter.ensures.given) c.enter.ensures.first c.make_room.ensures.items c.enter.ensures.items
     (omega (arith, c.enter.ensures.room, c.in-Ok-make_room.ensures.ok))
 
 pub returns-clause-ended : goal.returns-clause-ended

@@ -22,14 +22,15 @@ use Rattle.kept_history.specs.Safe.{world_in}
 use Rattle.views.specs.Numbers.{is_carried}
 use Rattle.moving_kept.proofs.Refusals.{quiet-refusal, refused-right}
 use Rattle.moving_kept.proofs.Resting.{resting-moves}
+use Rattle.moving_kept.proofs.Steps.{missing-since}
 use Rattle.moving_state.proofs.ReshapeLaws.{through-of}
 use Rattle.running_words.specs.Calls.{IsZeroDue}
 use Rattle.running_words.specs.Parts.{left_in}
 use Rattle.moving.specs.Ready.{bytes_in}
 use Rattle.moving.proofs.Called.{not_254, called, alone-lossless}
-use Rattle.moving.proofs.Kept.{ready, shapes-same, shapes-moved}
+use Rattle.moving.proofs.Kept.{ready, shapes-same, shapes-moved, alone-keeps, behind-keeps, behind-whole, with-buffer}
 use Rattle.moving.proofs.Settled.{many-of}
-use Rattle.moving.proofs.ZeroLaws.{buffer-other, closed-at, zero-step, rows-zeroed, zero-refused, zero-done}
+use Rattle.moving.proofs.ZeroLaws.{closed-at, zero-step, rows-zeroed, zero-refused, zero-done}
 use Rattle.moving.proofs.state.Moving.zero.Goals as goal
 
 -- ---- refused before anything is done
@@ -49,7 +50,7 @@ invariant_of-self g c =
     c.args.who end (Refused refusal) was.kept goes (not_254 c.args.who.caller c.requires.caller) c.ops-end.ensures.count (quiet-refusal refusal) (λ told is. is)
     (λ t right. refused-right (world_in given tape scope a.epoch.first) a.epoch.entries.items given a.members was.kept.members_are.placed (was.kept.gone t right) (was.kept.levelled t right) refusal c.in-Some.ensures) in
     ready (entries_of c.args.who end (Refused refusal ∷ [])) was (grows-none (λ t. refl)) (shapes-same a.members.newest) kept
-    refl (λ slot. omega arith) refl (scope-same given (Some a.backup) refl c.enter.ensures.uuid c.enter.ensures.given) c.enter.ensures.first refl c.enter.ensures.items
+    refl (λ slot. omega arith) (alone-keeps c.args.who end (Refused refusal) (λ n. refl) refl) (λ none whole. whole) refl (scope-same given (Some a.backup) refl c.enter.ensures.uuid c.enter.ensures.given) c.enter.ensures.first refl c.enter.ensures.items
     (omega (arith, c.enter.ensures.room, was.room_left, some))
 
 pub returns-in-Some-clause-entered : goal.returns-in-Some-clause-entered
@@ -133,10 +134,10 @@ invariant_of-self-in-Some-refusal g c =
     did.moved did.grows since did.clean did.rise did.unused did.others did.safe in
     let kept = zero-refused a.course a.ahead c.args.who end roles spares is due.through was.kept goes c.requires.caller c.ops-end-2.ensures.count step refusal
     (many-of m c.zero-done.result.refusal refusal c.in-Some-refusal.is did.refused) in
-    buffer-other (ready (entries_of c.args.who end (losses_of roles spares ++ Refused refusal ∷ [])) was did.grows (shapes-moved given a.members m did.moved) kept
-    refl did.counts did.given (scope-same given (Some a.backup) did.given c.enter_behind.ensures.uuid c.enter_behind.ensures.given) c.enter_behind.ensures.first refl c.enter_behind.ensures.items
+    with-buffer (let len = (with_items a.buffer c.zero-done.new.scratch).ok.0 in let ok = a.buffer.ok.0 in omega (arith, len, ok, was.buffer_fits))
+    (ready (entries_of c.args.who end (losses_of roles spares ++ Refused refusal ∷ [])) was did.grows (shapes-moved given a.members m did.moved) kept
+    refl did.counts (behind-keeps c.args.who end roles spares (Refused refusal) (λ n. refl) refl) (behind-whole tape' (scope_in given a.epoch.uuid a.epoch.given (Some a.backup)) a.epoch.first a.epoch.entries.items c.args.who end roles spares (Refused refusal) did.moved (missing-since roles did.moved since.vacant)) did.given (scope-same given (Some a.backup) did.given c.enter_behind.ensures.uuid c.enter_behind.ensures.given) c.enter_behind.ensures.first refl c.enter_behind.ensures.items
     (omega (arith, c.enter_behind.ensures.room, was.room_left, some)))
-    (let len = (with_items a.buffer c.zero-done.new.scratch).ok.0 in let ok = a.buffer.ok.0 in omega (arith, len, ok, was.buffer_fits))
 
 pub returns-in-Some-refusal-clause-called : goal.returns-in-Some-refusal-clause-called
 returns-in-Some-refusal-clause-called g c =
@@ -209,10 +210,10 @@ invariant_of-self-2 g c =
     did.moved did.grows since did.clean did.rise did.unused did.others did.safe in
     let kept = zero-done a.course a.ahead c.args.who end roles spares is due.through was.kept goes c.requires.caller c.ops-end-2.ensures.count step left c.steps_left-left.ensures more
     (rows-zeroed given a.members m tape' c.final_in-shape.result c.stripe_to_zero-stripe.result a.course.zeroed c.final_in-shape.ensures c.stripe_to_zero-stripe.ensures.value (did.stands c.in_default-refusal.is)) in
-    buffer-other (ready (entries_of c.args.who end (losses_of roles spares ++ Step ZeroesStripe left ∷ [])) was did.grows (shapes-moved given a.members m did.moved) kept
-    refl did.counts did.given (scope-same given (Some a.backup) did.given c.enter_behind-2.ensures.uuid c.enter_behind-2.ensures.given) c.enter_behind-2.ensures.first refl c.enter_behind-2.ensures.items
+    with-buffer (let len = (with_items a.buffer c.zero-done.new.scratch).ok.0 in let ok = a.buffer.ok.0 in omega (arith, len, ok, was.buffer_fits))
+    (ready (entries_of c.args.who end (losses_of roles spares ++ Step ZeroesStripe left ∷ [])) was did.grows (shapes-moved given a.members m did.moved) kept
+    refl did.counts (behind-keeps c.args.who end roles spares (Step ZeroesStripe left) (λ n. refl) refl) (behind-whole tape' (scope_in given a.epoch.uuid a.epoch.given (Some a.backup)) a.epoch.first a.epoch.entries.items c.args.who end roles spares (Step ZeroesStripe left) did.moved (missing-since roles did.moved since.vacant)) did.given (scope-same given (Some a.backup) did.given c.enter_behind-2.ensures.uuid c.enter_behind-2.ensures.given) c.enter_behind-2.ensures.first refl c.enter_behind-2.ensures.items
     (omega (arith, c.enter_behind-2.ensures.room, was.room_left, some)))
-    (let len = (with_items a.buffer c.zero-done.new.scratch).ok.0 in let ok = a.buffer.ok.0 in omega (arith, len, ok, was.buffer_fits))
 
 pub returns-clause-called : goal.returns-clause-called
 returns-clause-called g c =
