@@ -10,3 +10,4 @@ pub mod AddLaws
 pub mod Examined
 pub mod EnterLaws
 pub mod Entered
+pub mod DueSteps

@@ -16,6 +16,7 @@ mod failing;
 mod moves;
 mod recording;
 mod settling;
+mod stepping;
 mod zeroing;
 
 use bank::Bank;
