@@ -29,6 +29,7 @@ moving-still {tells = tells} {given = given} {tape' = tape'} {scope = scope} {fi
   listed = λ t. (there t).listed t;
   safe = λ t. (there t).safe t;
   now_safe = λ t. (there t).now_safe t;
+  last_step = λ t. (there t).last_step t;
 }
   where
     there : tells → IsMoving tells given tape' scope first entries members carried course buffer left

@@ -67,7 +67,7 @@ shapes-moved given old new moved = record { shape = moved.shape; final = moved.r
 reach-same : (old new : Sb) → AreSameShapes old new → reach_of new ≡ reach_of old
 reach-same old new same = λ i. min (unit (same.shape i) (same.final i)) (min (data_disks (same.shape i)) (data_disks (same.final i)) * same.size i)
 
-long-same : (old new : Sb) → AreSameShapes old new → list_length new ≡ list_length old
+pub long-same : (old new : Sb) → AreSameShapes old new → list_length new ≡ list_length old
 long-same old new same = λ i. min (data_disks (same.shape i)) (data_disks (same.final i)) * same.size i
 
 -- the steps that are left are the same

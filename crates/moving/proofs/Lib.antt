@@ -8,6 +8,7 @@ pub mod Copied
 pub mod RecordLaws
 pub mod AddLaws
 pub mod Examined
+pub mod WriteLaws
 pub mod EnterLaws
 pub mod Entered
 pub mod DueSteps

@@ -89,7 +89,7 @@ pub record-left : (given : Given) (old new : Members) (span : Span) (sectioned :
 record-left given old new span sectioned ahead moved active = recording old.newest new.newest span sectioned 0 (phases_of ahead) active (past-of given old new span moved)
 
 -- the end of the reshape is left behind it
-record-some : (given : Given) (old new : Members) (span : Span) (ahead : PhasesLeft) → IsMoved given (moved_past span old) new → is_reshaping old.newest ≡ true → left_in new (closed 0) ahead ≢ 0
+pub record-some : (given : Given) (old new : Members) (span : Span) (ahead : PhasesLeft) → IsMoved given (moved_past span old) new → is_reshaping old.newest ≡ true → left_in new (closed 0) ahead ≢ 0
 record-some given old new span ahead moved active =
     some (left_in new (closed 0) ahead) (reshape_left new.newest Closed 0) (phases_steps (final_shape new.newest) new.newest.size (phases_of ahead))
     (plans-counted new.newest (closed 0) (phases_of ahead) (moved.reshape.reshaping ∙ active)) (some-left new.newest Closed 0 (omega arith))
@@ -111,6 +111,7 @@ closed-bare count buffer left was = record {
   gone = was.gone;
   unclean = was.unclean;
   recorded = was.recorded;
+  last_step = was.last_step;
   stored = λ t. let stored = was.stored t in record { section = stored.section; sectors = tt; headers = stored.headers };
   listed = λ t fills.
       let l = was.listed t fills in

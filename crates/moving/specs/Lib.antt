@@ -1,3 +1,4 @@
 pub mod Ready
+pub mod Writing
 pub mod Entering
 pub mod Steps

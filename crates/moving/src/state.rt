@@ -13,10 +13,12 @@ mod ending;
 mod entering;
 mod examining;
 mod failing;
+mod finishing;
 mod moves;
 mod recording;
 mod settling;
 mod stepping;
+mod writing;
 mod zeroing;
 
 use bank::Bank;

@@ -76,13 +76,13 @@ use Rattle.course_kept.specs.Course.{AnyShape, StandsInCourse}
 use Rattle.course_kept.specs.Laws.{closed}
 use Rattle.course_kept.proofs.Frames.{stands-whole, list-whole, rows-whole}
 use Rattle.course_kept.proofs.Courses.{zeroes-are-all}
-use Rattle.history_calls.specs.Reliable.{IsReliable, AreToldGone}
+use Rattle.history_calls.specs.Reliable.{IsReliable, AreToldGone, IsNonePast}
+use Rattle.history_calls.proofs.LastStep.{last-behind, last-step}
 use Rattle.moving_kept.specs.Moving.{HasListInCourse, HasListStill, IsMoving}
 use Rattle.history_calls.proofs.Behind.{IsAmong, inner-of, legal-losses}
 use Rattle.moving_ends.proofs.Consistent.{consistent-at}
 use Rattle.moving_ends.proofs.EndedRows.{HaveEnded, ended-short, listed-still}
-use Rattle.moving_ends.proofs.Ending.{length_by, grown_to, ending_events, only-adds, only-gives, only-lost, ending-gives, ending-settles, ending-level, ending-values, ending-length, ending-lost, ending-late, ending-last, ending-comes, ending-ends, behind-all, comes-more, last-behind, last-step, before-step, ArePlannedTo, plans-behind, plans-done, told-longer}
-use Rattle.moving_ends.proofs.LastStep.{IsNonePast, HasLastStep}
+use Rattle.moving_ends.proofs.Ending.{length_by, grown_to, ending_events, only-adds, only-gives, only-lost, ending-gives, ending-settles, ending-level, ending-values, ending-length, ending-lost, ending-late, ending-last, ending-comes, ending-ends, behind-all, comes-more, before-step, ArePlannedTo, plans-behind, plans-done, told-longer}
 use Rattle.moving_kept.proofs.ReadShapes.{HasShapesOf, IsEitherRead}
 use Rattle.moving_kept.proofs.Steps.{told-behind}
 
@@ -106,11 +106,9 @@ pub record IsEndingCall (given : Given) (tape : List Operation) (scope : Scope) 
       → ((number : ℕ) → told.carried number ≡ true → more.carried number ≡ true) → IsSafeOver (world_in given tape scope first) given told old tape
       → IsSafeChange (OpensFit (world_in given tape scope first)) scope given told more new tape tape'
 
--- What the history is asked of an array whose reshape is about to end: its last step ended with the tape, past the list's end it tells nothing, and if no step
--- is left, the plans that are open go to the shape of this reshape.
-pub record IsAtLastStep (world : World) (entries : List Entry) (old : Members) (left : ℕ) : Type 0 where
-  pub stands : HasLastStep world entries (list_length old.newest)
-  pub planned : left ≡ 0 → ArePlannedTo world (final_shape old.newest) (open_plans entries)
+-- If no step is left, the plans that are open go to the shape of this reshape.
+abbrev pub IsPlannedTo : World → List Entry → Members → ℕ → Type 0
+IsPlannedTo world entries old left = left ≡ 0 → ArePlannedTo world (final_shape old.newest) (open_plans entries)
 
 -- As many steps are left as one fewer, or a role is missing, so that more steps may follow the reshape.
 abbrev pub IsStepped : Members → ℕ → ℕ → Type 0
@@ -129,7 +127,7 @@ module _ (given : Given) (tape : List Operation) (scope : Scope) (first : ℕ) (
     (who : Who) (roles spares late late_spares : ℕ) (ops : List Operation) (tells : Type 0) (was : IsMoving tells given tape scope first entries old carried (closed zeroed) buffer steps) (t : tells)
     (few_roles : role_count old.newest ≤ 16)
     (all_zeroed : zeroed ≡ zeroed_stripes (shape_of old.newest) (final_shape old.newest) old.newest.size (is_backward old.newest))
-    (stepped : IsStepped old steps left) (at_last : IsAtLastStep (world_in given tape scope first) entries old left)
+    (stepped : IsStepped old steps left) (planned : IsPlannedTo (world_in given tape scope first) entries old left)
     (call : IsEndingCall given tape scope first old new carried carried' zeroed buffer roles late (tape ++ ops)) where
   abbrev world : World
   world = world_in given tape scope first
@@ -282,14 +280,14 @@ module _ (given : Given) (tape : List Operation) (scope : Scope) (first : ℕ) (
   zero-all fills x le lt =
       values-all x
       ∙ ap (λ (b : Bool). cond b (resized (nat_lt x size) (values_of (opening_list world) entries x)) (values_of (opening_list world) entries x)) (less-is (list_length old.newest) (list_length new.newest) (omega (arith, le, lt)))
-      ∙ ap (λ (c : Bool). resized c (values_of (opening_list world) entries x)) (less-is x (list_length new.newest) lt) ∙ ap (λ (l : List Sector). resized true l) (at_last.stands.past fills x le)
+      ∙ ap (λ (c : Bool). resized c (values_of (opening_list world) entries x)) (less-is x (list_length new.newest) lt) ∙ ap (λ (l : List Sector). resized true l) ((was.last_step t).past fills x le)
 
   -- past its end it tells nothing
   pub ended-past : IsNonePast later all (list_length new.newest)
   ended-past fills x le =
       values-all x
       ∙ ap (λ (c : Bool). cond longer (resized c (values_of (opening_list world) entries x)) (values_of (opening_list world) entries x)) (not-below x (list_length new.newest) le)
-      ∙ ap (λ (l : List Sector). cond longer [] l) (at_last.stands.past (filled-before world ops entries added begun recorded.ends fills) x (omega (arith, le, no-shorter))) ∙ of longer
+      ∙ ap (λ (l : List Sector). cond longer [] l) ((was.last_step t).past (filled-before world ops entries added begun recorded.ends fills) x (omega (arith, le, no-shorter))) ∙ of longer
     where
       not-below : (a b : ℕ) → b ≤ a → nat_lt a b ≡ false
       not-below a b h = grind (arith, nat_tests, h)
@@ -450,7 +448,7 @@ module _ (given : Given) (tape : List Operation) (scope : Scope) (first : ℕ) (
         )
 
     end-is : end_before later (entries ++ flushed) ≡ length tape
-    end-is = ap (λ (o : Option Entry). option_map_or (λ e. e.end) o first) (last-behind entries who end losses (losses-are roles spares)) ∙ at_last.stands.last
+    end-is = ap (λ (o : Option Entry). option_map_or (λ e. e.end) o first) (last-behind entries who end losses (losses-are roles spares)) ∙ (was.last_step t).last
 
     target : target_at later (end_before later (entries ++ flushed)) ≡ Some (final_shape old.newest)
     target = ap (λ (n : ℕ). target_at later n) end-is ∙ ap (λ (o : Option Reading). option_map_or (λ r. target_of r.newest) o None) at-start.1 ∙ at-start.2
@@ -589,7 +587,7 @@ module _ (given : Given) (tape : List Operation) (scope : Scope) (first : ℕ) (
         of true is =
             subst (λ (l : List Entry). ArePlansDone later (entries ++ flushed) step l (open_plans (entries ++ flushed))) (sym comes-too)
             (subst (λ (plans : List Entry). ArePlansDone later (entries ++ flushed) step rest plans) (sym (plans-behind entries who end losses (losses-are roles spares)))
-            (plans-done world ops (entries ++ flushed) step rest (final_shape old.newest) (consistent fit) entries recorded.ends (at_last.planned (is-zero left is))))
+            (plans-done world ops (entries ++ flushed) step rest (final_shape old.newest) (consistent fit) entries recorded.ends (planned (is-zero left is))))
 
     pub ended-right : OpensFit later → IsReshapedCall later entries who end events
     ended-right fit = reshaped-losses later entries who end losses (Step Finished left ∷ tail) (faults-are losses (losses-are roles spares))

@@ -283,7 +283,7 @@ module _ (tells : Type 0) (given : Given) (tape mid tape' : List Operation) (sco
 
   -- It is a spare: how many steps are left isn't told then.
   pub added-moves : IsMoving tells given tape' scope first (entries ++ entries_of who end (losses_of roles spares ++ Added slot ∷ [])) new carried' course buffer left
-  added-moves = spare-moves (Added slot) (record { adds = refl; gives = refl; ends = refl; still = λ x values. refl; level = λ n. refl }) (λ told is. tt) (λ world before e. tt)
+  added-moves = spare-moves (Added slot) (record { adds = refl; gives = refl; ends = refl; still = λ x values. refl; level = λ n. refl; other = refl }) (λ told is. tt) (λ world before e. tt)
 
   -- It was lost in this.
   pub added-lost-moves : IsMoving tells given tape' scope first (entries ++ entries_of who end (losses_of roles spares ++ Refused (SlotFault slot) ∷ [])) new carried' course buffer left

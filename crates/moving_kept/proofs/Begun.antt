@@ -17,7 +17,7 @@ use Rattle.flat_history.specs.declared.events.Entry.{Entry}
 use Rattle.flat_history.specs.declared.events.Event.{Event}
 use Rattle.flat_history.specs.declared.events.Event.TheVariants.{Step}
 use Rattle.flat_history.specs.declared.events.StepKind.TheVariants.{Begun}
-use Rattle.flat_history.specs.Flat.{now}
+use Rattle.flat_history.specs.Flat.{now, values_after}
 use Rattle.flat_history.specs.Legal.{told_left, left_after}
 use Rattle.flat_history.specs.Plain.{entries_of}
 use Rattle.flat_history.specs.Sound.{OpensFit}
@@ -41,7 +41,9 @@ use Rattle.course_kept.specs.Course.{StandsInCourse}
 use Rattle.course_kept.specs.Laws.{closed}
 use Rattle.course_kept.proofs.Frames.{does-or}
 use Rattle.course_kept.proofs.Courses.{begins-stand}
-use Rattle.history_calls.specs.Reliable.{IsReliable}
+use Rattle.history_calls.specs.Reliable.{IsReliable, HasLastStep}
+use Rattle.history_calls.proofs.Behind.{early-losses}
+use Rattle.history_calls.proofs.LastStep.{keeps-last}
 use Rattle.moving_kept.specs.Moving.{AreReshaping, HasListInCourse, IsStillKept, IsMoving}
 use Rattle.moving_kept.proofs.Beginning.{IsBeginningCall, begun-gone, begun-recorded, begun-level, begun-unclean, begun-values, begun-safe, begun-now, safe-over}
 use Rattle.moving_kept.proofs.Quiet.{IsLeftBy}
@@ -122,6 +124,15 @@ module _ (given : Given) (tape : List Operation) (scope : Scope) (first : ℕ) (
     | inr lacks ↦ listed-none lacks
   ]
 
+  -- what it enters gives no sector a value
+  begun-still : (x : ℕ) (values : List Sector) → fold (λ values e. values_after x values e.event) values (entries_of who (length (tape ++ ops)) (Step Begun left ∷ losses_of roles spares)) ≡ values
+  begun-still x values = subst (λ (l : List Event). fold (λ values e. values_after x values e.event) values (entries_of who (length (tape ++ ops)) l) ≡ values) (append-nil (losses_of roles spares))
+      ((early-losses roles spares).values who (length (tape ++ ops)) [] x values)
+
+  last-step : HasLastStep later all (list_length new.newest)
+  last-step = keeps-last world ops entries (list_length old.newest) (list_length new.newest) who [] (Step Begun left) (losses_of roles spares) recorded.begun recorded.ends refl (losses-are roles spares)
+      (λ x values le none. begun-still x values ∙ none (let n = call.sized in omega (arith, le, n))) (was.past t)
+
   begun-leaves : IsLeftBy given tape scope first entries all new carried' (closed 0) buffer (tape ++ ops)
   begun-leaves = record {
     right = λ right. record {
@@ -133,6 +144,7 @@ module _ (given : Given) (tape : List Operation) (scope : Scope) (first : ℕ) (
     gone = begun-gone given tape scope first entries old plan new carried carried' who left roles spares ops was.sizes_are recorded.begun recorded.ends recorded.sized (was.gone t) call;
     unclean = λ dirty. begun-unclean given tape scope first entries old plan new carried carried' who left roles spares ops was.sizes_are recorded.begun recorded.ends recorded.sized (was.gone t) call (was.unclean t (sym are.clean ∙ dirty));
     recorded = begun-recorded given tape scope first entries old plan new carried carried' who left roles spares ops was.sizes_are recorded.begun recorded.ends recorded.sized (was.gone t) call recorded goes caller behind told some;
+    last_step = last-step;
     listed = listed;
     safe = begun-safe given tape scope first entries old plan new carried carried' who left roles spares ops was.sizes_are recorded.begun recorded.ends recorded.sized (was.gone t) call (safe-over was t call.live);
     now_safe = begun-now given tape scope first entries old plan new carried carried' who left roles spares ops was.sizes_are recorded.begun recorded.ends recorded.sized (was.gone t) call (safe-over was t call.live);
@@ -156,6 +168,7 @@ begun-moves tells given tape tape' scope first entries old plan new carried carr
   gone = λ t. (leaves t).gone;
   unclean = λ t. (leaves t).unclean;
   recorded = λ t. (leaves t).recorded;
+  last_step = λ t. (leaves t).last_step;
   stored = λ t. let plain = cleared-plain scope new (disk given.start tape') (cleared t) in record { section = plain.0; sectors = tt; headers = plain.1 };
   listed = λ t. (leaves t).listed;
   safe = λ t. (leaves t).safe;

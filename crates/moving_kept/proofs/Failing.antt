@@ -57,7 +57,7 @@ pub failed-moves : (tells : Type 0) (given : Given) (tape tape' : List Operation
     → IsMoving tells given tape' scope first (entries ++ entries_of who end ((Lost role Command ∷ losses_of roles spares) ++ Failed role ∷ [])) new carried course buffer left
 failed-moves tells given tape tape' scope first entries old new carried course buffer left who end role roles spares was goes caller at_end grows did =
     early-moves tells given tape tape' scope first entries old new carried course course buffer buffer left left who end (Lost role Command ∷ losses_of roles spares) (IsFailedOrAmong role roles) (Failed role)
-    was goes caller at_end grows (record { adds = refl; gives = refl; ends = refl; still = λ x values. refl; level = λ n. refl })
+    was goes caller at_end grows (record { adds = refl; gives = refl; ends = refl; still = λ x values. refl; level = λ n. refl; other = refl })
     (reshaping-moved scope given old new did.moved was.members_are) did.few (early-failed role roles spares) missing list-same (ap (λ (s : Shape). s.level) did.moved.shape) did.clean
     (course-moved given old new course did.moved was.course_is)
     (λ t. stored-kept scope given old new course.window buffer (disk given.start tape) (disk given.start tape') was.members_are did.moved (did.unused t) (was.stored t))

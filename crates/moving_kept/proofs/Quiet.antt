@@ -33,9 +33,9 @@ use Rattle.kept_history.specs.Told.{told_now}
 use Rattle.course_kept.specs.declared.course.Course.{Course}
 use Rattle.course_kept.specs.Course.{IsCourseOf, IsStored, StandsInCourse}
 use Rattle.kept_history.proofs.Reshapes.{call-ends_none}
-use Rattle.history_calls.specs.Reliable.{IsReliable, AreToldGone}
+use Rattle.history_calls.specs.Reliable.{IsReliable, AreToldGone, HasLastStep}
 use Rattle.history_calls.proofs.Behind.{AreEarly, AreLostOrMissing, IsAmong, early-losses, legal-losses, or-false}
-use Rattle.history_calls.proofs.Quiet.{IsQuiet, IsLeftBehind, fit-later, quiet-last, stretch-more, numbers-leaves, quiet-leaves, quiet-now}
+use Rattle.history_calls.proofs.Quiet.{IsQuiet, IsLeftBehind, fit-later, quiet-last, last-left, stretch-more, numbers-leaves, quiet-leaves, quiet-now}
 use Rattle.moving_kept.specs.Moving.{AreReshaping, HasListInCourse, IsMoving}
 
 -- ---- the call
@@ -87,6 +87,7 @@ pub record IsLeftBy (given : Given) (tape : List Operation) (scope : Scope) (fir
   pub gone : IsReliable (world_in given tape' scope first) all → AreToldGone (world_in given tape' scope first) all new
   pub unclean : is_clean new.newest ≡ false → (is_unsynced (world_in given tape' scope first) all || is_unsettled all) ≡ true
   pub recorded : IsHistoryKept (IsReliable (world_in given tape' scope first) all) (world_in given tape' scope first) (list_length new.newest) all
+  pub last_step : HasLastStep (world_in given tape' scope first) all (list_length new.newest)
   pub listed : IsFilledRight (world_in given tape' scope first) all
       → HasListInCourse (OpensFit (world_in given tape' scope first)) new course' buffer' (present given tape') (now (opening_list (world_in given tape' scope first)) all)
   pub safe : IsFilledRight (world_in given tape' scope first) all → HasRoomForEvents (world_in given tape' scope first) → OpensAlike (world_in given tape' scope first)
@@ -131,6 +132,7 @@ early-moves tells given tape tape' scope first entries old new carried course co
       gone = λ t. (leaves t).gone;
       unclean = λ t. (leaves t).unclean;
       recorded = λ t. (leaves t).recorded;
+      last_step = λ t. last-left given tape tape' scope first entries (list_length old.newest) new carried true who end early event (leaves t) (at_end t) quiet.other sized (was.last_step t).past;
       stored = stored;
       listed = λ t. listed-later given tape scope first entries (entries ++ entries_of who end (early ++ event ∷ [])) new carried course' buffer' tape' (now (opening_list (world_in given tape scope first)) entries) (leaves t)
           (quiet-now (opening_list (world_in given tape scope first)) entries who end early IsTaken event are quiet) (call t).listed;
@@ -172,6 +174,7 @@ carrying-moves tells given tape tape' scope first entries old new carried carrie
       gone = λ t. (leaves t).gone;
       unclean = λ t. (leaves t).unclean;
       recorded = λ t. (leaves t).recorded;
+      last_step = λ t. last-left given tape tape' scope first entries (list_length old.newest) new carried' true who end early event (leaves t) (at_end t) quiet.other sized (was.last_step t).past;
       stored = stored;
       listed = λ t. listed-later given tape scope first entries (entries ++ entries_of who end (early ++ event ∷ [])) new carried' course' buffer' tape' (now (opening_list (world_in given tape scope first)) entries) (leaves t)
           (quiet-now (opening_list (world_in given tape scope first)) entries who end early IsTaken event are quiet) (call t).listed;

@@ -3,6 +3,7 @@ use Rattle.std.proofs.Common.{◌≡◌, ◌≢◌, ◌⊎◌, inl, inr, ℕ, �
 use Rattle.std.specs.Prelude.{IsFalse, IfSome, ◌^◌, fold}
 use Rattle.std.proofs.lemmas.Bool.{and_parts, leb-true}
 use Rattle.std.proofs.lemmas.Bool.Decides.{nat_tests}
+use Rattle.md_base.specs.Sectors.{Sector}
 use Rattle.md_base.specs.declared.answers.Who.{Who}
 use Rattle.md_base.specs.declared.places.Shape.{Shape}
 use Rattle.md_base.specs.Search.{count_below}
@@ -23,7 +24,7 @@ use Rattle.flat_history.specs.declared.events.Event.{Event}
 use Rattle.flat_history.specs.declared.events.Event.TheVariants.{Resized, Step}
 use Rattle.flat_history.specs.declared.events.StepKind.TheVariants.{Begun}
 use Rattle.flat_history.specs.Epochs.{HasRoomForEvents}
-use Rattle.flat_history.specs.Flat.{now}
+use Rattle.flat_history.specs.Flat.{now, values_after, resized}
 use Rattle.flat_history.specs.Legal.{told_left, left_after}
 use Rattle.flat_history.specs.Plain.{entries_of}
 use Rattle.flat_history.specs.Sound.{OpensFit}
@@ -57,7 +58,9 @@ use Rattle.course_kept.specs.Course.{StandsInCourse}
 use Rattle.course_kept.specs.Laws.{closed}
 use Rattle.course_kept.proofs.Frames.{does-or}
 use Rattle.course_kept.proofs.Courses.{begins-stand}
-use Rattle.history_calls.specs.Reliable.{IsReliable}
+use Rattle.history_calls.specs.Reliable.{IsReliable, HasLastStep}
+use Rattle.history_calls.proofs.Behind.{early-losses}
+use Rattle.history_calls.proofs.LastStep.{keeps-last}
 use Rattle.moving_kept.specs.Moving.{HasListInCourse, IsStillKept, IsMoving}
 use Rattle.moving_kept.proofs.Begun.{AreBegun}
 use Rattle.moving_kept.proofs.BegunCall.{IsBegunBy}
@@ -126,6 +129,21 @@ module _ (given : Given) (tape : List Operation) (scope : Scope) (first : ℕ) (
     }
   ]
 
+  -- what it enters leaves a sector past the new end no value
+  shortened-none : (x : ℕ) (values : List Sector) → n ≤ x → fold (λ values e. values_after x values e.event) values (entries_of who (length (tape ++ ops)) (Step Begun left ∷ Resized n ∷ losses_of roles spares)) ≡ []
+  shortened-none x values past =
+      ap (λ (b : Bool). fold (λ values e. values_after x values e.event) (resized b values) (entries_of who (length (tape ++ ops)) (losses_of roles spares))) (not-below x n past)
+      ∙ subst (λ (l : List Event). fold (λ values e. values_after x values e.event) [] (entries_of who (length (tape ++ ops)) l) ≡ []) (append-nil (losses_of roles spares))
+      ((early-losses roles spares).values who (length (tape ++ ops)) [] x [])
+    where
+      not-below : (a b : ℕ) → b ≤ a → nat_lt a b ≡ false
+      not-below a b le = grind (arith, nat_tests, le)
+
+  last-step : HasLastStep later all (list_length new.newest)
+  last-step =
+      keeps-last world ops entries (list_length old.newest) (list_length new.newest) who (Step Begun left ∷ []) (Resized n) (losses_of roles spares) recorded.begun recorded.ends refl (losses-are roles spares)
+      (λ x values le none. shortened-none x values (let sized = call.sized in omega (arith, le, sized))) (was.past t)
+
   shortened-leaves : IsLeftBy given tape scope first entries all new carried' (closed 0) buffer (tape ++ ops)
   shortened-leaves = record {
     right = λ right. record {
@@ -137,6 +155,7 @@ module _ (given : Given) (tape : List Operation) (scope : Scope) (first : ℕ) (
     gone = shortened-gone given tape scope first entries old plan new carried carried' who left n roles spares ops was.sizes_are recorded.begun recorded.ends recorded.sized (was.gone t) call;
     unclean = λ dirty. shortened-unclean given tape scope first entries old plan new carried carried' who left n roles spares ops was.sizes_are recorded.begun recorded.ends recorded.sized (was.gone t) call (was.unclean t (sym are.clean ∙ dirty));
     recorded = shortened-recorded given tape scope first entries old plan new carried carried' who left n roles spares ops was.sizes_are recorded.begun recorded.ends recorded.sized (was.gone t) call (safe-over was t call.live) recorded goes caller behind told some;
+    last_step = last-step;
     listed = listed;
     safe = shortened-safe given tape scope first entries old plan new carried carried' who left n roles spares ops was.sizes_are recorded.begun recorded.ends recorded.sized (was.gone t) call (safe-over was t call.live);
     now_safe = shortened-now given tape scope first entries old plan new carried carried' who left n roles spares ops was.sizes_are recorded.begun recorded.ends recorded.sized (was.gone t) call (safe-over was t call.live);
@@ -160,6 +179,7 @@ shortened-moves tells given tape tape' scope first entries old plan new carried 
   gone = λ t. (leaves t).gone;
   unclean = λ t. (leaves t).unclean;
   recorded = λ t. (leaves t).recorded;
+  last_step = λ t. (leaves t).last_step;
   stored = λ t. let plain = cleared-plain scope new (disk given.start tape') (cleared t) in record { section = plain.0; sectors = tt; headers = plain.1 };
   listed = λ t. (leaves t).listed;
   safe = λ t. (leaves t).safe;

@@ -71,11 +71,11 @@ not-zero : (n : ℕ) → n ≢ 0 → (n == 0) ≡ false
 not-zero n ne = grind (arith, nat_tests, ne)
 
 pub quiet-step : (kind : StepKind) (left : ℕ) → IsStepBetween kind → left ≢ 0 → IsQuiet (Step kind left)
-quiet-step EntersWindow left is some = record { adds = refl; gives = refl; ends = not-zero left some; still = λ x values. refl; level = λ n. refl }
-quiet-step CopiesStripe left is some = record { adds = refl; gives = refl; ends = not-zero left some; still = λ x values. refl; level = λ n. refl }
-quiet-step RecordsWindow left is some = record { adds = refl; gives = refl; ends = not-zero left some; still = λ x values. refl; level = λ n. refl }
-quiet-step ZeroesStripe left is some = record { adds = refl; gives = refl; ends = not-zero left some; still = λ x values. refl; level = λ n. refl }
-quiet-step FinishesWindow left is some = record { adds = refl; gives = refl; ends = not-zero left some; still = λ x values. refl; level = λ n. refl }
+quiet-step EntersWindow left is some = record { adds = refl; gives = refl; ends = not-zero left some; still = λ x values. refl; level = λ n. refl; other = refl }
+quiet-step CopiesStripe left is some = record { adds = refl; gives = refl; ends = not-zero left some; still = λ x values. refl; level = λ n. refl; other = refl }
+quiet-step RecordsWindow left is some = record { adds = refl; gives = refl; ends = not-zero left some; still = λ x values. refl; level = λ n. refl; other = refl }
+quiet-step ZeroesStripe left is some = record { adds = refl; gives = refl; ends = not-zero left some; still = λ x values. refl; level = λ n. refl; other = refl }
+quiet-step FinishesWindow left is some = record { adds = refl; gives = refl; ends = not-zero left some; still = λ x values. refl; level = λ n. refl; other = refl }
 quiet-step kind left is some = absurd is
 
 -- ---- the steps that are left

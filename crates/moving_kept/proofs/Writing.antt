@@ -72,6 +72,7 @@ use Rattle.course_kept.proofs.Writes.{writes-go-on, torn-writes-go-on}
 use Rattle.history_calls.specs.Reliable.{IsReliable, AreToldGone}
 use Rattle.moving_kept.specs.Moving.{HasListInCourse, IsMoving}
 use Rattle.moving_kept.proofs.Adding.{behind-moves}
+use Rattle.history_calls.proofs.LastStep.{AreWithin, losses-within}
 use Rattle.history_calls.proofs.Behind.{IsAmong, early-losses, legal-losses, first-of, first-more}
 use Rattle.moving_kept.proofs.BackupKept.{stored-kept}
 use Rattle.moving_kept.proofs.MembersMove.{reshaping-moved}
@@ -189,7 +190,7 @@ is-le : (a b : ℕ) → nat_le a b ≡ true → a ≤ b
 is-le a b is = grind (arith, nat_tests, is)
 
 -- where the row of a sector of the list isn't relied on, not all are
-unrelied-short : (newest : Sb) → AreShapesFit newest → (relied x : ℕ) → x < list_length newest → relied_rows newest relied (shape_for newest x) ≤ (place_by newest x).row → relied < list_length newest
+pub unrelied-short : (newest : Sb) → AreShapesFit newest → (relied x : ℕ) → x < list_length newest → relied_rows newest relied (shape_for newest x) ≤ (place_by newest x).row → relied < list_length newest
 unrelied-short newest fit relied x lt far = elim (cases_lt relied (list_length newest)) [
   | inl less ↦ less
   | inr all ↦ absurd (
@@ -278,13 +279,14 @@ module _ (tells : Type 0) (given : Given) (tape tape' : List Operation) (scope :
       → IsMoving tells given tape' scope first (entries ++ entries_of who end (losses_of roles spares ++ Wrote at (sectors_of from) ∷ [])) new carried course buffer left
   written-moves done =
       behind-moves tells given tape tape' scope first entries old new carried course course buffer buffer left left who end (losses_of roles spares) (IsAmong roles) (Wrote at (sectors_of from))
-      was goes caller at_end grows (record { adds = refl; gives = refl; ends = refl; level = λ n. refl })
+      was goes caller at_end grows (record { adds = refl; gives = refl; ends = refl; level = λ n. refl; other = refl })
       (reshaping-moved scope given old new did.moved was.members_are) did.few (first-of (early-losses roles spares)) (missing-moved roles did.moved did.since) list-same level-same (λ t dirty. inr refl)
       (course-moved given old new course did.moved was.course_is)
       (λ t. stored-kept scope given old new course.window buffer (disk given.start tape) (disk given.start tape') was.members_are did.moved (did.unused t) (was.stored t))
       (left-more left entries who end (losses_of roles spares ++ Wrote at (sectors_of from) ∷ []) was.left_told
       (left-behind left who end (losses_of roles spares) (Wrote at (sectors_of from) ∷ []) (losses-are roles spares) (λ told is. is)))
       (λ t. record {
+        within = losses-within (list_length old.newest) (losses_of roles spares) (Wrote at (sectors_of from) ∷ []) (losses-are roles spares) (written-within, tt);
         rise = did.rise t;
         keeps = λ told fills whole more values allowed room gone unclean unsettled before.
             keeps t told fills whole more (unsettled refl) (λ is x lt covered. values x (sector_at at (sectors_of from) x) (written-in t x covered)) room gone before;
@@ -292,6 +294,12 @@ module _ (tells : Type 0) (given : Given) (tape tape' : List Operation) (scope :
         legal = λ fills gone level. legal-losses (world_in given tape' scope first) entries who end (losses_of roles spares) (Wrote at (sectors_of from) ∷ []) (losses-are roles spares) (ends-within t, tt, tt);
       })
     where
+      written-within : at + length (sectors_of from) ≤ list_length old.newest
+      written-within =
+          let within = did.within in
+          let n : length (sectors_of from) ≡ length from / 512 = length-sectors_of from in
+          omega (arith, within, n)
+
       written-in : tells → (x : ℕ) → writes_at at (sectors_of from) x ≡ true
           → IsIn (values_of (opening_list (world_in given tape scope first)) (entries ++ entries_of who end (losses_of roles spares ++ Wrote at (sectors_of from) ∷ [])) x) (sector_at at (sectors_of from) x)
       written-in t x covered = subst (λ (l : List Sector). IsIn l (sector_at at (sectors_of from) x))
@@ -370,7 +378,7 @@ module _ (tells : Type 0) (given : Given) (tape tape' : List Operation) (scope :
     torn-moves : begun ≡ true → IsMoving tells given tape' scope first (entries ++ entries_of who end ((losses_of roles spares ++ Torn at (sectors_of from) ∷ []) ++ Refused refusal ∷ [])) new carried course buffer left
     torn-moves is =
         behind-moves tells given tape tape' scope first entries old new carried course course buffer buffer left left who end (losses_of roles spares ++ Torn at (sectors_of from) ∷ []) (IsAmong roles) (Refused refusal)
-        was goes caller at_end grows (record { adds = refl; gives = refl; ends = refl; level = λ n. refl })
+        was goes caller at_end grows (record { adds = refl; gives = refl; ends = refl; level = λ n. refl; other = refl })
         (reshaping-moved scope given old new did.moved was.members_are) did.few
         (first-more (losses_of roles spares) (IsAmong roles) (Torn at (sectors_of from)) (first-of (early-losses roles spares)) refl refl refl (λ n. refl))
         (missing-moved roles did.moved did.since) list-same level-same (λ t dirty. inr (torn-unsettles at (at + length from / 512) new refusal (undone.torn is)))
@@ -380,6 +388,8 @@ module _ (tells : Type 0) (given : Given) (tape tape' : List Operation) (scope :
         (subst (λ (l : List Event). TellLeft left who end l) (sym torn-assoc)
         (left-behind left who end (losses_of roles spares) (Torn at (sectors_of from) ∷ Refused refusal ∷ []) (losses-are roles spares) (λ told is. is))))
         (λ t. record {
+          within = subst (AreWithin (list_length old.newest)) (sym torn-assoc)
+              (losses-within (list_length old.newest) (losses_of roles spares) (Torn at (sectors_of from) ∷ Refused refusal ∷ []) (losses-are roles spares) (tt, (tt, tt)));
           rise = did.rise t;
           keeps = λ told fills whole more values allowed room gone unclean unsettled before.
               keeps t told fills whole more (unsettled (torn-unsettles at (at + length from / 512) new refusal (undone.torn is)))
@@ -433,12 +443,13 @@ module _ (tells : Type 0) (given : Given) (tape tape' : List Operation) (scope :
     unbegun-moves : begun ≡ false → IsMoving tells given tape' scope first (entries ++ entries_of who end (losses_of roles spares ++ Refused refusal ∷ [])) new carried course buffer left
     unbegun-moves is =
         behind-moves tells given tape tape' scope first entries old new carried course course buffer buffer left left who end (losses_of roles spares) (IsAmong roles) (Refused refusal)
-        was goes caller at_end grows (record { adds = refl; gives = refl; ends = refl; level = λ n. refl })
+        was goes caller at_end grows (record { adds = refl; gives = refl; ends = refl; level = λ n. refl; other = refl })
         (reshaping-moved scope given old new did.moved was.members_are) did.few (first-of (early-losses roles spares)) (missing-moved roles did.moved did.since) list-same level-same
         (λ t dirty. clean t undone.refused) (course-moved given old new course did.moved was.course_is)
         (λ t. stored-kept scope given old new course.window buffer (disk given.start tape) (disk given.start tape') was.members_are did.moved (did.unused t) (was.stored t))
         (left-more left entries who end (losses_of roles spares ++ Refused refusal ∷ []) was.left_told (left-behind left who end (losses_of roles spares) (Refused refusal ∷ []) (losses-are roles spares) (λ told is. is)))
         (λ t. record {
+          within = losses-within (list_length old.newest) (losses_of roles spares) (Refused refusal ∷ []) (losses-are roles spares) (tt, tt);
           rise = did.rise t;
           keeps = λ told fills whole more values allowed room gone unclean unsettled before.
               keeps t told fills whole more (told-unclean t told more unsettled undone.refused) (λ now_begun. absurd (let both = sym is ∙ now_begun in cc)) room gone before;

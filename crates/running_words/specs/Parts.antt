@@ -1,7 +1,11 @@
 -- What contracts see of an array, whether a reshape is active in it or not.
-use Rattle.std.specs.Prelude.{ℕ}
+use Rattle.std.specs.Prelude.{ℕ, ◌+◌}
+use Rattle.grow_plan.specs.Plans.{phases_steps}
 use Rattle.superblocks.specs.declared.members.Members.{Members}
+use Rattle.superblocks.specs.Reading.{shape_of}
+use Rattle.views.specs.declared.work.Work.{Work}
 use Rattle.views.specs.Parts.{Parts}
+use Rattle.views.specs.Status.{left_of}
 use Rattle.grow_asked.specs.declared.window.PhasesLeft.{PhasesLeft}
 use Rattle.grow_asked.specs.Left.{phases_of, grow_left}
 use Rattle.course_kept.specs.declared.course.Course.{Course}
@@ -15,3 +19,7 @@ pub record RunningParts (B : Type 0) : Type 0 where
 -- the steps that are left, of the reshape and of the phases ahead
 abbrev pub left_in : Members → Course → PhasesLeft → ℕ
 left_in members course ahead = grow_left members.newest course.window course.zeroed (phases_of ahead)
+
+-- the steps that are left where no reshape is active: of a pending resync, of the roles that are to be rebuilt, and of the phases of a plan
+abbrev pub still_left : Work → Members → PhasesLeft → ℕ
+still_left work members ahead = left_of work members + phases_steps (shape_of members.newest) members.newest.size (phases_of ahead)

@@ -1,4 +1,4 @@
--- A read of the list, from what `fetch_list` leaves: it was done, or refused behind what it lost.
+-- A read of the list, from what it leaves: it was done, or refused behind what it lost.
 use Rattle.std.proofs.Common.{◌≡◌, ◌⊎◌, inl, inr, ℕ, ◌+◌, ◌*◌, ◌/◌, ◌<◌, ◌≤◌, ◌==◌, nat_le, Bool, true, cond, Option, Some, None, List, [], ◌∷◌, ◌++◌, length, fold, refl, sym, ◌∙◌, ap, subst, arith, append-nil}
 use Rattle.std.specs.Prelude.{IsFalse, IsSome, slice_index_or, min}
 use Rattle.std.specs.Option.{option_map_or}
@@ -10,7 +10,6 @@ use Rattle.md_base.specs.declared.answers.Refusal.{Refusal}
 use Rattle.md_base.specs.declared.answers.Refusal.TheVariants.{NotResynced as Unsynced}
 use Rattle.md_base.specs.declared.answers.Who.{Who}
 use Rattle.md_base.specs.declared.places.Shape.{Shape}
-use Rattle.md_base.specs.declared.places.Span.{Span}
 use Rattle.md_base.proofs.SectorLaws.{length-sectors_of}
 use Rattle.bank.specs.declared.bank.Operation.{Operation}
 use Rattle.bank.specs.Given.{Given}
@@ -31,10 +30,9 @@ use Rattle.flat_history.specs.Sound.{OpensFit}
 use Rattle.flat_history.specs.Transfers.{IsReadOver}
 use Rattle.flat_history.specs.World.{opening_list}
 use Rattle.shape_views.specs.Regions.{DoWithout}
-use Rattle.shape_views.specs.Windows.{IsShown, ListStands as ListIsShown}
 use Rattle.shape_views.proofs.Stands.{for-still, list-still}
 use Rattle.views.specs.declared.work.Work.{Work}
-use Rattle.views.specs.Lacking.{LacksTooMany}
+use Rattle.views.specs.Lacking.{LacksTooMany, ListStands, RowsStandBelow, mended_rows}
 use Rattle.views.specs.Moving.{IsMoved}
 use Rattle.views.specs.Placed.{AreWhole}
 use Rattle.views.proofs.Fit.{valid}
@@ -43,7 +41,7 @@ use Rattle.views.proofs.LiveLeft.{without-left}
 use Rattle.call_entries.specs.Losing.{losses_of}
 use Rattle.call_entries.proofs.CallLaws.{losses-are, length-losses, limit-losses, values-losses}
 use Rattle.array_kept.proofs.NowLaws.{sectors_of-at}
-use Rattle.region_rows.specs.Stretches.{relied_rows, RowsStandTo, IsListUnread}
+use Rattle.region_rows.specs.Stretches.{relied_rows, IsListUnread}
 use Rattle.kept_history.specs.Recorded.{IsCallGoing}
 use Rattle.kept_history.specs.Safe.{world_in}
 use Rattle.kept_history.proofs.Entered.{values-more, length-more}
@@ -52,7 +50,7 @@ use Rattle.still_kept.specs.Still.{AreAtRest, relied_list, HasListStood, IsStill
 use Rattle.still_kept.proofs.Leaving.{list-later, fit-earlier, rest-moved}
 use Rattle.still_kept.proofs.Refusals.{IsRefusedStill, too-many-refused}
 use Rattle.still_kept.proofs.Staying.{IsNamedStill, stays-stands, refused-stands}
-use Rattle.still_kept.proofs.Stood.{mended-moved, list-shown, rows-relied, row-inside, within-count}
+use Rattle.still_kept.proofs.Stood.{mended-moved, row-inside, within-count}
 use Rattle.still_kept.proofs.Whole.{whole-told, takes-first}
 
 -- ---- behind losses
@@ -133,13 +131,13 @@ module _ (tells : Type 0) (given : Given) (tape tape' : List Operation) (scope :
   -- ---- one that is done
 
   pub read-stands : (at : ℕ) (bytes : List ℕ) → at + length bytes / 512 ≤ list_length old.newest → (tells → at + length bytes / 512 ≤ visible_at (world_in given tape scope first) entries)
-      → (tells → (hidden : Option Span) → (list : ℕ → Sector) → ListIsShown hidden old (present given tape) list → AreWhole new ⊎ RowsStandTo hidden (relied_list work.resync old) old (present given tape) list
-      → (i : ℕ) → i < length bytes / 512 → IsShown hidden old.newest (at + i) → sector_of bytes i ≡ list (at + i))
+      → (tells → (list : ℕ → Sector) → ListStands old (present given tape) list → AreWhole new ⊎ RowsStandBelow (mended_rows work.resync old) old (present given tape) list
+      → (i : ℕ) → i < length bytes / 512 → sector_of bytes i ≡ list (at + i))
       → IsStill tells given tape' scope first (entries ++ entries_of who end (losses_of roles spares ++ Read at (sectors_of bytes) ∷ [])) new work left'
   read-stands at bytes inside seen holds =
       stays-stands tells given tape tape' scope first entries old new work left left' who end roles spares before after (Read at (sectors_of bytes)) was
       (without-left given old was.members_are.placed was.members_are.unlost does) goes caller at_end named
-      (record { adds = refl; gives = refl; ends = refl; still = λ x values. refl; level = λ n. refl }) alike (λ told is. is)
+      (record { adds = refl; gives = refl; ends = refl; still = λ x values. refl; level = λ n. refl; other = refl }) alike (λ told is. is)
       (λ t all right gone level. legal t all right gone)
     where
       body : List Sector
@@ -152,12 +150,11 @@ module _ (tells : Type 0) (given : Given) (tape tape' : List Operation) (scope :
       filled : (t : tells) → IsReliable (world_in given tape' scope first) (entries ++ entries_of who end (losses_of roles spares ++ Read at (sectors_of bytes) ∷ []))
           → AreToldGone (world_in given tape' scope first) (entries ++ entries_of who end (losses_of roles spares)) new
           → HasListStood (OpensFit (world_in given tape scope first)) work old (present given tape) (now (opening_list (world_in given tape scope first)) entries)
-          → AreWhole new ⊎ RowsStandTo None (relied_list work.resync old) old (present given tape) (now (opening_list (world_in given tape scope first)) entries)
+          → AreWhole new ⊎ RowsStandBelow (mended_rows work.resync old) old (present given tape) (now (opening_list (world_in given tape scope first)) entries)
       filled t all gone l = elim all.fills [
         | inl none ↦ inl (whole-told (world_in given tape' scope first) (entries ++ entries_of who end (losses_of roles spares)) new
             (takes-first (world_in given tape' scope first) entries who end (losses_of roles spares) (Read at (sectors_of bytes) ∷ []) none) gone)
-        | inr fit ↦ inr (rows-relied given old was.members_are work.resync (present given tape) (now (opening_list (world_in given tape scope first)) entries)
-            (l.rows (fit-earlier given scope first named.grows (λ u. (was.recorded u).begun) t fit)))
+        | inr fit ↦ inr (l.rows (fit-earlier given scope first named.grows (λ u. (was.recorded u).begun) t fit))
       ]
 
       legal : (t : tells) → IsReliable (world_in given tape' scope first) (entries ++ entries_of who end (losses_of roles spares ++ Read at (sectors_of bytes) ∷ []))
@@ -177,6 +174,6 @@ module _ (tells : Type 0) (given : Given) (tape tape' : List Operation) (scope :
                 let n = length-sectors_of bytes in
                 let below : i < length bytes / 512 = omega (arith, lt, n) in
                 sectors_of-at i bytes below ∙ sym (row-sector bytes i)
-                ∙ holds t None list (list-shown given old was.members_are (present given tape) list l.stands) (filled t all gone l) i below (record { within = omega (arith, below, inside); outside = refl })
+                ∙ holds t list l.stands (filled t all gone l) i below
                 ∙ ap (λ (o : List Sector). now o entries (at + i)) (sym (opened t)) ∙ sym (now-behind entries who end roles spares (opening_list (world_in given tape' scope first)) (at + i));
           }

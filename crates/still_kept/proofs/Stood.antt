@@ -56,7 +56,7 @@ pub within-count : (given : Given) (m : Members) → IsPlaced given m → (role 
 within-count given m placed role below = let within = force-disks m.newest placed.fit (shape_of m.newest) (inl refl) in omega (arith, below, within)
 
 -- the mended rows are those of whole stripes
-mended-multiple : (given : Given) (m : Members) → IsPlaced given m → (resync : Option ℕ) → is_multiple (mended_rows resync m) (shape_of m.newest).chunk ≡ true
+pub mended-multiple : (given : Given) (m : Members) → IsPlaced given m → (resync : Option ℕ) → is_multiple (mended_rows resync m) (shape_of m.newest).chunk ≡ true
 mended-multiple given m placed None = multiple given m placed
 mended-multiple given m placed (Some mended) = stripes-multiple mended (shape_of m.newest).chunk (chunk_some (shape_of m.newest) (valid given m placed))
 

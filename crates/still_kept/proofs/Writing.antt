@@ -1,5 +1,5 @@
--- A write of the list, from what `put_list` leaves: it was done, or refused before its first row was written, or behind it.
-use Rattle.std.proofs.Common.{◌≡◌, ◌⊎◌, inl, inr, ℕ, ◌+◌, ◌-◌, ◌*◌, ◌/◌, ◌<◌, ◌≤◌, ◌==◌, ◌||◌, Bool, true, false, Option, None, List, [], ◌∷◌, ◌++◌, length, fold, refl, sym, ◌∙◌, ap, subst, arith, append_assoc}
+-- A write of the list, from what it leaves: it was done, or refused before its first row was written, or behind it.
+use Rattle.std.proofs.Common.{◌≡◌, ◌⊎◌, inl, inr, ℕ, ◌+◌, ◌-◌, ◌*◌, ◌/◌, ◌<◌, ◌≤◌, ◌==◌, ◌||◌, Bool, true, false, Option, List, [], ◌∷◌, ◌++◌, length, fold, refl, sym, ◌∙◌, ap, subst, arith, append_assoc}
 use Rattle.std.specs.Prelude.{IsFalse, IfSome, IsSome, is_some, slice_index_or, ⊤}
 use Rattle.std.specs.List.{list_any}
 use Rattle.std.proofs.lemmas.List.Folds.{list_any-append}
@@ -8,7 +8,6 @@ use Rattle.md_base.specs.Shapes.{tolerance, tolerance_of}
 use Rattle.md_base.specs.declared.answers.Refusal.{Refusal}
 use Rattle.md_base.specs.declared.answers.Who.{Who}
 use Rattle.md_base.specs.declared.places.Shape.{Shape}
-use Rattle.md_base.specs.declared.places.Span.{Span}
 use Rattle.md_base.specs.declared.status.Role.TheVariants.{Recovering as IsRecovering}
 use Rattle.md_base.proofs.SectorLaws.{length-sectors_of}
 use Rattle.bank.specs.declared.bank.Operation.{Operation}
@@ -16,7 +15,7 @@ use Rattle.bank.specs.Given.{Given}
 use Rattle.bank.specs.Tape.{IsIn}
 use Rattle.layout.specs.Layout.{place}
 use Rattle.superblocks.specs.declared.members.Members.{Members}
-use Rattle.superblocks.specs.Reading.{Scope, is_reshaping, is_clean, shape_of, list_length, role_state}
+use Rattle.superblocks.specs.Reading.{Scope, is_clean, shape_of, list_length, role_state}
 use Rattle.row_io.specs.Rows.{reading_of, present}
 use Rattle.list_io.specs.Writing.{IsWritten, HasFull}
 use Rattle.flat_history.specs.declared.events.Entry.{Entry}
@@ -31,14 +30,13 @@ use Rattle.flat_history.specs.Sound.{OpensFit}
 use Rattle.flat_history.specs.Transfers.{IsTooMany}
 use Rattle.flat_history.specs.World.{World, opening_list}
 use Rattle.shape_views.specs.Regions.{DoWithout}
-use Rattle.shape_views.specs.Views.{Ledger, IsTail}
-use Rattle.shape_views.specs.Windows.{IsShown, ListStands as ListIsShown}
+use Rattle.shape_views.specs.Views.{Ledger}
 use Rattle.shape_views.proofs.Stands.{for-still}
 use Rattle.shape_changes.specs.Marking.{AreOthersPresent}
 use Rattle.shape_changes.specs.Safety.{HasRoomLeft, IsRisen}
 use Rattle.shape_changes.specs.Steady.{IsSafeOver, KeepsSafe, AreGoneTold, AreWritesAllowed}
 use Rattle.views.specs.declared.work.Work.{Work}
-use Rattle.views.specs.Lacking.{AreLostSince, AreTooMany, LacksTooMany, DoesWithout, IsNotResynced, AreBytes}
+use Rattle.views.specs.Lacking.{AreLostSince, AreTooMany, LacksTooMany, DoesWithout, IsNotResynced, AreBytes, ListStands, RowsStandBelow, mended_rows}
 use Rattle.views.specs.Moving.{Grows, IsMoved}
 use Rattle.views.specs.Placed.{AreWhole}
 use Rattle.views.specs.Status.{rebuilt_of}
@@ -48,7 +46,7 @@ use Rattle.views.proofs.LackingLaws.{never-both}
 use Rattle.views.proofs.LackingLists.{sectors-whole, row-sector}
 use Rattle.views.proofs.LackingWrites.{list-with, list-with-is, recovering-before}
 use Rattle.views.proofs.LiveLeft.{without-left}
-use Rattle.views.proofs.Still.{untailed, without-still}
+use Rattle.views.proofs.Still.{without-still}
 use Rattle.call_entries.specs.Losing.{losses_of}
 use Rattle.call_entries.proofs.CallLaws.{losses-are, values-losses, ends-losses}
 use Rattle.call_entries.proofs.LosingLaws.{entries-both}
@@ -56,50 +54,47 @@ use Rattle.array_kept.proofs.DegradedLaws.{written-whole, rows-same}
 use Rattle.array_kept.proofs.KeptLaws.{left-lost}
 use Rattle.array_kept.proofs.LedgerLaws.{torn-adds, written-allowed, torn-in}
 use Rattle.array_kept.proofs.NowLaws.{wrote-is}
-use Rattle.region_rows.specs.Stretches.{relied_rows, RowsStandTo}
-use Rattle.region_writes.specs.Runs.{MayBeHidden, IsListUnwritten}
+use Rattle.region_rows.specs.Stretches.{relied_rows}
+use Rattle.region_writes.specs.Runs.{IsListUnwritten}
 use Rattle.kept_history.specs.Recorded.{IsCallGoing, IsLegalCall, entry_of, ends_reshape, gives_some}
 use Rattle.kept_history.specs.Safe.{world_in, IsFilledRight}
 use Rattle.kept_history.proofs.Entered.{AreAdding, values-more, length-adding}
 use Rattle.kept_history.proofs.Ledgers.{unsynced-still}
 use Rattle.kept_history.proofs.Lists.{newest-in}
 use Rattle.history_calls.specs.Reliable.{IsReliable, AreToldGone}
+use Rattle.history_calls.proofs.LastStep.{AreWithin, losses-within}
 use Rattle.history_calls.proofs.Behind.{AreFirst, IsAmong, first-of, early-losses, legal-losses, inner-of}
 use Rattle.history_calls.proofs.Adding.{unsettled-last}
 use Rattle.still_kept.specs.Still.{AreAtRest, relied_list, HasListStood, IsStill}
 use Rattle.still_kept.proofs.Adding.{changing-stands}
-use Rattle.still_kept.proofs.Leaving.{list-later, unsynced-later, fit-earlier, rest-moved}
-use Rattle.still_kept.proofs.Reading.{visible-behind, pending-of, relied-moved}
+use Rattle.still_kept.proofs.Leaving.{list-later, unsynced-later, fit-earlier}
+use Rattle.still_kept.proofs.Reading.{visible-behind, pending-of}
 use Rattle.still_kept.proofs.Refusals.{IsRefusedStill, too-many-refused, refused-right, unsynced-behind}
 use Rattle.still_kept.proofs.Staying.{missing-since}
-use Rattle.still_kept.proofs.Stood.{stood-moved, list-shown, shown-list, rows-relied, relied-rows, within-count}
+use Rattle.still_kept.proofs.Stood.{mended-moved, stood-moved, within-count}
 use Rattle.still_kept.proofs.Whole.{whole-told}
 
 -- ---- what the call leaves
 
 -- whether it was done or not: where rows were written, the sectors of the write are allowed
-pub record IsPutStill (tells : Type 0) (given : Given) (tape tape' : List Operation) (old new : Members) (roles spares : ℕ) (before after : ℕ → ℕ) (relied at : ℕ) (from : List ℕ) (begun : Bool) : Type 0 where
+pub record IsPutStill (tells : Type 0) (given : Given) (tape tape' : List Operation) (old new : Members) (roles spares : ℕ) (before after : ℕ → ℕ) (mended at : ℕ) (from : List ℕ) (begun : Bool) : Type 0 where
   pub moved : IsMoved given old new
   pub since : AreLostSince old new roles spares before after
   pub grows : Grows tells tape tape'
   pub stays : is_clean old.newest ≡ false → is_clean new.newest ≡ false
   pub rise : tells → IsRisen ⊤ old new tape tape'
-  pub safe : tells → (world : World) → (told : Ledger) → HasRoomLeft old tape tape' → AreGoneTold told new → told.unclean ≡ true
-      → (hidden : Option Span) → MayBeHidden old.newest hidden → (list list' : ℕ → Sector) → IsWritten list list' at from
-      → ((x : ℕ) → at ≤ x → x < at + length from / 512 → IsShown hidden old.newest x)
-      → ListIsShown hidden old (present given tape) list
-      → AreWhole new ⊎ RowsStandTo hidden relied old (present given tape) list
-      → (begun ≡ true → AreWritesAllowed old told.values list') → (OpensFit world → (x : ℕ) → IsTail old.newest x → ⊥)
-      → IsSafeOver world given told old tape → KeepsSafe world given told new tape tape'
+  pub safe : tells → (world : World) → (told : Ledger) → HasRoomLeft old tape tape' → AreGoneTold told new → told.unclean ≡ true → (list list' : ℕ → Sector) → IsWritten list list' at from
+      → ListStands old (present given tape) list → AreWhole new ⊎ RowsStandBelow mended old (present given tape) list
+      → (begun ≡ true → AreWritesAllowed old told.values list') → IsSafeOver world given told old tape → KeepsSafe world given told new tape tape'
 
 -- what it leaves where it was done
-pub record IsWrittenStill (tells : Type 0) (given : Given) (tape tape' : List Operation) (old new : Members) (relied at : ℕ) (from : List ℕ) : Type 0 where
+pub record IsWrittenStill (tells : Type 0) (given : Given) (tape tape' : List Operation) (old new : Members) (mended at : ℕ) (from : List ℕ) : Type 0 where
   pub dirty : is_clean new.newest ≡ false
-  pub put : tells → (hidden : Option Span) → (list list' : ℕ → Sector) → IsWritten list list' at from → ListIsShown hidden old (present given tape) list → ListIsShown hidden new (present given tape') list'
-  pub good : tells → (hidden : Option Span) → (list list' : ℕ → Sector) → IsWritten list list' at from → AreBytes from → ((x : ℕ) → at ≤ x → x < at + length from / 512 → IsShown hidden old.newest x)
-      → RowsStandTo hidden relied old (present given tape) list → RowsStandTo hidden relied new (present given tape') list'
-  pub rebuilt : tells → is_reshaping old.newest ≡ false → (list list' : ℕ → Sector) → IsWritten list list' at from → ListIsShown None old (present given tape) list
-      → AreWhole new ⊎ RowsStandTo None relied old (present given tape) list → (role slot row : ℕ) → role < (shape_of old.newest).disks → role_state (reading_of new) role ≡ IsRecovering slot → row < old.newest.size
+  pub put : tells → (list list' : ℕ → Sector) → IsWritten list list' at from → ListStands old (present given tape) list → ListStands new (present given tape') list'
+  pub good : tells → (list list' : ℕ → Sector) → IsWritten list list' at from → ListStands old (present given tape) list
+      → RowsStandBelow mended old (present given tape) list → RowsStandBelow mended new (present given tape') list'
+  pub rebuilt : tells → (list list' : ℕ → Sector) → IsWritten list list' at from → ListStands old (present given tape) list
+      → RowsStandBelow mended old (present given tape) list → (role slot row : ℕ) → role < (shape_of old.newest).disks → role_state (reading_of new) role ≡ IsRecovering slot → row < old.newest.size
       → HasFull (reading_of old) (present given tape) (shape_of old.newest) list row role slot → HasFull (reading_of new) (present given tape') (shape_of old.newest) list' row role slot
 
 -- ---- why it wasn't done
@@ -142,7 +137,7 @@ module _ (tells : Type 0) (given : Given) (tape tape' : List Operation) (scope :
     (was : IsStill tells given tape scope first entries old work left) (does : DoWithout old) (goes : IsCallGoing entries who) (caller : IsFalse (who.caller == 254)) (at_end : tells → end ≡ length tape')
     (alike : losses_of roles spares ≡ [] → left' ≡ left) (inside : at + length from / 512 ≤ list_length old.newest)
     (seen : tells → at + length from / 512 ≤ visible_at (world_in given tape scope first) entries)
-    (did : IsPutStill tells given tape tape' old new roles spares before after (relied_list work.resync old) at from begun) where
+    (did : IsPutStill tells given tape tape' old new roles spares before after (mended_rows work.resync old) at from begun) where
   abbrev world : World
   world = world_in given tape scope first
 
@@ -158,19 +153,16 @@ module _ (tells : Type 0) (given : Given) (tape tape' : List Operation) (scope :
   begins : tells → first ≤ length tape
   begins t = (was.recorded t).begun
 
-  shown : (x : ℕ) → at ≤ x → x < at + length from / 512 → IsShown None old.newest x
-  shown x low high = record { within = omega (arith, high, inside); outside = refl }
-
   stood : (t : tells) → IsFilledRight (world_in given tape scope first) entries → HasListStood (OpensFit (world_in given tape scope first)) work old (present given tape) (now (opening_list (world_in given tape scope first)) entries)
   stood t fills = was.listed t does fills
 
   -- what it fills in is right, where that is so by all of its entries
   filled : (t : tells) (all : List Entry) → IsReliable (world_in given tape' scope first) all → AreToldGone (world_in given tape' scope first) all new
       → HasListStood (OpensFit (world_in given tape scope first)) work old (present given tape) (now (opening_list (world_in given tape scope first)) entries)
-      → AreWhole new ⊎ RowsStandTo None (relied_list work.resync old) old (present given tape) (now (opening_list (world_in given tape scope first)) entries)
+      → AreWhole new ⊎ RowsStandBelow (mended_rows work.resync old) old (present given tape) (now (opening_list (world_in given tape scope first)) entries)
   filled t all right gone l = elim right.fills [
     | inl none ↦ inl (whole-told (world_in given tape' scope first) all new none gone)
-    | inr fit ↦ inr (rows-relied given old was.members_are work.resync (present given tape) current (l.rows (fit-earlier given scope first did.grows begins t fit)))
+    | inr fit ↦ inr (l.rows (fit-earlier given scope first did.grows begins t fit))
   ]
 
   -- each sector may have what it has
@@ -184,9 +176,7 @@ module _ (tells : Type 0) (given : Given) (tape tape' : List Operation) (scope :
       → IsSafeOver (world_in given tape scope first) given told old tape → KeepsSafe (world_in given tape scope first) given told new tape tape'
   keeps t events list' written told right all_gone fills allowed room gone unclean safe =
       let l = stood t fills in
-      did.safe t (world_in given tape scope first) told room gone unclean None (λ span is. absurd (cc)) current list' written shown
-      (list-shown given old was.members_are (present given tape) current l.stands)
-      (filled t (entries ++ entries_of who end events) right all_gone l) allowed (λ fit x tail. untailed old.newest was.members_are.still x tail) safe
+      did.safe t (world_in given tape scope first) told room gone unclean current list' written l.stands (filled t (entries ++ entries_of who end events) right all_gone l) allowed safe
 
   -- as much is visible behind its losses
   within : tells → (more : ℕ) → more ≡ length from / 512 → at + more ≤ visible_at (world_in given tape' scope first) (entries ++ entries_of who end (losses_of roles spares))
@@ -199,7 +189,7 @@ module _ (tells : Type 0) (given : Given) (tape tape' : List Operation) (scope :
 
   -- ---- one that was done
 
-  module _ (done : IsWrittenStill tells given tape tape' old new (relied_list work.resync old) at from) (whole : IsWhole from) (bytes : AreBytes from) where
+  module _ (done : IsWrittenStill tells given tape tape' old new (mended_rows work.resync old) at from) (whole : IsWhole from) (bytes : AreBytes from) where
     abbrev wrote : List Event
     wrote = losses_of roles spares ++ Wrote at (sectors_of from) ∷ []
 
@@ -216,31 +206,29 @@ module _ (tells : Type 0) (given : Given) (tape tape' : List Operation) (scope :
         → HasListStood (OpensFit (world_in given tape scope first)) work new (present given tape') (now (opening_list (world_in given tape scope first)) (entries ++ entries_of who end (losses_of roles spares ++ Wrote at (sectors_of from) ∷ [])))
     listed t still fills =
         let l = stood t fills in
-        let rest = rest-moved given old new did.moved was.members_are in
-        let stands = list-shown given old was.members_are (present given tape) current l.stands in
         record {
-          stands = shown-list given new rest (present given tape') list' (done.put t None current list' written stands);
+          stands = done.put t current list' written l.stands;
           whole = λ fit x lt. written-whole at from current list' (list_length old.newest) written (sectors-whole from whole bytes) (l.whole fit) x
               (subst (λ (n : ℕ). x < n) (list-alike old.newest new.newest did.moved.reshape did.moved.shape did.moved.size) lt);
-          rows = λ fit. relied-rows given new rest work.resync (present given tape') list'
-              (subst (λ (n : ℕ). RowsStandTo None n new (present given tape') list') (sym (relied-moved did.moved work.resync))
-              (done.good t None current list' written bytes shown (rows-relied given old was.members_are work.resync (present given tape) current (l.rows fit))));
+          rows = λ fit. subst (λ (n : ℕ). RowsStandBelow n new (present given tape') list') (sym (mended-moved did.moved work.resync)) (done.good t current list' written l.stands (l.rows fit));
           rebuilt = λ fit role slot row lt is beyond below low.
               let size : row < old.newest.size = subst (λ (n : ℕ). row < n) did.moved.size low in
               let disks : role < (shape_of old.newest).disks = subst (λ (s : Shape). role < s.disks) did.moved.shape lt in
               let full = l.rebuilt fit role slot row disks (recovering-before did.moved role slot is) (subst (λ (n : ℕ). n ≤ row) (rows-same did.moved role slot is) beyond)
               (subst (λ (s : Shape). row < rebuilt_of work role * s.chunk) did.moved.shape below) size in
               subst (λ (s : Shape). HasFull (reading_of new) (present given tape') s list' row role slot) (sym did.moved.shape)
-              (done.rebuilt t was.members_are.still current list' written stands (inr (rows-relied given old was.members_are work.resync (present given tape) current (l.rows fit))) role slot row disks is size full);
+              (done.rebuilt t current list' written l.stands (l.rows fit) role slot row disks is size full);
         }
 
     pub wrote-stands : IsStill tells given tape' scope first (entries ++ entries_of who end (losses_of roles spares ++ Wrote at (sectors_of from) ∷ [])) new work left'
     wrote-stands =
         changing-stands tells given tape tape' scope first entries old new work left left' who end (losses_of roles spares) (IsAmong roles) (Wrote at (sectors_of from)) was
-        (without-left given old was.members_are.placed was.members_are.unlost does) goes caller at_end did.grows (record { adds = refl; gives = refl; ends = refl; level = λ n. refl }) did.moved
+        (without-left given old was.members_are.placed was.members_are.unlost does) goes caller at_end did.grows (record { adds = refl; gives = refl; ends = refl; level = λ n. refl; other = refl }) did.moved
         (first-of (early-losses roles spares)) (missing-since did.moved did.since) (λ dirty. inr (unsettled-last who end (losses_of roles spares) (Wrote at (sectors_of from)) refl)) (λ can pending. done.dirty)
         (left-lost left left' entries who end (losses_of roles spares) (Wrote at (sectors_of from) ∷ []) (losses-are roles spares) alike was.left_told (λ told is. is)) listed
         (λ t. record {
+          within = losses-within (list_length old.newest) (losses_of roles spares) (Wrote at (sectors_of from) ∷ []) (losses-are roles spares)
+              (let n : length (sectors_of from) ≡ length from / 512 = length-sectors_of from in omega (arith, inside, n), tt);
           rise = did.rise t;
           keeps = λ told right all_gone fills more allowed room gone unclean unsettled safe.
               keeps t wrote list' written told right all_gone fills
@@ -260,7 +248,7 @@ module _ (tells : Type 0) (given : Given) (tape tape' : List Operation) (scope :
       → IsStill tells given tape' scope first (entries ++ entries_of who end (losses_of roles spares ++ Refused refusal ∷ [])) new work left'
   unwritten-stands refusal not_begun why dirty others =
       changing-stands tells given tape tape' scope first entries old new work left left' who end (losses_of roles spares) (IsAmong roles) (Refused refusal) was
-      (without-left given old was.members_are.placed was.members_are.unlost does) goes caller at_end did.grows (record { adds = refl; gives = refl; ends = refl; level = λ n. refl }) did.moved
+      (without-left given old was.members_are.placed was.members_are.unlost does) goes caller at_end did.grows (record { adds = refl; gives = refl; ends = refl; level = λ n. refl; other = refl }) did.moved
       (first-of (early-losses roles spares)) (missing-since did.moved did.since) (λ marked. elim dirty [
         | inl former ↦ inl former
         | inr is ↦ inr (unsettled-last who end (losses_of roles spares) (Refused refusal) is)
@@ -269,6 +257,7 @@ module _ (tells : Type 0) (given : Given) (tape tape' : List Operation) (scope :
       (λ t can fills. subst (λ (l : ℕ → Sector). HasListStood (OpensFit (world_in given tape scope first)) work new (present given tape') l) (λ i x. sym (same x) i)
       (stood-moved (OpensFit (world_in given tape scope first)) work given old new (present given tape) (present given tape') current did.moved was.members_are.placed (others t) (stood t fills)))
       (λ t. record {
+        within = losses-within (list_length old.newest) (losses_of roles spares) (Refused refusal ∷ []) (losses-are roles spares) (tt, tt);
         rise = did.rise t;
         keeps = λ told right all_gone fills more allowed room gone unclean unsettled safe.
             keeps t (losses_of roles spares ++ Refused refusal ∷ []) (list-with current at from) (list-with-is current at from) told right all_gone fills
@@ -296,12 +285,14 @@ module _ (tells : Type 0) (given : Given) (tape tape' : List Operation) (scope :
       → IsStill tells given tape' scope first (entries ++ entries_of who end ((losses_of roles spares ++ Torn at (sectors_of from) ∷ []) ++ Refused refusal ∷ [])) new work left'
   torn-stands refusal many =
       changing-stands tells given tape tape' scope first entries old new work left left' who end (losses_of roles spares ++ Torn at (sectors_of from) ∷ []) (IsAmong roles) (Refused refusal) was
-      (without-left given old was.members_are.placed was.members_are.unlost does) goes caller at_end did.grows (record { adds = refl; gives = refl; ends = refl; level = λ n. refl }) did.moved
+      (without-left given old was.members_are.placed was.members_are.unlost does) goes caller at_end did.grows (record { adds = refl; gives = refl; ends = refl; level = λ n. refl; other = refl }) did.moved
       (torn-first roles spares at (sectors_of from)) (missing-since did.moved did.since) (λ dirty. inr unsettled) (λ can. absurd (never-both new refusal can many))
       (subst (λ (l : List Event). IfSome (told_left (entries ++ entries_of who end l)) (λ n. n ≡ left')) again
       (left-lost left left' entries who end (losses_of roles spares) (Torn at (sectors_of from) ∷ Refused refusal ∷ []) (losses-are roles spares) alike was.left_told (λ told is. is)))
       (λ t can. absurd (never-both new refusal can many))
       (λ t. record {
+        within = subst (AreWithin (list_length old.newest)) again
+            (losses-within (list_length old.newest) (losses_of roles spares) (Torn at (sectors_of from) ∷ Refused refusal ∷ []) (losses-are roles spares) (tt, (tt, tt)));
         rise = did.rise t;
         keeps = λ told right all_gone fills more allowed room gone unclean unsettles_so safe.
             keeps t ((losses_of roles spares ++ Torn at (sectors_of from) ∷ []) ++ Refused refusal ∷ []) (list-with current at from) (list-with-is current at from) told right all_gone fills

@@ -1,0 +1,464 @@
+-- A write of an array in a reshape: the open window that it touches is finished, and then its sectors are put into the list. What is kept, done or refused.
+use Rattle.std.proofs.Common.{◌≡◌, ◌≢◌, ◌⊎◌, inl, inr, ℕ, ◌+◌, ◌-◌, ◌*◌, ◌/◌, ◌<◌, ◌≤◌, Bool, true, false, Option, Some, None, Result, Ok, Err, List, [], ◌∷◌, ◌++◌, length, take, refl, sym, ◌∙◌, ap, subst, arith, append_assoc}
+use Rattle.std.specs.Prelude.{min, MatchOption, OnOk}
+use Rattle.std.specs.Option.{option_map_or}
+use Rattle.std.proofs.lemmas.Bool.{cases_lt}
+use Rattle.std.proofs.lemmas.List.Elements.{All-append, All-weaker}
+use Rattle.md_base.specs.Sectors.{Sector, sectors_of}
+use Rattle.md_base.specs.Shapes.{tolerance, tolerance_of}
+use Rattle.md_base.specs.declared.answers.Fault.{Fault as AnyFault}
+use Rattle.md_base.specs.declared.answers.Fault.TheVariants.{Refused as IsRefusedWith, NoMemory}
+use Rattle.md_base.specs.declared.answers.Refusal.{Refusal}
+use Rattle.md_base.specs.declared.answers.Refusal.TheVariants.{PastEnd}
+use Rattle.md_base.specs.declared.answers.Who.{Who}
+use Rattle.md_base.specs.declared.places.Shape.{Shape}
+use Rattle.md_base.specs.declared.places.Span.{Span}
+use Rattle.bank.specs.declared.bank.Operation.{Operation}
+use Rattle.bank.specs.Given.{Given, NeverFalls}
+use Rattle.bank.proofs.Causes.{faulted_longer}
+use Rattle.superblocks.specs.declared.members.Members.{Members}
+use Rattle.superblocks.proofs.ValidFields.{few-roles}
+use Rattle.row_io.specs.Rows.{reading_of, is_missing}
+use Rattle.superblocks.specs.Reading.{Scope, final_shape, list_length, next_window, role_count}
+use Rattle.flat_history.specs.declared.events.Entry.{Entry}
+use Rattle.flat_history.specs.declared.events.Event.{Event}
+use Rattle.flat_history.specs.declared.events.Event.TheVariants.{Lost, SpareLost, Step, Wrote, Torn, Refused}
+use Rattle.flat_history.specs.declared.events.LostCause.{LostCause}
+use Rattle.flat_history.specs.declared.events.LostCause.TheVariants.{Command, Fault}
+use Rattle.flat_history.specs.declared.events.StepKind.TheVariants.{WindowFinished as FinishesWindow}
+use Rattle.flat_history.specs.Flat.{length_of, limit_of, visible_of}
+use Rattle.flat_history.specs.Legal.{visible_at, IsRefusedRight}
+use Rattle.flat_history.specs.Plain.{entries_of}
+use Rattle.flat_history.specs.Stands.{covers, shape_for}
+use Rattle.flat_history.specs.World.{opening_list}
+use Rattle.shape_views.specs.Regions.{AreShapesFit, DoWithout}
+use Rattle.shape_views.specs.Windows.{moved_past}
+use Rattle.views.specs.declared.work.Work.{Work}
+use Rattle.views.specs.Lacking.{DoesWithout, AreLostSince, HaveFailedSince, AreTooMany}
+use Rattle.views.specs.Moving.{Grows, IsMoved}
+use Rattle.views.specs.Placed.{AreWhole, IsPlaced, AreStillHeld}
+use Rattle.views.specs.Rebuilding.{Held}
+use Rattle.views.proofs.LackingLaws.{AreVacant, AreNewlyVacant, lost-since, shape-without}
+use Rattle.views.proofs.MovedLaws.{grows-then}
+use Rattle.call_entries.specs.Losing.{losses_of, failure_events}
+use Rattle.call_entries.proofs.CallLaws.{losses-are, length-losses, limit-losses}
+use Rattle.array_kept.specs.Calls.{IsRoleLossBy, IsLossBy, AreLossesOf, IsBehind, IsRefusedFor, IsCausedBy}
+use Rattle.array_kept.proofs.ReplyLaws.{IsOfMissing, unwritten-of}
+use Rattle.region_writes.specs.Runs.{IsListTorn, IsListUnwritten}
+use Rattle.region_writes.proofs.Together.{shape-force}
+use Rattle.grow_asked.specs.declared.window.Window.{Window}
+use Rattle.grow_asked.specs.declared.window.Window.TheVariants.{Closed, Entered, Unsure}
+use Rattle.grow_asked.specs.declared.window.PhasesLeft.{PhasesLeft}
+use Rattle.kept_history.specs.Recorded.{IsCallGoing}
+use Rattle.kept_history.specs.Safe.{world_in, TakesNone}
+use Rattle.history_calls.proofs.Behind.{early-losses}
+use Rattle.history_calls.specs.Reliable.{IsReliable}
+use Rattle.course_kept.specs.declared.course.Course.{Course}
+use Rattle.course_kept.specs.Course.{IsWindowOf, IsCourseOf, span_in}
+use Rattle.course_kept.specs.Laws.{closed, entered}
+use Rattle.moving_state.specs.Due.{open_in, unsure_in}
+use Rattle.moving_kept.specs.Moving.{IsMoving}
+use Rattle.moving_kept.proofs.FinishedCall.{IsFinishedBy, finish-moves}
+use Rattle.moving_kept.proofs.Refusals.{lacking-right}
+use Rattle.moving_kept.proofs.Steps.{AreMissingSince, missing-since, missing-moved}
+use Rattle.moving_kept.proofs.Writing.{ArePut, AreWritten, AreUnwritten, unrelied-short, written-moves, unwritten-moves}
+use Rattle.running_words.specs.Calls.{IsCalled, IsStepTaken}
+use Rattle.running_words.specs.Parts.{RunningParts, left_in}
+use Rattle.moving.specs.Ready.{bytes_in, IsReady}
+use Rattle.moving.specs.Writing.{IsWindowOpen, TouchesWindow, IsWriteLacked, IsPutEntered, IsWriteEntered}
+use Rattle.moving.proofs.Called.{not_254}
+use Rattle.moving.proofs.Kept.{IsLengthKept, behind-keeps, behind-whole, takes-lost, left-moved}
+use Rattle.moving.proofs.RecordLaws.{since-past, record-some, closed-bare, moved-none, moved-if}
+
+-- ---- the window
+
+-- a sector beside the entered window and beside an unsure one is beside the window under way
+pub beside-of : (window : Window) (x : ℕ) → covers (open_in window) x ≡ false → covers (unsure_in window) x ≡ false → covers (span_in window) x ≡ false
+beside-of Closed x out unsure = refl
+beside-of (Entered span copied sectioned) x out unsure = out
+beside-of (Unsure span) x out unsure = unsure
+
+-- where a sector lies in the entered window, one is entered
+pub touched-open : {B : Type 0} (array : RunningParts B) → IsCourseOf array.parts.members.newest array.course → (x : ℕ) → covers (open_in array.course.window) x ≡ true → IsWindowOpen array
+touched-open array of x inside = by array.course.window refl inside
+  where
+    none-zeroed : (span : Span) → next_window array.parts.members.newest ≡ Some span → array.course.zeroed ≡ 0
+    none-zeroed span next = elim (cases_lt 0 array.course.zeroed) [
+      | inl some ↦ absurd (let none = (of.through some).none in let e = sym none ∙ next in cc)
+      | inr few ↦ omega (arith, few)
+    ]
+
+    by : (window : Window) → array.course.window ≡ window → covers (open_in window) x ≡ true → IsWindowOpen array
+    by Closed is inside = absurd (let none : ◌≡◌ {A = Bool} false true = inside in cc)
+    by (Unsure span) is inside = absurd (let none : ◌≡◌ {A = Bool} false true = inside in cc)
+    by (Entered span copied sectioned) is inside =
+        let next = (subst (λ (w : Window). IsWindowOf array.parts.members.newest w) is of.window).0 in
+        let zero = none-zeroed span next in
+        record { span = span; copied = copied; sectioned = sectioned; is = λ i. record { window = is i; zeroed = zero i } }
+
+same-span : (s t : Span) (m n : ℕ) (a b : Bool) → Entered s m a ≡ Entered t n b → s ≡ t
+same-span s t m n a b e = cc
+
+same-count : (s t : Span) (m n : ℕ) (a b : Bool) → Entered s m a ≡ Entered t n b → m ≡ n
+same-count s t m n a b e = cc
+
+same-flag : (s t : Span) (m n : ℕ) (a b : Bool) → Entered s m a ≡ Entered t n b → a ≡ b
+same-flag s t m n a b e = cc
+
+-- the window that is found open is that one
+pub open-is : {B : Type 0} (array : RunningParts B) (span : Span) (copied : ℕ) (sectioned : Bool) → IsWindowOpen array → array.course.window ≡ Entered span copied sectioned → array.course ≡ entered span copied sectioned
+open-is array span copied sectioned due window =
+    let same : Entered due.span due.copied due.sectioned ≡ Entered span copied sectioned = sym (ap (λ (c : Course). c.window) due.is) ∙ window in
+    let spans = same-span due.span span due.copied copied due.sectioned sectioned same in
+    let counts = same-count due.span span due.copied copied due.sectioned sectioned same in
+    let flags = same-flag due.span span due.copied copied due.sectioned sectioned same in
+    due.is ∙ (λ i. entered (spans i) (counts i) (flags i))
+
+-- ---- what is kept in memory
+
+-- room for other steps
+pub roomed : {tells : Type 0} {given : Given} {tape : List Operation} {scope : Scope} {first : ℕ} {entries entries' : List Entry} {members : Members}
+    {work : Work} {course : Course} {ahead : PhasesLeft} {window : List ℕ} {steps steps' room room' rows buffer far_rows far_buffer : ℕ} {faults : ℕ → ℕ} → entries' ≡ entries → 50 * steps' < room'
+    → IsReady tells given tape scope first entries members work course ahead window faults steps room rows buffer far_rows far_buffer
+    → IsReady tells given tape scope first entries' members work course ahead window faults steps' room' rows buffer far_rows far_buffer
+roomed {tells = tells} {given = given} {tape = tape} {scope = scope} {first = first} {members = members} {work = work} {course = course} {ahead = ahead} {window = window} {steps' = steps'} {room' = room'}
+    {rows = rows} {buffer = buffer} {far_rows = far_rows} {far_buffer = far_buffer} {faults = faults} same fits was =
+    subst (λ (l : List Entry). IsReady tells given tape scope first l members work course ahead window faults steps' room' rows buffer far_rows far_buffer) (sym same) (record {
+      kept = was.kept;
+      synced = was.synced;
+      sized = was.sized;
+      unlimited = was.unlimited;
+      full = was.full;
+      settled = was.settled;
+      planned = was.planned;
+      wide = was.wide;
+      failed = was.failed;
+      room_left = fits;
+      rows_fit = was.rows_fit;
+      buffer_fits = was.buffer_fits;
+      far_rows_fit = was.far_rows_fit;
+      far_buffer_fits = was.far_buffer_fits;
+    })
+
+-- other lists and buffers for rows
+pub with-rooms : {tells : Type 0} {given : Given} {tape : List Operation} {scope : Scope} {first : ℕ} {entries : List Entry} {members : Members}
+    {work : Work} {course : Course} {ahead : PhasesLeft} {window : List ℕ} {steps room rows rows' buffer buffer' far_rows far_rows' far_buffer far_buffer' : ℕ} {faults : ℕ → ℕ}
+    → rows ≤ rows' → buffer' ≡ buffer → far_rows ≤ far_rows' → far_buffer' ≡ far_buffer
+    → IsReady tells given tape scope first entries members work course ahead window faults steps room rows buffer far_rows far_buffer
+    → IsReady tells given tape scope first entries members work course ahead window faults steps room rows' buffer' far_rows' far_buffer'
+with-rooms one two three four was = record {
+  kept = was.kept;
+  synced = was.synced;
+  sized = was.sized;
+  unlimited = was.unlimited;
+  full = was.full;
+  settled = was.settled;
+  planned = was.planned;
+  wide = was.wide;
+  failed = was.failed;
+  room_left = was.room_left;
+  rows_fit = let had = was.rows_fit in omega (arith, had, one);
+  buffer_fits = let had = was.buffer_fits in omega (arith, had, two);
+  far_rows_fit = let had = was.far_rows_fit in omega (arith, had, three);
+  far_buffer_fits = let had = was.far_buffer_fits in omega (arith, had, four);
+}
+
+-- what a write enters that is refused leaves the list's length
+pub failure-keeps : (who : Who) (end roles spares : ℕ) (torn : Bool) (at : ℕ) (body : List Sector) (refusal : Refusal) → IsLengthKept (entries_of who end (failure_events roles spares torn at body refusal))
+failure-keeps who end roles spares false at body refusal = behind-keeps who end roles spares (Refused refusal) (λ n. refl) refl
+failure-keeps who end roles spares true at body refusal =
+    subst (λ (l : List Event). IsLengthKept (entries_of who end l)) (sym (append_assoc (losses_of roles spares) (Torn at body ∷ []) (Refused refusal ∷ [])))
+    (record {
+      long = λ n. length-losses who end (losses_of roles spares) (Torn at body ∷ Refused refusal ∷ []) (losses-are roles spares) n;
+      free = limit-losses who end (losses_of roles spares) (Torn at body ∷ Refused refusal ∷ []) (losses-are roles spares) None;
+    })
+
+-- and where it tells no loss, it lost none
+pub failure-whole : {given : Given} {old new : Members} (tape' : List Operation) (scope : Scope) (first : ℕ) (entries : List Entry) (who : Who) (end roles spares : ℕ) (torn : Bool) (at : ℕ) (body : List Sector) (refusal : Refusal)
+    → IsMoved given old new → AreMissingSince old new roles
+    → TakesNone (world_in given tape' scope first) (entries ++ entries_of who end (failure_events roles spares torn at body refusal)) → AreWhole old → AreWhole new
+failure-whole tape' scope first entries who end roles spares false at body refusal moved since none whole role lt = behind-whole tape' scope first entries who end roles spares (Refused refusal) moved since none whole role lt
+failure-whole {given = given} {old = old} {new = new} tape' scope first entries who end roles spares true at body refusal moved since none whole role lt = by (is_missing (reading_of new) role) refl
+  where
+    taken : TakesNone (world_in given tape' scope first) (entries ++ entries_of who end (losses_of roles spares ++ Torn at body ∷ Refused refusal ∷ []))
+    taken = subst (λ (l : List Event). TakesNone (world_in given tape' scope first) (entries ++ entries_of who end l)) (append_assoc (losses_of roles spares) (Torn at body ∷ []) (Refused refusal ∷ [])) none
+
+    by : (b : Bool) → is_missing (reading_of new) role ≡ b → b ≡ false
+    by false is = refl
+    by true is = elim (missing-moved roles moved since role lt is) [
+      | inl was ↦ absurd (let both : true ≡ false = sym was.1 ∙ whole role was.0 in cc)
+      | inr has ↦
+          let few = few-roles new.newest moved.placed.fit.valid in
+          takes-lost (world_in given tape' scope first) role entries (entries_of who end (losses_of roles spares ++ Torn at body ∷ Refused refusal ∷ []))
+          ((early-losses roles spares).lost who end (Torn at body ∷ Refused refusal ∷ []) role (omega (arith, lt, few)) has) taken
+    ]
+
+-- ---- a window that is finished
+
+-- what was lost, by the members before it
+pub finished-since : (given : Given) (old new : Members) (span : Span) (refusal : Option Refusal) → MatchOption refusal (IsMoved given (moved_past span old) new) (λ why. IsMoved given old new)
+    → (disks was roles spares : ℕ) (before after : ℕ → ℕ) → IsPlaced given old → next_window old.newest ≡ Some span → HaveFailedSince old new spares before after
+    → disks ≡ role_count old.newest → AreVacant old disks was → AreNewlyVacant new disks was roles → AreLostSince old new roles spares before after
+finished-since given old new span None moved disks was roles spares before after placed next failed same vacant newly = since-past given old new span disks was roles spares before after placed next moved failed same vacant newly
+finished-since given old new span (Some why) moved disks was roles spares before after placed next failed same vacant newly = lost-since given old new disks was roles spares before after placed moved failed same vacant newly
+
+pub finished-missing : (given : Given) (old new : Members) (span : Span) (refusal : Option Refusal) → MatchOption refusal (IsMoved given (moved_past span old) new) (λ why. IsMoved given old new)
+    → {roles spares : ℕ} {before after : ℕ → ℕ} → AreLostSince old new roles spares before after → AreMissingSince old new roles
+finished-missing given old new span None moved {roles = roles} since = missing-since {old = moved_past span old} roles moved since.vacant
+finished-missing given old new span (Some why) moved {roles = roles} since = missing-since roles moved since.vacant
+
+module _ {tells : Type 0} {given : Given} {tape tape' : List Operation} {scope : Scope} {first : ℕ} {entries : List Entry} {old new : Members} {carried : ℕ → Bool} (course : Course) (ahead : PhasesLeft) (window : List ℕ)
+    (span : Span) (copied done : ℕ) (sectioned : Bool) (who : Who) (end roles spares : ℕ) (was : IsMoving tells given tape scope first entries old carried course (bytes_in course.window window) (left_in old course ahead))
+    (is : course ≡ entered span copied sectioned) (goes : IsCallGoing entries who) (caller : who.caller ≢ 254) (at_end : tells → end ≡ length tape') (grows : Grows tells tape tape') (enough : DoWithout old)
+    (refusal : Option Refusal) (did : IsFinishedBy tells given tape tape' old new (final_shape old.newest) span copied done (take (512 * (span.hi - span.lo)) window) roles refusal) where
+  abbrev bytes : List ℕ
+  bytes = take (512 * (span.hi - span.lo)) window
+
+  opened : IsMoving tells given tape scope first entries old carried (entered span copied sectioned) bytes (left_in old course ahead)
+  opened = subst (λ (c : Course). IsMoving tells given tape scope first entries old carried c (bytes_in c.window window) (left_in old course ahead)) is was
+
+  -- it is done: no window is open
+  pub finish-done : (left : ℕ) → refusal ≡ None → left ≡ left_in new (closed 0) ahead
+      → IsMoving tells given tape' scope first (entries ++ entries_of who end (losses_of roles spares ++ Step FinishesWindow left ∷ [])) new carried (closed 0) [] (left_in new (closed 0) ahead)
+  finish-done left none told =
+      subst (λ (n : ℕ). IsMoving tells given tape' scope first (entries ++ entries_of who end (losses_of roles spares ++ Step FinishesWindow left ∷ [])) new carried (closed 0) [] n) told
+      (closed-bare 0 bytes left
+      (finish-moves tells given tape tape' scope first entries old new carried (final_shape old.newest) span copied done sectioned bytes who end roles spares goes (not_254 who.caller caller) at_end grows enough
+      None (left_in old course ahead) left opened some (subst (λ (o : Option Refusal). IsFinishedBy tells given tape tape' old new (final_shape old.newest) span copied done bytes roles o) none did)))
+    where
+      some : left ≢ 0
+      some zero = absurd (record-some given old new span ahead (moved-none given span old new refusal none did.moved) was.members_are.active (sym told ∙ zero))
+
+  -- it is refused: the window is open as before
+  pub finish-refused : (why : Refusal) → refusal ≡ Some why
+      → IsMoving tells given tape' scope first (entries ++ entries_of who end (losses_of roles spares ++ Refused why ∷ [])) new carried course (bytes_in course.window window) (left_in new course ahead)
+  finish-refused why refused =
+      subst (λ (n : ℕ). IsMoving tells given tape' scope first (entries ++ entries_of who end (losses_of roles spares ++ Refused why ∷ [])) new carried course (bytes_in course.window window) n)
+      (sym (left-moved given old new course ahead (moved-if given span old new refusal why refused did.moved)))
+      (subst (λ (c : Course). IsMoving tells given tape' scope first (entries ++ entries_of who end (losses_of roles spares ++ Refused why ∷ [])) new carried c (bytes_in c.window window) (left_in old course ahead)) (sym is)
+      (finish-moves tells given tape tape' scope first entries old new carried (final_shape old.newest) span copied done sectioned bytes who end roles spares goes (not_254 who.caller caller) at_end grows enough
+      (Some why) (left_in old course ahead) 1 opened one (subst (λ (o : Option Refusal). IsFinishedBy tells given tape tape' old new (final_shape old.newest) span copied done bytes roles o) refused did)))
+    where
+      one : ◌≢◌ {A = ℕ} 1 0
+      one zero = absurd (omega (arith, zero))
+
+-- ---- sectors beside the window
+
+-- where all rows are relied on, a write isn't done for missing members alone
+pub torn-of : (m : Members) → AreShapesFit m.newest → (relied at to : ℕ) (refusal : Refusal) → list_length m.newest ≤ relied → to ≤ list_length m.newest → IsListUnwritten relied at to m refusal → IsListTorn at to m refusal
+torn-of m fit relied at to refusal all within (inl torn) = torn
+torn-of m fit relied at to refusal all within (inr (each, there)) = absurd (
+    let lt = there.2 in
+    let less = unrelied-short m.newest fit relied there.0 (omega (arith, lt, within)) there.3 in
+    omega (arith, less, all))
+
+-- and its refusal tells that members are missing
+pub torn-missing : (relied at to : ℕ) (m : Members) (refusal : Refusal) → IsListUnwritten relied at to m refusal → IsOfMissing refusal
+torn-missing relied at to m refusal (inl torn) = unwritten-of (shape_for m.newest torn.0) false m refusal (inl torn.3)
+torn-missing relied at to m refusal (inr (each, there)) = unwritten-of (shape_for m.newest there.0) false m refusal (inr there.4)
+
+module _ {tells : Type 0} {given : Given} {tape : List Operation} {scope : Scope} {first : ℕ} {entries : List Entry} {old : Members} {carried : ℕ → Bool} {course : Course} {buffer : List ℕ} {left : ℕ}
+    (was : IsMoving tells given tape scope first entries old carried course buffer left) (unlimited : limit_of entries ≡ None) where
+  -- all of the list is visible
+  pub all-seen : tells → visible_at (world_in given tape scope first) entries ≡ list_length old.newest
+  all-seen t =
+      ap (λ (o : Option ℕ). option_map_or (λ limit. min limit (length_of (length (opening_list (world_in given tape scope first))) entries)) o (length_of (length (opening_list (world_in given tape scope first))) entries)) unlimited
+      ∙ (was.recorded t).sized
+
+  -- why it is refused before any row is read
+  pub first-right : (at to : ℕ) (refusal : Refusal) → IsRefusedFor (list_length old.newest) to (IsListUnwritten (list_length old.newest) at to) old old refusal
+      → tells → IsReliable (world_in given tape scope first) entries → IsRefusedRight (world_in given tape scope first) entries refusal
+  first-right at to (PastEnd told) why t right = why.0 ∙ sym (all-seen t)
+  first-right at to refusal why t right =
+      let torn = torn-of old was.members_are.placed.fit (list_length old.newest) at to refusal (omega arith) why.0 why.1 in
+      lacking-right (world_in given tape scope first) entries given old was.members_are.placed (was.gone t right) (was.levelled t right) (shape_for old.newest torn.0) refusal (shape-force old.newest torn.0) torn.3
+
+module _ {tells : Type 0} {given : Given} {tape tape' : List Operation} {scope : Scope} {first : ℕ} {entries : List Entry} {old new : Members} {carried : ℕ → Bool} (course : Course) (ahead : PhasesLeft) (buffer : List ℕ)
+    (who : Who) (end roles spares at : ℕ) (from : List ℕ) (relied : ℕ) (begun : Bool)
+    (was : IsMoving tells given tape scope first entries old carried course buffer (left_in old course ahead)) (goes : IsCallGoing entries who) (caller : who.caller ≢ 254)
+    (at_end : tells → end ≡ length tape') (grows : Grows tells tape tape') (unlimited : limit_of entries ≡ None)
+    (fine : (refusal : Refusal) → IsListUnwritten relied at (at + length from / 512) old refusal → ⊥) (did : ArePut tells given tape tape' old new course at from relied roles begun) where
+  -- no shape of the write misses too many
+  each-does : (x : ℕ) → at ≤ x → x < at + length from / 512 → DoesWithout (shape_for old.newest x) old
+  each-does x low high = shape-without (shape_for old.newest x) old (λ refusal many. fine refusal (inl (x, low, high, many)))
+
+  seen : tells → at + length from / 512 ≤ visible_of (length (opening_list (world_in given tape scope first))) entries
+  seen t = let same = all-seen was unlimited t in let within = did.within in omega (arith, same, within)
+
+  -- it is done
+  pub wrote-kept : AreWritten tells given tape tape' old new at from relied
+      → IsMoving tells given tape' scope first (entries ++ entries_of who end (losses_of roles spares ++ Wrote at (sectors_of from) ∷ [])) new carried course buffer (left_in new course ahead)
+  wrote-kept done =
+      subst (λ (n : ℕ). IsMoving tells given tape' scope first (entries ++ entries_of who end (losses_of roles spares ++ Wrote at (sectors_of from) ∷ [])) new carried course buffer n) (sym (left-moved given old new course ahead did.moved))
+      (written-moves tells given tape tape' scope first entries old new carried course buffer (left_in old course ahead) who end roles spares at from relied begun was goes (not_254 who.caller caller) at_end grows each-does seen did done)
+
+  -- it is refused
+  pub unwritten-kept : (refusal : Refusal) → AreUnwritten tells given tape tape' scope first entries old new at from relied begun refusal
+      → IsMoving tells given tape' scope first (entries ++ entries_of who end (failure_events roles spares begun at (sectors_of from) refusal)) new carried course buffer (left_in new course ahead)
+  unwritten-kept refusal undone =
+      subst (λ (n : ℕ). IsMoving tells given tape' scope first (entries ++ entries_of who end (failure_events roles spares begun at (sectors_of from) refusal)) new carried course buffer n) (sym (left-moved given old new course ahead did.moved))
+      (unwritten-moves tells given tape tape' scope first entries old new carried course buffer (left_in old course ahead) who end roles spares at from relied begun was goes (not_254 who.caller caller) at_end grows each-does seen did refusal undone)
+
+-- ---- one call behind another
+
+module _ (Had Has : ℕ → ℕ → Type 0) (f g h k : ℕ → ℕ) (had : (role slot : ℕ) → Has role slot → Had role slot) (before : NeverFalls f g) (since : NeverFalls g h) (after : NeverFalls h k) where
+  -- a loss between two marks is one between marks around them, of slots that had the role earlier
+  role-around : (role : ℕ) (cause : LostCause) → IsRoleLossBy Has g h role cause → IsRoleLossBy Had f k role cause
+  role-around role Fault loss = (loss.0, had role loss.0 loss.1, faulted_longer loss.0 f g h k (before loss.0) (after loss.0) (since loss.0) loss.2)
+  role-around role Command loss = (loss.0, had role loss.0 loss.1)
+  role-around role cause loss = absurd loss
+
+  loss-around : (event : Event) → IsLossBy Has g h event → IsLossBy Had f k event
+  loss-around (Lost role cause) loss = role-around role cause loss
+  loss-around (SpareLost slot) failed = faulted_longer slot f g h k (before slot) (after slot) (since slot) failed
+  loss-around event loss = tt
+
+losses-then : (a b : Members) (f g h : ℕ → ℕ) → NeverFalls f g → NeverFalls g h → AreStillHeld a b → (old mid new : List Entry) → AreLossesOf a f g old mid → AreLossesOf b g h mid new → AreLossesOf a f h old new
+losses-then a b f g h early late held old mid new one two = record {
+  more = one.more ++ two.more;
+  grown = two.grown ∙ ap (λ (l : List Entry). l ++ two.more) one.grown ∙ append_assoc old one.more two.more;
+  failed = All-append (λ e. IsLossBy (Held a) f h e.event) one.more two.more
+      (All-weaker (λ e. IsLossBy (Held a) f g e.event) (λ e. IsLossBy (Held a) f h e.event)
+      (λ e loss. loss-around (Held a) (Held a) f f g h (λ role slot may. may) (λ slot. omega arith) early late e.event loss) one.more one.failed)
+      (All-weaker (λ e. IsLossBy (Held b) g h e.event) (λ e. IsLossBy (Held a) f h e.event)
+      (λ e loss. loss-around (Held a) (Held b) f g h h held early late (λ slot. omega arith) e.event loss) two.more two.failed);
+}
+
+-- what two calls leave, one behind the other
+pub called-then : {B : Type 0} {tells : Type 0} {given given' : Given} {tape0 tape1 tape2 : List Operation} {f g h : ℕ → ℕ} {a b c : RunningParts B} → given' ≡ given
+    → IsCalled tells given tape0 tape1 f g a b → IsCalled tells given' tape1 tape2 g h b c → IsCalled tells given tape0 tape2 f h a c
+called-then {tells = tells} {given = given} {tape0 = tape0} {tape1 = tape1} {tape2 = tape2} {f = f} {g = g} {h = h} {a = a} {b = b} {c = c} same one behind = then (subst (λ (d : Given). IsCalled tells d tape1 tape2 g h b c) same behind)
+  where
+    then : IsCalled tells given tape1 tape2 g h b c → IsCalled tells given tape0 tape2 f h a c
+    then two = record {
+      grows = grows-then one.grows two.grows;
+      ended = two.ended;
+      held = λ role slot holds. one.held role slot (two.held role slot holds);
+      spares = λ slot spare. one.spares slot (two.spares slot spare);
+      losses = losses-then a.parts.members b.parts.members f g h one.never_falls two.never_falls one.held a.parts.entries b.parts.entries c.parts.entries one.losses two.losses;
+      never_falls = λ slot. let early = one.never_falls slot in let late = two.never_falls slot in omega (arith, early, late);
+      work = two.work ∙ one.work;
+      same = record {
+        array = record {
+          uuid = two.same.array.uuid ∙ one.same.array.uuid;
+          given = two.same.array.given ∙ one.same.array.given;
+          first = two.same.array.first ∙ one.same.array.first;
+          backup = two.same.array.backup ∙ one.same.array.backup;
+          shape = two.same.array.shape ∙ one.same.array.shape;
+          size = two.same.array.size ∙ one.same.array.size;
+          list = λ t. two.same.array.list t ∙ one.same.array.list t;
+        };
+        final = two.same.final ∙ one.same.final;
+        backward = two.same.backward ∙ one.same.backward;
+        ahead = two.same.ahead ∙ one.same.ahead;
+      };
+    }
+
+-- room was made for its entries before
+pub called-roomed : {B : Type 0} {tells : Type 0} {given : Given} {tape tape' : List Operation} {f g : ℕ → ℕ} (old new : RunningParts B) (items : List Entry) (steps : ℕ) → items ≡ old.parts.entries
+    → IsCalled tells given tape tape' f g (record old { parts = record old.parts { entries = items; steps = steps } }) new → IsCalled tells given tape tape' f g old new
+called-roomed {f = f} {g = g} old new items steps same was = record {
+  grows = was.grows;
+  ended = was.ended;
+  held = was.held;
+  spares = was.spares;
+  losses = subst (λ (l : List Entry). AreLossesOf old.parts.members f g l new.parts.entries) same was.losses;
+  never_falls = was.never_falls;
+  work = was.work;
+  same = record {
+    array = record {
+      uuid = was.same.array.uuid;
+      given = was.same.array.given;
+      first = was.same.array.first;
+      backup = was.same.array.backup;
+      shape = was.same.array.shape;
+      size = was.same.array.size;
+      list = was.same.array.list;
+    };
+    final = was.same.final;
+    backward = was.same.backward;
+    ahead = was.same.ahead;
+  };
+}
+
+-- ---- what it answers
+
+-- where none of its sectors lies in the entered window, it touches none
+pub untouched : (window : Window) (at to : ℕ) → ((x : ℕ) → at ≤ x → x < to → covers (open_in window) x ≡ false) → TouchesWindow window at to → ⊥
+untouched window at to out touches = absurd (let both : true ≡ false = sym touches.3 ∙ out touches.0 touches.1 touches.2 in cc)
+
+-- what follows of something that isn't so holds
+pub never-ok : {T : Type 0} (result : Result T AnyFault) (P Q : Type 0) → (P → ⊥) → OnOk result (P → Q)
+never-ok (Ok x) P Q none = λ is. absurd (none is)
+never-ok (Err fault) P Q none = tt
+
+-- a refusal for one cause is one for either
+pub wider-refused : (visible to : ℕ) (why : Members → Refusal → Type 0) (m : Members) (refusal : Refusal) → IsRefusedFor visible to why m m refusal → IsRefusedFor visible to (λ m refusal. why m refusal ⊎ AreTooMany m refusal) m m refusal
+wider-refused visible to why m (PastEnd told) is = is
+wider-refused visible to why m refusal is = (is.0, inl is.1)
+
+-- a window isn't finished: why the write isn't done, or neither speaks against it
+pub finish-caused : {T : Type 0} (visible to : ℕ) (why : Members → Refusal → Type 0) (old new : Members) (result : Result T AnyFault) → to ≤ visible → ((refusal : Refusal) → why old refusal → ⊥)
+    → IsCausedBy visible 0 AreTooMany old new result → IsCausedBy visible to (λ m refusal. why m refusal ⊎ AreTooMany m refusal) old new result
+finish-caused visible to why old new (Ok x) within fine caused = (within, λ refusal which. elim which [ inl asked ↦ fine refusal asked | inr many ↦ caused.1 refusal many ])
+finish-caused visible to why old new (Err (IsRefusedWith refusal)) within fine caused = by refusal caused
+  where
+    by : (refusal : Refusal) → IsRefusedFor visible 0 AreTooMany old new refusal → IsRefusedFor visible to (λ m refusal. why m refusal ⊎ AreTooMany m refusal) old new refusal
+    by (PastEnd told) is = absurd (let past = is.1 in omega (arith, past))
+    by refusal is = (within, inr is.1)
+finish-caused visible to why old new (Err NoMemory) within fine caused = caused
+
+-- a write beside the window, which it doesn't touch
+pub alone-caused : {T : Type 0} (window : Window) (visible at to : ℕ) (old new : Members) (result : Result T AnyFault) → (TouchesWindow window at to → ⊥)
+    → IsCausedBy visible to (IsListUnwritten visible at to) old new result → IsCausedBy visible to (IsWriteLacked window visible at to) old new result
+alone-caused window visible at to old new (Ok x) none caused = (caused.0, λ refusal which. elim which [ inl asked ↦ caused.1 refusal asked | inr many ↦ none many.0 ])
+alone-caused window visible at to old new (Err (IsRefusedWith refusal)) none caused = by refusal caused
+  where
+    by : (refusal : Refusal) → IsRefusedFor visible to (IsListUnwritten visible at to) old new refusal → IsRefusedFor visible to (IsWriteLacked window visible at to) old new refusal
+    by (PastEnd told) is = is
+    by refusal is = (is.0, inl is.1)
+alone-caused window visible at to old new (Err NoMemory) none caused = caused
+
+-- a window that it touches isn't finished
+pub refused-caused : (T : Type 0) (window : Window) (visible at to : ℕ) (old new : Members) (fault : AnyFault) → TouchesWindow window at to
+    → IsCausedBy {T = T} visible to (λ m refusal. IsListUnwritten visible at to m refusal ⊎ AreTooMany m refusal) old new (Err fault) → IsCausedBy {T = T} visible to (IsWriteLacked window visible at to) old new (Err fault)
+refused-caused T window visible at to old new (IsRefusedWith refusal) touches caused = by refusal caused
+  where
+    by : (refusal : Refusal) → IsRefusedFor visible to (λ m refusal. IsListUnwritten visible at to m refusal ⊎ AreTooMany m refusal) old new refusal → IsRefusedFor visible to (IsWriteLacked window visible at to) old new refusal
+    by (PastEnd told) is = is
+    by refusal is = (is.0, elim is.1 [ inl asked ↦ inl asked | inr many ↦ inr (touches, many) ])
+refused-caused T window visible at to old new NoMemory touches caused = caused
+
+-- it is finished, and the sectors are written behind it, or aren't
+pub behind-caused : {T : Type 0} (window : Window) (visible long at to : ℕ) (old mid new : Members) (result : Result T AnyFault) (who : Who) (entries entries' : List Entry) (body : List Sector) → long ≡ visible
+    → (to ≤ visible) × ((refusal : Refusal) → IsListUnwritten visible at to old refusal ⊎ AreTooMany old refusal → ⊥) → IsPutEntered who entries entries' at body result
+    → IsCausedBy long to (IsListUnwritten long at to) mid new result → IsCausedBy visible to (IsWriteLacked window visible at to) old new result
+behind-caused window visible long at to old mid new (Ok x) who entries entries' body same before told caused =
+    (before.0, λ refusal which. elim which [ inl asked ↦ before.1 refusal (inl asked) | inr many ↦ before.1 refusal (inr many.1) ])
+behind-caused window visible long at to old mid new (Err (IsRefusedWith refusal)) who entries entries' body same before told caused = by refusal caused
+  where
+    by : (refusal : Refusal) → IsRefusedFor long to (IsListUnwritten long at to) mid new refusal → IsRefusedFor visible to (IsWriteLacked window visible at to) old new refusal
+    by (PastEnd told) is = absurd (let past = is.1 in let within = before.0 in omega (arith, past, within, same))
+    by refusal is = (before.0, inl (subst (λ (n : ℕ). IsListUnwritten n at to new refusal) same is.1))
+behind-caused window visible long at to old mid new (Err NoMemory) who entries entries' body same before told caused = absurd told
+
+-- its entries, where it doesn't touch the window
+pub alone-entered : {T : Type 0} (window : Window) (at to : ℕ) (body : List Sector) (who : Who) (old mid new : List Entry) (left : ℕ) (result : Result T AnyFault) → mid ≡ old → (TouchesWindow window at to → ⊥)
+    → IsPutEntered who mid new at body result → IsWriteEntered window at to body who old new left result
+alone-entered window at to body who old mid new left (Ok x) same none told = (mid, inr (none, same), told)
+alone-entered window at to body who old mid new left (Err (IsRefusedWith refusal)) same none told = (mid, inr same, told.0, told.1, told.2, told.3, told.4)
+alone-entered window at to body who old mid new left (Err NoMemory) same none told = absurd told
+
+-- where that isn't finished
+pub refused-entered : (T : Type 0) (window : Window) (at to : ℕ) (body : List Sector) (who : Who) (old mid new : List Entry) (left before : ℕ) (fault : AnyFault) → mid ≡ old
+    → IsStepTaken {T = T} who mid new FinishesWindow before (Err fault) → IsWriteEntered {T = T} window at to body who old new left (Err fault)
+refused-entered T window at to body who old mid new left before (IsRefusedWith refusal) same told = (mid, inr same, told.roles, told.spares, false, told.end, told.is)
+refused-entered T window at to body who old mid new left before NoMemory same told = absurd told
+
+-- and behind it
+pub behind-entered : {T : Type 0} (window : Window) (at to : ℕ) (body : List Sector) (who : Who) (old mid new : List Entry) (left before : ℕ) (result : Result T AnyFault) → TouchesWindow window at to → left ≡ before
+    → IsBehind who old mid (Step FinishesWindow before) → IsPutEntered who mid new at body result → IsWriteEntered window at to body who old new left result
+behind-entered window at to body who old mid new left before (Ok x) touches same finished told = (mid, inl (touches, subst (λ (n : ℕ). IsBehind who old mid (Step FinishesWindow n)) (sym same) finished), told)
+behind-entered window at to body who old mid new left before (Err (IsRefusedWith refusal)) touches same finished told =
+    (mid, inl (inl (touches, subst (λ (n : ℕ). IsBehind who old mid (Step FinishesWindow n)) (sym same) finished)), told.0, told.1, told.2, told.3, told.4)
+behind-entered window at to body who old mid new left before (Err NoMemory) touches same finished told = absurd told

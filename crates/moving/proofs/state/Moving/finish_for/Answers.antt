@@ -1,0 +1,81 @@
+use Rattle.std.proofs.Common.{◌≤◌, ◌+◌, ℕ, [], ◌∷◌, Some, refl, sym, subst, arith}
+use Rattle.md_base.specs.declared.answers.Refusal.{Refusal}
+use Rattle.superblocks.specs.Reading.{list_length}
+use Rattle.flat_history.specs.declared.events.Event.TheVariants.{Refused}
+use Rattle.flat_history.specs.Plain.{entries_of}
+use Rattle.views.specs.Numbers.{is_carried}
+use Rattle.views.proofs.MovedLaws.{grows-none, moved-same}
+use Rattle.array_kept.specs.Kept.{scope_in}
+use Rattle.array_kept.specs.Calls.{IsRefusedFor}
+use Rattle.array_kept.proofs.LossLaws.{ended-behind, behind-alone}
+use Rattle.array_kept.proofs.ReadyLaws.{scope-same}
+use Rattle.region_writes.specs.Runs.{IsListUnwritten}
+use Rattle.kept_history.specs.Recorded.{IsCallGoing}
+use Rattle.moving_kept.proofs.Refusals.{quiet-refusal}
+use Rattle.moving_kept.proofs.Resting.{resting-moves}
+use Rattle.running_words.specs.Parts.{left_in}
+use Rattle.moving.specs.Ready.{bytes_in}
+use Rattle.moving.proofs.Called.{not_254, called, alone-lossless}
+use Rattle.moving.proofs.Kept.{ready, shapes-same, alone-keeps}
+use Rattle.moving.proofs.WriteLaws.{first-right, wider-refused, finish-caused}
+use Rattle.moving.proofs.state.Moving.finish_for.Goals as goal
+
+-- ---- refused before the window is finished
+
+pub invariant_of-self : goal.invariant_of-self
+invariant_of-self g c =
+    let was = c.self.invariant in
+    let a = c.self.inside in
+    let given = g.B.Bank.given a.bank in
+    let scope = scope_in given a.epoch.uuid a.epoch.given (Some a.backup) in
+    let goes : IsCallGoing a.epoch.entries.items c.args.who = subst (λ p. IsCallGoing p.parts.entries c.args.who) (sym c.self.view_is) c.requires.open in
+    let steps : 1 ≤ a.steps = subst (λ p. 1 ≤ p.parts.steps) (sym c.self.view_is) c.requires.room in
+    let to = c.args.at + c.args.count in
+    let tape = g.B.Bank.tape a.bank in
+    let end = c.ops-end.result in
+    let refusal = c.in-Some.refusal in
+    let why = subst (λ (n : ℕ). IsRefusedFor n to (IsListUnwritten (list_length a.members.newest) c.args.at to) a.members a.members refusal) c.list_sectors-sectors.ensures.length c.in-Some.ensures.why in
+    let kept = resting-moves g.B.Bank.tells given tape scope a.epoch.first a.epoch.entries.items a.members (is_carried a.work) a.course (bytes_in a.course.window a.window.items) (left_in a.members a.course a.ahead)
+    c.args.who end (Refused refusal) was.kept goes (not_254 c.args.who.caller c.requires.caller) c.ops-end.ensures.count (quiet-refusal refusal) (λ told is. is)
+    (λ t right. first-right was.kept was.unlimited c.args.at to refusal why t right) in
+    ready (entries_of c.args.who end (Refused refusal ∷ [])) was (grows-none (λ t. refl)) (shapes-same a.members.newest) kept
+    refl (λ slot. omega arith) (alone-keeps c.args.who end (Refused refusal) (λ n. refl) refl) (λ none whole. whole) refl (scope-same given (Some a.backup) refl c.enter.ensures.uuid c.enter.ensures.given) c.enter.ensures.first refl c.enter.ensures.items
+    (let had = was.room_left in let room = c.enter.ensures.room in omega (arith, room, had, steps))
+
+pub returns-in-Some-clause-entered : goal.returns-in-Some-clause-entered
+returns-in-Some-clause-entered g c =
+    rw (← c.self.view_is) (behind-alone c.args.who c.ops-end.result (Refused c.in-Some.refusal) refl c.enter.ensures.items)
+
+pub returns-in-Some-clause-called : goal.returns-in-Some-clause-called
+returns-in-Some-clause-called g c =
+    let was = c.self.invariant in
+    let a = c.self.inside in
+    let given = g.B.Bank.given a.bank in
+    let faults = g.B.Bank.faults_of a.bank in
+    let end = c.ops-end.result in
+    let refusal = c.in-Some.refusal in
+    rw (← c.self.view_is) (called (grows-none (λ t. refl)) (moved-same given given a.members a.members refl refl was.kept.members_are.placed was.kept.members_are.unlost)
+    (ended-behind (g.B.Bank.tape a.bank) c.enter.new.epoch.first a.epoch.entries.items c.args.who end [] (Refused refusal) c.enter.ensures.items c.ops-end.ensures.count)
+    (alone-lossless a.members faults faults a.epoch.entries.items a.epoch.entries.items c.enter.new.epoch.entries.items c.args.who end (Refused refusal) tt refl c.enter.ensures.items)
+    (λ slot. omega arith)
+    (record { uuid = c.enter.ensures.uuid; given = c.enter.ensures.given; first = c.enter.ensures.first; backup = refl; work = refl; ahead = refl })
+    (λ t. (was.kept.recorded t).begun))
+
+pub returns-in-Some-clause-caused : goal.returns-in-Some-clause-caused
+returns-in-Some-clause-caused g c =
+    let a = c.self.inside in
+    let to = c.args.at + c.args.count in
+    rw (← c.self.view_is) (wider-refused (list_length a.members.newest) to (IsListUnwritten (list_length a.members.newest) c.args.at to) a.members c.in-Some.refusal
+    (subst (λ (n : ℕ). IsRefusedFor n to (IsListUnwritten (list_length a.members.newest) c.args.at to) a.members a.members c.in-Some.refusal) c.list_sectors-sectors.ensures.length c.in-Some.ensures.why))
+
+-- ---- behind it
+
+pub returns-clause-caused : goal.returns-clause-caused
+returns-clause-caused g c =
+    let m = c.args.self.now.parts.members in
+    let to = c.args.at + c.args.count in
+    let size = c.list_sectors-sectors.ensures.length in
+    let within = c.in_default.ensures.why.0 in
+    let fine = subst (λ p. (to ≤ list_length p.parts.members.newest) × ((refusal : Refusal) → IsListUnwritten (list_length p.parts.members.newest) c.args.at to p.parts.members refusal → ⊥)) c.self.view_is
+    (omega (arith, size, within), c.in_default.ensures.why.1) in
+    finish-caused (list_length m.newest) to (IsListUnwritten (list_length m.newest) c.args.at to) m c.finish_window.new.self.parts.members c.finish_window.result fine.0 fine.1 c.finish_window.ensures.caused

@@ -1,0 +1,271 @@
+use Rattle.std.proofs.Common.{◌≤◌, ℕ, ◌-◌, ◌*◌, List, [], ◌∷◌, ◌++◌, take, Some, refl, sym, subst, arith}
+use Rattle.std.specs.Vec.{with_items}
+use Rattle.superblocks.specs.Reading.{final_shape, list_length}
+use Rattle.flat_history.specs.declared.events.Event.TheVariants.{Refused, Step}
+use Rattle.flat_history.specs.declared.events.StepKind.TheVariants.{WindowFinished as FinishesWindow}
+use Rattle.flat_history.specs.Plain.{entries_of}
+use Rattle.shape_views.specs.Windows.{moved_past}
+use Rattle.views.specs.Lacking.{AreTooMany}
+use Rattle.views.specs.Numbers.{is_carried}
+use Rattle.views.proofs.LackingLaws.{never-both}
+use Rattle.views.proofs.MovedLaws.{grows-none, moved-same}
+use Rattle.call_entries.specs.Losing.{losses_of}
+use Rattle.array_kept.specs.Kept.{scope_in}
+use Rattle.array_kept.proofs.LossLaws.{losses-behind, ended-behind, behind-alone}
+use Rattle.array_kept.proofs.ReadyLaws.{scope-same, list-same}
+use Rattle.array_kept.proofs.ReplyLaws.{too-many-of, refused-for}
+use Rattle.kept_history.specs.Recorded.{IsCallGoing}
+use Rattle.kept_history.specs.Safe.{world_in}
+use Rattle.course_kept.specs.declared.course.Course.{Course}
+use Rattle.course_kept.specs.Course.{IsWindowOf}
+use Rattle.moving_state.proofs.ReshapeLaws.{window-reach}
+use Rattle.moving_kept.proofs.FinishedCall.{IsFinishedBy}
+use Rattle.moving_kept.proofs.Going.{going-on}
+use Rattle.moving_kept.proofs.Refusals.{quiet-refusal, refused-right}
+use Rattle.moving_kept.proofs.Resting.{resting-moves}
+use Rattle.moving_kept.proofs.Steps.{missing-since}
+use Rattle.running_words.specs.Parts.{left_in}
+use Rattle.moving.specs.Ready.{bytes_in}
+use Rattle.moving.specs.Writing.{IsWindowOpen}
+use Rattle.moving.proofs.Called.{not_254, called, alone-lossless}
+use Rattle.moving.proofs.Kept.{ready, shapes-same, shapes-moved, alone-keeps, behind-keeps, behind-whole, with-buffer}
+use Rattle.moving.proofs.RecordLaws.{moved-if, moved-none, shapes-past}
+use Rattle.moving.proofs.Settled.{many-of}
+use Rattle.moving.proofs.WriteLaws.{finished-missing, open-is, finish-done, finish-refused}
+use Rattle.moving.proofs.state.Moving.finish_window.Goals as goal
+
+-- ---- the members lack too many
+
+pub invariant_of-self : goal.invariant_of-self
+invariant_of-self g c =
+    let was = c.self.invariant in
+    let a = c.self.inside in
+    let given = g.B.Bank.given a.bank in
+    let scope = scope_in given a.epoch.uuid a.epoch.given (Some a.backup) in
+    let goes : IsCallGoing a.epoch.entries.items c.args.who = subst (λ p. IsCallGoing p.parts.entries c.args.who) (sym c.self.view_is) c.requires.open in
+    let steps : 1 ≤ a.steps = subst (λ p. 1 ≤ p.parts.steps) (sym c.self.view_is) c.requires.room in
+    let tape = g.B.Bank.tape a.bank in
+    let end = c.ops-end.result in
+    let refusal = c.in-Some.refusal in
+    let kept = resting-moves g.B.Bank.tells given tape scope a.epoch.first a.epoch.entries.items a.members (is_carried a.work) a.course (bytes_in a.course.window a.window.items) (left_in a.members a.course a.ahead)
+    c.args.who end (Refused refusal) was.kept goes (not_254 c.args.who.caller c.requires.caller) c.ops-end.ensures.count (quiet-refusal refusal) (λ told is. is)
+    (λ t right. refused-right (world_in given tape scope a.epoch.first) a.epoch.entries.items given a.members was.kept.members_are.placed (was.kept.gone t right) (was.kept.levelled t right) refusal c.in-Some.ensures) in
+    ready (entries_of c.args.who end (Refused refusal ∷ [])) was (grows-none (λ t. refl)) (shapes-same a.members.newest) kept
+    refl (λ slot. omega arith) (alone-keeps c.args.who end (Refused refusal) (λ n. refl) refl) (λ none whole. whole) refl (scope-same given (Some a.backup) refl c.enter.ensures.uuid c.enter.ensures.given) c.enter.ensures.first refl c.enter.ensures.items
+    (let had = was.room_left in let room = c.enter.ensures.room in omega (arith, room, had, steps))
+
+pub returns-in-Some-clause-called : goal.returns-in-Some-clause-called
+returns-in-Some-clause-called g c =
+    let was = c.self.invariant in
+    let a = c.self.inside in
+    let given = g.B.Bank.given a.bank in
+    let faults = g.B.Bank.faults_of a.bank in
+    let end = c.ops-end.result in
+    let refusal = c.in-Some.refusal in
+    rw (← c.self.view_is) (called (grows-none (λ t. refl)) (moved-same given given a.members a.members refl refl was.kept.members_are.placed was.kept.members_are.unlost)
+    (ended-behind (g.B.Bank.tape a.bank) c.enter.new.epoch.first a.epoch.entries.items c.args.who end [] (Refused refusal) c.enter.ensures.items c.ops-end.ensures.count)
+    (alone-lossless a.members faults faults a.epoch.entries.items a.epoch.entries.items c.enter.new.epoch.entries.items c.args.who end (Refused refusal) tt refl c.enter.ensures.items)
+    (λ slot. omega arith)
+    (record { uuid = c.enter.ensures.uuid; given = c.enter.ensures.given; first = c.enter.ensures.first; backup = refl; work = refl; ahead = refl })
+    (λ t. (was.kept.recorded t).begun))
+
+pub returns-in-Some-clause-entered : goal.returns-in-Some-clause-entered
+returns-in-Some-clause-entered g c =
+    rw (← c.self.view_is) (behind-alone c.args.who c.ops-end.result (Refused c.in-Some.refusal) refl c.enter.ensures.items)
+
+-- ---- the window
+
+pub finish_rest-rest-requires-clause-next : goal.finish_rest-rest-requires-clause-next
+finish_rest-rest-requires-clause-next g c =
+    let a = c.self.inside in
+    let due = open-is _ c.in-Entered.span c.in-Entered.copied c.in-Entered.sectioned (subst (λ p. IsWindowOpen p) (sym c.self.view_is) c.requires.due) c.in-Entered.is in
+    (subst (λ (k : Course). IsWindowOf a.members.newest k.window) due c.self.invariant.kept.course_is.window).0
+
+pub finish_rest-rest-requires-clause-from : goal.finish_rest-rest-requires-clause-from
+finish_rest-rest-requires-clause-from g c =
+    let a = c.self.inside in
+    let due = open-is _ c.in-Entered.span c.in-Entered.copied c.in-Entered.sectioned (subst (λ p. IsWindowOpen p) (sym c.self.view_is) c.requires.due) c.in-Entered.is in
+    (subst (λ (k : Course). IsWindowOf a.members.newest k.window) due c.self.invariant.kept.course_is.window).1
+
+pub finish_rest-rest-requires-clause-wide : goal.finish_rest-rest-requires-clause-wide
+finish_rest-rest-requires-clause-wide g c =
+    let was = c.self.invariant in
+    let a = c.self.inside in
+    let due = open-is _ c.in-Entered.span c.in-Entered.copied c.in-Entered.sectioned (subst (λ p. IsWindowOpen p) (sym c.self.view_is) c.requires.due) c.in-Entered.is in
+    let window = (subst (λ (k : Course). IsWindowOf a.members.newest k.window) due was.kept.course_is.window).0 in
+    let reach = window-reach a.members.newest was.kept.members_are.placed.fit c.in-Entered.span window in
+    let wide = was.wide in
+    omega (arith, reach, wide)
+
+-- ---- it isn't finished
+
+pub invariant_of-self-in-Some-refusal : goal.invariant_of-self-in-Some-refusal
+invariant_of-self-in-Some-refusal g c =
+    let was = c.self.invariant in
+    let a = c.self.inside in
+    let given = g.B.Bank.given a.bank in
+    let scope = scope_in given a.epoch.uuid a.epoch.given (Some a.backup) in
+    let goes : IsCallGoing a.epoch.entries.items c.args.who = subst (λ p. IsCallGoing p.parts.entries c.args.who) (sym c.self.view_is) c.requires.open in
+    let steps : 1 ≤ a.steps = subst (λ p. 1 ≤ p.parts.steps) (sym c.self.view_is) c.requires.room in
+    let m = c.finish_rest-rest.new.members in
+    let did = c.finish_rest-rest.ensures in
+    let tape = g.B.Bank.tape a.bank in
+    let tape' = g.B.Bank.tape c.finish_rest-rest.new.bank in
+    let roles = c.finish_rest-rest.result.roles in
+    let spares = c.finish_rest-rest.result.spares in
+    let end = c.ops-end-2.result in
+    let refusal = c.in-Some-refusal.refusal in
+    let span = c.in-Entered.span in
+    let due = open-is _ span c.in-Entered.copied c.in-Entered.sectioned (subst (λ p. IsWindowOpen p) (sym c.self.view_is) c.requires.due) c.in-Entered.is in
+    let by : IsFinishedBy g.B.Bank.tells given tape tape' a.members m (final_shape a.members.newest) span c.in-Entered.copied c.finish_rest-rest.result.copied (take (512 * (span.hi - span.lo)) c.as_slice.result.now) roles c.finish_rest-rest.result.refusal =
+    record {
+      final = refl;
+      moved = did.moved;
+      refused = did.refused;
+      clean = did.clean;
+      all = did.all;
+      stands = did.stands;
+      others = did.others;
+      plain = did.plain;
+      rise = did.rise;
+      unused = did.unused;
+      since = finished-missing given a.members m span c.finish_rest-rest.result.refusal did.moved did.since;
+      safe = did.safe;
+    } in
+    let kept = finish-refused a.course a.ahead a.window.items span c.in-Entered.copied c.finish_rest-rest.result.copied c.in-Entered.sectioned c.args.who end roles spares was.kept due goes c.requires.caller c.ops-end-2.ensures.count
+    did.grows c.in_default.ensures c.finish_rest-rest.result.refusal
+    (subst (λ (l : List ℕ). IsFinishedBy g.B.Bank.tells given tape tape' a.members m (final_shape a.members.newest) span c.in-Entered.copied c.finish_rest-rest.result.copied (take (512 * (span.hi - span.lo)) l) roles c.finish_rest-rest.result.refusal) c.as_slice.ensures.value by)
+    refusal c.in-Some-refusal.is in
+    let moved = moved-if given span a.members m c.finish_rest-rest.result.refusal refusal c.in-Some-refusal.is did.moved in
+    with-buffer (let len = (with_items a.buffer c.finish_rest-rest.new.scratch).ok.0 in let ok = a.buffer.ok.0 in omega (arith, len, ok, was.buffer_fits))
+    (ready (entries_of c.args.who end (losses_of roles spares ++ Refused refusal ∷ [])) was did.grows (shapes-moved given a.members m moved) kept
+    refl did.counts (behind-keeps c.args.who end roles spares (Refused refusal) (λ n. refl) refl)
+    (behind-whole tape' scope a.epoch.first a.epoch.entries.items c.args.who end roles spares (Refused refusal) moved (missing-since roles moved did.since.vacant)) did.given (scope-same given (Some a.backup) did.given c.enter_behind.ensures.uuid c.enter_behind.ensures.given) c.enter_behind.ensures.first refl c.enter_behind.ensures.items
+    (let had = was.room_left in let room = c.enter_behind.ensures.room in omega (arith, room, had, steps)))
+
+pub returns-in-Some-refusal-clause-called : goal.returns-in-Some-refusal-clause-called
+returns-in-Some-refusal-clause-called g c =
+    let was = c.self.invariant in
+    let a = c.self.inside in
+    let given = g.B.Bank.given a.bank in
+    let m = c.finish_rest-rest.new.members in
+    let did = c.finish_rest-rest.ensures in
+    let before = g.B.Bank.faults_of a.bank in
+    let after = g.B.Bank.faults_of c.finish_rest-rest.new.bank in
+    let roles = c.finish_rest-rest.result.roles in
+    let spares = c.finish_rest-rest.result.spares in
+    let end = c.ops-end-2.result in
+    let event = Refused c.in-Some-refusal.refusal in
+    rw (← c.self.view_is) (called did.grows (moved-if given c.in-Entered.span a.members m c.finish_rest-rest.result.refusal c.in-Some-refusal.refusal c.in-Some-refusal.is did.moved)
+    (ended-behind (g.B.Bank.tape c.finish_rest-rest.new.bank) c.enter_behind.new.epoch.first a.epoch.entries.items c.args.who end (losses_of roles spares) event c.enter_behind.ensures.items c.ops-end-2.ensures.count)
+    (losses-behind a.members m before after a.epoch.entries.items a.epoch.entries.items c.enter_behind.new.epoch.entries.items c.args.who end roles spares event did.since tt refl c.enter_behind.ensures.items)
+    did.counts
+    (record { uuid = c.enter_behind.ensures.uuid; given = c.enter_behind.ensures.given; first = c.enter_behind.ensures.first; backup = refl; work = refl; ahead = refl })
+    (λ t. (was.kept.recorded t).begun))
+
+pub returns-in-Some-refusal-clause-caused : goal.returns-in-Some-refusal-clause-caused
+returns-in-Some-refusal-clause-caused g c =
+    let a = c.self.inside in
+    let m = c.finish_rest-rest.new.members in
+    let refusal = c.in-Some-refusal.refusal in
+    let many = many-of m c.finish_rest-rest.result.refusal refusal c.in-Some-refusal.is c.finish_rest-rest.ensures.refused in
+    rw (← c.self.view_is) (refused-for (list_length a.members.newest) 0 AreTooMany a.members m refusal (too-many-of m refusal many) (omega arith) many)
+
+-- ---- it is finished
+
+pub invariant_of-self-2 : goal.invariant_of-self-2
+invariant_of-self-2 g c =
+    let was = c.self.invariant in
+    let a = c.self.inside in
+    let given = g.B.Bank.given a.bank in
+    let scope = scope_in given a.epoch.uuid a.epoch.given (Some a.backup) in
+    let goes : IsCallGoing a.epoch.entries.items c.args.who = subst (λ p. IsCallGoing p.parts.entries c.args.who) (sym c.self.view_is) c.requires.open in
+    let steps : 1 ≤ a.steps = subst (λ p. 1 ≤ p.parts.steps) (sym c.self.view_is) c.requires.room in
+    let m = c.finish_rest-rest.new.members in
+    let did = c.finish_rest-rest.ensures in
+    let tape = g.B.Bank.tape a.bank in
+    let tape' = g.B.Bank.tape c.finish_rest-rest.new.bank in
+    let roles = c.finish_rest-rest.result.roles in
+    let spares = c.finish_rest-rest.result.spares in
+    let end = c.ops-end-2.result in
+    let left = c.steps_left-left.result in
+    let none = c.in_default-refusal.is in
+    let span = c.in-Entered.span in
+    let due = open-is _ span c.in-Entered.copied c.in-Entered.sectioned (subst (λ p. IsWindowOpen p) (sym c.self.view_is) c.requires.due) c.in-Entered.is in
+    let by : IsFinishedBy g.B.Bank.tells given tape tape' a.members m (final_shape a.members.newest) span c.in-Entered.copied c.finish_rest-rest.result.copied (take (512 * (span.hi - span.lo)) c.as_slice.result.now) roles c.finish_rest-rest.result.refusal =
+    record {
+      final = refl;
+      moved = did.moved;
+      refused = did.refused;
+      clean = did.clean;
+      all = did.all;
+      stands = did.stands;
+      others = did.others;
+      plain = did.plain;
+      rise = did.rise;
+      unused = did.unused;
+      since = finished-missing given a.members m span c.finish_rest-rest.result.refusal did.moved did.since;
+      safe = did.safe;
+    } in
+    let kept = finish-done a.course a.ahead a.window.items span c.in-Entered.copied c.finish_rest-rest.result.copied c.in-Entered.sectioned c.args.who end roles spares was.kept due goes c.requires.caller c.ops-end-2.ensures.count
+    did.grows c.in_default.ensures c.finish_rest-rest.result.refusal
+    (subst (λ (l : List ℕ). IsFinishedBy g.B.Bank.tells given tape tape' a.members m (final_shape a.members.newest) span c.in-Entered.copied c.finish_rest-rest.result.copied (take (512 * (span.hi - span.lo)) l) roles c.finish_rest-rest.result.refusal) c.as_slice.ensures.value by)
+    left none c.steps_left-left.ensures in
+    let moved = moved-none given span a.members m c.finish_rest-rest.result.refusal none did.moved in
+    with-buffer (let len = (with_items a.buffer c.finish_rest-rest.new.scratch).ok.0 in let ok = a.buffer.ok.0 in omega (arith, len, ok, was.buffer_fits))
+    (ready (entries_of c.args.who end (losses_of roles spares ++ Step FinishesWindow left ∷ [])) was did.grows (shapes-past given a.members m span moved) kept
+    refl did.counts (behind-keeps c.args.who end roles spares (Step FinishesWindow left) (λ n. refl) refl)
+    (behind-whole {old = moved_past span a.members} tape' scope a.epoch.first a.epoch.entries.items c.args.who end roles spares (Step FinishesWindow left) moved (missing-since {old = moved_past span a.members} roles moved did.since.vacant)) did.given (scope-same given (Some a.backup) did.given c.enter_behind-2.ensures.uuid c.enter_behind-2.ensures.given) c.enter_behind-2.ensures.first refl c.enter_behind-2.ensures.items
+    (let had = was.room_left in let room = c.enter_behind-2.ensures.room in omega (arith, room, had, steps)))
+
+pub returns-clause-goes : goal.returns-clause-goes
+returns-clause-goes g c =
+    let was = c.self.invariant in
+    let a = c.self.inside in
+    let goes : IsCallGoing a.epoch.entries.items c.args.who = subst (λ p. IsCallGoing p.parts.entries c.args.who) (sym c.self.view_is) c.requires.open in
+    let roles = c.finish_rest-rest.result.roles in
+    let spares = c.finish_rest-rest.result.spares in
+    subst (λ l. IsCallGoing l c.args.who) (sym c.enter_behind-2.ensures.items) (going-on a.epoch.entries.items c.args.who c.ops-end-2.result roles spares (Step FinishesWindow c.steps_left-left.result) goes tt)
+
+pub returns-clause-called : goal.returns-clause-called
+returns-clause-called g c =
+    let was = c.self.invariant in
+    let a = c.self.inside in
+    let given = g.B.Bank.given a.bank in
+    let scope = scope_in given a.epoch.uuid a.epoch.given (Some a.backup) in
+    let m = c.finish_rest-rest.new.members in
+    let did = c.finish_rest-rest.ensures in
+    let before = g.B.Bank.faults_of a.bank in
+    let after = g.B.Bank.faults_of c.finish_rest-rest.new.bank in
+    let roles = c.finish_rest-rest.result.roles in
+    let spares = c.finish_rest-rest.result.spares in
+    let end = c.ops-end-2.result in
+    let event = Step FinishesWindow c.steps_left-left.result in
+    let moved = moved-none given c.in-Entered.span a.members m c.finish_rest-rest.result.refusal c.in_default-refusal.is did.moved in
+    rw (← c.self.view_is) (record {
+      grows = did.grows;
+      ended = ended-behind (g.B.Bank.tape c.finish_rest-rest.new.bank) c.enter_behind-2.new.epoch.first a.epoch.entries.items c.args.who end (losses_of roles spares) event c.enter_behind-2.ensures.items c.ops-end-2.ensures.count;
+      held = moved.held;
+      spares = moved.fewer;
+      losses = losses-behind a.members m before after a.epoch.entries.items a.epoch.entries.items c.enter_behind-2.new.epoch.entries.items c.args.who end roles spares event did.since tt refl c.enter_behind-2.ensures.items;
+      never_falls = did.counts;
+      work = refl;
+      same = record {
+        array = record {
+          uuid = c.enter_behind-2.ensures.uuid;
+          given = c.enter_behind-2.ensures.given;
+          first = c.enter_behind-2.ensures.first;
+          backup = refl;
+          shape = moved.shape;
+          size = moved.size;
+          list = list-same given scope a.epoch.first refl
+              (scope-same given (Some a.backup) refl c.enter_behind-2.ensures.uuid c.enter_behind-2.ensures.given) c.enter_behind-2.ensures.first did.grows (λ t. (was.kept.recorded t).begun);
+        };
+        final = moved.reshape.final;
+        backward = moved.reshape.backward;
+        ahead = refl;
+      };
+    })
+
+pub returns-clause-caused : goal.returns-clause-caused
+returns-clause-caused g c = rw (← c.self.view_is) (omega arith, λ refusal many. never-both c.self.inside.members refusal c.in_default.ensures many)

@@ -1,0 +1,330 @@
+use Rattle.std.proofs.Common.{◌≡◌, ◌≤◌, ◌<◌, ◌+◌, ◌/◌, ℕ, false, List, [], ◌∷◌, ◌++◌, length, Some, refl, sym, ◌∙◌, ap, subst, arith}
+use Rattle.md_base.specs.Sectors.{Sector, sectors_of}
+use Rattle.md_base.specs.declared.answers.Refusal.{Refusal}
+use Rattle.superblocks.specs.Reading.{list_length}
+use Rattle.superblocks.proofs.ValidFields.{few-roles}
+use Rattle.row_io.specs.Rows.{reading_of, present}
+use Rattle.flat_history.specs.declared.events.Event.{Event}
+use Rattle.flat_history.specs.declared.events.Event.TheVariants.{Refused, Wrote}
+use Rattle.flat_history.specs.Plain.{entries_of}
+use Rattle.flat_history.specs.Stands.{covers}
+use Rattle.views.specs.Lacking.{AreLostSince, AreOtherRowsKept}
+use Rattle.views.specs.Numbers.{is_carried}
+use Rattle.views.proofs.LackingLaws.{lost-since}
+use Rattle.views.proofs.MovedLaws.{grows-none, moved-same}
+use Rattle.call_entries.specs.Losing.{losses_of, failure_events}
+use Rattle.call_entries.proofs.LosingLaws.{no-losses}
+use Rattle.array_kept.specs.Kept.{scope_in}
+use Rattle.array_kept.specs.Calls.{IsRefusedFor}
+use Rattle.array_kept.proofs.LossLaws.{losses-behind, losses-failure, ended-behind, ended-failure}
+use Rattle.array_kept.proofs.ReadyLaws.{scope-same}
+use Rattle.array_kept.proofs.ReplyLaws.{refused-for}
+use Rattle.calls_kept.proofs.ReadLaws.{some-of}
+use Rattle.region_writes.specs.Runs.{IsTornTouched, IsListTorn, IsListUnwritten}
+use Rattle.kept_history.specs.Recorded.{IsCallGoing}
+use Rattle.course_kept.specs.Course.{span_in}
+use Rattle.moving_kept.proofs.Refusals.{quiet-refusal}
+use Rattle.moving_kept.proofs.Resting.{resting-moves}
+use Rattle.moving_kept.proofs.Steps.{missing-since}
+use Rattle.moving_kept.proofs.Writing.{ArePut}
+use Rattle.running_words.specs.Parts.{left_in}
+use Rattle.moving.specs.Ready.{bytes_in}
+use Rattle.moving.proofs.Called.{not_254, called, alone-lossless}
+use Rattle.moving.proofs.Kept.{ready, shapes-same, shapes-moved, alone-keeps, behind-keeps, behind-whole, left-moved}
+use Rattle.moving.proofs.Settled.{risen-told}
+use Rattle.moving.proofs.WriteLaws.{first-right, wrote-kept, unwritten-kept, with-rooms, failure-keeps, failure-whole, torn-missing}
+use Rattle.moving.proofs.state.Moving.write_beside.Goals as goal
+
+-- ---- refused before any row is read
+
+pub invariant_of-self : goal.invariant_of-self
+invariant_of-self g c =
+    let was = c.self.invariant in
+    let a = c.self.inside in
+    let given = g.B.Bank.given a.bank in
+    let scope = scope_in given a.epoch.uuid a.epoch.given (Some a.backup) in
+    let goes : IsCallGoing a.epoch.entries.items c.args.who = subst (λ p. IsCallGoing p.parts.entries c.args.who) (sym c.self.view_is) c.requires.open in
+    let steps : 1 ≤ a.steps = subst (λ p. 1 ≤ p.parts.steps) (sym c.self.view_is) c.requires.room in
+    let to = c.args.at + length c.args.from.now / 512 in
+    let tape = g.B.Bank.tape a.bank in
+    let end = c.ops-end.result in
+    let refusal = c.in-Some.refusal in
+    let why = subst (λ (n : ℕ). IsRefusedFor n to (IsListUnwritten (list_length a.members.newest) c.args.at to) a.members a.members refusal) c.list_sectors-sectors.ensures.length c.in-Some.ensures.why in
+    let kept = resting-moves g.B.Bank.tells given tape scope a.epoch.first a.epoch.entries.items a.members (is_carried a.work) a.course (bytes_in a.course.window a.window.items) (left_in a.members a.course a.ahead)
+    c.args.who end (Refused refusal) was.kept goes (not_254 c.args.who.caller c.requires.caller) c.ops-end.ensures.count (quiet-refusal refusal) (λ told is. is)
+    (λ t right. first-right was.kept was.unlimited c.args.at to refusal why t right) in
+    ready (entries_of c.args.who end (Refused refusal ∷ [])) was (grows-none (λ t. refl)) (shapes-same a.members.newest) kept
+    refl (λ slot. omega arith) (alone-keeps c.args.who end (Refused refusal) (λ n. refl) refl) (λ none whole. whole) refl (scope-same given (Some a.backup) refl c.enter.ensures.uuid c.enter.ensures.given) c.enter.ensures.first refl c.enter.ensures.items
+    (let had = was.room_left in let room = c.enter.ensures.room in omega (arith, room, had, steps))
+
+pub returns-in-Some-clause-entered : goal.returns-in-Some-clause-entered
+returns-in-Some-clause-entered g c =
+    let a = c.self.inside in
+    let end = c.ops-end.result in
+    rw (← c.self.view_is) (0, 0, false, end, c.enter.ensures.items ∙ ap (λ (l : List Event). a.epoch.entries.items ++ entries_of c.args.who end (l ++ Refused c.in-Some.refusal ∷ [])) (sym no-losses))
+
+pub returns-in-Some-clause-called : goal.returns-in-Some-clause-called
+returns-in-Some-clause-called g c =
+    let was = c.self.invariant in
+    let a = c.self.inside in
+    let given = g.B.Bank.given a.bank in
+    let faults = g.B.Bank.faults_of a.bank in
+    let end = c.ops-end.result in
+    let refusal = c.in-Some.refusal in
+    rw (← c.self.view_is) (called (grows-none (λ t. refl)) (moved-same given given a.members a.members refl refl was.kept.members_are.placed was.kept.members_are.unlost)
+    (ended-behind (g.B.Bank.tape a.bank) c.enter.new.epoch.first a.epoch.entries.items c.args.who end [] (Refused refusal) c.enter.ensures.items c.ops-end.ensures.count)
+    (alone-lossless a.members faults faults a.epoch.entries.items a.epoch.entries.items c.enter.new.epoch.entries.items c.args.who end (Refused refusal) tt refl c.enter.ensures.items)
+    (λ slot. omega arith)
+    (record { uuid = c.enter.ensures.uuid; given = c.enter.ensures.given; first = c.enter.ensures.first; backup = refl; work = refl; ahead = refl })
+    (λ t. (was.kept.recorded t).begun))
+
+pub returns-in-Some-clause-caused : goal.returns-in-Some-clause-caused
+returns-in-Some-clause-caused g c =
+    let a = c.self.inside in
+    let to = c.args.at + length c.args.from.now / 512 in
+    rw (← c.self.view_is) (subst (λ (n : ℕ). IsRefusedFor n to (IsListUnwritten (list_length a.members.newest) c.args.at to) a.members a.members c.in-Some.refusal) c.list_sectors-sectors.ensures.length c.in-Some.ensures.why)
+
+-- ---- the roles, and the sectors
+
+pub overflow_cast-count : goal.overflow_cast-count
+overflow_cast-count g c =
+    let members = c.self.invariant.kept.members_are in
+    let few = few-roles c.self.inside.members.newest members.placed.fit.valid in
+    let roles = members.backed.roles in
+    let long = c.len-count.ensures in
+    omega (arith, few, roles, long)
+
+pub vacant_roles-before-requires-clause-few : goal.vacant_roles-before-requires-clause-few
+vacant_roles-before-requires-clause-few g c =
+    let members = c.self.invariant.kept.members_are in
+    let few = few-roles c.self.inside.members.newest members.placed.fit.valid in
+    let roles = members.backed.roles in
+    let long = c.len-count.ensures in
+    omega (arith, few, roles, long)
+
+pub newly_vacant-roles-requires-clause-few : goal.newly_vacant-roles-requires-clause-few
+newly_vacant-roles-requires-clause-few g c =
+    let members = c.self.invariant.kept.members_are in
+    let few = few-roles c.self.inside.members.newest members.placed.fit.valid in
+    let roles = members.backed.roles in
+    let long = c.len-count.ensures in
+    omega (arith, few, roles, long)
+
+pub put_list-done-requires-clause-within : goal.put_list-done-requires-clause-within
+put_list-done-requires-clause-within g c =
+    let size = c.list_sectors-sectors.ensures.length in
+    let within = c.in_default.ensures.why.0 in
+    omega (arith, size, within)
+
+-- ---- it isn't done
+
+pub invariant_of-self-in-Some-refusal : goal.invariant_of-self-in-Some-refusal
+invariant_of-self-in-Some-refusal g c =
+    let was = c.self.invariant in
+    let here = was.kept.members_are in
+    let a = c.self.inside in
+    let given = g.B.Bank.given a.bank in
+    let scope = scope_in given a.epoch.uuid a.epoch.given (Some a.backup) in
+    let goes : IsCallGoing a.epoch.entries.items c.args.who = subst (λ p. IsCallGoing p.parts.entries c.args.who) (sym c.self.view_is) c.requires.open in
+    let steps : 1 ≤ a.steps = subst (λ p. 1 ≤ p.parts.steps) (sym c.self.view_is) c.requires.room in
+    let m = c.put_list-done.new.members in
+    let did = c.put_list-done.ensures in
+    let tape = g.B.Bank.tape a.bank in
+    let tape' = g.B.Bank.tape c.put_list-done.new.bank in
+    let before = g.B.Bank.faults_of a.bank in
+    let after = g.B.Bank.faults_of c.put_list-done.new.bank in
+    let at = c.args.at in
+    let from = c.args.from.now in
+    let to = at + length from / 512 in
+    let size = c.list_sectors-sectors.ensures.length in
+    let relied = c.list_sectors-sectors.result in
+    let begun = c.put_list-done.result.begun in
+    let roles = c.newly_vacant-roles.result in
+    let spares = c.put_list-done.result.spares in
+    let end = c.ops-end-2.result in
+    let refusal = c.in-Some-refusal.refusal in
+    let is = c.in-Some-refusal.is in
+    let since : AreLostSince a.members m roles spares before after = lost-since given a.members m c.len-count.result c.vacant_roles-before.result roles spares before after here.placed did.moved did.failed
+    (c.len-count.ensures ∙ here.backed.roles) c.vacant_roles-before.ensures c.newly_vacant-roles.ensures in
+    let fine : (refusal : Refusal) → IsListUnwritten relied at to a.members refusal → ⊥ =
+    λ refusal why. c.in_default.ensures.why.1 refusal (subst (λ (n : ℕ). IsListUnwritten n at to a.members refusal) size why) in
+    let put : ArePut g.B.Bank.tells given tape tape' a.members m a.course at from relied roles begun =
+    record {
+      within = (let within = c.in_default.ensures.why.0 in omega (arith, size, within));
+      beside = subst (λ p. (x : ℕ) → at ≤ x → x < to → covers (span_in p.course.window) x ≡ false) (sym c.self.view_is) c.requires.beside;
+      moved = did.moved;
+      few = few-roles m.newest did.moved.placed.fit.valid;
+      since = missing-since roles did.moved since.vacant;
+      rise = risen-told did.rise;
+      unused = did.unused;
+      safe = did.safe;
+    } in
+    let kept = unwritten-kept a.course a.ahead (bytes_in a.course.window a.window.items) c.args.who end roles spares at from relied begun was.kept goes c.requires.caller c.ops-end-2.ensures.count did.grows was.unlimited fine put refusal
+    (record {
+      refused = some-of (IsListUnwritten relied at to m) c.put_list-done.result.refusal refusal is did.refused;
+      torn = λ begun. some-of (IsListTorn at to m) c.put_list-done.result.refusal refusal is (did.torn begun);
+      torn_rows = some-of (λ refusal. g.B.Bank.tells → AreOtherRowsKept (IsTornTouched a.members.newest at to m) (reading_of m) (present given tape) (present given tape')) c.put_list-done.result.refusal refusal is did.torn_rows;
+      pending = λ t less. absurd (omega (arith, less, size));
+    }) in
+    with-rooms did.rows did.buffer did.far_rows did.far_buffer
+    (ready (entries_of c.args.who end (failure_events roles spares begun at (sectors_of from) refusal)) was did.grows (shapes-moved given a.members m did.moved) kept
+    refl did.counts (failure-keeps c.args.who end roles spares begun at (sectors_of from) refusal)
+    (failure-whole tape' scope a.epoch.first a.epoch.entries.items c.args.who end roles spares begun at (sectors_of from) refusal did.moved (missing-since roles did.moved since.vacant)) did.given (scope-same given (Some a.backup) did.given c.enter_failure.ensures.uuid c.enter_failure.ensures.given) c.enter_failure.ensures.first refl
+    (c.enter_failure.ensures.items ∙ ap (λ (b : List Sector). a.epoch.entries.items ++ entries_of c.args.who end (failure_events roles spares begun at b refusal)) c.requires.body)
+    (let had = was.room_left in let room = c.enter_failure.ensures.room in omega (arith, room, had, steps)))
+
+pub returns-in-Some-refusal-clause-entered : goal.returns-in-Some-refusal-clause-entered
+returns-in-Some-refusal-clause-entered g c =
+    let a = c.self.inside in
+    let end = c.ops-end-2.result in
+    let roles = c.newly_vacant-roles.result in
+    let spares = c.put_list-done.result.spares in
+    let begun = c.put_list-done.result.begun in
+    rw (← c.self.view_is) (
+      roles,
+      spares,
+      begun,
+      end,
+      c.enter_failure.ensures.items ∙ ap (λ (b : List Sector). a.epoch.entries.items ++ entries_of c.args.who end (failure_events roles spares begun c.args.at b c.in-Some-refusal.refusal)) c.requires.body,
+    )
+
+pub returns-in-Some-refusal-clause-called : goal.returns-in-Some-refusal-clause-called
+returns-in-Some-refusal-clause-called g c =
+    let was = c.self.invariant in
+    let here = was.kept.members_are in
+    let a = c.self.inside in
+    let given = g.B.Bank.given a.bank in
+    let m = c.put_list-done.new.members in
+    let did = c.put_list-done.ensures in
+    let before = g.B.Bank.faults_of a.bank in
+    let after = g.B.Bank.faults_of c.put_list-done.new.bank in
+    let roles = c.newly_vacant-roles.result in
+    let spares = c.put_list-done.result.spares in
+    let begun = c.put_list-done.result.begun in
+    let end = c.ops-end-2.result in
+    let refusal = c.in-Some-refusal.refusal in
+    let since : AreLostSince a.members m roles spares before after = lost-since given a.members m c.len-count.result c.vacant_roles-before.result roles spares before after here.placed did.moved did.failed
+    (c.len-count.ensures ∙ here.backed.roles) c.vacant_roles-before.ensures c.newly_vacant-roles.ensures in
+    rw (← c.self.view_is) (called did.grows did.moved
+    (ended-failure (g.B.Bank.tape c.put_list-done.new.bank) c.enter_failure.new.epoch.first a.epoch.entries.items c.args.who end roles spares begun c.args.at c.args.body refusal c.enter_failure.ensures.items c.ops-end-2.ensures.count)
+    (losses-failure a.members m before after a.epoch.entries.items a.epoch.entries.items c.enter_failure.new.epoch.entries.items c.args.who end roles spares begun c.args.at c.args.body refusal since refl c.enter_failure.ensures.items)
+    did.counts
+    (record { uuid = c.enter_failure.ensures.uuid; given = c.enter_failure.ensures.given; first = c.enter_failure.ensures.first; backup = refl; work = refl; ahead = refl })
+    (λ t. (was.kept.recorded t).begun))
+
+pub returns-in-Some-refusal-clause-caused : goal.returns-in-Some-refusal-clause-caused
+returns-in-Some-refusal-clause-caused g c =
+    let a = c.self.inside in
+    let m = c.put_list-done.new.members in
+    let at = c.args.at in
+    let to = at + length c.args.from.now / 512 in
+    let size = c.list_sectors-sectors.ensures.length in
+    let refusal = c.in-Some-refusal.refusal in
+    let why = subst (λ (n : ℕ). IsListUnwritten n at to m refusal) size (some-of (IsListUnwritten c.list_sectors-sectors.result at to m) c.put_list-done.result.refusal refusal c.in-Some-refusal.is c.put_list-done.ensures.refused) in
+    rw (← c.self.view_is) (refused-for (list_length a.members.newest) to (IsListUnwritten (list_length a.members.newest) at to) a.members m refusal (torn-missing (list_length a.members.newest) at to m refusal why)
+    (let within = c.in_default.ensures.why.0 in omega (arith, size, within)) why)
+
+pub returns-in-Some-refusal-clause-left : goal.returns-in-Some-refusal-clause-left
+returns-in-Some-refusal-clause-left g c =
+    let a = c.self.inside in
+    rw (← c.self.view_is) (left-moved (g.B.Bank.given a.bank) a.members c.put_list-done.new.members a.course a.ahead c.put_list-done.ensures.moved)
+
+-- ---- it is done
+
+pub invariant_of-self-2 : goal.invariant_of-self-2
+invariant_of-self-2 g c =
+    let was = c.self.invariant in
+    let here = was.kept.members_are in
+    let a = c.self.inside in
+    let given = g.B.Bank.given a.bank in
+    let scope = scope_in given a.epoch.uuid a.epoch.given (Some a.backup) in
+    let goes : IsCallGoing a.epoch.entries.items c.args.who = subst (λ p. IsCallGoing p.parts.entries c.args.who) (sym c.self.view_is) c.requires.open in
+    let steps : 1 ≤ a.steps = subst (λ p. 1 ≤ p.parts.steps) (sym c.self.view_is) c.requires.room in
+    let m = c.put_list-done.new.members in
+    let did = c.put_list-done.ensures in
+    let tape = g.B.Bank.tape a.bank in
+    let tape' = g.B.Bank.tape c.put_list-done.new.bank in
+    let before = g.B.Bank.faults_of a.bank in
+    let after = g.B.Bank.faults_of c.put_list-done.new.bank in
+    let at = c.args.at in
+    let from = c.args.from.now in
+    let to = at + length from / 512 in
+    let size = c.list_sectors-sectors.ensures.length in
+    let relied = c.list_sectors-sectors.result in
+    let begun = c.put_list-done.result.begun in
+    let roles = c.newly_vacant-roles.result in
+    let spares = c.put_list-done.result.spares in
+    let end = c.ops-end-2.result in
+    let none = c.in_default-refusal.is in
+    let since : AreLostSince a.members m roles spares before after = lost-since given a.members m c.len-count.result c.vacant_roles-before.result roles spares before after here.placed did.moved did.failed
+    (c.len-count.ensures ∙ here.backed.roles) c.vacant_roles-before.ensures c.newly_vacant-roles.ensures in
+    let fine : (refusal : Refusal) → IsListUnwritten relied at to a.members refusal → ⊥ =
+    λ refusal why. c.in_default.ensures.why.1 refusal (subst (λ (n : ℕ). IsListUnwritten n at to a.members refusal) size why) in
+    let put : ArePut g.B.Bank.tells given tape tape' a.members m a.course at from relied roles begun =
+    record {
+      within = (let within = c.in_default.ensures.why.0 in omega (arith, size, within));
+      beside = subst (λ p. (x : ℕ) → at ≤ x → x < to → covers (span_in p.course.window) x ≡ false) (sym c.self.view_is) c.requires.beside;
+      moved = did.moved;
+      few = few-roles m.newest did.moved.placed.fit.valid;
+      since = missing-since roles did.moved since.vacant;
+      rise = risen-told did.rise;
+      unused = did.unused;
+      safe = did.safe;
+    } in
+    let kept = wrote-kept a.course a.ahead (bytes_in a.course.window a.window.items) c.args.who end roles spares at from relied begun was.kept goes c.requires.caller c.ops-end-2.ensures.count did.grows was.unlimited fine put
+    (record { bytes = λ i. (c.type_inv.from i).fits; put = did.put none; tail = did.tail none; others = did.others; good = did.good none }) in
+    with-rooms did.rows did.buffer did.far_rows did.far_buffer
+    (ready (entries_of c.args.who end (losses_of roles spares ++ Wrote at (sectors_of from) ∷ [])) was did.grows (shapes-moved given a.members m did.moved) kept
+    refl did.counts (behind-keeps c.args.who end roles spares (Wrote at (sectors_of from)) (λ n. refl) refl)
+    (behind-whole tape' scope a.epoch.first a.epoch.entries.items c.args.who end roles spares (Wrote at (sectors_of from)) did.moved (missing-since roles did.moved since.vacant)) did.given (scope-same given (Some a.backup) did.given c.enter_behind.ensures.uuid c.enter_behind.ensures.given) c.enter_behind.ensures.first refl
+    (c.enter_behind.ensures.items ∙ ap (λ (b : List Sector). a.epoch.entries.items ++ entries_of c.args.who end (losses_of roles spares ++ Wrote at b ∷ [])) c.requires.body)
+    (let had = was.room_left in let room = c.enter_behind.ensures.room in omega (arith, room, had, steps)))
+
+pub returns-clause-entered : goal.returns-clause-entered
+returns-clause-entered g c =
+    let a = c.self.inside in
+    let end = c.ops-end-2.result in
+    let roles = c.newly_vacant-roles.result in
+    let spares = c.put_list-done.result.spares in
+    rw (← c.self.view_is) (record {
+      roles = roles;
+      spares = spares;
+      end = end;
+      is = c.enter_behind.ensures.items ∙ ap (λ (b : List Sector). a.epoch.entries.items ++ entries_of c.args.who end (losses_of roles spares ++ Wrote c.args.at b ∷ [])) c.requires.body;
+    })
+
+pub returns-clause-called : goal.returns-clause-called
+returns-clause-called g c =
+    let was = c.self.invariant in
+    let here = was.kept.members_are in
+    let a = c.self.inside in
+    let given = g.B.Bank.given a.bank in
+    let m = c.put_list-done.new.members in
+    let did = c.put_list-done.ensures in
+    let before = g.B.Bank.faults_of a.bank in
+    let after = g.B.Bank.faults_of c.put_list-done.new.bank in
+    let roles = c.newly_vacant-roles.result in
+    let spares = c.put_list-done.result.spares in
+    let end = c.ops-end-2.result in
+    let event = Wrote c.args.at c.args.body in
+    let since : AreLostSince a.members m roles spares before after = lost-since given a.members m c.len-count.result c.vacant_roles-before.result roles spares before after here.placed did.moved did.failed
+    (c.len-count.ensures ∙ here.backed.roles) c.vacant_roles-before.ensures c.newly_vacant-roles.ensures in
+    rw (← c.self.view_is) (called did.grows did.moved
+    (ended-behind (g.B.Bank.tape c.put_list-done.new.bank) c.enter_behind.new.epoch.first a.epoch.entries.items c.args.who end (losses_of roles spares) event c.enter_behind.ensures.items c.ops-end-2.ensures.count)
+    (losses-behind a.members m before after a.epoch.entries.items a.epoch.entries.items c.enter_behind.new.epoch.entries.items c.args.who end roles spares event since tt refl c.enter_behind.ensures.items)
+    did.counts
+    (record { uuid = c.enter_behind.ensures.uuid; given = c.enter_behind.ensures.given; first = c.enter_behind.ensures.first; backup = refl; work = refl; ahead = refl })
+    (λ t. (was.kept.recorded t).begun))
+
+pub returns-clause-caused : goal.returns-clause-caused
+returns-clause-caused g c =
+    let size = c.list_sectors-sectors.ensures.length in
+    rw (← c.self.view_is) ((let within = c.in_default.ensures.why.0 in omega (arith, size, within)), c.in_default.ensures.why.1)
+
+pub returns-clause-dirty : goal.returns-clause-dirty
+returns-clause-dirty g c = c.put_list-done.ensures.dirty c.in_default-refusal.is
+
+pub returns-clause-left : goal.returns-clause-left
+returns-clause-left g c =
+    let a = c.self.inside in
+    rw (← c.self.view_is) (left-moved (g.B.Bank.given a.bank) a.members c.put_list-done.new.members a.course a.ahead c.put_list-done.ensures.moved)

@@ -1,0 +1,55 @@
+-- What a write of an array in a reshape enters, and why it isn't done.
+use Rattle.std.specs.Prelude.{◌≡◌, ◌⊎◌, ℕ, ◌<◌, ◌≤◌, ◌++◌, Bool, true, List, Result, Ok, Err}
+use Rattle.md_base.specs.Sectors.{Sector}
+use Rattle.md_base.specs.declared.answers.Fault.{Fault}
+use Rattle.md_base.specs.declared.answers.Fault.TheVariants.{Refused as IsRefusedWith, NoMemory}
+use Rattle.md_base.specs.declared.answers.Refusal.{Refusal}
+use Rattle.md_base.specs.declared.answers.Who.{Who}
+use Rattle.md_base.specs.declared.places.Span.{Span}
+use Rattle.superblocks.specs.declared.members.Members.{Members}
+use Rattle.flat_history.specs.declared.events.Entry.{Entry}
+use Rattle.flat_history.specs.declared.events.Event.TheVariants.{Step, Wrote}
+use Rattle.flat_history.specs.declared.events.StepKind.TheVariants.{WindowFinished as FinishesWindow}
+use Rattle.flat_history.specs.Plain.{entries_of}
+use Rattle.flat_history.specs.Stands.{covers}
+use Rattle.views.specs.Lacking.{AreTooMany}
+use Rattle.call_entries.specs.Losing.{failure_events}
+use Rattle.array_kept.specs.Calls.{IsBehind}
+use Rattle.region_writes.specs.Runs.{IsListUnwritten}
+use Rattle.grow_asked.specs.declared.window.Window.{Window}
+use Rattle.course_kept.specs.Laws.{entered}
+use Rattle.moving_state.specs.Due.{open_in}
+use Rattle.running_words.specs.Parts.{RunningParts}
+
+-- a window is entered
+pub record IsWindowOpen {B : Type 0} (array : RunningParts B) : Type 0 where
+  pub span : Span
+  pub copied : ℕ
+  pub sectioned : Bool
+  pub is : array.course ≡ entered span copied sectioned
+
+-- one of the sectors from this one up to that one lies in the entered window
+abbrev pub TouchesWindow : Window → ℕ → ℕ → Type 0
+TouchesWindow window from to = (x : ℕ) × (from ≤ x) × (x < to) × (covers (open_in window) x ≡ true)
+
+-- Why a write isn't done: as one beside the window; or it touches the entered window, and more roles of a shape in force are missing than it tolerates.
+abbrev pub IsWriteLacked : Window → ℕ → ℕ → ℕ → Members → Refusal → Type 0
+IsWriteLacked window relied from to m refusal = IsListUnwritten relied from to m refusal ⊎ (TouchesWindow window from to × AreTooMany m refusal)
+
+-- A call entered what it lost, and behind it that the sectors are written, or why they aren't, behind what it tore.
+abbrev pub IsPutEntered : {T : Type 0} → Who → List Entry → List Entry → ℕ → List Sector → Result T Fault → Type 0
+IsPutEntered who old new at body (Ok x) = IsBehind who old new (Wrote at body)
+IsPutEntered who old new at body (Err (IsRefusedWith refusal)) = (roles : ℕ) × (spares : ℕ) × (torn : Bool) × (end : ℕ) × (new ≡ old ++ entries_of who end (failure_events roles spares torn at body refusal))
+IsPutEntered who old new at body (Err NoMemory) = ⊥
+
+-- If it touches the entered window, what was lost as that was finished, and that it was, with the steps that were left then, stand before.
+abbrev pub IsFinishedFirst : Window → ℕ → ℕ → Who → List Entry → List Entry → ℕ → Type 0
+IsFinishedFirst window from to who old mid left =
+    (TouchesWindow window from to × IsBehind who old mid (Step FinishesWindow left)) ⊎ ((TouchesWindow window from to → ⊥) × (mid ≡ old))
+
+-- So it is of a write; but one that is refused may leave the window as it was.
+abbrev pub IsWriteEntered : {T : Type 0} → Window → ℕ → ℕ → List Sector → Who → List Entry → List Entry → ℕ → Result T Fault → Type 0
+IsWriteEntered window at to body who old new left (Ok x) = (mid : List Entry) × IsFinishedFirst window at to who old mid left × IsBehind who mid new (Wrote at body)
+IsWriteEntered window at to body who old new left (Err (IsRefusedWith refusal)) = (mid : List Entry) × (IsFinishedFirst window at to who old mid left ⊎ (mid ≡ old))
+    × (roles : ℕ) × (spares : ℕ) × (torn : Bool) × (end : ℕ) × (new ≡ mid ++ entries_of who end (failure_events roles spares torn at body refusal))
+IsWriteEntered window at to body who old new left (Err NoMemory) = new ≡ old

@@ -1,0 +1,164 @@
+//! Writes to an array in a reshape.
+
+ghost use Rattle.std.specs.Prelude.{◌≡◌, ◌≢◌, ◌⊎◌, ◌+◌, ◌/◌, ◌^◌, ◌<◌, ◌≤◌, ℕ, length, false, OnOk, OnErr};
+ghost use Rattle.md_base.specs.Sectors.{IsWhole, sectors_of};
+ghost use Rattle.superblocks.specs.Reading.{is_clean, list_length};
+ghost use Rattle.flat_history.specs.Flat.{next_number};
+ghost use Rattle.flat_history.specs.Stands.{covers};
+ghost use Rattle.flat_history.specs.declared.events.StepKind.TheVariants.{WindowFinished as FinishesWindow};
+ghost use Rattle.views.specs.Lacking.{AreTooMany};
+ghost use Rattle.array_kept.specs.Calls.{IsCausedBy, OnNoMemory};
+ghost use Rattle.region_writes.specs.Runs.{IsListUnwritten};
+ghost use Rattle.kept_history.specs.Recorded.{IsCallGoing};
+ghost use Rattle.course_kept.specs.Course.{span_in};
+ghost use Rattle.course_kept.specs.Laws.{closed};
+ghost use Rattle.moving_state.specs.Due.{unsure_in};
+ghost use Rattle.running_words.specs.Parts.{left_in};
+ghost use Rattle.running_words.specs.Calls.{IsCalled, IsStepTaken};
+ghost use Rattle.moving.specs.Writing.{IsWindowOpen, TouchesWindow, IsWriteLacked, IsPutEntered, IsWriteEntered};
+
+use crate::state::Moving;
+use crate::state::moves::check_going;
+use bank::Bank;
+use call_entries::calls::{enter, enter_behind, enter_failure};
+use flat_history::Event;
+use md_base::{Fault, Sectors, Who};
+use moving_state::refusing::unwritten_from;
+use moving_state::reshape::list_sectors;
+use moving_state::windows::{meets, open_span};
+use region_writes::writing::put_list;
+use safe_updates::naming::newly_vacant;
+use safe_updates::roles::vacant_roles;
+
+impl<B: Bank> Moving<B> {
+    // Puts the sectors of `from`, 1 to 128, into the list from `at` on, none of them in the window under way; `body` has the same.
+    fn write_beside(&mut self, who: Who, at: u64, from: &[u8], body: Sectors) -> Result<(), Fault>
+        requires open { IsCallGoing self.old.parts.entries who }
+        requires caller { who.caller ≢ 254 }
+        requires room { 1 ≤ self.old.parts.steps }
+        requires whole { IsWhole from.now }
+        requires some { 0 < length from.now / 512 }
+        requires few { length from.now / 512 ≤ 128 }
+        requires short { at + length from.now / 512 < 2 ^ 63 }
+        requires body { body ≡ sectors_of from.now }
+        requires beside { (x : ℕ) → at ≤ x → x < at + length from.now / 512 → covers (span_in self.old.course.window) x ≡ false }
+        ensures entered { IsPutEntered who self.old.parts.entries self.new.parts.entries at (sectors_of from.now) result }
+        ensures called { IsCalled B.tells (B.given self.old.parts.bank) (B.tape self.old.parts.bank) (B.tape self.new.parts.bank) (B.faults_of self.old.parts.bank) (B.faults_of self.new.parts.bank) self.old self.new }
+        ensures caused { IsCausedBy (list_length self.old.parts.members.newest) (at + length from.now / 512) (IsListUnwritten (list_length self.old.parts.members.newest) at (at + length from.now / 512))
+            self.old.parts.members self.new.parts.members result }
+        ensures dirty { OnOk result (is_clean self.new.parts.members.newest ≡ false) }
+        ensures left { left_in self.new.parts.members self.new.course self.new.ahead ≡ left_in self.old.parts.members self.old.course self.old.ahead }
+        ensures course { self.new.course ≡ self.old.course }
+        ensures given { B.given self.new.parts.bank ≡ B.given self.old.parts.bank }
+    {
+        self.steps -= 1;
+        check_going(&self.epoch.entries, who);
+        let asked = (from.len() / 512) as u64;
+        let sectors = list_sectors(&self.members);
+        if let Some(refusal) = unwritten_from(&self.members, sectors, at, asked) {
+            let end = self.bank.ops();
+            enter(&mut self.epoch, who, end, Event::Refused { refusal });
+            return Err(Fault::Refused(refusal));
+        }
+        let count = self.members.roles.len() as u32;
+        let before = vacant_roles(&self.members, count);
+        let done = put_list(
+            &mut self.members,
+            &mut self.bank,
+            at,
+            from,
+            &mut self.rows,
+            &mut self.buffer,
+            &mut self.far_rows,
+            &mut self.far_buffer,
+            sectors,
+        );
+        let roles = newly_vacant(&self.members, count, before);
+        let end = self.bank.ops();
+        if let Some(refusal) = done.refusal {
+            enter_failure(
+                &mut self.epoch,
+                who,
+                end,
+                roles,
+                done.spares,
+                done.begun,
+                at,
+                body,
+                refusal,
+            );
+            return Err(Fault::Refused(refusal));
+        }
+        let event = Event::Wrote { at, body };
+        enter_behind(&mut self.epoch, who, end, roles, done.spares, event);
+        Ok(())
+    }
+
+    // Finishes the open window, where nothing speaks against a write of so many sectors, of which some lie in it.
+    fn finish_for(&mut self, who: Who, at: u64, count: u64) -> Result<(), Fault>
+        requires open { IsCallGoing self.old.parts.entries who }
+        requires caller { who.caller ≢ 254 }
+        requires room { 1 ≤ self.old.parts.steps }
+        requires short { at + count < 2 ^ 63 }
+        requires due { IsWindowOpen self.old }
+        ensures entered { IsStepTaken who self.old.parts.entries self.new.parts.entries FinishesWindow (left_in self.new.parts.members self.new.course self.new.ahead) result }
+        ensures goes { OnOk result (IsCallGoing self.new.parts.entries who) }
+        ensures called { IsCalled B.tells (B.given self.old.parts.bank) (B.tape self.old.parts.bank) (B.tape self.new.parts.bank) (B.faults_of self.old.parts.bank) (B.faults_of self.new.parts.bank) self.old self.new }
+        ensures caused { IsCausedBy (list_length self.old.parts.members.newest) (at + count)
+            (λ m refusal. IsListUnwritten (list_length self.old.parts.members.newest) at (at + count) m refusal ⊎ AreTooMany m refusal) self.old.parts.members self.new.parts.members result }
+        ensures closed { OnOk result (self.new.course ≡ closed 0) }
+        ensures room { self.new.parts.steps + 1 ≡ self.old.parts.steps }
+        ensures given { B.given self.new.parts.bank ≡ B.given self.old.parts.bank }
+    {
+        let sectors = list_sectors(&self.members);
+        if let Some(refusal) = unwritten_from(&self.members, sectors, at, count) {
+            self.steps -= 1;
+            check_going(&self.epoch.entries, who);
+            let end = self.bank.ops();
+            enter(&mut self.epoch, who, end, Event::Refused { refusal });
+            return Err(Fault::Refused(refusal));
+        }
+        self.finish_window(who)
+    }
+
+    /// Makes the list hold `from`, of 1 to 128 whole sectors, from `at` on. Where some lie in the open window, that is finished first.
+    /// Refusals: `PastEnd`, and `TooManyMissing` where more roles of the shape of one of them are missing than it tolerates, or, where
+    /// the window has to be finished, of either shape.
+    pub fn write(&mut self, who: Who, at: u64, from: &[u8]) -> Result<(), Fault>
+        requires next { who.number ≡ next_number who.caller self.old.parts.entries }
+        requires caller { who.caller ≢ 254 }
+        requires whole { IsWhole from.now }
+        requires some { 0 < length from.now / 512 }
+        requires few { length from.now / 512 ≤ 128 }
+        requires short { at + length from.now / 512 < 2 ^ 63 }
+        requires sure { (x : ℕ) → at ≤ x → x < at + length from.now / 512 → covers (unsure_in self.old.course.window) x ≡ false }
+        ensures entered { IsWriteEntered self.old.course.window at (at + length from.now / 512) (sectors_of from.now) who self.old.parts.entries self.new.parts.entries (left_in self.new.parts.members self.new.course self.new.ahead) result }
+        ensures unchanged { OnNoMemory result (self.new ≡ self.old) }
+        ensures called { IsCalled B.tells (B.given self.old.parts.bank) (B.tape self.old.parts.bank) (B.tape self.new.parts.bank) (B.faults_of self.old.parts.bank) (B.faults_of self.new.parts.bank) self.old self.new }
+        ensures caused { IsCausedBy (list_length self.old.parts.members.newest) (at + length from.now / 512)
+            (IsWriteLacked self.old.course.window (list_length self.old.parts.members.newest) at (at + length from.now / 512)) self.old.parts.members self.new.parts.members result }
+        ensures dirty { OnOk result (is_clean self.new.parts.members.newest ≡ false) }
+        ensures course { (TouchesWindow self.old.course.window at (at + length from.now / 512) → ⊥) → self.new.course ≡ self.old.course }
+        ensures closed { OnOk result (TouchesWindow self.old.course.window at (at + length from.now / 512) → self.new.course ≡ closed 0) }
+        ensures given { B.given self.new.parts.bank ≡ B.given self.old.parts.bank }
+    {
+        let body = match Sectors::copy_of(self.alloc, from) {
+            Ok(body) => body,
+            Err(_) => return Err(Fault::NoMemory),
+        };
+        match self.epoch.entries.make_room(101) {
+            Ok(()) => {}
+            Err(_) => return Err(Fault::NoMemory),
+        }
+        self.steps = 2;
+        let count = (from.len() / 512) as u64;
+        if !meets(open_span(&self.course), at, at + count) {
+            return self.write_beside(who, at, from, body);
+        }
+        match self.finish_for(who, at, count) {
+            Ok(()) => {}
+            Err(fault) => return Err(fault),
+        }
+        self.write_beside(who, at, from, body)
+    }
+}

@@ -1,0 +1,54 @@
+-- A slot that is taken out of an array, and the naming of what is missing then: what is lost of the members, and how it stands in the history.
+use Rattle.std.proofs.Common.{◌≡◌, ◌⊎◌, inl, inr, ℕ, ◌<◌, ◌==◌, true, Some, List, [], ◌∷◌, ◌++◌, sym, ◌∙◌, ap, append_assoc}
+use Rattle.md_base.specs.Shapes.{has_slot}
+use Rattle.md_base.specs.declared.answers.Who.{Who}
+use Rattle.bank.specs.Given.{Given}
+use Rattle.superblocks.specs.declared.members.Members.{Members}
+use Rattle.superblocks.specs.Reading.{role_count, role_state, holder}
+use Rattle.row_io.specs.Rows.{reading_of, is_missing, members_without}
+use Rattle.flat_history.specs.declared.events.Entry.{Entry}
+use Rattle.flat_history.specs.declared.events.Event.{Event}
+use Rattle.flat_history.specs.Plain.{entries_of}
+use Rattle.shape_changes.specs.Steady.{AreUnlost}
+use Rattle.views.specs.Lacking.{HaveFailedSince, AreLostSince}
+use Rattle.views.specs.Moving.{IsMoved}
+use Rattle.views.specs.Placed.{IsPlaced}
+use Rattle.views.proofs.Fit.{count-alike}
+use Rattle.views.proofs.HeldRows.{missing-before, vacant-missing}
+use Rattle.views.proofs.LackingLaws.{AreVacant, AreNewlyVacant, lost-since}
+use Rattle.views.proofs.MovedLaws.{moved-then}
+use Rattle.call_entries.proofs.PlainLaws.{one}
+use Rattle.calls_kept.proofs.FailedLaws.{placed-out, moved-out, out-only}
+use Rattle.history_calls.proofs.Failed.{IsFailedOrAmong}
+
+-- an event, and others of its call behind it
+pub behind-loss : (old mid new : List Entry) (who : Who) (end : ℕ) (event : Event) (events : List Event) → mid ≡ old ++ entries_of who end (event ∷ []) → new ≡ mid ++ entries_of who end events → new ≡ old ++ entries_of who end (event ∷ events)
+behind-loss old mid new who end event events is more = more ∙ ap (λ (l : List Entry). l ++ entries_of who end events) is ∙ append_assoc old (one who end event ∷ []) (entries_of who end events)
+
+module _ (given : Given) (old mid new : Members) (lost slot role : ℕ) (was : IsPlaced given old) (unlost : AreUnlost old) (is : mid ≡ members_without lost old) (alone : (s : ℕ) → has_slot lost s ≡ (slot == s))
+    (held : holder (role_state (reading_of old) role) ≡ Some slot) (moved : IsMoved given mid new) where
+  out : IsMoved given old mid
+  out = moved-out given old mid lost slot role was unlost is alone held
+
+  pub moved-all : IsMoved given old new
+  moved-all = moved-then given old mid new out moved
+
+  module _ (count before_set roles spares : ℕ) (before after : ℕ → ℕ) (failed : HaveFailedSince mid new spares before after) (count_is : count ≡ role_count old.newest)
+      (vacant : AreVacant mid count before_set) (newly : AreNewlyVacant new count before_set roles) where
+    -- what was lost while it was named
+    pub since-out : AreLostSince mid new roles spares before after
+    since-out = lost-since given mid new count before_set roles spares before after (placed-out given old mid lost slot role was unlost is alone held) moved failed
+        (count_is ∙ sym (count-alike old.newest mid.newest out.reshape out.shape out.size)) vacant newly
+
+    -- what is missing was so before, or it is the role that was taken out, or it was lost besides
+    pub missing-out : (other : ℕ) → other < role_count new.newest → is_missing (reading_of new) other ≡ true → (is_missing (reading_of old) other ≡ true) ⊎ IsFailedOrAmong role roles other
+    missing-out other lt gone = elim (missing-before moved-all other gone) [
+      | inl was_gone ↦ inl was_gone
+      | inr none ↦ elim (since-out.vacant other lt none) [
+        | inl former ↦ elim (out-only given old mid lost slot role was unlost is alone held other former) [
+          | inl first ↦ inl (vacant-missing (reading_of old) other first)
+          | inr same ↦ inr (inl same)
+        ]
+        | inr has ↦ inr (inr has)
+      ]
+    ]

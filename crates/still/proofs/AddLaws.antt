@@ -1,0 +1,152 @@
+-- A slot that is made a spare, from what `add_member` leaves, or isn't; and a bank of which only counts of faults have risen.
+use Rattle.std.proofs.Common.{◌≡◌, ◌≢◌, inl, ℕ, ◌+◌, ◌≤◌, true, false, Option, List, [], ◌∷◌, ◌++◌, length, refl, sym, ◌∙◌, ap₂, subst, arith}
+use Rattle.md_base.specs.Sectors.{Sector}
+use Rattle.md_base.specs.Shapes.{has_slot}
+use Rattle.md_base.specs.declared.answers.Refusal.{Refusal}
+use Rattle.md_base.specs.declared.answers.Refusal.TheVariants.{NoSuchSlot, SlotTaken, TooManyMissing, SlotTooSmall, SlotFault}
+use Rattle.md_base.specs.declared.answers.Who.{Who}
+use Rattle.bank.specs.declared.bank.Operation.{Operation}
+use Rattle.bank.specs.Given.{Given}
+use Rattle.bank.specs.Tape.{IsIn, disk}
+use Rattle.sb1.specs.declared.sb.Sb.{Sb}
+use Rattle.superblocks.specs.declared.members.Members.{Members}
+use Rattle.superblocks.specs.Held.{IsSecondHalf}
+use Rattle.superblocks.specs.Reading.{Scope}
+use Rattle.superblocks.specs.Reads.{has_spare}
+use Rattle.superblocks.proofs.SlotSets.{none_there}
+use Rattle.flat_history.specs.declared.events.Entry.{Entry}
+use Rattle.flat_history.specs.declared.events.Event.{Event}
+use Rattle.flat_history.specs.declared.events.Event.TheVariants.{Added, Refused}
+use Rattle.flat_history.specs.Flat.{next_number}
+use Rattle.flat_history.specs.Plain.{entries_of}
+use Rattle.flat_history.specs.Sound.{OpensFit}
+use Rattle.shape_changes.specs.Safety.{HasLiveSlot}
+use Rattle.views.specs.declared.work.Work.{Work}
+use Rattle.views.specs.Flushing.{OnlyFlushesAdded}
+use Rattle.views.specs.Lacking.{AreLostSince}
+use Rattle.views.specs.Numbers.{is_carried, IsOfScope}
+use Rattle.views.proofs.Flushed.{contents-added}
+use Rattle.views.proofs.MarkedSafe.{added-longer, flushed-safe}
+use Rattle.views.proofs.MovedLaws.{moved-same}
+use Rattle.call_entries.specs.Losing.{losses_of}
+use Rattle.call_entries.proofs.LosingLaws.{no-losses}
+use Rattle.array_kept.specs.Kept.{scope_in}
+use Rattle.array_kept.specs.Calls.{IsUnaddable}
+use Rattle.calls_kept.proofs.AddedKept.{with_carried, AddsSafe}
+use Rattle.calls_kept.proofs.AddedLosses.{IsAddDone, left-carried, left-refused}
+use Rattle.grow_asked.specs.declared.window.PhasesLeft.{PhasesLeft}
+use Rattle.kept_history.proofs.Records.{begins-going}
+use Rattle.still_kept.specs.Still.{IsStill}
+use Rattle.still_kept.proofs.Refusals.{IsRefusedStill}
+use Rattle.still_kept.proofs.Sparing.{added-stands, lost-stands}
+use Rattle.still_kept.proofs.Staying.{IsNamedStill, refused-stands}
+use Rattle.running_words.specs.Parts.{still_left}
+use Rattle.running_words.proofs.Called.{not_254}
+use Rattle.still.specs.Ready.{IsReady}
+use Rattle.still.proofs.StepLaws.{shapes-moved, planned-same}
+
+-- ---- why it isn't, before it is touched
+
+pub unaddable-refused : (given : Given) (backup : Option ℕ) (slot : ℕ) (m : Members) (resync : Option ℕ) (refusal : Refusal) → IsUnaddable given backup slot m refusal → IsRefusedStill resync m refusal
+unaddable-refused given backup slot m resync (NoSuchSlot asked) why = tt
+unaddable-refused given backup slot m resync (SlotTaken taken) why = tt
+unaddable-refused given backup slot m resync (SlotTooSmall have want) why = tt
+unaddable-refused given backup slot m resync (TooManyMissing count most) why = why.2
+unaddable-refused given backup slot m resync refusal why = absurd why
+
+-- ---- where it fails at the first look
+
+module _ {tells : Type 0} {given : Given} {tape tape' : List Operation} {scope : Scope} {first : ℕ} {entries : List Entry} {m : Members} {work : Work} {left : ℕ} (who : Who) (end slot : ℕ)
+    (was : IsStill tells given tape scope first entries m work left) (live : HasLiveSlot m) (number : who.number ≡ next_number who.caller entries) (caller : who.caller ≢ 254) (at_end : tells → end ≡ length tape')
+    (looked : tells → OnlyFlushesAdded tape tape') where
+  none-lost : (role : ℕ) → has_slot 0 role ≡ true → ⊥
+  none-lost role has = let clash : false ≡ true = sym (none_there role) ∙ has in cc
+
+  named : IsNamedStill tells given tape tape' m m 0 0 (λ slot. 0) (λ slot. 0)
+  named = record {
+    moved = moved-same given given m m refl refl was.members_are.placed was.members_are.unlost;
+    since = record {
+      vacant = λ role lt is. inl is;
+      gone = λ role has. absurd (none-lost role has);
+      held = λ role has. absurd (none-lost role has);
+      failed = λ spare has. absurd (none-lost spare has);
+      told = λ spare has. inl has;
+    };
+    grows = record { more = λ t. ((looked t).0, (looked t).2) };
+    clean = refl;
+    rise = λ t. record { left = λ is. is; events = λ u is. (let longer = added-longer tape tape' (looked t) in omega (arith, longer)) };
+    others = λ t s k apart. (λ i. contents-added given.start tape tape' (looked t) i s k);
+    safe = λ t world told room gone unclean began. flushed-safe (OpensFit world) world.scope given told m tape tape' (looked t) began;
+  }
+
+  pub looked-refused : IsStill tells given tape' scope first (entries ++ entries_of who end (Refused (SlotFault slot) ∷ [])) m work left
+  looked-refused =
+      subst (λ (l : List Event). IsStill tells given tape' scope first (entries ++ entries_of who end (l ++ Refused (SlotFault slot) ∷ [])) m work left) no-losses
+      (refused-stands tells given tape tape' scope first entries m m work left left who end 0 0 (λ slot. 0) (λ slot. 0) (SlotFault slot) was live (begins-going entries who number) (not_254 who.caller caller) at_end named
+      (λ none. refl) tt)
+
+-- ---- where its superblock is written
+
+module _ {tells : Type 0} {given : Given} {tape mid_tape tape' : List Operation} {scope : Scope} {first : ℕ} {entries : List Entry} {old new : Members} {work : Work} (ahead : PhasesLeft)
+    {slot : ℕ} {sb : Sb} {lost : ℕ} {before after : ℕ → ℕ} (who : Who) (end roles spares : ℕ) (was : IsStill tells given tape scope first entries old work (still_left work old ahead)) (live : HasLiveSlot old)
+    (number : who.number ≡ next_number who.caller entries) (caller : who.caller ≢ 254) (at_end : tells → end ≡ length tape')
+    (looked : tells → OnlyFlushesAdded tape mid_tape) (did : IsAddDone tells given slot sb old new lost mid_tape tape' before after) (since : AreLostSince old new roles spares before after)
+    (of_scope : IsOfScope scope given slot sb) (unknown : is_carried work sb.dev_number ≡ false)
+    (second : tells → (sector : Sector) → IsIn (disk given.start mid_tape slot 9) sector → IsSecondHalf sb sector) (safe : AddsSafe tells given slot sb old new mid_tape tape') where
+  -- it is a spare
+  pub add-done : IsStill tells given tape' scope first (entries ++ entries_of who end (losses_of roles spares ++ Added slot ∷ [])) new (with_carried sb.dev_number work) (still_left (with_carried sb.dev_number work) new ahead)
+  add-done =
+      added-stands tells given tape mid_tape tape' scope first entries old new work (still_left work old ahead) (still_left (with_carried sb.dev_number work) new ahead) slot sb lost before after who end roles spares was live
+      (begins-going entries who number) (not_254 who.caller caller) at_end looked did since of_scope unknown second safe
+
+  -- it was lost in this
+  pub add-lost : has_spare new.spares slot ≡ false
+      → IsStill tells given tape' scope first (entries ++ entries_of who end (losses_of roles spares ++ Refused (SlotFault slot) ∷ [])) new (with_carried sb.dev_number work) (still_left (with_carried sb.dev_number work) new ahead)
+  add-lost none =
+      lost-stands tells given tape mid_tape tape' scope first entries old new work (still_left work old ahead) (still_left (with_carried sb.dev_number work) new ahead) slot sb lost before after who end roles spares was live
+      (begins-going entries who number) (not_254 who.caller caller) at_end looked did since of_scope unknown second safe
+      (λ quiet. ap₂ (λ (a b : ℕ). a + b) (left-carried work (with_carried sb.dev_number work).carried new ∙ left-refused did roles spares since work none quiet) (planned-same ahead (shapes-moved did.moved)))
+
+-- ---- nothing was written
+
+still-same : {tells : Type 0} {given : Given} {tape tape' : List Operation} {scope : Scope} {first : ℕ} {entries : List Entry} {m : Members} {work : Work} {left : ℕ} → (tells → tape' ≡ tape)
+    → IsStill tells given tape scope first entries m work left → IsStill tells given tape' scope first entries m work left
+still-same {tells = tells} {given = given} {tape' = tape'} {scope = scope} {first = first} {entries = entries} {m = m} {work = work} {left = left} same was = record {
+  slots = was.slots;
+  members_are = was.members_are;
+  sizes_are = was.sizes_are;
+  left_told = was.left_told;
+  progress = was.progress;
+  pending = λ t. (here t).pending t;
+  dirty = was.dirty;
+  levelled = λ t. (here t).levelled t;
+  gone = λ t. (here t).gone t;
+  full = λ t. (here t).full t;
+  unclean = λ t. (here t).unclean t;
+  recorded = λ t. (here t).recorded t;
+  past = λ t. (here t).past t;
+  listed = λ t. (here t).listed t;
+  safe = λ t. (here t).safe t;
+}
+  where
+    here : tells → IsStill tells given tape' scope first entries m work left
+    here t = subst (λ (l : List Operation). IsStill tells given l scope first entries m work left) (sym (same t)) was
+
+pub ready-same : {tells : Type 0} {given given' : Given} {tape tape' : List Operation} {uuid : List ℕ} {slots : ℕ} {backup : Option ℕ} {first : ℕ} {entries : List Entry} {members : Members} {work : Work} {ahead : PhasesLeft}
+    {faults faults' : ℕ → ℕ} {steps room rows buffer far_rows far_buffer : ℕ} → given' ≡ given → (tells → tape' ≡ tape) → ((s : ℕ) → faults s ≤ faults' s)
+    → IsReady tells given tape (scope_in given uuid slots backup) first entries members work ahead faults steps room rows buffer far_rows far_buffer
+    → IsReady tells given' tape' (scope_in given' uuid slots backup) first entries members work ahead faults' steps room rows buffer far_rows far_buffer
+ready-same {tells = tells} {given = given} {tape' = tape'} {uuid = uuid} {slots = slots} {backup = backup} {first = first} {entries = entries} {members = members} {work = work} {ahead = ahead} {faults = faults} {faults' = faults'}
+    {steps = steps} {room = room} {rows = rows} {buffer = buffer} {far_rows = far_rows} {far_buffer = far_buffer} known same rose was =
+    subst (λ (g : Given). IsReady tells g tape' (scope_in g uuid slots backup) first entries members work ahead faults' steps room rows buffer far_rows far_buffer) (sym known) (record {
+      kept = still-same same was.kept;
+      sized = was.sized;
+      unlimited = was.unlimited;
+      planned = was.planned;
+      failed = λ slot there lost. let before = was.failed slot there lost in let more = rose slot in omega (arith, before, more);
+      room_left = was.room_left;
+      rows_fit = was.rows_fit;
+      buffer_fits = was.buffer_fits;
+      far_rows_fit = was.far_rows_fit;
+      far_buffer_fits = was.far_buffer_fits;
+    })

@@ -1,0 +1,72 @@
+-- A reply to a request for steps: what is kept behind it.
+use Rattle.std.proofs.Common.{◌≡◌, ◌≢◌, ◌⊎◌, inl, inr, ℕ, ◌<◌, Option, Some, None, List, [], ◌∷◌, ◌++◌, length, refl}
+use Rattle.std.specs.Prelude.{IfSome, MatchOption, ⊤}
+use Rattle.md_base.specs.declared.answers.Refusal.{Refusal}
+use Rattle.md_base.specs.declared.answers.Refusal.TheVariants.{Nothing}
+use Rattle.md_base.specs.declared.answers.Who.{Who}
+use Rattle.bank.specs.declared.bank.Operation.{Operation}
+use Rattle.bank.specs.Given.{Given}
+use Rattle.grow_plan.specs.Plans.{phases_steps}
+use Rattle.superblocks.specs.declared.members.Members.{Members}
+use Rattle.superblocks.specs.Reading.{Scope, shape_of}
+use Rattle.flat_history.specs.declared.events.Entry.{Entry}
+use Rattle.flat_history.specs.declared.events.Event.{Event}
+use Rattle.flat_history.specs.declared.events.Event.TheVariants.{Refused, Stepped}
+use Rattle.flat_history.specs.Legal.{IsRefusedRight}
+use Rattle.flat_history.specs.Plain.{entries_of}
+use Rattle.flat_history.specs.Reshaped.{open_plans}
+use Rattle.views.specs.declared.work.Work.{Work}
+use Rattle.views.specs.Status.{left_of}
+use Rattle.call_entries.proofs.LeftLaws.{left-more, keeps-left}
+use Rattle.array_kept.specs.Calls.{IsLossBy}
+use Rattle.grow_asked.specs.declared.window.PhasesLeft.{PhasesLeft}
+use Rattle.grow_asked.specs.Left.{phases_of}
+use Rattle.kept_history.specs.Recorded.{IsCallGoing, entry_of}
+use Rattle.kept_history.specs.Safe.{world_in}
+use Rattle.history_calls.specs.Reliable.{IsReliable}
+use Rattle.still_kept.specs.Still.{IsStill}
+use Rattle.still_kept.proofs.Ends.{EndsNothing}
+use Rattle.still_kept.proofs.Refusals.{refused-right}
+use Rattle.still_kept.proofs.Resting.{resting-stands}
+use Rattle.still_kept.proofs.Resync.{not-zero}
+use Rattle.running_words.specs.Parts.{still_left}
+use Rattle.running_words.proofs.Called.{not_254}
+use Rattle.running_words.proofs.Lengths.{IsLengthKept, alone-keeps}
+use Rattle.still.specs.Steps.{IsEndedRight, IsStepsReplyNow}
+use Rattle.still.proofs.MendLaws.{leaves-none}
+use Rattle.still.proofs.StepLaws.{step-refused, refused-going}
+
+ends-reply : (entries : List Entry) (done left : ℕ) (ended : Option Refusal) → (left ≢ 0) ⊎ (open_plans entries ≡ []) → EndsNothing entries (Stepped done left ended)
+ends-reply entries done left ended (inl some) = inl (not-zero left some)
+ends-reply entries done left ended (inr none) = inr (none, refl)
+
+pub answer-stands : {tells : Type 0} {given : Given} {tape : List Operation} {scope : Scope} {first : ℕ} {entries : List Entry} (work : Work) (m : Members) (ahead : PhasesLeft) (who : Who) (end : ℕ) (event : Event)
+    → IsStill tells given tape scope first entries m work (still_left work m ahead)
+    → IsCallGoing entries who → who.caller ≢ 254 → (tells → end ≡ length tape) → (open_plans entries ≡ []) ⊎ (0 < phases_steps (shape_of m.newest) m.newest.size (phases_of ahead)) → IsStepsReplyNow work m ahead event
+    → IsStill tells given tape scope first (entries ++ entries_of who end (event ∷ [])) m work (still_left work m ahead)
+answer-stands work m ahead who end (Refused Nothing) was goes caller at_end plans reply = refused-going who end Nothing was goes caller at_end tt
+answer-stands {tells = tells} {given = given} {tape = tape} {scope = scope} {first = first} {entries = entries} work m ahead who end (Stepped done left ended) was goes caller at_end plans reply =
+    resting-stands tells given tape scope first entries m work (still_left work m ahead) (still_left work m ahead)
+    who end (Stepped done left ended) was goes (not_254 who.caller caller) at_end (record { adds = refl; gives = refl; still = λ x values. refl; level = λ n. refl })
+    (ends-reply entries done left ended (leaves-none entries (left_of work m) left (phases_steps (shape_of m.newest) m.newest.size (phases_of ahead))
+    (phases_steps (shape_of m.newest) m.newest.size (phases_of ahead)) refl plans reply.0))
+    (left-more (still_left work m ahead) entries who end (Stepped done left ended ∷ []) was.left_told (λ told is. reply.0))
+    (λ t right. (keeps-left (still_left work m ahead) entries (entry_of who end (Stepped done left ended)) [] left was.left_told reply.0, ended-right ended reply.1 t right))
+  where
+    ended-right : (ended : Option Refusal) → MatchOption ended ⊤ (IsEndedRight work m) → (t : tells) → IsReliable (world_in given tape scope first) entries
+        → IfSome ended (IsRefusedRight (world_in given tape scope first) entries)
+    ended-right None why t right = tt
+    ended-right (Some refusal) why t right =
+        refused-right (world_in given tape scope first) entries given m was.members_are.placed work.resync (was.gone t right) (was.levelled t right) (was.pending t) refusal
+        (step-refused given m was.members_are.placed refusal work.resync why.0 why.1)
+answer-stands work m ahead who end event was goes caller at_end plans reply = absurd reply
+
+pub reply-keeps : (work : Work) (m : Members) (ahead : PhasesLeft) (who : Who) (end : ℕ) (event : Event) → IsStepsReplyNow work m ahead event → IsLengthKept (entries_of who end (event ∷ []))
+reply-keeps work m ahead who end (Refused Nothing) reply = alone-keeps who end (Refused Nothing) (λ n. refl) refl
+reply-keeps work m ahead who end (Stepped done left ended) reply = alone-keeps who end (Stepped done left ended) (λ n. refl) refl
+reply-keeps work m ahead who end event reply = absurd reply
+
+pub reply-lossless : (work : Work) (m : Members) (ahead : PhasesLeft) (Had : ℕ → ℕ → Type 0) (before after : ℕ → ℕ) (event : Event) → IsStepsReplyNow work m ahead event → IsLossBy Had before after event
+reply-lossless work m ahead Had before after (Refused Nothing) reply = tt
+reply-lossless work m ahead Had before after (Stepped done left ended) reply = tt
+reply-lossless work m ahead Had before after event reply = absurd reply

@@ -1,0 +1,65 @@
+-- The number of a call that goes on.
+use Rattle.std.proofs.Common.{◌≡◌, ℕ, ◌+◌, ◌≤◌, ◌==◌, cond, List, [], ◌∷◌, ◌++◌, length, refl, sym, ◌∙◌, ap, subst, arith, append-nil}
+use Rattle.std.specs.Prelude.{fold}
+use Rattle.std.specs.List.{All}
+use Rattle.std.proofs.lemmas.Bool.Decides.{nat_tests}
+use Rattle.std.proofs.lemmas.List.Elements.{All-nil, All-cons, All-head, All-tail}
+use Rattle.std.proofs.lemmas.List.Sums.{fold-append}
+use Rattle.md_base.specs.declared.answers.Who.{Who}
+use Rattle.flat_history.specs.declared.events.Entry.{Entry}
+use Rattle.flat_history.specs.declared.events.Event.{Event}
+use Rattle.flat_history.specs.declared.events.Event.TheVariants.{Resized}
+use Rattle.flat_history.specs.Flat.{next_number, number_after}
+use Rattle.flat_history.specs.OneShape.{IsOfCall, GoesOnBehind}
+use Rattle.flat_history.specs.Plain.{entries_of}
+use Rattle.call_entries.specs.Losing.{losses_of}
+use Rattle.call_entries.proofs.CallLaws.{losses-are}
+use Rattle.call_entries.proofs.PlainLaws.{one}
+use Rattle.call_entries.proofs.StepLaws.{GoOnBehind, losses-go_on}
+use Rattle.kept_history.specs.Recorded.{IsCallGoing, MayGoOn}
+use Rattle.kept_history.proofs.Records.{going-more}
+
+-- behind entries of one call the caller's next number is one more than the call's
+own-next : (who : Who) (start : ℕ) (x : Entry) (call : List Entry) → All (λ e. IsOfCall who e × MayGoOn e.event) (x ∷ call)
+    → fold (number_after who.caller) start (x ∷ call) ≡ who.number + 1
+own-next who start x [] own =
+    let mine = (All-head (λ e. IsOfCall who e × MayGoOn e.event) x [] own).0 in
+    last x.caller x.number mine.0 mine.1
+  where
+    last : (c n : ℕ) → c ≡ who.caller → n ≡ who.number → cond (c == who.caller) (n + 1) start ≡ who.number + 1
+    last c n callers numbers = grind (arith, nat_tests, callers, numbers)
+own-next who start x (y ∷ call) own = own-next who (number_after who.caller start x) y call (All-tail (λ e. IsOfCall who e × MayGoOn e.event) x (y ∷ call) own)
+
+-- it is at most the number of entries
+pub going-few : (entries : List Entry) (who : Who) → IsCallGoing entries who → next_number who.caller entries ≤ length entries → who.number ≤ length entries
+going-few entries who goes few = by goes.call goes.is goes.own
+  where
+    by : (call : List Entry) → entries ≡ goes.before ++ call → All (λ e. IsOfCall who e × MayGoOn e.event) call → who.number ≤ length entries
+    by [] is own =
+        let same : next_number who.caller entries ≡ next_number who.caller goes.before = ap (next_number who.caller) (is ∙ append-nil goes.before) in
+        let number = goes.number in omega (arith, few, same, number)
+    by (x ∷ call) is own =
+        let next : next_number who.caller entries ≡ who.number + 1 =
+        ap (next_number who.caller) is ∙ fold-append (number_after who.caller) 0 goes.before (x ∷ call) ∙ own-next who (next_number who.caller goes.before) x call own in
+        omega (arith, few, next)
+
+-- ---- it goes on
+
+-- what may go on where no reshape is may here
+may-go : (event : Event) → GoesOnBehind event → MayGoOn event
+may-go (Resized n) goes = tt
+may-go event goes = goes
+
+go-behind : (who : Who) (end : ℕ) (events : List Event) → GoOnBehind events → All (λ e. IsOfCall who e × MayGoOn e.event) (entries_of who end events)
+go-behind who end [] goes = All-nil (λ e. IsOfCall who e × MayGoOn e.event)
+go-behind who end (event ∷ events) goes =
+    All-cons (λ e. IsOfCall who e × MayGoOn e.event) (one who end event) (entries_of who end events) ((refl, refl), may-go event goes.0) (go-behind who end events goes.1)
+
+-- with such events behind it, as a method enters them
+pub still-going : {old mid new : List Entry} (who : Who) (end : ℕ) (events : List Event) → IsCallGoing old who → GoOnBehind events → mid ≡ old → new ≡ mid ++ entries_of who end events → IsCallGoing new who
+still-going {old = old} who end events goes behind mid_is is =
+    subst (λ (l : List Entry). IsCallGoing l who) (sym (is ∙ ap (λ (l : List Entry). l ++ entries_of who end events) mid_is)) (going-more old (entries_of who end events) who goes (go-behind who end events behind))
+
+-- with losses, and one of them behind those
+pub step-going : {old mid new : List Entry} (who : Who) (end roles spares : ℕ) (event : Event) → IsCallGoing old who → GoesOnBehind event → mid ≡ old → new ≡ mid ++ entries_of who end (losses_of roles spares ++ event ∷ []) → IsCallGoing new who
+step-going who end roles spares event goes behind = still-going who end (losses_of roles spares ++ event ∷ []) goes (losses-go_on (losses_of roles spares) event (losses-are roles spares) behind)

@@ -1,0 +1,82 @@
+-- What an array without an active reshape keeps, after a call.
+use Rattle.std.proofs.Common.{◌≡◌, ℕ, ◌*◌, ◌<◌, ◌≤◌, List, ◌++◌, refl, sym, ◌∙◌, ap, subst, arith}
+use Rattle.md_base.specs.declared.places.Shape.{Shape}
+use Rattle.bank.specs.declared.bank.Operation.{Operation}
+use Rattle.bank.specs.Given.{Given, NeverFalls}
+use Rattle.sb1.specs.declared.sb.Sb.{Sb}
+use Rattle.grow_plan.specs.Plans.{AreSound}
+use Rattle.superblocks.specs.declared.members.Members.{Members}
+use Rattle.superblocks.specs.Reading.{Scope, shape_of, list_length}
+use Rattle.flat_history.specs.declared.events.Entry.{Entry}
+use Rattle.flat_history.specs.Flat.{length_of}
+use Rattle.views.specs.declared.work.Work.{Work}
+use Rattle.views.specs.Moving.{IsMoved}
+use Rattle.views.proofs.Fit.{list-alike}
+use Rattle.array_kept.proofs.NowLaws.{length-more, limit-more}
+use Rattle.grow_asked.specs.declared.window.PhasesLeft.{PhasesLeft}
+use Rattle.grow_asked.specs.Left.{phases_of}
+use Rattle.still_kept.specs.Still.{IsStill}
+use Rattle.running_words.specs.Parts.{still_left}
+use Rattle.running_words.proofs.Lengths.{IsLengthKept}
+use Rattle.still.specs.Ready.{IsReady}
+
+-- as many rows of the same shape, and as long a list
+pub record AreRowsSame (old new : Sb) : Type 0 where
+  pub shape : shape_of new ≡ shape_of old
+  pub size : new.size ≡ old.size
+  pub long : list_length new ≡ list_length old
+
+pub rows-same : (sb : Sb) → AreRowsSame sb sb
+rows-same sb = record { shape = refl; size = refl; long = refl }
+
+pub rows-moved : (given : Given) (old new : Members) → IsMoved given old new → AreRowsSame old.newest new.newest
+rows-moved given old new moved = record { shape = moved.shape; size = moved.size; long = list-alike old.newest new.newest moved.reshape moved.shape moved.size }
+
+-- The array is ready after a call's last step in memory.
+pub ready : {tells : Type 0} {given given' : Given} {tape tape' : List Operation} {scope scope' : Scope} {first first' : ℕ} {entries mid entries' : List Entry} {members members' : Members}
+    {work work' : Work} {ahead : PhasesLeft} {steps steps' room room' rows buffer far_rows far_buffer : ℕ} {before after : ℕ → ℕ} (added : List Entry)
+    → IsReady tells given tape scope first entries members work ahead before steps room rows buffer far_rows far_buffer
+    → AreRowsSame members.newest members'.newest
+    → IsStill tells given tape' scope first (entries ++ added) members' work' (still_left work' members' ahead)
+    → NeverFalls before after → IsLengthKept added
+    → given' ≡ given → scope' ≡ scope → first' ≡ first → mid ≡ entries → entries' ≡ mid ++ added → 50 * steps' < room'
+    → IsReady tells given' tape' scope' first' entries' members' work' ahead after steps' room' rows buffer far_rows far_buffer
+ready {tells = tells} {given = given} {given' = given'} {tape' = tape'} {scope = scope} {scope' = scope'} {first = first} {first' = first'} {entries = entries} {mid = mid} {members = members} {members' = members'}
+    {work' = work'} {ahead = ahead} {steps' = steps'} {room' = room'} {rows = rows} {buffer = buffer} {far_rows = far_rows} {far_buffer = far_buffer} {after = after}
+    added was same kept rises quiet same_given scope_is first_is mid_is is room_left =
+    subst (λ (l : List Entry). IsReady tells given' tape' scope' first' l members' work' ahead after steps' room' rows buffer far_rows far_buffer) (sym (is ∙ ap (λ (l : List Entry). l ++ added) mid_is))
+    (subst (λ (n : ℕ). IsReady tells given' tape' scope' n (entries ++ added) members' work' ahead after steps' room' rows buffer far_rows far_buffer) (sym first_is)
+    (subst (λ (s : Scope). IsReady tells given' tape' s first (entries ++ added) members' work' ahead after steps' room' rows buffer far_rows far_buffer) (sym scope_is)
+    (subst (λ (g : Given). IsReady tells g tape' scope first (entries ++ added) members' work' ahead after steps' room' rows buffer far_rows far_buffer) (sym same_given)
+    (record {
+      kept = kept;
+      sized = subst (λ (n : ℕ). length_of n (entries ++ added) ≡ n) (sym same.long)
+          (length-more (list_length members.newest) entries added was.sized (quiet.long (list_length members.newest)));
+      unlimited = limit-more entries added was.unlimited quiet.free;
+      planned = subst (λ (n : ℕ). AreSound (shape_of members'.newest) n (phases_of ahead)) (sym same.size)
+          (subst (λ (s : Shape). AreSound s members.newest.size (phases_of ahead)) (sym same.shape) was.planned);
+      failed = λ slot lt out. let had = was.failed slot lt out in let more = rises slot in omega (arith, had, more);
+      room_left = room_left;
+      rows_fit = was.rows_fit;
+      buffer_fits = was.buffer_fits;
+      far_rows_fit = was.far_rows_fit;
+      far_buffer_fits = was.far_buffer_fits;
+    }))))
+
+-- with other buffers for its rows, that have room as before
+pub with-buffers : {tells : Type 0} {given : Given} {tape : List Operation} {scope : Scope} {first : ℕ} {entries : List Entry} {members : Members}
+    {work : Work} {ahead : PhasesLeft} {steps room rows buffer rows' buffer' far_rows far_buffer : ℕ} {faults : ℕ → ℕ} → 128 ≤ rows' → 1048576 ≤ buffer'
+    → IsReady tells given tape scope first entries members work ahead faults steps room rows buffer far_rows far_buffer
+    → IsReady tells given tape scope first entries members work ahead faults steps room rows' buffer' far_rows far_buffer
+with-buffers rows_fit buffer_fits was = record {
+  kept = was.kept;
+  sized = was.sized;
+  unlimited = was.unlimited;
+  planned = was.planned;
+  failed = was.failed;
+  room_left = was.room_left;
+  rows_fit = rows_fit;
+  buffer_fits = buffer_fits;
+  far_rows_fit = was.far_rows_fit;
+  far_buffer_fits = was.far_buffer_fits;
+}

@@ -1,0 +1,12 @@
+pub mod Asking
+pub mod Kept
+pub mod Left
+pub mod Settled
+pub mod Reading
+pub mod Writing
+pub mod Going
+pub mod StepLaws
+pub mod MendLaws
+pub mod RebuildLaws
+pub mod AddLaws
+pub mod AnswerLaws

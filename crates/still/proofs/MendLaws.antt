@@ -1,0 +1,100 @@
+-- The steps of a pending resync, from what `mend` of `safe_rows` and `settle` of `safe_updates` leave: what is kept, done or refused.
+use Rattle.std.proofs.Common.{◌≡◌, ◌≢◌, ◌⊎◌, inl, inr, ℕ, ◌+◌, ◌-◌, ◌*◌, ◌<◌, min, false, Some, None, List, [], ◌∷◌, ◌++◌, length, subst, arith}
+use Rattle.md_base.specs.Sectors.{Sector}
+use Rattle.md_base.specs.declared.answers.Refusal.{Refusal}
+use Rattle.md_base.specs.declared.answers.Who.{Who}
+use Rattle.md_base.specs.declared.places.Shape.{Shape}
+use Rattle.bank.specs.declared.bank.Operation.{Operation}
+use Rattle.bank.specs.Given.{Given}
+use Rattle.grow_plan.specs.Plans.{phases_steps}
+use Rattle.superblocks.specs.declared.members.Members.{Members}
+use Rattle.superblocks.specs.Reading.{Scope, shape_of}
+use Rattle.row_io.specs.Rows.{reading_of, present}
+use Rattle.list_io.specs.Full.{AreWholeIn, RowStands}
+use Rattle.flat_history.specs.declared.events.Entry.{Entry}
+use Rattle.flat_history.specs.declared.events.Event.TheVariants.{Step, Refused}
+use Rattle.flat_history.specs.declared.events.StepKind.TheVariants.{ResyncStripe, ResyncEnded}
+use Rattle.flat_history.specs.Plain.{entries_of}
+use Rattle.flat_history.specs.Reshaped.{open_plans}
+use Rattle.shape_views.specs.Regions.{DoWithout}
+use Rattle.views.specs.declared.work.Work.{Work}
+use Rattle.views.specs.Lacking.{AreTooMany, IsUnwritten, IsOfStripe, DataStandsAmong}
+use Rattle.views.specs.Status.{stripes_of, vacant_count, spare_count, recovery_left, left_of}
+use Rattle.views.proofs.LiveLeft.{without-left}
+use Rattle.call_entries.specs.Losing.{losses_of}
+use Rattle.array_kept.proofs.StepsLeft.{left-mended, left-ended}
+use Rattle.calls_kept.proofs.EndLaws.{enough-mended}
+use Rattle.grow_asked.specs.declared.window.PhasesLeft.{PhasesLeft}
+use Rattle.grow_asked.specs.Left.{phases_of}
+use Rattle.kept_history.specs.Recorded.{IsCallGoing}
+use Rattle.still_kept.specs.Still.{IsStill}
+use Rattle.still_kept.proofs.Flushing.{IsFlushedStill, IsSettledStill, unflushed-stands}
+use Rattle.still_kept.proofs.Resync.{IsMendingStill, mended-stands, unmended-stands, resynced-stands}
+use Rattle.running_words.specs.Parts.{still_left}
+use Rattle.running_words.proofs.Called.{not_254}
+use Rattle.still.proofs.Left.{left-alike}
+use Rattle.still.proofs.StepLaws.{shapes-moved, planned-same, left-falls}
+
+-- a pending resync has a step left
+some-left : (n recovery waiting more left : ℕ) → left ≡ (n + 1 + recovery + waiting) + more → left ≢ 0
+some-left n recovery waiting more left told none = omega (arith, told, none)
+
+-- a step that may leave none has steps of the phases ahead behind it, or no plan is open
+pub leaves-none : (entries : List Entry) (count left then was : ℕ) → then ≡ was → (open_plans entries ≡ []) ⊎ (0 < was) → left ≡ count + then → (left ≢ 0) ⊎ (open_plans entries ≡ [])
+leaves-none entries count left then was same (inl none) told = inr none
+leaves-none entries count left then was same (inr some) told = inl (λ zero. omega (arith, same, some, told, zero))
+
+-- ---- a stripe
+
+module _ {tells : Type 0} {given : Given} {tape tape' : List Operation} {scope : Scope} {first : ℕ} {entries : List Entry} {old new : Members} {work : Work} (ahead : PhasesLeft)
+    (who : Who) (end roles spares : ℕ) {before after : ℕ → ℕ} (shape : Shape) (stripe : ℕ) (was : IsStill tells given tape scope first entries old work (still_left work old ahead)) (does : DoWithout old)
+    (goes : IsCallGoing entries who) (caller : who.caller ≢ 254) (at_end : tells → end ≡ length tape') (same_shape : shape ≡ shape_of old.newest) (pending : work.resync ≡ Some stripe)
+    (did : IsMendingStill tells given tape tape' old new roles spares before after shape stripe) where
+  abbrev next : Work
+  next = record work { resync = Some (stripe + 1) }
+
+  -- it is mended
+  pub mend-done : (left : ℕ) → stripe < stripes_of old → left ≡ still_left (record work { resync = Some (stripe + 1) }) new ahead
+      → (tells → (list : ℕ → Sector) → DataStandsAmong shape (IsOfStripe shape stripe) old (present given tape) list → (row : ℕ) → IsOfStripe shape stripe row → AreWholeIn shape list row
+      → RowStands (reading_of new) (present given tape') shape list row)
+      → IsStill tells given tape' scope first (entries ++ entries_of who end (losses_of roles spares ++ Step ResyncStripe left ∷ [])) new (record work { resync = Some (stripe + 1) }) (still_left (record work { resync = Some (stripe + 1) }) new ahead)
+  mend-done left below told mends =
+      subst (λ (n : ℕ). IsStill tells given tape' scope first (entries ++ entries_of who end (losses_of roles spares ++ Step ResyncStripe left ∷ [])) new (record work { resync = Some (stripe + 1) }) n) told
+      (mended-stands tells given tape tape' scope first entries old new work (still_left work old ahead) left who end roles spares before after shape stripe was does goes (not_254 who.caller caller) at_end
+      same_shape pending did below (left-falls next ahead (left_of work old) left did.moved did.since (left-mended work old stripe pending below) told) some mends)
+    where
+      some : left ≢ 0
+      some = some-left (stripes_of new - (stripe + 1)) (recovery_left next new (shape_of new.newest).disks) (min (vacant_count new) (spare_count new) * (stripes_of new + 2))
+          (phases_steps (shape_of new.newest) new.newest.size (phases_of ahead)) left told
+
+  -- it isn't
+  pub mend-refused : (refusal : Refusal) → IsUnwritten shape false new refusal
+      → IsStill tells given tape' scope first (entries ++ entries_of who end (losses_of roles spares ++ Refused refusal ∷ [])) new work (still_left work new ahead)
+  mend-refused refusal why =
+      unmended-stands tells given tape tape' scope first entries old new work (still_left work old ahead) (still_left work new ahead) who end roles spares before after shape stripe was does goes
+      (not_254 who.caller caller) at_end same_shape pending did refusal (left-alike work ahead roles spares before after did.moved did.since) why
+
+-- ---- the end
+
+module _ {tells : Type 0} {given : Given} {tape tape' : List Operation} {scope : Scope} {first : ℕ} {entries : List Entry} {old new : Members} {work : Work} (ahead : PhasesLeft)
+    (who : Who) (end roles spares : ℕ) {before after : ℕ → ℕ} (was : IsStill tells given tape scope first entries old work (still_left work old ahead)) (does : DoWithout old)
+    (goes : IsCallGoing entries who) (caller : who.caller ≢ 254) (at_end : tells → end ≡ length tape') (all : work.resync ≡ Some (stripes_of old))
+    (did : IsFlushedStill tells given tape tape' old new roles spares before after false) where
+  -- it has ended
+  pub resync-done : (left : ℕ) → left ≡ still_left (record work { resync = None }) new ahead
+      → (open_plans entries ≡ []) ⊎ (0 < phases_steps (shape_of old.newest) old.newest.size (phases_of ahead)) → IsSettledStill tells given tape tape' old new false
+      → IsStill tells given tape' scope first (entries ++ entries_of who end (losses_of roles spares ++ Step ResyncEnded left ∷ [])) new (record work { resync = None }) (still_left (record work { resync = None }) new ahead)
+  resync-done left told plans done =
+      subst (λ (n : ℕ). IsStill tells given tape' scope first (entries ++ entries_of who end (losses_of roles spares ++ Step ResyncEnded left ∷ [])) new (record work { resync = None }) n) told
+      (resynced-stands tells given tape tape' scope first entries old new work (still_left work old ahead) left who end roles spares before after was does goes (not_254 who.caller caller) at_end all
+      (left-falls (record work { resync = None }) ahead (left_of work old) left did.moved did.since (left-ended work old all) told)
+      (leaves-none entries (left_of (record work { resync = None }) new) left (phases_steps (shape_of new.newest) new.newest.size (phases_of ahead)) (phases_steps (shape_of old.newest) old.newest.size (phases_of ahead))
+      (planned-same ahead (shapes-moved did.moved)) plans told) did done)
+
+  -- it is refused
+  pub resync-refused : (refusal : Refusal) → AreTooMany new refusal
+      → IsStill tells given tape' scope first (entries ++ entries_of who end (losses_of roles spares ++ Refused refusal ∷ [])) new work (still_left work new ahead)
+  resync-refused refusal many =
+      unflushed-stands tells given tape tape' scope first entries old new work (still_left work old ahead) who end roles spares before after false was
+      (without-left given old was.members_are.placed was.members_are.unlost does) goes (not_254 who.caller caller) at_end (λ synced. enough-mended was.members_are.placed all) did (still_left work new ahead) refusal
+      many (left-alike work ahead roles spares before after did.moved did.since)

@@ -1,0 +1,109 @@
+-- A read of an array without an active reshape, from what `fetch` says of it; and why a read or a write isn't done.
+use Rattle.std.proofs.Common.{◌≡◌, ◌⊎◌, inl, inr, ℕ, ◌+◌, ◌/◌, ◌<◌, ◌≤◌, Option, None, List, [], ◌∷◌, ◌++◌, length, refl, sym, ◌∙◌, ap, subst}
+use Rattle.std.specs.Prelude.{min}
+use Rattle.std.specs.Option.{option_map_or}
+use Rattle.md_base.specs.Sectors.{Sector}
+use Rattle.md_base.specs.declared.answers.Refusal.{Refusal}
+use Rattle.md_base.specs.declared.answers.Refusal.TheVariants.{PastEnd}
+use Rattle.md_base.specs.declared.answers.Who.{Who}
+use Rattle.md_base.specs.declared.places.Shape.{Shape}
+use Rattle.bank.specs.declared.bank.Operation.{Operation}
+use Rattle.bank.specs.Given.{Given}
+use Rattle.parity.specs.Rows.{sector_of}
+use Rattle.superblocks.specs.declared.members.Members.{Members}
+use Rattle.superblocks.specs.Reading.{Scope, shape_of, list_length}
+use Rattle.superblocks.proofs.ValidFields.{few-roles}
+use Rattle.row_io.specs.Rows.{present}
+use Rattle.list_io.specs.Buffers.{IsTouched}
+use Rattle.flat_history.specs.declared.events.Entry.{Entry}
+use Rattle.flat_history.specs.declared.events.Event.{Event}
+use Rattle.flat_history.specs.Flat.{now, length_of, limit_of}
+use Rattle.flat_history.specs.Legal.{visible_at, IsRefusedRight}
+use Rattle.flat_history.specs.Losses.{loses}
+use Rattle.flat_history.specs.Plain.{entries_of}
+use Rattle.flat_history.specs.World.{opening_list}
+use Rattle.shape_views.specs.Regions.{DoWithout}
+use Rattle.shape_views.proofs.Stands.{list-still}
+use Rattle.views.specs.declared.work.Work.{Work}
+use Rattle.views.specs.Lacking.{AreLostSince, IsUnread, IsUnwritten, ListStands, RowsStandBelow, DataStandsAmong, RowsStandAmong, are_mended, mended_rows}
+use Rattle.views.specs.Moving.{IsMoved}
+use Rattle.views.specs.Placed.{AreWhole, places_of}
+use Rattle.views.specs.Whole.{list_size}
+use Rattle.views.proofs.MovedLaws.{grows-none}
+use Rattle.call_entries.specs.Losing.{losses_of}
+use Rattle.array_kept.specs.Calls.{IsRefusedHere, IsRefusedFor}
+use Rattle.array_kept.proofs.DegradedLaws.{unread-here, unwritten-here, pending-of}
+use Rattle.calls_kept.proofs.TouchedLaws.{holds-fetched}
+use Rattle.kept_history.specs.Safe.{world_in, IsFilledRight}
+use Rattle.kept_history.proofs.Tests.{none-before}
+use Rattle.history_calls.specs.Reliable.{IsReliable}
+use Rattle.history_calls.proofs.Behind.{IsAmong, early-losses}
+use Rattle.still_kept.specs.Still.{AreAtRest, IsStill}
+use Rattle.still_kept.proofs.Leaving.{none-taken}
+use Rattle.still_kept.proofs.Refusals.{IsRefusedStill, too-many-refused, refused-right}
+use Rattle.still_kept.proofs.Staying.{missing-since}
+
+-- ---- why it isn't done
+
+-- all of the list is visible
+pub seen : {tells : Type 0} {given : Given} {tape : List Operation} {scope : Scope} {first : ℕ} {entries : List Entry} {members : Members} {work : Work} {left : ℕ}
+    → IsStill tells given tape scope first entries members work left → limit_of entries ≡ None → tells → visible_at (world_in given tape scope first) entries ≡ list_length members.newest
+seen {given = given} {tape = tape} {scope = scope} {first = first} {entries = entries} was unlimited t =
+    ap (λ (o : Option ℕ). option_map_or (λ limit. min limit (length_of (length (opening_list (world_in given tape scope first))) entries)) o (length_of (length (opening_list (world_in given tape scope first))) entries)) unlimited
+    ∙ (was.recorded t).sized
+
+module _ (given : Given) (m : Members) (rest : AreAtRest given m) (resync : Option ℕ) where
+  long : list_length m.newest ≡ list_size (places_of m)
+  long = list-still m.newest rest.still
+
+  pub unread-still : (at count : ℕ) (refusal : Refusal) → at + count ≤ list_length m.newest → IsUnread (shape_of m.newest) (mended_rows resync m) at count m refusal → IsRefusedStill resync m refusal
+  unread-still at count refusal within (inl many) = too-many-refused resync m refusal (inl many)
+  unread-still at count refusal within (inr found) = subst (IsRefusedStill resync m) (sym found.1)
+      (subst (IsRefusedHere (list_size (places_of m)) resync m) found.1
+      (unread-here given (list_size (places_of m)) at count (mended_rows resync m) resync m refusal rest.placed (subst (λ (n : ℕ). at + count ≤ n) long within) (λ none. ap (λ (o : Option ℕ). mended_rows o m) none) (inr found)))
+
+  pub unwritten-still : (to : ℕ) (refusal : Refusal) → to ≤ list_length m.newest → IsUnwritten (shape_of m.newest) (are_mended (shape_of m.newest) (mended_rows resync m) to) m refusal → IsRefusedStill resync m refusal
+  unwritten-still to refusal within (inl many) = too-many-refused resync m refusal (inl many)
+  unwritten-still to refusal within (inr found) = subst (IsRefusedStill resync m) (sym found.1)
+      (subst (IsRefusedHere (list_size (places_of m)) resync m) found.1
+      (unwritten-here given (list_size (places_of m)) resync (are_mended (shape_of m.newest) (mended_rows resync m) to) m refusal rest.placed (pending-of m resync to (subst (λ (n : ℕ). to ≤ n) long within)) (inr found)))
+
+-- a call that is refused before anything is done
+pub refused-first : {tells : Type 0} {given : Given} {tape : List Operation} {scope : Scope} {first : ℕ} {entries : List Entry} {members : Members} {work : Work} {left : ℕ}
+    → IsStill tells given tape scope first entries members work left → limit_of entries ≡ None → (to : ℕ) (why : Members → Refusal → Type 0) (refusal : Refusal)
+    → (to ≤ list_length members.newest → why members refusal → IsRefusedStill work.resync members refusal) → IsRefusedFor (list_length members.newest) to why members members refusal
+    → tells → IsReliable (world_in given tape scope first) entries → IsRefusedRight (world_in given tape scope first) entries refusal
+refused-first was unlimited to why (PastEnd told) here w t right = w.0 ∙ sym (seen was unlimited t)
+refused-first {given = given} {tape = tape} {scope = scope} {first = first} {entries = entries} {members = members} {work = work} was unlimited to why refusal here w t right =
+    refused-right (world_in given tape scope first) entries given members was.members_are.placed work.resync (was.gone t right) (was.levelled t right) (was.pending t) refusal (here w.0 w.1)
+
+-- ---- what was read
+
+-- by the whole list
+pub fetched-holds : {tells : Type 0} (given : Given) (tape : List Operation) (old new : Members) (resync : Option ℕ) (shape : Shape) (at asked mended : ℕ) (bytes : List ℕ)
+    → shape ≡ shape_of old.newest → mended ≡ mended_rows resync old → length bytes / 512 ≡ asked
+    → (tells → (list : ℕ → Sector) → DataStandsAmong shape (IsTouched shape at asked) old (present given tape) list
+    → AreWhole new ⊎ RowsStandAmong shape (λ row. IsTouched shape at asked row × (row < mended)) old (present given tape) list → (i : ℕ) → i < asked → sector_of bytes i ≡ list (at + i))
+    → tells → (list : ℕ → Sector) → ListStands old (present given tape) list → AreWhole new ⊎ RowsStandBelow (mended_rows resync old) old (present given tape) list
+    → (i : ℕ) → i < length bytes / 512 → sector_of bytes i ≡ list (at + i)
+fetched-holds given tape old new resync shape at asked mended bytes is rows count holds t list stands filled =
+    holds-fetched shape old new is (present given tape) (IsTouched shape at asked) mended (λ (list : ℕ → Sector). (k : ℕ) → k < length bytes / 512 → sector_of bytes k ≡ list (at + k))
+    (λ t list stands filled k below. holds t list stands filled k (subst (λ (n : ℕ). k < n) count below)) t list stands
+    (subst (λ (n : ℕ). AreWhole new ⊎ RowsStandBelow n old (present given tape) list) (sym rows) filled)
+
+-- where what is filled in is right by the entries behind it
+module _ {tells : Type 0} {given : Given} {tape : List Operation} {scope : Scope} {first : ℕ} {entries : List Entry} {old new : Members} {work : Work} {left roles spares : ℕ} {before after : ℕ → ℕ}
+    (was : IsStill tells given tape scope first entries old work left) (does : DoWithout old) (who : Who) (end : ℕ) (event : Event) (moved : IsMoved given old new) (since : AreLostSince old new roles spares before after)
+    (at : ℕ) (bytes : List ℕ)
+    (holds : tells → (list : ℕ → Sector) → ListStands old (present given tape) list → AreWhole new ⊎ RowsStandBelow (mended_rows work.resync old) old (present given tape) list
+    → (i : ℕ) → i < length bytes / 512 → sector_of bytes i ≡ list (at + i)) where
+  pub read-holds : tells → IsFilledRight (world_in given tape scope first) (entries ++ entries_of who end (losses_of roles spares ++ event ∷ []))
+      → (i : ℕ) → i < length bytes / 512 → sector_of bytes i ≡ now (opening_list (world_in given tape scope first)) entries (at + i)
+  read-holds t (inl none) =
+      let l = was.listed t does (inl (λ role. none-before (loses (world_in given tape scope first) role) entries (entries_of who end (losses_of roles spares ++ event ∷ [])) (none role))) in
+      holds t (now (opening_list (world_in given tape scope first)) entries) l.stands
+      (inl (none-taken tells given tape tape scope first entries old new who end (losses_of roles spares ++ event ∷ []) (IsAmong roles) (grows-none (λ u. refl)) (λ u. (was.recorded u).ends)
+      (few-roles new.newest moved.placed.fit.valid) (missing-since moved since) (λ role lt has. (early-losses roles spares).lost who end (event ∷ []) role lt has) was.full t none))
+  read-holds t (inr fit) =
+      let l = was.listed t does (inr fit) in
+      holds t (now (opening_list (world_in given tape scope first)) entries) l.stands (inr (l.rows fit))

@@ -1,0 +1,174 @@
+-- What each step leaves that is done or refused, from what it did.
+use Rattle.std.proofs.Common.{◌≡◌, ◌≢◌, inl, inr, ℕ, ◌+◌, ◌≤◌, Option, Some, None, List, [], ◌∷◌, ◌++◌, length, refl, sym, subst, arith, append-nil}
+use Rattle.std.specs.List.{All}
+use Rattle.std.specs.Prelude.{MatchOption, ⊤}
+use Rattle.std.proofs.lemmas.List.Elements.{All-nil, All-cons, All-head, All-tail}
+use Rattle.bank.specs.declared.bank.Operation.{Operation}
+use Rattle.bank.specs.Given.{Given, NeverFalls}
+use Rattle.grow_plan.specs.Plans.{phases_steps}
+use Rattle.md_base.specs.declared.answers.Refusal.{Refusal}
+use Rattle.md_base.specs.declared.answers.Who.{Who}
+use Rattle.sb1.specs.declared.sb.Sb.{Sb}
+use Rattle.superblocks.specs.Reading.{Scope, is_backward, shape_of, final_shape}
+use Rattle.superblocks.specs.declared.members.Members.{Members}
+use Rattle.flat_history.specs.declared.events.Entry.{Entry}
+use Rattle.flat_history.specs.declared.events.Event.{Event}
+use Rattle.flat_history.specs.declared.events.Event.TheVariants.{Lost, Refused}
+use Rattle.flat_history.specs.declared.events.LostCause.TheVariants.{Fault, Command}
+use Rattle.flat_history.specs.Plain.{entries_of}
+use Rattle.views.specs.declared.work.Work.{Work}
+use Rattle.views.specs.Lacking.{AreLostSince, AreTooMany, HaveRolesFailed}
+use Rattle.views.specs.Moving.{Grows, IsMoved}
+use Rattle.views.specs.Placed.{IsPlaced}
+use Rattle.views.specs.Status.{left_of}
+use Rattle.call_entries.specs.Losing.{losses_of}
+use Rattle.array_kept.specs.Kept.{scope_in}
+use Rattle.array_kept.specs.Calls.{IsLossBy, AreLossesBy, AreStepsFewer, AreStepsKept, IsEndOf, IsUnmendable}
+use Rattle.array_kept.proofs.KeptLaws.{left-lost}
+use Rattle.array_kept.proofs.ReadyLaws.{list-same}
+use Rattle.array_kept.proofs.StepsLeft.{left-moved}
+use Rattle.grow_asked.specs.declared.window.PhasesLeft.{PhasesLeft}
+use Rattle.grow_asked.specs.Left.{phases_of}
+use Rattle.kept_history.specs.Recorded.{IsCallGoing}
+use Rattle.kept_history.specs.Safe.{world_in}
+use Rattle.still_kept.specs.Still.{IsStill}
+use Rattle.still_kept.proofs.Refusals.{IsRefusedStill, too-many-refused, refused-right}
+use Rattle.still_kept.proofs.Resting.{resting-stands}
+use Rattle.still_kept.proofs.Stood.{within-count}
+use Rattle.running_words.specs.Parts.{RunningParts, still_left}
+use Rattle.running_words.proofs.Called.{not_254}
+use Rattle.running_words.proofs.Lengths.{IsLengthKept, behind-keeps}
+use Rattle.still.specs.Steps.{IsStepped}
+
+pub refused-of : (Why : Refusal → Type 0) (o : Option Refusal) (refusal : Refusal) → o ≡ Some refusal → MatchOption o ⊤ Why → Why refusal
+refused-of Why o refusal is why = subst (λ (o : Option Refusal). MatchOption o ⊤ Why) is why
+
+-- ---- the same array
+
+-- the epoch goes on over the same bank, and the same phases are ahead
+pub record IsSameEpoch {B : Type 0} (old new : RunningParts B) : Type 0 where
+  pub uuid : new.parts.uuid ≡ old.parts.uuid
+  pub given : new.parts.given ≡ old.parts.given
+  pub first : new.parts.first ≡ old.parts.first
+  pub backup : new.parts.backup ≡ old.parts.backup
+  pub ahead : new.ahead ≡ old.ahead
+
+-- the superblocks tell the same shapes over the same rows
+pub record AreSameShapes (old new : Sb) : Type 0 where
+  pub shape : shape_of new ≡ shape_of old
+  pub final : final_shape new ≡ final_shape old
+  pub backward : is_backward new ≡ is_backward old
+  pub size : new.size ≡ old.size
+
+pub shapes-same : (sb : Sb) → AreSameShapes sb sb
+shapes-same sb = record { shape = refl; final = refl; backward = refl; size = refl }
+
+pub shapes-moved : {given : Given} {old new : Members} → IsMoved given old new → AreSameShapes old.newest new.newest
+shapes-moved moved = record {
+  shape = moved.shape;
+  final = moved.reshape.final;
+  backward = moved.reshape.backward;
+  size = moved.size;
+}
+
+-- as many steps of the phases ahead
+pub planned-same : {old new : Sb} (ahead : PhasesLeft) → AreSameShapes old new → phases_steps (shape_of new) new.size (phases_of ahead) ≡ phases_steps (shape_of old) old.size (phases_of ahead)
+planned-same ahead same i = phases_steps (same.shape i) (same.size i) (phases_of ahead)
+
+pub stepped : {B : Type 0} {tells : Type 0} {given : Given} {tape tape' : List Operation} {Had : ℕ → ℕ → Type 0} {before after : ℕ → ℕ} {old new : RunningParts B}
+    → Grows tells tape tape' → AreSameShapes old.parts.members.newest new.parts.members.newest → IsEndOf tells new.parts.first new.parts.entries tape'
+    → HaveRolesFailed old.parts.members new.parts.members before after → AreLossesBy Had before after old.parts.entries new.parts.entries → NeverFalls before after → IsSameEpoch old new
+    → (tells → old.parts.first ≤ length tape) → IsStepped tells given tape tape' Had before after old new
+stepped {given = given} {old = old} {new = new} grows shapes ended failed losses rises epoch begun = record {
+  grows = grows;
+  ended = ended;
+  failed = failed;
+  losses = losses;
+  never_falls = rises;
+  same = record {
+    array = record {
+      uuid = epoch.uuid;
+      given = epoch.given;
+      first = epoch.first;
+      backup = epoch.backup;
+      shape = shapes.shape;
+      size = shapes.size;
+      list = list-same given (scope_in given old.parts.uuid old.parts.given old.parts.backup) old.parts.first refl
+          (λ i. scope_in given (epoch.uuid i) (epoch.given i) (epoch.backup i)) epoch.first grows begun;
+    };
+    final = shapes.final;
+    backward = shapes.backward;
+    ahead = epoch.ahead;
+  };
+}
+
+-- ---- what a call enters
+
+all-more : {P Q : Entry → Type 0} → ((e : Entry) → P e → Q e) → (xs : List Entry) → All P xs → All Q xs
+all-more {Q = Q} more [] all = All-nil Q
+all-more {P = P} {Q = Q} more (x ∷ xs) all = All-cons Q x xs (more x (All-head P x xs all)) (all-more more xs (All-tail P x xs all))
+
+loss-more : {Had More : ℕ → ℕ → Type 0} → ((role slot : ℕ) → Had role slot → More role slot) → (before after : ℕ → ℕ) (event : Event) → IsLossBy Had before after event → IsLossBy More before after event
+loss-more more before after (Lost role Fault) is = (is.0, more role is.0 is.1, is.2)
+loss-more more before after (Lost role Command) is = (is.0, more role is.0 is.1)
+loss-more more before after (Lost role cause) is = absurd is
+loss-more more before after event is = is
+
+-- more slots may have had the roles that were lost
+pub stepped-more : {B : Type 0} {tells : Type 0} {given : Given} {tape tape' : List Operation} {Had More : ℕ → ℕ → Type 0} {before after : ℕ → ℕ} {old new : RunningParts B} → ((role slot : ℕ) → Had role slot → More role slot)
+    → IsStepped tells given tape tape' Had before after old new → IsStepped tells given tape tape' More before after old new
+stepped-more {before = before} {after = after} more is = record {
+  grows = is.grows;
+  ended = is.ended;
+  failed = is.failed;
+  losses = record { more = is.losses.more; grown = is.losses.grown; failed = all-more (λ e. loss-more more before after e.event) is.losses.more is.losses.failed };
+  never_falls = is.never_falls;
+  same = is.same;
+}
+
+-- losses alone leave the length of the list
+pub losses-keep : (who : Who) (end roles spares : ℕ) → IsLengthKept (entries_of who end (losses_of roles spares))
+losses-keep who end roles spares =
+    subst (λ (l : List Event). IsLengthKept (entries_of who end l)) (append-nil (losses_of roles spares)) (behind-keeps who end roles spares [] (record { long = λ n. refl; free = refl }))
+
+-- ---- the steps that are left
+
+-- with as many more behind them
+pub fewer-more : {old new : List Entry} {left left' n m : ℕ} → m ≡ n → AreStepsFewer old new left left' → AreStepsFewer old new (left + n) (left' + m)
+fewer-more same less = record {
+  one = λ none. let is = less.one none in omega (arith, is, same);
+  some = λ none. let is = less.some none in omega (arith, is, same);
+}
+
+pub kept-more : {old new : List Entry} {left left' n m : ℕ} → m ≡ n → AreStepsKept old new left left' → AreStepsKept old new (left + n) (left' + m)
+kept-more same less = record {
+  same = λ none. let is = less.same none in omega (arith, is, same);
+  fewer = λ none. let is = less.fewer none in omega (arith, is, same);
+}
+
+sum-less : (left now then was p q : ℕ) → left ≡ now + p → now ≡ then → then + 1 ≡ was → p ≡ q → left + 1 ≡ was + q
+sum-less left now then was p q told same one phases = omega (arith, told, same, one, phases)
+
+-- or one fewer, where that is so by what is under way
+pub left-falls : {given : Given} {old new : Members} {roles spares : ℕ} {before after : ℕ → ℕ} (next : Work) (ahead : PhasesLeft) (was left : ℕ) → IsMoved given old new → AreLostSince old new roles spares before after
+    → left_of next old + 1 ≡ was → left ≡ still_left next new ahead → losses_of roles spares ≡ [] → left + 1 ≡ was + phases_steps (shape_of old.newest) old.newest.size (phases_of ahead)
+left-falls {old = old} {new = new} {roles = roles} {spares = spares} {before = before} {after = after} next ahead was left moved since one told none =
+    sum-less left (left_of next new) (left_of next old) was (phases_steps (shape_of new.newest) new.newest.size (phases_of ahead)) (phases_steps (shape_of old.newest) old.newest.size (phases_of ahead))
+    told (left-moved moved next roles spares before after since none) one (planned-same ahead (shapes-moved moved))
+
+-- ---- a refusal before anything is done
+
+-- why a step is refused, by what is under way
+pub step-refused : (given : Given) (m : Members) → IsPlaced given m → (refusal : Refusal) (resync : Option ℕ) → IsUnmendable m refusal → (resync ≡ None → AreTooMany m refusal) → IsRefusedStill resync m refusal
+step-refused given m placed refusal None why many = too-many-refused None m refusal (many refl)
+step-refused given m placed refusal (Some mended) (inl why) many = too-many-refused (Some mended) m refusal why
+step-refused given m placed refusal (Some mended) (inr lacked) many = subst (IsRefusedStill (Some mended) m) (sym lacked.1) (refl, within-count given m placed lacked.0 lacked.4.0, lacked.3)
+
+pub refused-going : {tells : Type 0} {given : Given} {tape : List Operation} {scope : Scope} {first : ℕ} {entries : List Entry} {m : Members} {work : Work} {left : ℕ} (who : Who) (end : ℕ) (refusal : Refusal)
+    → IsStill tells given tape scope first entries m work left → IsCallGoing entries who → who.caller ≢ 254 → (tells → end ≡ length tape) → IsRefusedStill work.resync m refusal
+    → IsStill tells given tape scope first (entries ++ entries_of who end (Refused refusal ∷ [])) m work left
+refused-going {tells = tells} {given = given} {tape = tape} {scope = scope} {first = first} {entries = entries} {m = m} {work = work} {left = left} who end refusal was goes caller at_end why =
+    resting-stands tells given tape scope first entries m work left left who end (Refused refusal) was goes (not_254 who.caller caller) at_end
+    (record { adds = refl; gives = refl; still = λ x values. refl; level = λ n. refl }) (inl refl)
+    (left-lost left left entries who end [] (Refused refusal ∷ []) tt (λ none. refl) was.left_told (λ told is. is))
+    (λ t right. refused-right (world_in given tape scope first) entries given m was.members_are.placed work.resync (was.gone t right) (was.levelled t right) (was.pending t) refusal why)

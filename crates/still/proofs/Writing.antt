@@ -1,0 +1,149 @@
+-- A write of an array without an active reshape, from what `put` says of it.
+use Rattle.std.proofs.Common.{◌≡◌, ◌⊎◌, inl, inr, ℕ, ◌+◌, ◌*◌, ◌/◌, ◌<◌, ◌≤◌, ◌==◌, Bool, true, false, Option, List, [], ◌++◌, length, refl, sym, ◌∙◌, ap₂, subst, arith}
+use Rattle.std.specs.Prelude.{IsFalse}
+use Rattle.std.proofs.lemmas.Bool.Decides.{nat_tests}
+use Rattle.md_base.specs.Sectors.{Sector, sectors_of}
+use Rattle.md_base.specs.Shapes.{data_disks}
+use Rattle.md_base.specs.declared.answers.Refusal.{Refusal}
+use Rattle.md_base.specs.declared.answers.Who.{Who}
+use Rattle.md_base.specs.declared.places.Shape.{Shape}
+use Rattle.md_base.specs.declared.status.Role.TheVariants.{Recovering}
+use Rattle.bank.specs.declared.bank.Operation.{Operation}
+use Rattle.bank.specs.Given.{Given}
+use Rattle.bank.specs.Tape.{Contents}
+use Rattle.layout.proofs.Places.{place-row_below}
+use Rattle.superblocks.specs.declared.members.Members.{Members}
+use Rattle.superblocks.specs.Reading.{Scope, is_clean, shape_of, list_length, role_state}
+use Rattle.row_io.specs.Rows.{reading_of, present}
+use Rattle.list_io.specs.Buffers.{IsTouched}
+use Rattle.list_io.specs.Full.{RowStands, AreWholeIn}
+use Rattle.list_io.specs.Writing.{IsWritten, HasFull}
+use Rattle.flat_history.specs.declared.events.Entry.{Entry}
+use Rattle.flat_history.specs.declared.events.Event.TheVariants.{Refused}
+use Rattle.flat_history.specs.Legal.{visible_at}
+use Rattle.flat_history.specs.Losses.{unsettles}
+use Rattle.flat_history.specs.Plain.{entries_of}
+use Rattle.flat_history.specs.Sound.{OpensFit}
+use Rattle.flat_history.specs.World.{World}
+use Rattle.shape_views.specs.Regions.{DoWithout}
+use Rattle.shape_views.specs.Views.{Ledger, IsTailZero}
+use Rattle.shape_views.specs.Windows.{IsOfRegion}
+use Rattle.shape_views.proofs.Stands.{list-still}
+use Rattle.shape_changes.specs.Marking.{AreOthersPresent}
+use Rattle.shape_changes.specs.Safety.{HasRoomLeft, IsRisen}
+use Rattle.shape_changes.specs.Steady.{IsSafeOver, KeepsSafe, AreGoneTold, AreWritesAllowed}
+use Rattle.views.specs.declared.work.Work.{Work}
+use Rattle.views.specs.Lacking.{AreLostSince, LacksTooMany, IsUnwritten, RowsStandBelow, DataStandsAmong, RowsStandAmong, AreOtherRowsKept, are_mended, mended_rows}
+use Rattle.views.specs.Moving.{Grows, IsMoved}
+use Rattle.views.specs.Placed.{AreWhole}
+use Rattle.views.proofs.Fit.{valid, list-alike}
+use Rattle.call_entries.specs.Losing.{losses_of, failure_events}
+use Rattle.array_kept.proofs.DegradedLaws.{pending-of}
+use Rattle.calls_kept.proofs.TouchedLaws.{safe-put, list-written, rows-written, rebuilt-written}
+use Rattle.kept_history.specs.Recorded.{IsCallGoing}
+use Rattle.kept_history.specs.Safe.{world_in}
+use Rattle.still_kept.specs.Still.{AreAtRest, IsStill}
+use Rattle.still_kept.proofs.Leaving.{rest-moved}
+use Rattle.still_kept.proofs.Stood.{mended-moved, mended-multiple}
+use Rattle.still_kept.proofs.Writing.{IsPutStill, IsWrittenStill, unwritten-stands, torn-stands}
+use Rattle.running_words.proofs.Called.{risen-told}
+use Rattle.still.proofs.Reading.{unwritten-still}
+
+-- ---- rows whose parity is to be relied on
+
+module _ (given : Given) (m : Members) (rest : AreAtRest given m) (resync : Option ℕ) (shape : Shape) (same : shape ≡ shape_of m.newest) (at count : ℕ) where
+  -- sectors that end within those of the mended rows touch no other row
+  touched-mended : (row : ℕ) → are_mended (shape_of m.newest) (mended_rows resync m) (at + count) ≡ true → IsTouched shape at count row → row < mended_rows resync m
+  touched-mended row mended touched =
+      let here = subst (λ (s : Shape). IsTouched s at count row) same touched in
+      let all : at + count ≤ data_disks (shape_of m.newest) * mended_rows resync m = grind (arith, nat_tests, mended) in
+      let below : here.0 < data_disks (shape_of m.newest) * mended_rows resync m = let last = here.2 in omega (arith, all, last) in
+      subst (λ (r : ℕ). r < mended_rows resync m) here.3
+      (place-row_below (shape_of m.newest) (valid given m rest.placed) here.0 (mended_rows resync m) (mended-multiple given m rest.placed resync) below)
+
+  -- those that it touches stand, where they are synced
+  pub synced-rows : (new : Members) (synced : Bool) → synced ≡ are_mended (shape_of m.newest) (mended_rows resync m) (at + count) → (c : Contents) (list : ℕ → Sector)
+      → AreWhole new ⊎ RowsStandBelow (mended_rows resync m) m c list → synced ≡ true → AreWhole new ⊎ RowsStandAmong shape (IsTouched shape at count) m c list
+  synced-rows new synced asked c list (inl whole) is = inl whole
+  synced-rows new synced asked c list (inr below) is = inr (λ row touched low.
+      subst (λ (s : Shape). RowStands (reading_of m) c s list row) (sym same) (below row (touched-mended row (sym asked ∙ is) touched) low))
+
+-- ---- what it leaves
+
+module _ (given : Given) (tape tape' : List Operation) (old new : Members) (rest : AreAtRest given old) (moved : IsMoved given old new) (resync : Option ℕ)
+    (shape : Shape) (same : shape ≡ shape_of old.newest) (at : ℕ) (from : List ℕ) (synced : Bool) (asked : synced ≡ are_mended (shape_of old.newest) (mended_rows resync old) (at + length from / 512)) where
+  abbrev AreSynced : (ℕ → Sector) → Type 0
+  AreSynced list = synced ≡ true → AreWhole new ⊎ RowsStandAmong shape (IsTouched shape at (length from / 512)) old (present given tape) list
+
+  pub put-still : {tells : Type 0} {roles spares : ℕ} {before after : ℕ → ℕ} {begun : Bool} → AreLostSince old new roles spares before after → Grows tells tape tape' → (is_clean old.newest ≡ false → is_clean new.newest ≡ false) → IsRisen tells old new tape tape'
+      → (tells → (world : World) → (told : Ledger) → HasRoomLeft old tape tape' → AreGoneTold told new → told.unclean ≡ true → (list list' : ℕ → Sector) → IsWritten list list' at from
+      → DataStandsAmong shape (IsTouched shape at (length from / 512)) old (present given tape) list → AreSynced list → IsOfRegion old shape (IsTouched shape at (length from / 512))
+      → (begun ≡ true → AreWritesAllowed old told.values list') → (OpensFit world → IsTailZero old.newest list') → IsSafeOver world given told old tape → KeepsSafe world given told new tape tape')
+      → IsPutStill tells given tape tape' old new roles spares before after (mended_rows resync old) at from begun
+  put-still since grows stays rise safe = record {
+    moved = moved;
+    since = since;
+    grows = grows;
+    stays = stays;
+    rise = risen-told rise;
+    safe = λ t world told room gone unclean list list' written stands filled allowed began.
+        safe-put given old new moved rest.placed shape same at (length from / 512) from synced tape tape' rest.still safe t world told room gone unclean list list' written stands
+        (synced-rows given old rest resync shape same at (length from / 512) new synced asked (present given tape) list filled) allowed began;
+  }
+
+  pub written-still : {tells : Type 0} → is_clean new.newest ≡ false → (tells → AreOtherRowsKept (IsTouched shape at (length from / 512)) (reading_of new) (present given tape) (present given tape'))
+      → (tells → (list list' : ℕ → Sector) → IsWritten list list' at from → DataStandsAmong shape (IsTouched shape at (length from / 512)) old (present given tape) list
+      → DataStandsAmong shape (IsTouched shape at (length from / 512)) new (present given tape') list')
+      → (tells → (list list' : ℕ → Sector) → IsWritten list list' at from → DataStandsAmong shape (IsTouched shape at (length from / 512)) old (present given tape) list → AreSynced list
+      → (row : ℕ) → IsTouched shape at (length from / 512) row → row < old.newest.size → AreWholeIn shape list row → RowStands (reading_of new) (present given tape') shape list' row)
+      → (tells → (list list' : ℕ → Sector) → IsWritten list list' at from → DataStandsAmong shape (IsTouched shape at (length from / 512)) old (present given tape) list → AreSynced list
+      → (role slot row : ℕ) → role < shape.disks → role_state (reading_of new) role ≡ Recovering slot → IsTouched shape at (length from / 512) row → row < old.newest.size
+      → HasFull (reading_of old) (present given tape) shape list row role slot → HasFull (reading_of new) (present given tape') shape list' row role slot)
+      → IsWrittenStill tells given tape tape' old new (mended_rows resync old) at from
+  written-still dirty others put good rebuilt = record {
+    dirty = dirty;
+    put = list-written given old new moved rest.placed shape same at (length from / 512) from synced tape tape' (omega arith) others put;
+    good = λ t list list' written stands below row mended low.
+        let size : row < old.newest.size = subst (λ (n : ℕ). row < n) moved.size low in
+        let stood = subst (λ (s : Shape). RowStands (reading_of old) (present given tape) s list row) (sym same) (below row mended size) in
+        subst (λ (s : Shape). RowStands (reading_of new) (present given tape') s list' row) (same ∙ sym moved.shape)
+        (rows-written given old new moved rest.placed shape same at (length from / 512) from synced tape tape' (omega arith) others good t list list' written stands
+        (synced-rows given old rest resync shape same at (length from / 512) new synced asked (present given tape) list (inr below)) row size stood.whole (inr stood));
+    rebuilt = λ t list list' written stands below role slot row lt is low full.
+        subst (λ (s : Shape). HasFull (reading_of new) (present given tape') s list' row role slot) same
+        (rebuilt-written given old new moved rest.placed shape same at (length from / 512) from synced tape tape' (omega arith) others rebuilt t list list' written stands
+        (synced-rows given old rest resync shape same at (length from / 512) new synced asked (present given tape) list (inr below)) role slot row
+        (subst (λ (s : Shape). role < s.disks) (sym same) lt) is low (subst (λ (s : Shape). HasFull (reading_of old) (present given tape) s list row role slot) (sym same) full));
+  }
+
+-- ---- one that wasn't done
+
+pub failed-stands : {tells : Type 0} {given : Given} {tape tape' : List Operation} {scope : Scope} {first : ℕ} {entries : List Entry} {old new : Members} {work : Work} {left roles spares : ℕ} {before after : ℕ → ℕ}
+    (left' : ℕ) (who : Who) (end : ℕ) (shape : Shape) (at : ℕ) (from : List ℕ) (synced begun : Bool) (refusal : Refusal)
+    → IsStill tells given tape scope first entries old work left → DoWithout old → IsCallGoing entries who → IsFalse (who.caller == 254) → (tells → end ≡ length tape') → (losses_of roles spares ≡ [] → left' ≡ left)
+    → shape ≡ shape_of old.newest → synced ≡ are_mended (shape_of old.newest) (mended_rows work.resync old) (at + length from / 512) → at + length from / 512 ≤ list_length old.newest
+    → (tells → at + length from / 512 ≤ visible_at (world_in given tape scope first) entries) → IsPutStill tells given tape tape' old new roles spares before after (mended_rows work.resync old) at from begun
+    → IsUnwritten shape synced new refusal → (begun ≡ true → LacksTooMany shape new refusal) → (begun ≡ false → tells → AreOthersPresent (present given tape) (present given tape'))
+    → IsStill tells given tape' scope first (entries ++ entries_of who end (failure_events roles spares begun at (sectors_of from) refusal)) new work left'
+failed-stands {tells = tells} {given = given} {tape = tape} {tape' = tape'} {scope = scope} {first = first} {entries = entries} {old = old} {new = new} {work = work} {left = left} {roles = roles} {spares = spares} {before = before} {after = after}
+    left' who end shape at from synced begun refusal was does goes caller at_end alike same asked within seen did why lacks others = by begun refl
+  where
+    in_new : shape ≡ shape_of new.newest
+    in_new = same ∙ sym did.moved.shape
+
+    why-new : IsUnwritten (shape_of new.newest) (are_mended (shape_of new.newest) (mended_rows work.resync new) (at + length from / 512)) new refusal
+    why-new = subst (λ (b : Bool). IsUnwritten (shape_of new.newest) b new refusal)
+        (asked ∙ ap₂ (λ (s : Shape) (n : ℕ). are_mended s n (at + length from / 512)) (sym did.moved.shape) (sym (mended-moved did.moved work.resync)))
+        (subst (λ (s : Shape). IsUnwritten s synced new refusal) in_new why)
+
+    dirty : IsUnwritten shape synced new refusal → (is_clean old.newest ≡ false) ⊎ (unsettles (Refused refusal) ≡ true)
+    dirty (inl many) = inr (subst (λ (r : Refusal). unsettles (Refused r) ≡ true) (sym many.told) refl)
+    dirty (inr found) = inl (was.dirty does (pending-of old work.resync (at + length from / 512) (subst (λ (n : ℕ). at + length from / 512 ≤ n) (list-still old.newest was.members_are.still) within) (sym asked ∙ found.2)))
+
+    by : (b : Bool) → begun ≡ b → IsStill tells given tape' scope first (entries ++ entries_of who end (failure_events roles spares b at (sectors_of from) refusal)) new work left'
+    by true is = torn-stands tells given tape tape' scope first entries old new work left left' who end roles spares before after at from begun was does goes caller at_end alike within seen did refusal
+        (inl (subst (λ (s : Shape). LacksTooMany s new refusal) in_new (lacks is)))
+    by false is = unwritten-stands tells given tape tape' scope first entries old new work left left' who end roles spares before after at from begun was does goes caller at_end alike within seen did refusal is
+        (unwritten-still given new (rest-moved given old new did.moved was.members_are) work.resync (at + length from / 512) refusal
+        (subst (λ (n : ℕ). at + length from / 512 ≤ n) (sym (list-alike old.newest new.newest did.moved.reshape did.moved.shape did.moved.size)) within) why-new)
+        (dirty why) (others is)

@@ -1,0 +1,81 @@
+use Rattle.std.proofs.Common.{◌≡◌, ℕ, List, [], ◌∷◌, ◌++◌, Option, Err, inl, refl, sym, ◌∙◌, ap, subst, arith}
+use denote.Builtin.{unit}
+use Rattle.md_base.specs.declared.answers.Refusal.{Refusal}
+use Rattle.md_base.specs.declared.answers.Refusal.TheVariants.{SlotFault}
+use Rattle.md_base.specs.declared.answers.Fault.TheVariants.{Refused as IsRefusedWith}
+use Rattle.bank.specs.Given.{Given}
+use Rattle.superblocks.specs.declared.members.Members.{Members}
+use Rattle.superblocks.specs.Reading.{list_length}
+use Rattle.flat_history.specs.declared.events.Entry.{Entry}
+use Rattle.flat_history.specs.declared.events.Event.TheVariants.{Refused}
+use Rattle.flat_history.specs.Flat.{next_number}
+use Rattle.flat_history.specs.Plain.{entries_of}
+use Rattle.views.proofs.MovedLaws.{grows-none}
+use Rattle.array_kept.specs.Calls.{IsUnaddable, IsAddedFor}
+use Rattle.array_kept.proofs.LossLaws.{ended-behind}
+use Rattle.array_kept.proofs.ReadyLaws.{scope-same}
+use Rattle.calls_kept.proofs.AddLaws.{slot-there, unadded_reply}
+use Rattle.kept_history.proofs.Records.{begins-going}
+use Rattle.running_words.proofs.Called.{alone-lossless}
+use Rattle.running_words.proofs.Lengths.{alone-keeps}
+use Rattle.still.proofs.Kept.{ready, rows-same}
+use Rattle.still.proofs.StepLaws.{shapes-same, stepped, refused-going}
+use Rattle.still.proofs.AddLaws.{unaddable-refused}
+use Rattle.still.proofs.state.Still.add.Goals as goal
+
+-- a refusal before the slot is touched
+unadded-for : (T : Type 0) (given : Given) (backup : Option ℕ) (slot : ℕ) (old new : Members) (before after : ℕ → ℕ) (refusal : Refusal) → IsUnaddable given backup slot old refusal → new ≡ old
+    → IsAddedFor {T = T} given backup slot old new before after (Err (IsRefusedWith refusal))
+unadded-for T given backup slot old new before after (SlotFault failed) why same = absurd why
+unadded-for T given backup slot old new before after refusal why same = (why, same)
+
+pub invariant_of-self-2 : goal.invariant_of-self-2
+invariant_of-self-2 g c =
+    let was = c.self.invariant in
+    let a = c.self.inside in
+    let given = g.B.Bank.given a.bank in
+    let refusal = c.in-Some.refusal in
+    let end = c.ops-end.result in
+    let number : c.args.who.number ≡ next_number c.args.who.caller a.epoch.entries.items = c.requires.next ∙ ap (λ p. next_number c.args.who.caller p.parts.entries) (sym c.self.view_is) in
+    ready (entries_of c.args.who end (Refused refusal ∷ [])) was (rows-same a.members.newest)
+    (refused-going c.args.who end refusal was.kept (begins-going a.epoch.entries.items c.args.who number) c.requires.caller c.ops-end.ensures.count
+    (unaddable-refused given a.backup c.args.slot a.members a.work.resync refusal c.in-Some.ensures))
+    (λ slot. omega arith) (alone-keeps c.args.who end (Refused refusal) (λ n. refl) refl)
+    refl (scope-same given a.backup refl c.enter.ensures.uuid c.enter.ensures.given) c.enter.ensures.first c.make_room.ensures.items c.enter.ensures.items
+    (omega (arith, c.enter.ensures.room, c.in-Ok.ensures.ok))
+
+pub returns-clause-answered : goal.returns-clause-answered
+returns-clause-answered g c =
+    let refusal = c.in-Some.refusal in
+    let a = c.self.inside in
+    let number : c.args.who.number ≡ next_number c.args.who.caller a.epoch.entries.items = c.requires.next ∙ ap (λ p. next_number c.args.who.caller p.parts.entries) (sym c.self.view_is) in
+    rw (← c.self.view_is) (unadded_reply (g.B.Bank.given a.bank) a.backup a.members (list_length a.members.newest) c.args.who a.epoch.entries.items c.enter.new.epoch.entries.items
+    c.ops-end.result c.args.slot refusal c.in-Some.ensures
+    (c.enter.ensures.items ∙ ap (λ (l : List Entry). l ++ entries_of c.args.who c.ops-end.result (Refused refusal ∷ [])) c.make_room.ensures.items) number)
+
+pub returns-clause-stepped : goal.returns-clause-stepped
+returns-clause-stepped g c =
+    let was = c.self.invariant in
+    let a = c.self.inside in
+    let faults = g.B.Bank.faults_of a.bank in
+    let event = Refused c.in-Some.refusal in
+    rw (← c.self.view_is) (stepped (grows-none (λ t. refl)) (shapes-same a.members.newest)
+    (ended-behind (g.B.Bank.tape a.bank) c.enter.new.epoch.first c.make_room.new.self.items c.args.who c.ops-end.result [] event c.enter.ensures.items c.ops-end.ensures.count)
+    (λ role slot held. inl held)
+    (alone-lossless a.members faults faults a.epoch.entries.items c.make_room.new.self.items c.enter.new.epoch.entries.items c.args.who c.ops-end.result event tt c.make_room.ensures.items c.enter.ensures.items)
+    (λ slot. omega arith)
+    (record { uuid = c.enter.ensures.uuid; given = c.enter.ensures.given; first = c.enter.ensures.first; backup = refl; ahead = refl })
+    (λ t. (was.kept.recorded t).begun))
+
+pub is_held_up-requires : goal.is_held_up-requires
+is_held_up-requires g c =
+    let a = c.self.inside in
+    rw (← c.self.view_is) (record { slot = slot-there (g.B.Bank.given a.bank) a.backup c.args.slot a.members c.self.invariant.kept.members_are.placed c.in_default.ensures })
+
+pub make_spare-requires-clause-addable : goal.make_spare-requires-clause-addable
+make_spare-requires-clause-addable g c = rw (← c.self.view_is) c.in_default.ensures
+
+pub returns-clause-caused : goal.returns-clause-caused
+returns-clause-caused g c =
+    unadded-for unit.Denot (g.B.Bank.given c.args.self.now.parts.bank) c.args.self.now.parts.backup c.args.slot c.args.self.now.parts.members c.self.inside.members (g.B.Bank.faults_of c.args.self.now.parts.bank) (g.B.Bank.faults_of c.self.inside.bank)
+    c.in-Some.refusal (subst (λ v. IsUnaddable (g.B.Bank.given v.parts.bank) v.parts.backup c.args.slot v.parts.members c.in-Some.refusal) c.self.view_is c.in-Some.ensures) (ap (λ p. p.parts.members) c.self.view_is)

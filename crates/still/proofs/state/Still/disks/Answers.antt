@@ -1,0 +1,19 @@
+use Rattle.std.proofs.Common.{sym, ◌∙◌, ap, arith}
+use Rattle.md_base.specs.declared.places.Shape.{Shape}
+use Rattle.layout.proofs.Limits.{limited}
+use Rattle.superblocks.specs.Reading.{shape_of}
+use Rattle.views.proofs.Fit.{valid, roles-still}
+use Rattle.still.proofs.state.Still.disks.Goals as goal
+
+pub returns-clause-roles : goal.returns-clause-roles
+returns-clause-roles g c =
+    let a = c.self.inside in
+    let are = c.self.invariant.kept.members_are in
+    rw (← c.self.view_is) (roles-still (g.B.Bank.given a.bank) a.members are.placed are.still ∙ sym (ap (λ (s : Shape). s.disks) c.shape_in.ensures))
+
+pub returns-clause-few : goal.returns-clause-few
+returns-clause-few g c =
+    let a = c.self.inside in
+    let same = ap (λ (s : Shape). s.disks) c.shape_in.ensures in
+    let most = (limited (shape_of a.members.newest) (valid (g.B.Bank.given a.bank) a.members c.self.invariant.kept.members_are.placed)).most in
+    omega (arith, same, most)

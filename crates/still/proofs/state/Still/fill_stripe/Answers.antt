@@ -1,0 +1,453 @@
+use Rattle.std.proofs.Common.{◌≡◌, ℕ, ◌≤◌, ◌<◌, ◌+◌, [], ◌∷◌, ◌++◌, List, None, length, inl, inr, refl, sym, ◌∙◌, ap, subst, arith}
+use Rattle.std.proofs.lemmas.List.Elements.{All-nil}
+use Rattle.md_base.specs.declared.places.Shape.{Shape}
+use Rattle.layout.proofs.Limits.{limited}
+use Rattle.superblocks.specs.Reading.{shape_of, list_length}
+use Rattle.flat_history.specs.declared.events.Entry.{Entry}
+use Rattle.flat_history.specs.declared.events.Event.TheVariants.{Lost, Refused, Step}
+use Rattle.flat_history.specs.declared.events.LostCause.TheVariants.{Fault}
+use Rattle.flat_history.specs.declared.events.StepKind.TheVariants.{RebuildStripe}
+use Rattle.flat_history.specs.Plain.{entries_of}
+use Rattle.flat_history.specs.Transfers.{last_end_from}
+use Rattle.views.specs.declared.work.Work.{Work}
+use Rattle.views.specs.Lacking.{AreLostSince, AreTooMany, LacksTooMany}
+use Rattle.views.specs.Rebuilding.{Held}
+use Rattle.views.specs.Status.{rebuilt_of, left_of}
+use Rattle.views.proofs.Fit.{valid}
+use Rattle.views.proofs.LackingLaws.{lost-since, never-both}
+use Rattle.views.proofs.Still.{count-still}
+use Rattle.call_entries.specs.Losing.{losses_of}
+use Rattle.call_entries.proofs.CallLaws.{losses-are}
+use Rattle.array_kept.specs.Kept.{scope_in}
+use Rattle.array_kept.specs.Calls.{IsLossBy, HasStripeUnbuilt, AreStepsFewer, with_rebuilt}
+use Rattle.array_kept.proofs.LossLaws.{losses-tail, losses-behind, ended-behind}
+use Rattle.array_kept.proofs.ReadyLaws.{scope-same}
+use Rattle.array_kept.proofs.ReplyLaws.{too-many-of, refused-for}
+use Rattle.array_kept.proofs.StepsLeft.{left-filled, steps-fewer, steps-kept}
+use Rattle.calls_kept.proofs.RebuildLaws.{losses-open, losses-end}
+use Rattle.kept_history.specs.Recorded.{IsCallGoing}
+use Rattle.still_kept.specs.Still.{IsStill}
+use Rattle.still_kept.proofs.Rebuilding.{IsFillingStill}
+use Rattle.running_words.specs.Parts.{still_left}
+use Rattle.running_words.proofs.Called.{risen-told}
+use Rattle.running_words.proofs.Lengths.{alone-keeps, behind-keeps}
+use Rattle.still.proofs.Kept.{ready, rows-moved, with-buffers}
+use Rattle.still.proofs.Going.{still-going, step-going}
+use Rattle.still.proofs.StepLaws.{refused-of, shapes-moved, planned-same, stepped, fewer-more, kept-more, losses-keep}
+use Rattle.still.proofs.RebuildLaws.{alone, recovering-held, among-vacant, fill-done, fill-gone, fill-refused}
+use Rattle.still.proofs.state.Still.fill_stripe.Goals as goal
+
+-- ---- refused before anything is done
+
+pub refuse_step-requires-clause-why : goal.refuse_step-requires-clause-why
+refuse_step-requires-clause-why g c = rw (← c.self.view_is) (inl c.in-Some.ensures)
+
+pub refuse_step-requires-clause-synced : goal.refuse_step-requires-clause-synced
+refuse_step-requires-clause-synced g c = rw (← c.self.view_is) (λ none. c.in-Some.ensures)
+
+pub returns-in-Some-clause-caused : goal.returns-in-Some-clause-caused
+returns-in-Some-clause-caused g c =
+    let refusal = c.in-Some.refusal in
+    let many : AreTooMany c.args.self.now.parts.members refusal = subst (λ p. AreTooMany p.parts.members refusal) c.self.view_is c.in-Some.ensures in
+    refused-for (list_length c.args.self.now.parts.members.newest) 0 AreTooMany c.args.self.now.parts.members c.refuse_step.new.self.parts.members refusal
+    (too-many-of c.self.inside.members refusal c.in-Some.ensures) (omega arith) (subst (λ m. AreTooMany m refusal) (sym c.refuse_step.ensures.members) many)
+
+-- ---- the role
+
+pub vacant_roles-before-requires-clause-few : goal.vacant_roles-before-requires-clause-few
+vacant_roles-before-requires-clause-few g c =
+    let a = c.self.inside in
+    let most = (limited (shape_of a.members.newest) (valid (g.B.Bank.given a.bank) a.members c.self.invariant.kept.members_are.placed)).most in
+    let disks = ap (λ (s : Shape). s.disks) c.shape_in-shape.ensures in
+    omega (arith, most, disks)
+
+pub newly_vacant-roles-requires-clause-few : goal.newly_vacant-roles-requires-clause-few
+newly_vacant-roles-requires-clause-few g c =
+    let a = c.self.inside in
+    let most = (limited (shape_of a.members.newest) (valid (g.B.Bank.given a.bank) a.members c.self.invariant.kept.members_are.placed)).most in
+    let disks = ap (λ (s : Shape). s.disks) c.shape_in-shape.ensures in
+    omega (arith, most, disks)
+
+pub bounds-self-inside-role : goal.bounds-self-inside-role
+bounds-self-inside-role g c =
+    let a = c.self.inside in
+    let here = c.self.invariant.kept.members_are in
+    let pending : HasStripeUnbuilt a.work a.members c.args.role = subst (λ p. HasStripeUnbuilt p.parts.work p.parts.members c.args.role) (sym c.self.view_is) c.requires.pending in
+    let most = (limited (shape_of a.members.newest) (valid (g.B.Bank.given a.bank) a.members here.placed)).most in
+    let below = subst (λ (n : ℕ). c.args.role < n) (count-still a.members.newest here.still) pending.0.0 in
+    omega (arith, most, below)
+
+pub set_rebuilt-requires : goal.set_rebuilt-requires
+set_rebuilt-requires g c =
+    let a = c.self.inside in
+    let here = c.self.invariant.kept.members_are in
+    let pending : HasStripeUnbuilt a.work a.members c.args.role = subst (λ p. HasStripeUnbuilt p.parts.work p.parts.members c.args.role) (sym c.self.view_is) c.requires.pending in
+    let most = (limited (shape_of a.members.newest) (valid (g.B.Bank.given a.bank) a.members here.placed)).most in
+    let below = subst (λ (n : ℕ). c.args.role < n) (count-still a.members.newest here.still) pending.0.0 in
+    omega (arith, most, below)
+
+-- ---- it isn't rebuilt
+
+pub invariant_of-self : goal.invariant_of-self
+invariant_of-self g c =
+    let was = c.self.invariant in
+    let here = was.kept.members_are in
+    let a = c.self.inside in
+    let given = g.B.Bank.given a.bank in
+    let goes : IsCallGoing a.epoch.entries.items c.args.who = subst (λ p. IsCallGoing p.parts.entries c.args.who) (sym c.self.view_is) c.requires.open in
+    let some : 1 ≤ a.steps = subst (λ p. 1 ≤ p.parts.steps) (sym c.self.view_is) c.requires.room in
+    let did = c.fill-filled.ensures in
+    let m = c.fill-filled.new.members in
+    let before = g.B.Bank.faults_of a.bank in
+    let after = g.B.Bank.faults_of c.fill-filled.new.bank in
+    let roles = c.newly_vacant-roles.result in
+    let spares = c.fill-filled.result.spares in
+    let end = c.ops-end.result in
+    let tape = g.B.Bank.tape a.bank in
+    let tape' = g.B.Bank.tape c.fill-filled.new.bank in
+    let role = c.args.role in
+    let slot = c.in-Some-recovering_slot.slot in
+    let pending : HasStripeUnbuilt a.work a.members role = subst (λ p. HasStripeUnbuilt p.parts.work p.parts.members role) (sym c.self.view_is) c.requires.pending in
+    let below : role < (shape_of a.members.newest).disks = subst (λ (n : ℕ). role < n) (count-still a.members.newest here.still) pending.0.0 in
+    let since : AreLostSince a.members m roles spares before after = lost-since given a.members m c.shape_in-shape.result.disks c.vacant_roles-before.result roles spares before after here.placed did.moved did.failed
+    (ap (λ (s : Shape). s.disks) c.shape_in-shape.ensures ∙ sym (count-still a.members.newest here.still)) c.vacant_roles-before.ensures c.newly_vacant-roles.ensures in
+    let leaves : IsFillingStill g.B.Bank.tells given tape tape' a.members m role slot roles spares before after c.shape_in-shape.result (rebuilt_of a.work role) = record {
+      recovers = c.in-Some-recovering_slot.ensures.some;
+      moved = did.moved;
+      since = since;
+      grows = did.grows;
+      clean = did.clean;
+      rise = risen-told did.rise;
+      others = did.others;
+      safe = did.safe;
+    } in
+    let refusal = c.in-Some-refusal.refusal in
+    with-buffers (omega (arith, was.rows_fit, did.rows)) (rw did.buffer was.buffer_fits) (ready (entries_of c.args.who end (losses_of roles spares ++ Refused refusal ∷ [])) was (rows-moved given a.members m did.moved)
+    (fill-refused a.ahead c.args.who end role slot roles spares c.shape_in-shape.result was.kept c.in_default.ensures goes c.requires.caller c.ops-end.ensures.count c.shape_in-shape.ensures below leaves refusal
+    (refused-of (LacksTooMany c.shape_in-shape.result m) c.fill-filled.result.refusal refusal c.in-Some-refusal.is did.refused))
+    did.counts (behind-keeps c.args.who end roles spares (Refused refusal ∷ []) (alone-keeps c.args.who end (Refused refusal) (λ n. refl) refl))
+    did.given (scope-same given a.backup did.given c.enter_behind.ensures.uuid c.enter_behind.ensures.given) c.enter_behind.ensures.first refl c.enter_behind.ensures.items
+    (omega (arith, c.enter_behind.ensures.room, was.room_left, some)))
+
+pub returns-in-Some-refusal-clause-stepped : goal.returns-in-Some-refusal-clause-stepped
+returns-in-Some-refusal-clause-stepped g c =
+    let was = c.self.invariant in
+    let here = was.kept.members_are in
+    let a = c.self.inside in
+    let given = g.B.Bank.given a.bank in
+    let did = c.fill-filled.ensures in
+    let m = c.fill-filled.new.members in
+    let before = g.B.Bank.faults_of a.bank in
+    let after = g.B.Bank.faults_of c.fill-filled.new.bank in
+    let roles = c.newly_vacant-roles.result in
+    let spares = c.fill-filled.result.spares in
+    let end = c.ops-end.result in
+    let since : AreLostSince a.members m roles spares before after = lost-since given a.members m c.shape_in-shape.result.disks c.vacant_roles-before.result roles spares before after here.placed did.moved did.failed
+    (ap (λ (s : Shape). s.disks) c.shape_in-shape.ensures ∙ sym (count-still a.members.newest here.still)) c.vacant_roles-before.ensures c.newly_vacant-roles.ensures in
+    let event = Refused c.in-Some-refusal.refusal in
+    rw (← c.self.view_is) (stepped did.grows (shapes-moved did.moved)
+    (ended-behind (g.B.Bank.tape c.fill-filled.new.bank) c.enter_behind.new.epoch.first a.epoch.entries.items c.args.who end (losses_of roles spares) event c.enter_behind.ensures.items c.ops-end.ensures.count)
+    did.failed.roles
+    (losses-behind a.members m before after a.epoch.entries.items a.epoch.entries.items c.enter_behind.new.epoch.entries.items c.args.who end roles spares event since tt refl c.enter_behind.ensures.items)
+    did.counts
+    (record { uuid = c.enter_behind.ensures.uuid; given = c.enter_behind.ensures.given; first = c.enter_behind.ensures.first; backup = refl; ahead = refl })
+    (λ t. (was.kept.recorded t).begun))
+
+pub returns-in-Some-refusal-clause-stays : goal.returns-in-Some-refusal-clause-stays
+returns-in-Some-refusal-clause-stays g c =
+    let was = c.self.invariant in
+    let here = was.kept.members_are in
+    let a = c.self.inside in
+    let given = g.B.Bank.given a.bank in
+    let did = c.fill-filled.ensures in
+    let m = c.fill-filled.new.members in
+    let before = g.B.Bank.faults_of a.bank in
+    let after = g.B.Bank.faults_of c.fill-filled.new.bank in
+    let roles = c.newly_vacant-roles.result in
+    let spares = c.fill-filled.result.spares in
+    let end = c.ops-end.result in
+    let since : AreLostSince a.members m roles spares before after = lost-since given a.members m c.shape_in-shape.result.disks c.vacant_roles-before.result roles spares before after here.placed did.moved did.failed
+    (ap (λ (s : Shape). s.disks) c.shape_in-shape.ensures ∙ sym (count-still a.members.newest here.still)) c.vacant_roles-before.ensures c.newly_vacant-roles.ensures in
+    rw (← c.self.view_is) (kept-more (planned-same a.ahead (shapes-moved did.moved)) (steps-kept a.work c.args.who end (Refused c.in-Some-refusal.refusal ∷ []) did.moved since c.enter_behind.ensures.items))
+
+pub returns-in-Some-refusal-clause-caused : goal.returns-in-Some-refusal-clause-caused
+returns-in-Some-refusal-clause-caused g c =
+    let a = c.self.inside in
+    let m = c.fill-filled.new.members in
+    let refusal = c.in-Some-refusal.refusal in
+    let lacks = refused-of (LacksTooMany c.shape_in-shape.result m) c.fill-filled.result.refusal refusal c.in-Some-refusal.is c.fill-filled.ensures.refused in
+    let many : AreTooMany m refusal = inl (subst (λ (s : Shape). LacksTooMany s m refusal) (c.shape_in-shape.ensures ∙ sym c.fill-filled.ensures.moved.shape) lacks) in
+    rw (← c.self.view_is) (refused-for (list_length a.members.newest) 0 AreTooMany a.members m refusal (too-many-of m refusal many) (omega arith) many)
+
+pub returns-in-Some-refusal-clause-held : goal.returns-in-Some-refusal-clause-held
+returns-in-Some-refusal-clause-held g c = rw (← c.self.view_is) c.fill-filled.ensures.moved.held
+
+pub returns-in-Some-refusal-clause-spares : goal.returns-in-Some-refusal-clause-spares
+returns-in-Some-refusal-clause-spares g c = rw (← c.self.view_is) c.fill-filled.ensures.moved.fewer
+
+-- ---- the slot is lost
+
+pub invariant_of-self-then-is_vacant : goal.invariant_of-self-then-is_vacant
+invariant_of-self-then-is_vacant g c =
+    let was = c.self.invariant in
+    let here = was.kept.members_are in
+    let a = c.self.inside in
+    let given = g.B.Bank.given a.bank in
+    let goes : IsCallGoing a.epoch.entries.items c.args.who = subst (λ p. IsCallGoing p.parts.entries c.args.who) (sym c.self.view_is) c.requires.open in
+    let some : 1 ≤ a.steps = subst (λ p. 1 ≤ p.parts.steps) (sym c.self.view_is) c.requires.room in
+    let did = c.fill-filled.ensures in
+    let m = c.fill-filled.new.members in
+    let before = g.B.Bank.faults_of a.bank in
+    let after = g.B.Bank.faults_of c.fill-filled.new.bank in
+    let roles = c.newly_vacant-roles.result in
+    let spares = c.fill-filled.result.spares in
+    let end = c.ops-end.result in
+    let tape = g.B.Bank.tape a.bank in
+    let tape' = g.B.Bank.tape c.fill-filled.new.bank in
+    let role = c.args.role in
+    let slot = c.in-Some-recovering_slot.slot in
+    let pending : HasStripeUnbuilt a.work a.members role = subst (λ p. HasStripeUnbuilt p.parts.work p.parts.members role) (sym c.self.view_is) c.requires.pending in
+    let below : role < (shape_of a.members.newest).disks = subst (λ (n : ℕ). role < n) (count-still a.members.newest here.still) pending.0.0 in
+    let synced : a.work.resync ≡ None = subst (λ p. p.parts.work.resync ≡ None) (sym c.self.view_is) c.requires.synced in
+    let since : AreLostSince a.members m roles spares before after = lost-since given a.members m c.shape_in-shape.result.disks c.vacant_roles-before.result roles spares before after here.placed did.moved did.failed
+    (ap (λ (s : Shape). s.disks) c.shape_in-shape.ensures ∙ sym (count-still a.members.newest here.still)) c.vacant_roles-before.ensures c.newly_vacant-roles.ensures in
+    let leaves : IsFillingStill g.B.Bank.tells given tape tape' a.members m role slot roles spares before after c.shape_in-shape.result (rebuilt_of a.work role) = record {
+      recovers = c.in-Some-recovering_slot.ensures.some;
+      moved = did.moved;
+      since = since;
+      grows = did.grows;
+      clean = did.clean;
+      rise = risen-told did.rise;
+      others = did.others;
+      safe = did.safe;
+    } in
+    let next : c.set_rebuilt.new.work ≡ with_rebuilt role (rebuilt_of a.work role + 1) a.work = c.set_rebuilt.ensures.work in
+    let kept = subst (λ (w : Work). IsStill g.B.Bank.tells given tape' (scope_in given a.epoch.uuid a.epoch.given a.backup) a.epoch.first (a.epoch.entries.items ++ entries_of c.args.who end (losses_of roles spares)) m w (still_left w m a.ahead)) (sym next)
+    (fill-gone a.ahead c.args.who end role slot roles spares c.shape_in-shape.result was.kept c.in_default.ensures goes c.requires.caller c.ops-end.ensures.count c.shape_in-shape.ensures below leaves
+    synced c.set_rebuilt.ensures.known (sym c.is_vacant.ensures ∙ c.if-is_vacant.true)) in
+    with-buffers (omega (arith, was.rows_fit, did.rows)) (rw did.buffer was.buffer_fits) (ready (entries_of c.args.who end (losses_of roles spares)) was (rows-moved given a.members m did.moved)
+    kept
+    did.counts (losses-keep c.args.who end roles spares)
+    did.given (scope-same given a.backup did.given c.enter_lost.ensures.uuid c.enter_lost.ensures.given) c.enter_lost.ensures.first refl c.enter_lost.ensures.items
+    (omega (arith, c.enter_lost.ensures.room, was.room_left, some)))
+
+pub returns-then-is_vacant-clause-entered : goal.returns-then-is_vacant-clause-entered
+returns-then-is_vacant-clause-entered g c =
+    let was = c.self.invariant in
+    let here = was.kept.members_are in
+    let a = c.self.inside in
+    let given = g.B.Bank.given a.bank in
+    let did = c.fill-filled.ensures in
+    let m = c.fill-filled.new.members in
+    let before = g.B.Bank.faults_of a.bank in
+    let after = g.B.Bank.faults_of c.fill-filled.new.bank in
+    let roles = c.newly_vacant-roles.result in
+    let spares = c.fill-filled.result.spares in
+    let end = c.ops-end.result in
+    let role = c.args.role in
+    let slot = c.in-Some-recovering_slot.slot in
+    let pending : HasStripeUnbuilt a.work a.members role = subst (λ p. HasStripeUnbuilt p.parts.work p.parts.members role) (sym c.self.view_is) c.requires.pending in
+    let below : role < (shape_of a.members.newest).disks = subst (λ (n : ℕ). role < n) (count-still a.members.newest here.still) pending.0.0 in
+    let since : AreLostSince a.members m roles spares before after = lost-since given a.members m c.shape_in-shape.result.disks c.vacant_roles-before.result roles spares before after here.placed did.moved did.failed
+    (ap (λ (s : Shape). s.disks) c.shape_in-shape.ensures ∙ sym (count-still a.members.newest here.still)) c.vacant_roles-before.ensures c.newly_vacant-roles.ensures in
+    let vacant = sym c.is_vacant.ensures ∙ c.if-is_vacant.true in
+    rw (← c.self.view_is) (inr (
+      record {
+        roles = roles;
+        spares = spares;
+        end = end;
+        is = c.enter_lost.ensures.items;
+        among = among-vacant did.moved since role pending.0.0 (recovering-held a.members role slot c.in-Some-recovering_slot.ensures.some) vacant;
+      },
+      vacant,
+    ))
+
+pub returns-then-is_vacant-clause-stepped : goal.returns-then-is_vacant-clause-stepped
+returns-then-is_vacant-clause-stepped g c =
+    let was = c.self.invariant in
+    let here = was.kept.members_are in
+    let a = c.self.inside in
+    let given = g.B.Bank.given a.bank in
+    let did = c.fill-filled.ensures in
+    let m = c.fill-filled.new.members in
+    let before = g.B.Bank.faults_of a.bank in
+    let after = g.B.Bank.faults_of c.fill-filled.new.bank in
+    let roles = c.newly_vacant-roles.result in
+    let spares = c.fill-filled.result.spares in
+    let end = c.ops-end.result in
+    let role = c.args.role in
+    let slot = c.in-Some-recovering_slot.slot in
+    let pending : HasStripeUnbuilt a.work a.members role = subst (λ p. HasStripeUnbuilt p.parts.work p.parts.members role) (sym c.self.view_is) c.requires.pending in
+    let below : role < (shape_of a.members.newest).disks = subst (λ (n : ℕ). role < n) (count-still a.members.newest here.still) pending.0.0 in
+    let since : AreLostSince a.members m roles spares before after = lost-since given a.members m c.shape_in-shape.result.disks c.vacant_roles-before.result roles spares before after here.placed did.moved did.failed
+    (ap (λ (s : Shape). s.disks) c.shape_in-shape.ensures ∙ sym (count-still a.members.newest here.still)) c.vacant_roles-before.ensures c.newly_vacant-roles.ensures in
+    let vacant = sym c.is_vacant.ensures ∙ c.if-is_vacant.true in
+    let told = among-vacant did.moved since role pending.0.0 (recovering-held a.members role slot c.in-Some-recovering_slot.ensures.some) vacant in
+    rw (← c.self.view_is) (stepped did.grows (shapes-moved did.moved)
+    (λ t. subst (λ (l : List Entry). last_end_from c.enter_lost.new.epoch.first l ≡ length (g.B.Bank.tape c.fill-filled.new.bank)) (sym c.enter_lost.ensures.items)
+    (losses-end c.enter_lost.new.epoch.first a.epoch.entries.items c.args.who end (losses_of roles spares) (Lost role Fault) told ∙ c.ops-end.ensures.count t))
+    did.failed.roles
+    (losses-tail (Held a.members) a.members m (λ r s held. held) before after a.epoch.entries.items a.epoch.entries.items c.enter_lost.new.epoch.entries.items c.args.who end roles spares since refl [] (All-nil (λ e. IsLossBy (Held a.members) before after e.event))
+    (alone a.epoch.entries.items c.enter_lost.new.epoch.entries.items c.args.who end (losses_of roles spares) c.enter_lost.ensures.items))
+    did.counts
+    (record { uuid = c.enter_lost.ensures.uuid; given = c.enter_lost.ensures.given; first = c.enter_lost.ensures.first; backup = refl; ahead = refl })
+    (λ t. (was.kept.recorded t).begun))
+
+pub returns-then-is_vacant-clause-left : goal.returns-then-is_vacant-clause-left
+returns-then-is_vacant-clause-left g c =
+    let was = c.self.invariant in
+    let here = was.kept.members_are in
+    let a = c.self.inside in
+    let given = g.B.Bank.given a.bank in
+    let did = c.fill-filled.ensures in
+    let m = c.fill-filled.new.members in
+    let before = g.B.Bank.faults_of a.bank in
+    let after = g.B.Bank.faults_of c.fill-filled.new.bank in
+    let roles = c.newly_vacant-roles.result in
+    let spares = c.fill-filled.result.spares in
+    let end = c.ops-end.result in
+    let role = c.args.role in
+    let slot = c.in-Some-recovering_slot.slot in
+    let pending : HasStripeUnbuilt a.work a.members role = subst (λ p. HasStripeUnbuilt p.parts.work p.parts.members role) (sym c.self.view_is) c.requires.pending in
+    let below : role < (shape_of a.members.newest).disks = subst (λ (n : ℕ). role < n) (count-still a.members.newest here.still) pending.0.0 in
+    let since : AreLostSince a.members m roles spares before after = lost-since given a.members m c.shape_in-shape.result.disks c.vacant_roles-before.result roles spares before after here.placed did.moved did.failed
+    (ap (λ (s : Shape). s.disks) c.shape_in-shape.ensures ∙ sym (count-still a.members.newest here.still)) c.vacant_roles-before.ensures c.newly_vacant-roles.ensures in
+    rw (← c.self.view_is) (subst (λ (w : Work). AreStepsFewer a.epoch.entries.items c.enter_lost.new.epoch.entries.items (still_left a.work a.members a.ahead) (still_left w m a.ahead)) (sym c.set_rebuilt.ensures.work)
+    (fewer-more (planned-same a.ahead (shapes-moved did.moved))
+    (steps-fewer (with_rebuilt role (rebuilt_of a.work role + 1) a.work) (left_of a.work a.members) c.args.who end [] did.moved since
+    (left-filled a.work a.members role slot below c.set_rebuilt.ensures.known c.in-Some-recovering_slot.ensures.some pending.1)
+    (alone a.epoch.entries.items c.enter_lost.new.epoch.entries.items c.args.who end (losses_of roles spares) c.enter_lost.ensures.items))))
+
+pub returns-then-is_vacant-clause-work : goal.returns-then-is_vacant-clause-work
+returns-then-is_vacant-clause-work g c = rw (← c.self.view_is) c.set_rebuilt.ensures.work
+
+pub returns-then-is_vacant-clause-caused : goal.returns-then-is_vacant-clause-caused
+returns-then-is_vacant-clause-caused g c = rw (← c.self.view_is) (omega arith, λ refusal many. never-both c.self.inside.members refusal c.in_default.ensures many)
+
+pub returns-then-is_vacant-clause-held : goal.returns-then-is_vacant-clause-held
+returns-then-is_vacant-clause-held g c = rw (← c.self.view_is) c.fill-filled.ensures.moved.held
+
+pub returns-then-is_vacant-clause-spares : goal.returns-then-is_vacant-clause-spares
+returns-then-is_vacant-clause-spares g c = rw (← c.self.view_is) c.fill-filled.ensures.moved.fewer
+
+-- ---- it is rebuilt
+
+pub invariant_of-self-2 : goal.invariant_of-self-2
+invariant_of-self-2 g c =
+    let was = c.self.invariant in
+    let here = was.kept.members_are in
+    let a = c.self.inside in
+    let given = g.B.Bank.given a.bank in
+    let goes : IsCallGoing a.epoch.entries.items c.args.who = subst (λ p. IsCallGoing p.parts.entries c.args.who) (sym c.self.view_is) c.requires.open in
+    let some : 1 ≤ a.steps = subst (λ p. 1 ≤ p.parts.steps) (sym c.self.view_is) c.requires.room in
+    let did = c.fill-filled.ensures in
+    let m = c.fill-filled.new.members in
+    let before = g.B.Bank.faults_of a.bank in
+    let after = g.B.Bank.faults_of c.fill-filled.new.bank in
+    let roles = c.newly_vacant-roles.result in
+    let spares = c.fill-filled.result.spares in
+    let end = c.ops-end.result in
+    let tape = g.B.Bank.tape a.bank in
+    let tape' = g.B.Bank.tape c.fill-filled.new.bank in
+    let role = c.args.role in
+    let slot = c.in-Some-recovering_slot.slot in
+    let pending : HasStripeUnbuilt a.work a.members role = subst (λ p. HasStripeUnbuilt p.parts.work p.parts.members role) (sym c.self.view_is) c.requires.pending in
+    let below : role < (shape_of a.members.newest).disks = subst (λ (n : ℕ). role < n) (count-still a.members.newest here.still) pending.0.0 in
+    let synced : a.work.resync ≡ None = subst (λ p. p.parts.work.resync ≡ None) (sym c.self.view_is) c.requires.synced in
+    let since : AreLostSince a.members m roles spares before after = lost-since given a.members m c.shape_in-shape.result.disks c.vacant_roles-before.result roles spares before after here.placed did.moved did.failed
+    (ap (λ (s : Shape). s.disks) c.shape_in-shape.ensures ∙ sym (count-still a.members.newest here.still)) c.vacant_roles-before.ensures c.newly_vacant-roles.ensures in
+    let leaves : IsFillingStill g.B.Bank.tells given tape tape' a.members m role slot roles spares before after c.shape_in-shape.result (rebuilt_of a.work role) = record {
+      recovers = c.in-Some-recovering_slot.ensures.some;
+      moved = did.moved;
+      since = since;
+      grows = did.grows;
+      clean = did.clean;
+      rise = risen-told did.rise;
+      others = did.others;
+      safe = did.safe;
+    } in
+    let left = c.all_left-left.result in
+    let next : c.set_rebuilt.new.work ≡ with_rebuilt role (rebuilt_of a.work role + 1) a.work = c.set_rebuilt.ensures.work in
+    let told = c.all_left-left.ensures ∙ ap (λ (w : Work). still_left w m a.ahead) next in
+    let kept = subst (λ (w : Work). IsStill g.B.Bank.tells given tape' (scope_in given a.epoch.uuid a.epoch.given a.backup) a.epoch.first (a.epoch.entries.items ++ entries_of c.args.who end (losses_of roles spares ++ Step RebuildStripe left ∷ [])) m w (still_left w m a.ahead)) (sym next)
+    (fill-done a.ahead c.args.who end role slot roles spares c.shape_in-shape.result was.kept c.in_default.ensures goes c.requires.caller c.ops-end.ensures.count c.shape_in-shape.ensures below leaves
+    left synced c.set_rebuilt.ensures.known pending.1 (sym c.is_vacant.ensures ∙ c.if-is_vacant.false) told (did.filled c.in_default-refusal.is)) in
+    with-buffers (omega (arith, was.rows_fit, did.rows)) (rw did.buffer was.buffer_fits) (ready (entries_of c.args.who end (losses_of roles spares ++ Step RebuildStripe left ∷ [])) was (rows-moved given a.members m did.moved)
+    kept
+    did.counts (behind-keeps c.args.who end roles spares (Step RebuildStripe left ∷ []) (alone-keeps c.args.who end (Step RebuildStripe left) (λ n. refl) refl))
+    did.given (scope-same given a.backup did.given c.enter_behind-2.ensures.uuid c.enter_behind-2.ensures.given) c.enter_behind-2.ensures.first refl c.enter_behind-2.ensures.items
+    (omega (arith, c.enter_behind-2.ensures.room, was.room_left, some)))
+
+pub returns-clause-stepped : goal.returns-clause-stepped
+returns-clause-stepped g c =
+    let was = c.self.invariant in
+    let here = was.kept.members_are in
+    let a = c.self.inside in
+    let given = g.B.Bank.given a.bank in
+    let did = c.fill-filled.ensures in
+    let m = c.fill-filled.new.members in
+    let before = g.B.Bank.faults_of a.bank in
+    let after = g.B.Bank.faults_of c.fill-filled.new.bank in
+    let roles = c.newly_vacant-roles.result in
+    let spares = c.fill-filled.result.spares in
+    let end = c.ops-end.result in
+    let since : AreLostSince a.members m roles spares before after = lost-since given a.members m c.shape_in-shape.result.disks c.vacant_roles-before.result roles spares before after here.placed did.moved did.failed
+    (ap (λ (s : Shape). s.disks) c.shape_in-shape.ensures ∙ sym (count-still a.members.newest here.still)) c.vacant_roles-before.ensures c.newly_vacant-roles.ensures in
+    let event = Step RebuildStripe c.all_left-left.result in
+    rw (← c.self.view_is) (stepped did.grows (shapes-moved did.moved)
+    (ended-behind (g.B.Bank.tape c.fill-filled.new.bank) c.enter_behind-2.new.epoch.first a.epoch.entries.items c.args.who end (losses_of roles spares) event c.enter_behind-2.ensures.items c.ops-end.ensures.count)
+    did.failed.roles
+    (losses-behind a.members m before after a.epoch.entries.items a.epoch.entries.items c.enter_behind-2.new.epoch.entries.items c.args.who end roles spares event since tt refl c.enter_behind-2.ensures.items)
+    did.counts
+    (record { uuid = c.enter_behind-2.ensures.uuid; given = c.enter_behind-2.ensures.given; first = c.enter_behind-2.ensures.first; backup = refl; ahead = refl })
+    (λ t. (was.kept.recorded t).begun))
+
+pub returns-clause-left : goal.returns-clause-left
+returns-clause-left g c =
+    let was = c.self.invariant in
+    let here = was.kept.members_are in
+    let a = c.self.inside in
+    let given = g.B.Bank.given a.bank in
+    let did = c.fill-filled.ensures in
+    let m = c.fill-filled.new.members in
+    let before = g.B.Bank.faults_of a.bank in
+    let after = g.B.Bank.faults_of c.fill-filled.new.bank in
+    let roles = c.newly_vacant-roles.result in
+    let spares = c.fill-filled.result.spares in
+    let end = c.ops-end.result in
+    let role = c.args.role in
+    let slot = c.in-Some-recovering_slot.slot in
+    let pending : HasStripeUnbuilt a.work a.members role = subst (λ p. HasStripeUnbuilt p.parts.work p.parts.members role) (sym c.self.view_is) c.requires.pending in
+    let below : role < (shape_of a.members.newest).disks = subst (λ (n : ℕ). role < n) (count-still a.members.newest here.still) pending.0.0 in
+    let since : AreLostSince a.members m roles spares before after = lost-since given a.members m c.shape_in-shape.result.disks c.vacant_roles-before.result roles spares before after here.placed did.moved did.failed
+    (ap (λ (s : Shape). s.disks) c.shape_in-shape.ensures ∙ sym (count-still a.members.newest here.still)) c.vacant_roles-before.ensures c.newly_vacant-roles.ensures in
+    rw (← c.self.view_is) (subst (λ (w : Work). AreStepsFewer a.epoch.entries.items c.enter_behind-2.new.epoch.entries.items (still_left a.work a.members a.ahead) (still_left w m a.ahead)) (sym c.set_rebuilt.ensures.work)
+    (fewer-more (planned-same a.ahead (shapes-moved did.moved))
+    (steps-fewer (with_rebuilt role (rebuilt_of a.work role + 1) a.work) (left_of a.work a.members) c.args.who end (Step RebuildStripe c.all_left-left.result ∷ []) did.moved since
+    (left-filled a.work a.members role slot below c.set_rebuilt.ensures.known c.in-Some-recovering_slot.ensures.some pending.1) c.enter_behind-2.ensures.items)))
+
+pub returns-clause-work : goal.returns-clause-work
+returns-clause-work g c = rw (← c.self.view_is) c.set_rebuilt.ensures.work
+
+pub returns-clause-caused : goal.returns-clause-caused
+returns-clause-caused g c = rw (← c.self.view_is) (omega arith, λ refusal many. never-both c.self.inside.members refusal c.in_default.ensures many)
+
+pub returns-clause-held : goal.returns-clause-held
+returns-clause-held g c = rw (← c.self.view_is) c.fill-filled.ensures.moved.held
+
+pub returns-clause-spares : goal.returns-clause-spares
+returns-clause-spares g c = rw (← c.self.view_is) c.fill-filled.ensures.moved.fewer
+
+-- ---- the call goes on
+
+pub returns-in-Some-refusal-clause-open : goal.returns-in-Some-refusal-clause-open
+returns-in-Some-refusal-clause-open g c = step-going c.args.who c.ops-end.result c.newly_vacant-roles.result c.fill-filled.result.spares (Refused c.in-Some-refusal.refusal) c.requires.open tt (ap (λ p. p.parts.entries) c.self.view_is) c.enter_behind.ensures.items
+
+pub returns-then-is_vacant-clause-open : goal.returns-then-is_vacant-clause-open
+returns-then-is_vacant-clause-open g c =
+    let losses = losses_of c.newly_vacant-roles.result c.fill-filled.result.spares in
+    still-going c.args.who c.ops-end.result (losses ++ []) c.requires.open (losses-open losses [] (losses-are c.newly_vacant-roles.result c.fill-filled.result.spares) tt) (ap (λ p. p.parts.entries) c.self.view_is)
+    (alone c.self.inside.epoch.entries.items c.enter_lost.new.epoch.entries.items c.args.who c.ops-end.result losses c.enter_lost.ensures.items)
+
+pub returns-clause-open : goal.returns-clause-open
+returns-clause-open g c = step-going c.args.who c.ops-end.result c.newly_vacant-roles.result c.fill-filled.result.spares (Step RebuildStripe c.all_left-left.result) c.requires.open tt (ap (λ p. p.parts.entries) c.self.view_is) c.enter_behind-2.ensures.items

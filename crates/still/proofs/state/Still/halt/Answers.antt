@@ -1,0 +1,40 @@
+use Rattle.std.proofs.Common.{◌≡◌, ℕ, List, [], ◌∷◌, ◌++◌, length, refl, sym, ◌∙◌, ap, subst}
+use Rattle.superblocks.specs.Reading.{Scope}
+use Rattle.flat_history.specs.declared.events.Entry.{Entry}
+use Rattle.flat_history.specs.declared.events.Event.TheVariants.{Halted}
+use Rattle.flat_history.specs.Flat.{next_number}
+use Rattle.flat_history.specs.Growing.{EndBy}
+use Rattle.flat_history.specs.Plain.{entries_of}
+use Rattle.array_kept.specs.Kept.{scope_in}
+use Rattle.array_kept.proofs.ReadyLaws.{scope-same}
+use Rattle.still_kept.specs.Still.{IsStill}
+use Rattle.running_words.specs.Parts.{still_left}
+use Rattle.still.proofs.Asking.{halted-stands, epoch-kept}
+use Rattle.still.proofs.state.Still.halt.Goals as goal
+
+pub returns-clause-right : goal.returns-clause-right
+returns-clause-right g c =
+    let a = c.self.inside in
+    let epoch = c.enter.new.epoch in
+    let given = g.B.Bank.given a.bank in
+    let tape = g.B.Bank.tape a.bank in
+    let left = still_left a.work a.members a.ahead in
+    let number : c.args.who.number ≡ next_number c.args.who.caller a.epoch.entries.items = c.requires.next ∙ ap (λ p. next_number c.args.who.caller p.parts.entries) (sym c.self.view_is) in
+    let kept = halted-stands c.args.who c.ops-end.result c.self.invariant.kept number c.requires.caller c.ops-end.ensures.count in
+    let same =
+    subst (λ (l : List Entry). IsStill g.B.Bank.tells given tape (scope_in given epoch.uuid epoch.given a.backup) epoch.first l a.members a.work left) (sym c.enter.ensures.items)
+    (subst (λ (n : ℕ). IsStill g.B.Bank.tells given tape (scope_in given epoch.uuid epoch.given a.backup) n (a.epoch.entries.items ++ entries_of c.args.who c.ops-end.result (Halted ∷ [])) a.members a.work left) (sym c.enter.ensures.first)
+    (subst (λ (s : Scope). IsStill g.B.Bank.tells given tape s a.epoch.first (a.epoch.entries.items ++ entries_of c.args.who c.ops-end.result (Halted ∷ [])) a.members a.work left)
+    (sym (scope-same given a.backup refl c.enter.ensures.uuid c.enter.ensures.given)) kept)) in
+    rw (← c.self.view_is) (λ t right. epoch-kept given tape a.backup epoch same t (c.enter.ensures.last ∙ c.ops-end.ensures.count t) right)
+
+pub returns-clause-listed : goal.returns-clause-listed
+returns-clause-listed g c = rw (← c.self.view_is) c.self.invariant.kept.listed
+
+pub returns-clause-ends : goal.returns-clause-ends
+returns-clause-ends g c =
+    let a = c.self.inside in
+    let tape = g.B.Bank.tape a.bank in
+    let number : c.args.who.number ≡ next_number c.args.who.caller a.epoch.entries.items = c.requires.next ∙ ap (λ p. next_number c.args.who.caller p.parts.entries) (sym c.self.view_is) in
+    let kept = halted-stands c.args.who c.ops-end.result c.self.invariant.kept number c.requires.caller c.ops-end.ensures.count in
+    rw (← c.self.view_is) (λ t. subst (λ (l : List Entry). EndBy (length tape) l) (sym c.enter.ensures.items) (kept.recorded t).ends)

@@ -1,0 +1,279 @@
+use Rattle.std.proofs.Common.{◌≡◌, ◌≤◌, ◌<◌, ◌/◌, ◌+◌, [], ◌∷◌, ◌++◌, false, Some, inl, refl, sym, ◌∙◌, ap, subst, arith}
+use Rattle.md_base.specs.declared.places.Shape.{Shape}
+use Rattle.superblocks.specs.Reading.{list_length}
+use Rattle.flat_history.specs.declared.events.Event.TheVariants.{Refused, Step}
+use Rattle.flat_history.specs.declared.events.StepKind.TheVariants.{ResyncStripe}
+use Rattle.flat_history.specs.Plain.{entries_of}
+use Rattle.views.specs.Lacking.{AreLostSince, IsUnwritten}
+use Rattle.views.specs.Status.{left_of}
+use Rattle.views.proofs.LackingLaws.{lost-since, does-without}
+use Rattle.views.proofs.Still.{count-still}
+use Rattle.call_entries.specs.Losing.{losses_of}
+use Rattle.safe_updates.specs.First.{write_refusal}
+use Rattle.array_kept.specs.Calls.{HasStripeLeft, IsUnmendable}
+use Rattle.array_kept.proofs.LossLaws.{losses-behind, ended-behind}
+use Rattle.array_kept.proofs.ReadyLaws.{scope-same}
+use Rattle.array_kept.proofs.ReplyLaws.{unwritten-of, refused-for}
+use Rattle.array_kept.proofs.StepsLeft.{left-mended, steps-fewer, steps-kept}
+use Rattle.array_state.proofs.UnmendableLaws.{unmendable-of, unwritten-then}
+use Rattle.calls_kept.proofs.MendLaws.{is-pending, next-stripe}
+use Rattle.kept_history.specs.Recorded.{IsCallGoing}
+use Rattle.still_kept.proofs.Resync.{IsMendingStill}
+use Rattle.running_words.proofs.Called.{risen-told}
+use Rattle.running_words.proofs.Lengths.{alone-keeps, behind-keeps}
+use Rattle.still.proofs.Kept.{ready, rows-moved, with-buffers}
+use Rattle.still.proofs.Going.{step-going}
+use Rattle.still.proofs.StepLaws.{refused-of, shapes-moved, planned-same, stepped, fewer-more, kept-more}
+use Rattle.still.proofs.MendLaws.{mend-done, mend-refused}
+use Rattle.still.proofs.state.Still.mend_stripe.Goals as goal
+
+-- ---- refused before anything is done
+
+pub refuse_step-requires-clause-why : goal.refuse_step-requires-clause-why
+refuse_step-requires-clause-why g c = rw (← c.self.view_is) c.in-Some.ensures.why
+
+pub refuse_step-requires-clause-synced : goal.refuse_step-requires-clause-synced
+refuse_step-requires-clause-synced g c =
+    λ none. absurd (subst (λ o. HasStripeLeft o c.args.self.now.parts.members) none c.requires.pending)
+
+pub returns-in-Some-clause-caused : goal.returns-in-Some-clause-caused
+returns-in-Some-clause-caused g c =
+    let a = c.self.inside in
+    let refusal = c.in-Some.refusal in
+    let why : IsUnmendable c.args.self.now.parts.members refusal = subst (λ p. IsUnmendable p.parts.members refusal) c.self.view_is c.in-Some.ensures.why in
+    let same = c.refuse_step.ensures.members in
+    refused-for (list_length c.args.self.now.parts.members.newest) 0 IsUnmendable c.args.self.now.parts.members c.refuse_step.new.self.parts.members refusal
+    (unwritten-of _ false a.members refusal (unwritten-then a.members refusal c.self.invariant.kept.members_are.still c.in-Some.ensures.why)) (omega arith) (subst (λ m. IsUnmendable m refusal) (sym same) why)
+
+-- ---- the stripe
+
+pub mend-mended-requires-clause-shape : goal.mend-mended-requires-clause-shape
+mend-mended-requires-clause-shape g c = inl c.shape_in-shape.ensures
+
+pub mend-mended-requires-clause-stripe : goal.mend-mended-requires-clause-stripe
+mend-mended-requires-clause-stripe g c =
+    let a = c.self.inside in
+    let left : HasStripeLeft a.work.resync a.members = subst (λ p. HasStripeLeft p.parts.work.resync p.parts.members) (sym c.self.view_is) c.requires.pending in
+    subst (λ (s : Shape). c.unwrap_or-stripe.result < a.members.newest.size / s.chunk) (sym c.shape_in-shape.ensures)
+    (next-stripe a.work.resync a.members c.unwrap_or-stripe.result left c.unwrap_or-stripe.ensures).1
+
+pub mend-mended-requires-clause-dirty : goal.mend-mended-requires-clause-dirty
+mend-mended-requires-clause-dirty g c =
+    let a = c.self.inside in
+    let left : HasStripeLeft a.work.resync a.members = subst (λ p. HasStripeLeft p.parts.work.resync p.parts.members) (sym c.self.view_is) c.requires.pending in
+    c.self.invariant.kept.dirty (does-without a.members (λ refusal many. c.in_default.ensures.why refusal (inl many))) (is-pending a.work.resync a.members left)
+
+-- ---- it isn't mended
+
+pub invariant_of-self : goal.invariant_of-self
+invariant_of-self g c =
+    let was = c.self.invariant in
+    let here = was.kept.members_are in
+    let a = c.self.inside in
+    let given = g.B.Bank.given a.bank in
+    let goes : IsCallGoing a.epoch.entries.items c.args.who = subst (λ p. IsCallGoing p.parts.entries c.args.who) (sym c.self.view_is) c.requires.open in
+    let left : HasStripeLeft a.work.resync a.members = subst (λ p. HasStripeLeft p.parts.work.resync p.parts.members) (sym c.self.view_is) c.requires.pending in
+    let some : 1 ≤ a.steps = subst (λ p. 1 ≤ p.parts.steps) (sym c.self.view_is) c.requires.room in
+    let did = c.mend-mended.ensures in
+    let m = c.mend-mended.new.members in
+    let before = g.B.Bank.faults_of a.bank in
+    let after = g.B.Bank.faults_of c.mend-mended.new.bank in
+    let roles = c.newly_vacant-roles.result in
+    let spares = c.mend-mended.result.spares in
+    let end = c.ops-end.result in
+    let stripe = c.unwrap_or-stripe.result in
+    let next = next-stripe a.work.resync a.members stripe left c.unwrap_or-stripe.ensures in
+    let does = does-without a.members (λ refusal many. c.in_default.ensures.why refusal (inl many)) in
+    let shape = c.shape_in-shape.result in
+    let refusal = c.in-Some-refusal.refusal in
+    let since : AreLostSince a.members m roles spares before after = lost-since given a.members m shape.disks c.vacant_roles-before.result roles spares before after here.placed did.moved did.failed
+    (ap (λ (s : Shape). s.disks) c.shape_in-shape.ensures ∙ sym (count-still a.members.newest here.still)) c.vacant_roles-before.ensures c.newly_vacant-roles.ensures in
+    let leaves : IsMendingStill g.B.Bank.tells given (g.B.Bank.tape a.bank) (g.B.Bank.tape c.mend-mended.new.bank) a.members m roles spares before after shape stripe = record {
+      moved = did.moved;
+      since = since;
+      grows = did.grows;
+      dirty = did.dirty;
+      rise = risen-told did.rise;
+      stands = did.stands;
+      others = did.others;
+      kept = did.kept;
+      rebuilt = did.rebuilt;
+      safe = did.safe;
+    } in
+    with-buffers (omega (arith, was.rows_fit, did.rows)) (rw did.buffer was.buffer_fits) (ready (entries_of c.args.who end (losses_of roles spares ++ Refused refusal ∷ [])) was (rows-moved given a.members m did.moved)
+    (mend-refused a.ahead c.args.who end roles spares shape stripe was.kept does goes c.requires.caller c.ops-end.ensures.count c.shape_in-shape.ensures next.0 leaves refusal
+    (refused-of (IsUnwritten shape false m) c.mend-mended.result.refusal refusal c.in-Some-refusal.is did.refused))
+    did.counts (behind-keeps c.args.who end roles spares (Refused refusal ∷ []) (alone-keeps c.args.who end (Refused refusal) (λ n. refl) refl))
+    did.given (scope-same given a.backup did.given c.enter_behind.ensures.uuid c.enter_behind.ensures.given) c.enter_behind.ensures.first refl c.enter_behind.ensures.items
+    (omega (arith, c.enter_behind.ensures.room, was.room_left, some)))
+
+pub returns-in-Some-refusal-clause-stepped : goal.returns-in-Some-refusal-clause-stepped
+returns-in-Some-refusal-clause-stepped g c =
+    let was = c.self.invariant in
+    let here = was.kept.members_are in
+    let a = c.self.inside in
+    let given = g.B.Bank.given a.bank in
+    let did = c.mend-mended.ensures in
+    let m = c.mend-mended.new.members in
+    let before = g.B.Bank.faults_of a.bank in
+    let after = g.B.Bank.faults_of c.mend-mended.new.bank in
+    let roles = c.newly_vacant-roles.result in
+    let spares = c.mend-mended.result.spares in
+    let end = c.ops-end.result in
+    let refusal = c.in-Some-refusal.refusal in
+    let since : AreLostSince a.members m roles spares before after = lost-since given a.members m c.shape_in-shape.result.disks c.vacant_roles-before.result roles spares before after here.placed did.moved did.failed
+    (ap (λ (s : Shape). s.disks) c.shape_in-shape.ensures ∙ sym (count-still a.members.newest here.still)) c.vacant_roles-before.ensures c.newly_vacant-roles.ensures in
+    rw (← c.self.view_is) (stepped did.grows (shapes-moved did.moved)
+    (ended-behind (g.B.Bank.tape c.mend-mended.new.bank) c.enter_behind.new.epoch.first a.epoch.entries.items c.args.who end (losses_of roles spares) (Refused refusal) c.enter_behind.ensures.items c.ops-end.ensures.count)
+    did.failed.roles
+    (losses-behind a.members m before after a.epoch.entries.items a.epoch.entries.items c.enter_behind.new.epoch.entries.items c.args.who end roles spares (Refused refusal) since tt refl c.enter_behind.ensures.items)
+    did.counts
+    (record { uuid = c.enter_behind.ensures.uuid; given = c.enter_behind.ensures.given; first = c.enter_behind.ensures.first; backup = refl; ahead = refl })
+    (λ t. (was.kept.recorded t).begun))
+
+pub returns-in-Some-refusal-clause-stays : goal.returns-in-Some-refusal-clause-stays
+returns-in-Some-refusal-clause-stays g c =
+    let was = c.self.invariant in
+    let here = was.kept.members_are in
+    let a = c.self.inside in
+    let did = c.mend-mended.ensures in
+    let m = c.mend-mended.new.members in
+    let before = g.B.Bank.faults_of a.bank in
+    let after = g.B.Bank.faults_of c.mend-mended.new.bank in
+    let roles = c.newly_vacant-roles.result in
+    let spares = c.mend-mended.result.spares in
+    let since : AreLostSince a.members m roles spares before after = lost-since (g.B.Bank.given a.bank) a.members m c.shape_in-shape.result.disks c.vacant_roles-before.result roles spares before after here.placed did.moved did.failed
+    (ap (λ (s : Shape). s.disks) c.shape_in-shape.ensures ∙ sym (count-still a.members.newest here.still)) c.vacant_roles-before.ensures c.newly_vacant-roles.ensures in
+    rw (← c.self.view_is) (kept-more (planned-same a.ahead (shapes-moved did.moved))
+    (steps-kept a.work c.args.who c.ops-end.result (Refused c.in-Some-refusal.refusal ∷ []) did.moved since c.enter_behind.ensures.items))
+
+pub returns-in-Some-refusal-clause-caused : goal.returns-in-Some-refusal-clause-caused
+returns-in-Some-refusal-clause-caused g c =
+    let a = c.self.inside in
+    let m = c.mend-mended.new.members in
+    let refusal = c.in-Some-refusal.refusal in
+    let shape = c.shape_in-shape.result in
+    let why = refused-of (IsUnwritten shape false m) c.mend-mended.result.refusal refusal c.in-Some-refusal.is c.mend-mended.ensures.refused in
+    rw (← c.self.view_is) (refused-for (list_length a.members.newest) 0 IsUnmendable a.members m refusal (unwritten-of shape false m refusal why) (omega arith)
+    (unmendable-of shape m refusal (c.shape_in-shape.ensures ∙ sym c.mend-mended.ensures.moved.shape) why))
+
+pub returns-in-Some-refusal-clause-first : goal.returns-in-Some-refusal-clause-first
+returns-in-Some-refusal-clause-first g c =
+    let m = c.mend-mended.new.members in
+    let refusal = c.in-Some-refusal.refusal in
+    rw (← c.self.view_is) (subst (λ (s : Shape). write_refusal s false m ≡ Some refusal) c.shape_in-shape.ensures
+    (refused-of (λ r. write_refusal c.shape_in-shape.result false m ≡ Some r) c.mend-mended.result.refusal refusal c.in-Some-refusal.is c.mend-mended.ensures.first))
+
+pub returns-in-Some-refusal-clause-held : goal.returns-in-Some-refusal-clause-held
+returns-in-Some-refusal-clause-held g c = rw (← c.self.view_is) c.mend-mended.ensures.moved.held
+
+pub returns-in-Some-refusal-clause-spares : goal.returns-in-Some-refusal-clause-spares
+returns-in-Some-refusal-clause-spares g c = rw (← c.self.view_is) c.mend-mended.ensures.moved.fewer
+
+-- ---- it is mended
+
+pub invariant_of-self-2 : goal.invariant_of-self-2
+invariant_of-self-2 g c =
+    let was = c.self.invariant in
+    let here = was.kept.members_are in
+    let a = c.self.inside in
+    let given = g.B.Bank.given a.bank in
+    let goes : IsCallGoing a.epoch.entries.items c.args.who = subst (λ p. IsCallGoing p.parts.entries c.args.who) (sym c.self.view_is) c.requires.open in
+    let pending : HasStripeLeft a.work.resync a.members = subst (λ p. HasStripeLeft p.parts.work.resync p.parts.members) (sym c.self.view_is) c.requires.pending in
+    let some : 1 ≤ a.steps = subst (λ p. 1 ≤ p.parts.steps) (sym c.self.view_is) c.requires.room in
+    let did = c.mend-mended.ensures in
+    let m = c.mend-mended.new.members in
+    let before = g.B.Bank.faults_of a.bank in
+    let after = g.B.Bank.faults_of c.mend-mended.new.bank in
+    let roles = c.newly_vacant-roles.result in
+    let spares = c.mend-mended.result.spares in
+    let end = c.ops-end.result in
+    let stripe = c.unwrap_or-stripe.result in
+    let next = next-stripe a.work.resync a.members stripe pending c.unwrap_or-stripe.ensures in
+    let does = does-without a.members (λ refusal many. c.in_default.ensures.why refusal (inl many)) in
+    let shape = c.shape_in-shape.result in
+    let left = c.all_left-left.result in
+    let since : AreLostSince a.members m roles spares before after = lost-since given a.members m shape.disks c.vacant_roles-before.result roles spares before after here.placed did.moved did.failed
+    (ap (λ (s : Shape). s.disks) c.shape_in-shape.ensures ∙ sym (count-still a.members.newest here.still)) c.vacant_roles-before.ensures c.newly_vacant-roles.ensures in
+    let leaves : IsMendingStill g.B.Bank.tells given (g.B.Bank.tape a.bank) (g.B.Bank.tape c.mend-mended.new.bank) a.members m roles spares before after shape stripe = record {
+      moved = did.moved;
+      since = since;
+      grows = did.grows;
+      dirty = did.dirty;
+      rise = risen-told did.rise;
+      stands = did.stands;
+      others = did.others;
+      kept = did.kept;
+      rebuilt = did.rebuilt;
+      safe = did.safe;
+    } in
+    with-buffers (omega (arith, was.rows_fit, did.rows)) (rw did.buffer was.buffer_fits) (ready (entries_of c.args.who end (losses_of roles spares ++ Step ResyncStripe left ∷ [])) was (rows-moved given a.members m did.moved)
+    (mend-done a.ahead c.args.who end roles spares shape stripe was.kept does goes c.requires.caller c.ops-end.ensures.count c.shape_in-shape.ensures next.0 leaves left next.1 c.all_left-left.ensures
+    (did.mended c.in_default-refusal.is))
+    did.counts (behind-keeps c.args.who end roles spares (Step ResyncStripe left ∷ []) (alone-keeps c.args.who end (Step ResyncStripe left) (λ n. refl) refl))
+    did.given (scope-same given a.backup did.given c.enter_behind-2.ensures.uuid c.enter_behind-2.ensures.given) c.enter_behind-2.ensures.first refl c.enter_behind-2.ensures.items
+    (omega (arith, c.enter_behind-2.ensures.room, was.room_left, some)))
+
+pub returns-clause-stepped : goal.returns-clause-stepped
+returns-clause-stepped g c =
+    let was = c.self.invariant in
+    let here = was.kept.members_are in
+    let a = c.self.inside in
+    let given = g.B.Bank.given a.bank in
+    let did = c.mend-mended.ensures in
+    let m = c.mend-mended.new.members in
+    let before = g.B.Bank.faults_of a.bank in
+    let after = g.B.Bank.faults_of c.mend-mended.new.bank in
+    let roles = c.newly_vacant-roles.result in
+    let spares = c.mend-mended.result.spares in
+    let end = c.ops-end.result in
+    let event = Step ResyncStripe c.all_left-left.result in
+    let since : AreLostSince a.members m roles spares before after = lost-since given a.members m c.shape_in-shape.result.disks c.vacant_roles-before.result roles spares before after here.placed did.moved did.failed
+    (ap (λ (s : Shape). s.disks) c.shape_in-shape.ensures ∙ sym (count-still a.members.newest here.still)) c.vacant_roles-before.ensures c.newly_vacant-roles.ensures in
+    rw (← c.self.view_is) (stepped did.grows (shapes-moved did.moved)
+    (ended-behind (g.B.Bank.tape c.mend-mended.new.bank) c.enter_behind-2.new.epoch.first a.epoch.entries.items c.args.who end (losses_of roles spares) event c.enter_behind-2.ensures.items c.ops-end.ensures.count)
+    did.failed.roles
+    (losses-behind a.members m before after a.epoch.entries.items a.epoch.entries.items c.enter_behind-2.new.epoch.entries.items c.args.who end roles spares event since tt refl c.enter_behind-2.ensures.items)
+    did.counts
+    (record { uuid = c.enter_behind-2.ensures.uuid; given = c.enter_behind-2.ensures.given; first = c.enter_behind-2.ensures.first; backup = refl; ahead = refl })
+    (λ t. (was.kept.recorded t).begun))
+
+pub returns-clause-left : goal.returns-clause-left
+returns-clause-left g c =
+    let was = c.self.invariant in
+    let here = was.kept.members_are in
+    let a = c.self.inside in
+    let pending : HasStripeLeft a.work.resync a.members = subst (λ p. HasStripeLeft p.parts.work.resync p.parts.members) (sym c.self.view_is) c.requires.pending in
+    let did = c.mend-mended.ensures in
+    let m = c.mend-mended.new.members in
+    let before = g.B.Bank.faults_of a.bank in
+    let after = g.B.Bank.faults_of c.mend-mended.new.bank in
+    let roles = c.newly_vacant-roles.result in
+    let spares = c.mend-mended.result.spares in
+    let stripe = c.unwrap_or-stripe.result in
+    let next = next-stripe a.work.resync a.members stripe pending c.unwrap_or-stripe.ensures in
+    let since : AreLostSince a.members m roles spares before after = lost-since (g.B.Bank.given a.bank) a.members m c.shape_in-shape.result.disks c.vacant_roles-before.result roles spares before after here.placed did.moved did.failed
+    (ap (λ (s : Shape). s.disks) c.shape_in-shape.ensures ∙ sym (count-still a.members.newest here.still)) c.vacant_roles-before.ensures c.newly_vacant-roles.ensures in
+    rw (← c.self.view_is) (fewer-more (planned-same a.ahead (shapes-moved did.moved))
+    (steps-fewer (record a.work { resync = Some (stripe + 1) }) (left_of a.work a.members) c.args.who c.ops-end.result (Step ResyncStripe c.all_left-left.result ∷ []) did.moved since
+    (left-mended a.work a.members stripe next.0 next.1) c.enter_behind-2.ensures.items))
+
+pub returns-clause-caused : goal.returns-clause-caused
+returns-clause-caused g c = rw (← c.self.view_is) (omega arith, c.in_default.ensures.why)
+
+pub returns-clause-first : goal.returns-clause-first
+returns-clause-first g c = rw (← c.self.view_is) (sym c.in_default.ensures.first)
+
+pub returns-clause-held : goal.returns-clause-held
+returns-clause-held g c = rw (← c.self.view_is) c.mend-mended.ensures.moved.held
+
+pub returns-clause-spares : goal.returns-clause-spares
+returns-clause-spares g c = rw (← c.self.view_is) c.mend-mended.ensures.moved.fewer
+
+-- ---- the call goes on
+
+pub returns-in-Some-refusal-clause-open : goal.returns-in-Some-refusal-clause-open
+returns-in-Some-refusal-clause-open g c = step-going c.args.who c.ops-end.result c.newly_vacant-roles.result c.mend-mended.result.spares (Refused c.in-Some-refusal.refusal) c.requires.open tt (ap (λ p. p.parts.entries) c.self.view_is) c.enter_behind.ensures.items
+
+pub returns-clause-open : goal.returns-clause-open
+returns-clause-open g c = step-going c.args.who c.ops-end.result c.newly_vacant-roles.result c.mend-mended.result.spares (Step ResyncStripe c.all_left-left.result) c.requires.open tt (ap (λ p. p.parts.entries) c.self.view_is) c.enter_behind-2.ensures.items

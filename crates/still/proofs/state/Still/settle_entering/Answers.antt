@@ -1,0 +1,227 @@
+use Rattle.std.proofs.Common.{◌≡◌, [], ◌∷◌, ◌++◌, refl, sym, ◌∙◌, ap, arith}
+use Rattle.superblocks.proofs.ValidFields.{few-roles}
+use Rattle.flat_history.specs.declared.events.Event.TheVariants.{Refused}
+use Rattle.flat_history.specs.Flat.{next_number}
+use Rattle.flat_history.specs.Plain.{entries_of}
+use Rattle.views.proofs.LackingLaws.{lost-since, never-both}
+use Rattle.views.proofs.LiveLeft.{without-left}
+use Rattle.views.proofs.MovedLaws.{grows-none, moved-same}
+use Rattle.call_entries.specs.Losing.{losses_of}
+use Rattle.array_kept.specs.Kept.{scope_in}
+use Rattle.array_kept.proofs.LossLaws.{losses-behind, ended-behind, behind-alone, settling-no-loss}
+use Rattle.array_kept.proofs.ReadyLaws.{scope-same}
+use Rattle.kept_history.proofs.Records.{begins-going}
+use Rattle.still_kept.proofs.Flushing.{IsFlushedStill, all-mended, unflushed-stands}
+use Rattle.running_words.specs.Parts.{still_left}
+use Rattle.running_words.proofs.Called.{not_254, called, alone-lossless, risen-told, many-of}
+use Rattle.running_words.proofs.Lengths.{alone-keeps, behind-keeps}
+use Rattle.still.proofs.Asking.{many-alone}
+use Rattle.still.proofs.Kept.{ready, rows-same, rows-moved}
+use Rattle.still.proofs.Left.{left-alike}
+use Rattle.still.proofs.Settled.{settled-stands, left-settled, settling-keeps}
+use Rattle.still.proofs.state.Still.settle_entering.Goals as goal
+
+pub overflow_cast-count : goal.overflow_cast-count
+overflow_cast-count g c =
+    let members = c.self.invariant.kept.members_are in
+    let few = few-roles c.self.inside.members.newest members.placed.fit.valid in
+    let roles = members.placed.roles in
+    let long = c.len-count.ensures in
+    omega (arith, few, roles, long)
+
+pub vacant_roles-before-requires-clause-few : goal.vacant_roles-before-requires-clause-few
+vacant_roles-before-requires-clause-few g c =
+    let members = c.self.invariant.kept.members_are in
+    let few = few-roles c.self.inside.members.newest members.placed.fit.valid in
+    let roles = members.placed.roles in
+    let long = c.len-count.ensures in
+    omega (arith, few, roles, long)
+
+pub newly_vacant-roles-requires-clause-few : goal.newly_vacant-roles-requires-clause-few
+newly_vacant-roles-requires-clause-few g c =
+    let members = c.self.invariant.kept.members_are in
+    let few = few-roles c.self.inside.members.newest members.placed.fit.valid in
+    let roles = members.placed.roles in
+    let long = c.len-count.ensures in
+    omega (arith, few, roles, long)
+
+-- ---- too many are missing
+
+pub invariant_of-self-in-Some : goal.invariant_of-self-in-Some
+invariant_of-self-in-Some g c =
+    let was = c.self.invariant in
+    let a = c.self.inside in
+    let given = g.B.Bank.given a.bank in
+    let number : c.args.who.number ≡ next_number c.args.who.caller a.epoch.entries.items = c.requires.next ∙ ap (λ p. next_number c.args.who.caller p.parts.entries) (sym c.self.view_is) in
+    let end = c.ops-end.result in
+    let refusal = c.in-Some.refusal in
+    ready (entries_of c.args.who end (Refused refusal ∷ [])) was (rows-same a.members.newest)
+    (many-alone c.args.who end was.kept number c.requires.caller c.ops-end.ensures.count refusal c.in-Some.ensures)
+    (λ slot. omega arith) (alone-keeps c.args.who end (Refused refusal) (λ n. refl) refl)
+    refl (scope-same given a.backup refl c.enter.ensures.uuid c.enter.ensures.given) c.enter.ensures.first c.make_room.ensures.items c.enter.ensures.items
+    (omega (arith, c.enter.ensures.room, c.in-Ok.ensures.ok))
+
+pub returns-in-Some-clause-answered : goal.returns-in-Some-clause-answered
+returns-in-Some-clause-answered g c =
+    rw (← c.self.view_is) (behind-alone c.args.who c.ops-end.result (Refused c.in-Some.refusal) c.make_room.ensures.items c.enter.ensures.items)
+
+pub returns-in-Some-clause-called : goal.returns-in-Some-clause-called
+returns-in-Some-clause-called g c =
+    let was = c.self.invariant in
+    let a = c.self.inside in
+    let given = g.B.Bank.given a.bank in
+    let faults = g.B.Bank.faults_of a.bank in
+    let end = c.ops-end.result in
+    let refusal = c.in-Some.refusal in
+    rw (← c.self.view_is) (called (grows-none (λ t. refl)) (moved-same given given a.members a.members refl refl was.kept.members_are.placed was.kept.members_are.unlost)
+    (ended-behind (g.B.Bank.tape a.bank) c.enter.new.epoch.first c.make_room.new.self.items c.args.who end [] (Refused refusal) c.enter.ensures.items c.ops-end.ensures.count)
+    (alone-lossless a.members faults faults a.epoch.entries.items c.make_room.new.self.items c.enter.new.epoch.entries.items c.args.who end (Refused refusal) tt c.make_room.ensures.items c.enter.ensures.items)
+    (λ slot. omega arith)
+    (record { uuid = c.enter.ensures.uuid; given = c.enter.ensures.given; first = c.enter.ensures.first; backup = refl; work = refl; ahead = refl })
+    (λ t. (was.kept.recorded t).begun))
+
+-- ---- it is refused behind what it lost
+
+pub invariant_of-self-in-Some-refusal : goal.invariant_of-self-in-Some-refusal
+invariant_of-self-in-Some-refusal g c =
+    let was = c.self.invariant in
+    let here = was.kept.members_are in
+    let a = c.self.inside in
+    let given = g.B.Bank.given a.bank in
+    let scope = scope_in given a.epoch.uuid a.epoch.given a.backup in
+    let number : c.args.who.number ≡ next_number c.args.who.caller a.epoch.entries.items = c.requires.next ∙ ap (λ p. next_number c.args.who.caller p.parts.entries) (sym c.self.view_is) in
+    let m = c.settle-settled.new.members in
+    let did = c.settle-settled.ensures in
+    let tape = g.B.Bank.tape a.bank in
+    let tape' = g.B.Bank.tape c.settle-settled.new.bank in
+    let before = g.B.Bank.faults_of a.bank in
+    let after = g.B.Bank.faults_of c.settle-settled.new.bank in
+    let roles = c.newly_vacant-roles.result in
+    let spares = c.settle-settled.result.spares in
+    let end = c.ops-end-2.result in
+    let refusal = c.in-Some-refusal.refusal in
+    let left = still_left a.work a.members a.ahead in
+    let left' = still_left a.work m a.ahead in
+    let since = lost-since given a.members m c.len-count.result c.vacant_roles-before.result roles spares before after here.placed did.moved did.failed
+    (c.len-count.ensures ∙ here.placed.roles) c.vacant_roles-before.ensures c.newly_vacant-roles.ensures in
+    let flushed : IsFlushedStill g.B.Bank.tells given tape tape' a.members m roles spares before after c.is_some.result =
+    record { moved = did.moved; since = since; grows = did.grows; rise = risen-told did.rise; others = did.others; safe = did.safe } in
+    ready (entries_of c.args.who end (losses_of roles spares ++ Refused refusal ∷ [])) was (rows-moved given a.members m did.moved)
+    (unflushed-stands g.B.Bank.tells given tape tape' scope a.epoch.first a.epoch.entries.items a.members m a.work left c.args.who end roles spares before after c.is_some.result was.kept
+    (without-left given a.members here.placed here.unlost c.in_default.ensures) (begins-going a.epoch.entries.items c.args.who number) (not_254 c.args.who.caller c.requires.caller) c.ops-end-2.ensures.count
+    (all-mended a.members a.work.resync c.is_some.result c.is_some.ensures) flushed left' refusal (many-of m c.settle-settled.result.refusal refusal c.in-Some-refusal.is did.refused)
+    (left-alike a.work a.ahead roles spares before after did.moved since))
+    did.counts (behind-keeps c.args.who end roles spares (Refused refusal ∷ []) (alone-keeps c.args.who end (Refused refusal) (λ n. refl) refl))
+    did.given (scope-same given a.backup did.given c.enter_behind.ensures.uuid c.enter_behind.ensures.given) c.enter_behind.ensures.first c.make_room.ensures.items c.enter_behind.ensures.items
+    (omega (arith, c.enter_behind.ensures.room, c.in-Ok.ensures.ok))
+
+pub returns-in-Some-refusal-clause-called : goal.returns-in-Some-refusal-clause-called
+returns-in-Some-refusal-clause-called g c =
+    let was = c.self.invariant in
+    let here = was.kept.members_are in
+    let a = c.self.inside in
+    let given = g.B.Bank.given a.bank in
+    let m = c.settle-settled.new.members in
+    let did = c.settle-settled.ensures in
+    let before = g.B.Bank.faults_of a.bank in
+    let after = g.B.Bank.faults_of c.settle-settled.new.bank in
+    let roles = c.newly_vacant-roles.result in
+    let spares = c.settle-settled.result.spares in
+    let end = c.ops-end-2.result in
+    let event = Refused c.in-Some-refusal.refusal in
+    let since = lost-since given a.members m c.len-count.result c.vacant_roles-before.result roles spares before after here.placed did.moved did.failed
+    (c.len-count.ensures ∙ here.placed.roles) c.vacant_roles-before.ensures c.newly_vacant-roles.ensures in
+    rw (← c.self.view_is) (called did.grows did.moved
+    (ended-behind (g.B.Bank.tape c.settle-settled.new.bank) c.enter_behind.new.epoch.first c.make_room.new.self.items c.args.who end (losses_of roles spares) event c.enter_behind.ensures.items c.ops-end-2.ensures.count)
+    (losses-behind a.members m before after a.epoch.entries.items c.make_room.new.self.items c.enter_behind.new.epoch.entries.items c.args.who end roles spares event since tt c.make_room.ensures.items c.enter_behind.ensures.items)
+    did.counts
+    (record { uuid = c.enter_behind.ensures.uuid; given = c.enter_behind.ensures.given; first = c.enter_behind.ensures.first; backup = refl; work = refl; ahead = refl })
+    (λ t. (was.kept.recorded t).begun))
+
+pub returns-in-Some-refusal-clause-others : goal.returns-in-Some-refusal-clause-others
+returns-in-Some-refusal-clause-others g c = rw (← c.self.view_is) c.settle-settled.ensures.others
+
+pub returns-in-Some-refusal-clause-failed : goal.returns-in-Some-refusal-clause-failed
+returns-in-Some-refusal-clause-failed g c = rw (← c.self.view_is) c.settle-settled.ensures.failed.roles
+
+-- ---- it is done
+
+pub invariant_of-self-2 : goal.invariant_of-self-2
+invariant_of-self-2 g c =
+    let was = c.self.invariant in
+    let here = was.kept.members_are in
+    let a = c.self.inside in
+    let given = g.B.Bank.given a.bank in
+    let number : c.args.who.number ≡ next_number c.args.who.caller a.epoch.entries.items = c.requires.next ∙ ap (λ p. next_number c.args.who.caller p.parts.entries) (sym c.self.view_is) in
+    let m = c.settle-settled.new.members in
+    let did = c.settle-settled.ensures in
+    let tape = g.B.Bank.tape a.bank in
+    let tape' = g.B.Bank.tape c.settle-settled.new.bank in
+    let before = g.B.Bank.faults_of a.bank in
+    let after = g.B.Bank.faults_of c.settle-settled.new.bank in
+    let roles = c.newly_vacant-roles.result in
+    let spares = c.settle-settled.result.spares in
+    let end = c.ops-end-2.result in
+    let since = lost-since given a.members m c.len-count.result c.vacant_roles-before.result roles spares before after here.placed did.moved did.failed
+    (c.len-count.ensures ∙ here.placed.roles) c.vacant_roles-before.ensures c.newly_vacant-roles.ensures in
+    let flushed : IsFlushedStill g.B.Bank.tells given tape tape' a.members m roles spares before after c.is_some.result =
+    record { moved = did.moved; since = since; grows = did.grows; rise = risen-told did.rise; others = did.others; safe = did.safe } in
+    ready (entries_of c.args.who end (losses_of roles spares ++ c.args.event ∷ [])) was (rows-moved given a.members m did.moved)
+    (settled-stands (still_left a.work m a.ahead) c.args.who end c.args.event c.requires.event was.kept (without-left given a.members here.placed here.unlost c.in_default.ensures)
+    (begins-going a.epoch.entries.items c.args.who number) (not_254 c.args.who.caller c.requires.caller) c.ops-end-2.ensures.count c.is_some.ensures flushed
+    (record { clean = did.clean c.in_default-refusal.is; stays = did.stays; settled = did.settled c.in_default-refusal.is })
+    (left-alike a.work a.ahead roles spares before after did.moved since))
+    did.counts (behind-keeps c.args.who end roles spares (c.args.event ∷ []) (settling-keeps c.args.who end c.args.event c.requires.event))
+    did.given (scope-same given a.backup did.given c.enter_behind-2.ensures.uuid c.enter_behind-2.ensures.given) c.enter_behind-2.ensures.first c.make_room.ensures.items c.enter_behind-2.ensures.items
+    (omega (arith, c.enter_behind-2.ensures.room, c.in-Ok.ensures.ok))
+
+pub returns-clause-called : goal.returns-clause-called
+returns-clause-called g c =
+    let was = c.self.invariant in
+    let here = was.kept.members_are in
+    let a = c.self.inside in
+    let given = g.B.Bank.given a.bank in
+    let m = c.settle-settled.new.members in
+    let did = c.settle-settled.ensures in
+    let before = g.B.Bank.faults_of a.bank in
+    let after = g.B.Bank.faults_of c.settle-settled.new.bank in
+    let roles = c.newly_vacant-roles.result in
+    let spares = c.settle-settled.result.spares in
+    let end = c.ops-end-2.result in
+    let since = lost-since given a.members m c.len-count.result c.vacant_roles-before.result roles spares before after here.placed did.moved did.failed
+    (c.len-count.ensures ∙ here.placed.roles) c.vacant_roles-before.ensures c.newly_vacant-roles.ensures in
+    rw (← c.self.view_is) (called did.grows did.moved
+    (ended-behind (g.B.Bank.tape c.settle-settled.new.bank) c.enter_behind-2.new.epoch.first c.make_room.new.self.items c.args.who end (losses_of roles spares) c.args.event c.enter_behind-2.ensures.items c.ops-end-2.ensures.count)
+    (losses-behind a.members m before after a.epoch.entries.items c.make_room.new.self.items c.enter_behind-2.new.epoch.entries.items c.args.who end roles spares c.args.event since
+    (settling-no-loss a.members before after c.args.event c.requires.event) c.make_room.ensures.items c.enter_behind-2.ensures.items)
+    did.counts
+    (record { uuid = c.enter_behind-2.ensures.uuid; given = c.enter_behind-2.ensures.given; first = c.enter_behind-2.ensures.first; backup = refl; work = refl; ahead = refl })
+    (λ t. (was.kept.recorded t).begun))
+
+pub returns-clause-left : goal.returns-clause-left
+returns-clause-left g c =
+    let here = c.self.invariant.kept.members_are in
+    let a = c.self.inside in
+    let given = g.B.Bank.given a.bank in
+    let m = c.settle-settled.new.members in
+    let did = c.settle-settled.ensures in
+    let before = g.B.Bank.faults_of a.bank in
+    let after = g.B.Bank.faults_of c.settle-settled.new.bank in
+    let roles = c.newly_vacant-roles.result in
+    let spares = c.settle-settled.result.spares in
+    let since = lost-since given a.members m c.len-count.result c.vacant_roles-before.result roles spares before after here.placed did.moved did.failed
+    (c.len-count.ensures ∙ here.placed.roles) c.vacant_roles-before.ensures c.newly_vacant-roles.ensures in
+    rw (← c.self.view_is) (λ t. left-settled given a.members m a.epoch.entries.items c.make_room.new.self.items c.enter_behind-2.new.epoch.entries.items c.args.who c.ops-end-2.result roles spares c.args.event before after
+    (g.B.Bank.tape c.settle-settled.new.bank) here.placed did.moved (few-roles m.newest did.moved.placed.fit.valid) since c.make_room.ensures.items c.enter_behind-2.ensures.items (did.flushed t))
+
+pub returns-clause-caused : goal.returns-clause-caused
+returns-clause-caused g c = rw (← c.self.view_is) (omega arith, λ refusal many. never-both c.self.inside.members refusal c.in_default.ensures many)
+
+pub returns-clause-others : goal.returns-clause-others
+returns-clause-others g c = rw (← c.self.view_is) c.settle-settled.ensures.others
+
+pub returns-clause-failed : goal.returns-clause-failed
+returns-clause-failed g c = rw (← c.self.view_is) c.settle-settled.ensures.failed.roles
+
+pub returns-clause-flushed : goal.returns-clause-flushed
+returns-clause-flushed g c = rw (← c.self.view_is) c.settle-settled.ensures.flushed

@@ -1,0 +1,325 @@
+use Rattle.std.proofs.Common.{inl, ◌≡◌, ◌+◌, ◌*◌, ◌/◌, ◌≤◌, ◌++◌, ◌∷◌, [], ℕ, Bool, Some, List, length, refl, sym, ◌∙◌, ap, subst, arith}
+use Rattle.md_base.specs.Sectors.{Sector, sectors_of}
+use Rattle.md_base.specs.Shapes.{data_disks}
+use Rattle.md_base.proofs.SectorLaws.{length-sectors_of}
+use Rattle.md_base.specs.declared.places.Shape.{Shape}
+use Rattle.superblocks.specs.Reading.{shape_of, list_length}
+use Rattle.flat_history.specs.declared.events.Entry.{Entry}
+use Rattle.flat_history.specs.declared.events.Event.TheVariants.{Wrote, Refused}
+use Rattle.flat_history.specs.declared.events.Request.TheVariants.{Write as AsksWrite}
+use Rattle.flat_history.specs.Flat.{next_number}
+use Rattle.flat_history.specs.Plain.{entries_of}
+use Rattle.shape_views.proofs.Stands.{list-still}
+use Rattle.views.specs.Lacking.{IsUnwritten, LacksTooMany, AreBytes, are_mended, mended_rows}
+use Rattle.views.specs.Placed.{places_of}
+use Rattle.views.specs.Whole.{list_size}
+use Rattle.views.proofs.LackingLaws.{lost-since, shape-without}
+use Rattle.views.proofs.MemberLaws.{list-few}
+use Rattle.views.proofs.MovedLaws.{grows-none, moved-same}
+use Rattle.views.proofs.Still.{count-still, without-still}
+use Rattle.safe_updates.specs.First.{write_refusal}
+use Rattle.call_entries.specs.Losing.{losses_of, failure_events}
+use Rattle.call_entries.proofs.CallLaws.{losses-are, torn-losses}
+use Rattle.array_kept.specs.Calls.{IsRefusedFor}
+use Rattle.array_kept.specs.Kept.{scope_in}
+use Rattle.array_kept.proofs.LossLaws.{losses-behind, losses-failure, ended-behind, ended-failure, torn-told}
+use Rattle.array_kept.proofs.ReadyLaws.{scope-same}
+use Rattle.array_kept.proofs.ReplyLaws.{refused_reply, failed_reply, inside-losses, replied, write_kind, unwritten-of, refused-for}
+use Rattle.calls_kept.proofs.ReadLaws.{some-of}
+use Rattle.array_state.proofs.FirstLaws.{call-within}
+use Rattle.kept_history.proofs.Records.{begins-going}
+use Rattle.still_kept.proofs.Writing.{wrote-stands}
+use Rattle.running_words.specs.Parts.{still_left}
+use Rattle.running_words.proofs.Called.{not_254, called, alone-lossless}
+use Rattle.running_words.proofs.Lengths.{alone-keeps, behind-keeps, failure-keeps}
+use Rattle.still.proofs.Asking.{refused-alone}
+use Rattle.still.proofs.Kept.{ready, rows-same, rows-moved, with-buffers}
+use Rattle.still.proofs.Left.{left-alike}
+use Rattle.still.proofs.Reading.{seen, unwritten-still, refused-first}
+use Rattle.still.proofs.Writing.{put-still, written-still, failed-stands}
+use Rattle.still.proofs.state.Still.write.Goals as goal
+
+-- ---- refused before any row is read
+
+pub invariant_of-self-in-Some : goal.invariant_of-self-in-Some
+invariant_of-self-in-Some g c =
+    let was = c.self.invariant in
+    let a = c.self.inside in
+    let given = g.B.Bank.given a.bank in
+    let number : c.args.who.number ≡ next_number c.args.who.caller a.epoch.entries.items = c.requires.next ∙ ap (λ p. next_number c.args.who.caller p.parts.entries) (sym c.self.view_is) in
+    let to = c.args.at + length c.args.from.now / 512 in
+    let refusal = c.in-Some.refusal in
+    ready (entries_of c.args.who c.ops-end.result (Refused refusal ∷ [])) was (rows-same a.members.newest)
+    (refused-alone c.args.who c.ops-end.result was.kept number c.requires.caller c.ops-end.ensures.count refusal
+    (refused-first was.kept was.unlimited to (IsUnwritten (shape_of a.members.newest) (are_mended (shape_of a.members.newest) (mended_rows a.work.resync a.members) to)) refusal
+    (λ within. unwritten-still given a.members was.kept.members_are a.work.resync to refusal within) c.in-Some.ensures.why))
+    (λ slot. omega arith) (alone-keeps c.args.who c.ops-end.result (Refused refusal) (λ n. refl) refl)
+    refl (scope-same given a.backup refl c.enter.ensures.uuid c.enter.ensures.given) c.enter.ensures.first c.make_room.ensures.items c.enter.ensures.items
+    (omega (arith, c.enter.ensures.room, c.in-Ok-make_room.ensures.ok))
+
+pub returns-in-Some-clause-answered : goal.returns-in-Some-clause-answered
+returns-in-Some-clause-answered g c =
+    let was = c.self.invariant in
+    let a = c.self.inside in
+    let number : c.args.who.number ≡ next_number c.args.who.caller a.epoch.entries.items = c.requires.next ∙ ap (λ p. next_number c.args.who.caller p.parts.entries) (sym c.self.view_is) in
+    let size = list_length a.members.newest in
+    let body = sectors_of c.args.from.now in
+    let synced = are_mended (shape_of a.members.newest) (mended_rows a.work.resync a.members) (c.args.at + length c.args.from.now / 512) in
+    let why = subst (λ (n : ℕ). IsRefusedFor size (c.args.at + n) (IsUnwritten (shape_of a.members.newest) synced) a.members a.members c.in-Some.refusal) (sym (length-sectors_of c.args.from.now)) c.in-Some.ensures.why in
+    rw (← c.self.view_is) (refused_reply size a.epoch.entries.items was.sized was.unlimited (AsksWrite c.args.at body) c.args.who (c.args.at + length body)
+    (IsUnwritten (shape_of a.members.newest) synced) c.enter.new.epoch.entries.items c.ops-end.result a.members c.in-Some.refusal (write_kind c.args.at body)
+    (unwritten-of (shape_of a.members.newest) synced a.members c.in-Some.refusal) why
+    (c.enter.ensures.items ∙ ap (λ (l : List Entry). l ++ entries_of c.args.who c.ops-end.result (Refused c.in-Some.refusal ∷ [])) c.make_room.ensures.items) number)
+
+pub returns-in-Some-clause-called : goal.returns-in-Some-clause-called
+returns-in-Some-clause-called g c =
+    let was = c.self.invariant in
+    let a = c.self.inside in
+    let given = g.B.Bank.given a.bank in
+    let faults = g.B.Bank.faults_of a.bank in
+    let end = c.ops-end.result in
+    let refusal = c.in-Some.refusal in
+    rw (← c.self.view_is) (called (grows-none (λ t. refl)) (moved-same given given a.members a.members refl refl was.kept.members_are.placed was.kept.members_are.unlost)
+    (ended-behind (g.B.Bank.tape a.bank) c.enter.new.epoch.first c.make_room.new.self.items c.args.who end [] (Refused refusal) c.enter.ensures.items c.ops-end.ensures.count)
+    (alone-lossless a.members faults faults a.epoch.entries.items c.make_room.new.self.items c.enter.new.epoch.entries.items c.args.who end (Refused refusal) tt c.make_room.ensures.items c.enter.ensures.items)
+    (λ slot. omega arith)
+    (record { uuid = c.enter.ensures.uuid; given = c.enter.ensures.given; first = c.enter.ensures.first; backup = refl; work = refl; ahead = refl })
+    (λ t. (was.kept.recorded t).begun))
+
+pub returns-in-Some-clause-caused : goal.returns-in-Some-clause-caused
+returns-in-Some-clause-caused g c = rw (← c.self.view_is) c.in-Some.ensures.why
+
+pub returns-in-Some-clause-first : goal.returns-in-Some-clause-first
+returns-in-Some-clause-first g c = rw (← c.self.view_is) (sym c.in-Some.ensures.first)
+
+-- ---- it is written by the one shape
+
+pub put-done-requires-clause-shape : goal.put-done-requires-clause-shape
+put-done-requires-clause-shape g c = inl c.shape_in-shape.ensures
+
+pub put-done-requires-clause-within : goal.put-done-requires-clause-within
+put-done-requires-clause-within g c =
+    let m = c.self.inside.members in
+    subst (λ (s : Shape). c.args.at + length c.args.from.now / 512 ≤ data_disks s * m.newest.size) (sym c.shape_in-shape.ensures)
+    (subst (λ (n : ℕ). c.args.at + length c.args.from.now / 512 ≤ n) (list-still m.newest c.self.invariant.kept.members_are.still) c.in_default.ensures.why.0)
+
+-- the list is short
+pub put-done-requires-clause-short : goal.put-done-requires-clause-short
+put-done-requires-clause-short g c =
+    let m = c.self.inside.members in
+    let few = list-few (g.B.Bank.given c.self.inside.bank) m c.self.invariant.kept.members_are.placed in
+    let within : c.args.at + length c.args.from.now / 512 ≤ list_size (places_of m) =
+    subst (λ (n : ℕ). c.args.at + length c.args.from.now / 512 ≤ n) (list-still m.newest c.self.invariant.kept.members_are.still) c.in_default.ensures.why.0 in
+    omega (arith, few, within)
+
+-- ---- refused since members are missing
+
+pub invariant_of-self-in-Some-refusal : goal.invariant_of-self-in-Some-refusal
+invariant_of-self-in-Some-refusal g c =
+    let was = c.self.invariant in
+    let here = was.kept.members_are in
+    let a = c.self.inside in
+    let given = g.B.Bank.given a.bank in
+    let number : c.args.who.number ≡ next_number c.args.who.caller a.epoch.entries.items = c.requires.next ∙ ap (λ p. next_number c.args.who.caller p.parts.entries) (sym c.self.view_is) in
+    let did = c.put-done.ensures in
+    let m = c.put-done.new.members in
+    let tape = g.B.Bank.tape a.bank in
+    let tape' = g.B.Bank.tape c.put-done.new.bank in
+    let before = g.B.Bank.faults_of a.bank in
+    let after = g.B.Bank.faults_of c.put-done.new.bank in
+    let roles = c.newly_vacant-roles.result in
+    let spares = c.put-done.result.spares in
+    let torn = c.put-done.result.begun in
+    let refusal = c.in-Some-refusal.refusal in
+    let end = c.ops-end-2.result in
+    let from = c.args.from.now in
+    let body = sectors_of from in
+    let shape = c.shape_in-shape.result in
+    let does = without-still a.members here.still (shape-without (shape_of a.members.newest) a.members (λ refusal many. c.in_default.ensures.why.1 refusal (inl many))) in
+    let synced = c.are_mended-synced.result in
+    let asked : synced ≡ are_mended (shape_of a.members.newest) (mended_rows a.work.resync a.members) (c.args.at + length from / 512) =
+    c.are_mended-synced.ensures ∙ ap (λ (s : Shape). are_mended s (mended_rows a.work.resync a.members) (c.args.at + length from / 512)) c.shape_in-shape.ensures in
+    let since = lost-since given a.members m c.shape_in-shape.result.disks c.vacant_roles-before.result roles spares before after here.placed did.moved did.failed
+    (ap (λ (s : Shape). s.disks) c.shape_in-shape.ensures ∙ sym (count-still a.members.newest here.still)) c.vacant_roles-before.ensures c.newly_vacant-roles.ensures in
+    let put = put-still given tape tape' a.members m here did.moved a.work.resync shape c.shape_in-shape.ensures c.args.at from synced asked since did.grows did.stays did.rise did.safe in
+    with-buffers (let fits = was.rows_fit in let more = did.rows in omega (arith, fits, more)) (rw did.buffer was.buffer_fits)
+    (ready (entries_of c.args.who end (failure_events roles spares torn c.args.at body refusal)) was (rows-moved given a.members m did.moved)
+    (failed-stands (still_left a.work m a.ahead) c.args.who end shape c.args.at from synced torn refusal was.kept does (begins-going a.epoch.entries.items c.args.who number) (not_254 c.args.who.caller c.requires.caller) c.ops-end-2.ensures.count
+    (left-alike a.work a.ahead roles spares before after did.moved since) c.shape_in-shape.ensures asked c.in_default.ensures.why.0
+    (λ t. let all = seen was.kept was.unlimited t in let within = c.in_default.ensures.why.0 in omega (arith, all, within)) put
+    (some-of (IsUnwritten shape synced m) c.put-done.result.refusal refusal c.in-Some-refusal.is did.refused)
+    (λ begun. some-of (LacksTooMany shape m) c.put-done.result.refusal refusal c.in-Some-refusal.is (did.torn begun)) did.untouched)
+    did.counts (failure-keeps c.args.who end roles spares torn c.args.at body refusal)
+    did.given (scope-same given a.backup did.given c.enter_failure.ensures.uuid c.enter_failure.ensures.given) c.enter_failure.ensures.first c.make_room.ensures.items
+    (c.enter_failure.ensures.items ∙ ap (λ (b : List Sector). c.make_room.new.self.items ++ entries_of c.args.who end (failure_events roles spares torn c.args.at b refusal)) c.in-Ok.ensures)
+    (omega (arith, c.enter_failure.ensures.room, c.in-Ok-make_room.ensures.ok)))
+
+pub returns-in-Some-refusal-clause-answered : goal.returns-in-Some-refusal-clause-answered
+returns-in-Some-refusal-clause-answered g c =
+    let was = c.self.invariant in
+    let a = c.self.inside in
+    let number : c.args.who.number ≡ next_number c.args.who.caller a.epoch.entries.items = c.requires.next ∙ ap (λ p. next_number c.args.who.caller p.parts.entries) (sym c.self.view_is) in
+    let m = c.put-done.new.members in
+    let roles = c.newly_vacant-roles.result in
+    let spares = c.put-done.result.spares in
+    let torn = c.put-done.result.begun in
+    let refusal = c.in-Some-refusal.refusal in
+    let end = c.ops-end-2.result in
+    let size = list_length a.members.newest in
+    let body = sectors_of c.args.from.now in
+    let within : c.args.at + length body ≤ size = omega (arith, c.in_default.ensures.why.0, length-sectors_of c.args.from.now) in
+    let synced = c.are_mended-synced.result in
+    let why = some-of (IsUnwritten c.shape_in-shape.result synced m) c.put-done.result.refusal refusal c.in-Some-refusal.is c.put-done.ensures.refused in
+    rw (← c.self.view_is) (failed_reply size a.epoch.entries.items was.sized was.unlimited torn c.args.who c.args.at body c.enter_failure.new.epoch.entries.items end roles spares refusal within
+    (unwritten-of c.shape_in-shape.result synced m refusal why)
+    (subst (λ (l : List Entry). c.enter_failure.new.epoch.entries.items ≡ l ++ entries_of c.args.who end (failure_events roles spares torn c.args.at body refusal)) c.make_room.ensures.items
+    (subst (λ (b : List Sector). c.enter_failure.new.epoch.entries.items ≡ c.make_room.new.self.items ++ entries_of c.args.who end (failure_events roles spares torn c.args.at b refusal)) c.in-Ok.ensures c.enter_failure.ensures.items)) number)
+
+pub returns-in-Some-refusal-clause-untouched : goal.returns-in-Some-refusal-clause-untouched
+returns-in-Some-refusal-clause-untouched g c =
+    let roles = c.newly_vacant-roles.result in
+    let spares = c.put-done.result.spares in
+    let torn = c.put-done.result.begun in
+    rw (← c.self.view_is) (λ none told. c.put-done.ensures.untouched
+    (torn-told c.args.who c.ops-end-2.result roles spares torn c.args.at c.in-Ok.body c.in-Some-refusal.refusal c.make_room.ensures.items c.enter_failure.ensures.items none) told)
+
+pub returns-in-Some-refusal-clause-caused : goal.returns-in-Some-refusal-clause-caused
+returns-in-Some-refusal-clause-caused g c =
+    let a = c.self.inside in
+    let m = c.put-done.new.members in
+    let refusal = c.in-Some-refusal.refusal in
+    let synced = c.are_mended-synced.result in
+    let asked : synced ≡ are_mended (shape_of a.members.newest) (mended_rows a.work.resync a.members) (c.args.at + length c.args.from.now / 512) = c.are_mended-synced.ensures ∙ ap (λ (s : Shape). are_mended s (mended_rows a.work.resync a.members) (c.args.at + length c.args.from.now / 512)) c.shape_in-shape.ensures in
+    let why = some-of (IsUnwritten c.shape_in-shape.result synced m) c.put-done.result.refusal refusal c.in-Some-refusal.is c.put-done.ensures.refused in
+    rw (← c.self.view_is) (refused-for (list_length a.members.newest) (c.args.at + length c.args.from.now / 512)
+    (IsUnwritten (shape_of a.members.newest) (are_mended (shape_of a.members.newest) (mended_rows a.work.resync a.members) (c.args.at + length c.args.from.now / 512))) a.members m refusal
+    (unwritten-of c.shape_in-shape.result synced m refusal why) c.in_default.ensures.why.0 (subst (λ (s : Shape). IsUnwritten s (are_mended (shape_of a.members.newest) (mended_rows a.work.resync a.members) (c.args.at + length c.args.from.now / 512)) m refusal) c.shape_in-shape.ensures
+    (subst (λ (b : Bool). IsUnwritten c.shape_in-shape.result b m refusal) asked why)))
+
+pub returns-in-Some-refusal-clause-first : goal.returns-in-Some-refusal-clause-first
+returns-in-Some-refusal-clause-first g c =
+    let a = c.self.inside in
+    let m = c.put-done.new.members in
+    let refusal = c.in-Some-refusal.refusal in
+    let to = c.args.at + length c.args.from.now / 512 in
+    let asked = are_mended (shape_of a.members.newest) (mended_rows a.work.resync a.members) to in
+    let same = c.are_mended-synced.ensures ∙ ap (λ (s : Shape). are_mended s (mended_rows a.work.resync a.members) to) c.shape_in-shape.ensures in
+    let why = some-of (λ r. write_refusal c.shape_in-shape.result c.are_mended-synced.result m ≡ Some r) c.put-done.result.refusal refusal c.in-Some-refusal.is c.put-done.ensures.first in
+    rw (← c.self.view_is) (call-within (list_length a.members.newest) to (write_refusal (shape_of a.members.newest) asked m) c.in_default.ensures.why.0
+    ∙ subst (λ (s : Shape). write_refusal s asked m ≡ Some refusal) c.shape_in-shape.ensures (subst (λ (b : Bool). write_refusal c.shape_in-shape.result b m ≡ Some refusal) same why))
+
+pub returns-in-Some-refusal-clause-failed : goal.returns-in-Some-refusal-clause-failed
+returns-in-Some-refusal-clause-failed g c = rw (← c.self.view_is) c.put-done.ensures.failed.roles
+
+pub returns-in-Some-refusal-clause-called : goal.returns-in-Some-refusal-clause-called
+returns-in-Some-refusal-clause-called g c =
+    let was = c.self.invariant in
+    let here = was.kept.members_are in
+    let a = c.self.inside in
+    let given = g.B.Bank.given a.bank in
+    let did = c.put-done.ensures in
+    let m = c.put-done.new.members in
+    let before = g.B.Bank.faults_of a.bank in
+    let after = g.B.Bank.faults_of c.put-done.new.bank in
+    let roles = c.newly_vacant-roles.result in
+    let spares = c.put-done.result.spares in
+    let torn = c.put-done.result.begun in
+    let end = c.ops-end-2.result in
+    let since = lost-since given a.members m c.shape_in-shape.result.disks c.vacant_roles-before.result roles spares before after here.placed did.moved did.failed
+    (ap (λ (s : Shape). s.disks) c.shape_in-shape.ensures ∙ sym (count-still a.members.newest here.still)) c.vacant_roles-before.ensures c.newly_vacant-roles.ensures in
+    rw (← c.self.view_is) (called did.grows did.moved
+    (ended-failure (g.B.Bank.tape c.put-done.new.bank) c.enter_failure.new.epoch.first c.make_room.new.self.items c.args.who end roles spares torn c.args.at c.in-Ok.body c.in-Some-refusal.refusal c.enter_failure.ensures.items c.ops-end-2.ensures.count)
+    (losses-failure a.members m before after a.epoch.entries.items c.make_room.new.self.items c.enter_failure.new.epoch.entries.items c.args.who end roles spares torn c.args.at c.in-Ok.body c.in-Some-refusal.refusal since
+    c.make_room.ensures.items c.enter_failure.ensures.items)
+    did.counts
+    (record { uuid = c.enter_failure.ensures.uuid; given = c.enter_failure.ensures.given; first = c.enter_failure.ensures.first; backup = refl; work = refl; ahead = refl })
+    (λ t. (was.kept.recorded t).begun))
+
+-- ---- done
+
+pub invariant_of-self-2 : goal.invariant_of-self-2
+invariant_of-self-2 g c =
+    let was = c.self.invariant in
+    let here = was.kept.members_are in
+    let a = c.self.inside in
+    let given = g.B.Bank.given a.bank in
+    let scope = scope_in given a.epoch.uuid a.epoch.given a.backup in
+    let number : c.args.who.number ≡ next_number c.args.who.caller a.epoch.entries.items = c.requires.next ∙ ap (λ p. next_number c.args.who.caller p.parts.entries) (sym c.self.view_is) in
+    let did = c.put-done.ensures in
+    let m = c.put-done.new.members in
+    let tape = g.B.Bank.tape a.bank in
+    let tape' = g.B.Bank.tape c.put-done.new.bank in
+    let before = g.B.Bank.faults_of a.bank in
+    let after = g.B.Bank.faults_of c.put-done.new.bank in
+    let roles = c.newly_vacant-roles.result in
+    let spares = c.put-done.result.spares in
+    let end = c.ops-end-2.result in
+    let from = c.args.from.now in
+    let body = sectors_of from in
+    let shape = c.shape_in-shape.result in
+    let done = c.in_default-refusal.is in
+    let bytes : AreBytes from = λ i. (c.type_inv.from i).fits in
+    let does = without-still a.members here.still (shape-without (shape_of a.members.newest) a.members (λ refusal many. c.in_default.ensures.why.1 refusal (inl many))) in
+    let synced = c.are_mended-synced.result in
+    let asked : synced ≡ are_mended (shape_of a.members.newest) (mended_rows a.work.resync a.members) (c.args.at + length from / 512) =
+    c.are_mended-synced.ensures ∙ ap (λ (s : Shape). are_mended s (mended_rows a.work.resync a.members) (c.args.at + length from / 512)) c.shape_in-shape.ensures in
+    let since = lost-since given a.members m c.shape_in-shape.result.disks c.vacant_roles-before.result roles spares before after here.placed did.moved did.failed
+    (ap (λ (s : Shape). s.disks) c.shape_in-shape.ensures ∙ sym (count-still a.members.newest here.still)) c.vacant_roles-before.ensures c.newly_vacant-roles.ensures in
+    let put = put-still given tape tape' a.members m here did.moved a.work.resync shape c.shape_in-shape.ensures c.args.at from synced asked since did.grows did.stays did.rise did.safe in
+    let written = written-still given tape tape' a.members m here did.moved a.work.resync shape c.shape_in-shape.ensures c.args.at from synced asked (did.dirty done) did.others (did.put done)
+    (λ t list more written. did.good done t list more written bytes) (did.rebuilt done) in
+    with-buffers (let fits = was.rows_fit in let more = did.rows in omega (arith, fits, more)) (rw did.buffer was.buffer_fits)
+    (ready (entries_of c.args.who end (losses_of roles spares ++ Wrote c.args.at body ∷ [])) was (rows-moved given a.members m did.moved)
+    (wrote-stands g.B.Bank.tells given tape tape' scope a.epoch.first a.epoch.entries.items a.members m a.work (still_left a.work a.members a.ahead) (still_left a.work m a.ahead) c.args.who end roles spares before after c.args.at from c.put-done.result.begun
+    was.kept does (begins-going a.epoch.entries.items c.args.who number) (not_254 c.args.who.caller c.requires.caller) c.ops-end-2.ensures.count (left-alike a.work a.ahead roles spares before after did.moved since) c.in_default.ensures.why.0
+    (λ t. let all = seen was.kept was.unlimited t in let within = c.in_default.ensures.why.0 in omega (arith, all, within)) put written c.requires.whole bytes)
+    did.counts (behind-keeps c.args.who end roles spares (Wrote c.args.at body ∷ []) (alone-keeps c.args.who end (Wrote c.args.at body) (λ n. refl) refl))
+    did.given (scope-same given a.backup did.given c.enter_behind.ensures.uuid c.enter_behind.ensures.given) c.enter_behind.ensures.first c.make_room.ensures.items
+    (c.enter_behind.ensures.items ∙ ap (λ (b : List Sector). c.make_room.new.self.items ++ entries_of c.args.who end (losses_of roles spares ++ Wrote c.args.at b ∷ [])) c.in-Ok.ensures)
+    (omega (arith, c.enter_behind.ensures.room, c.in-Ok-make_room.ensures.ok)))
+
+pub returns-clause-answered : goal.returns-clause-answered
+returns-clause-answered g c =
+    let a = c.self.inside in
+    let number : c.args.who.number ≡ next_number c.args.who.caller a.epoch.entries.items = c.requires.next ∙ ap (λ p. next_number c.args.who.caller p.parts.entries) (sym c.self.view_is) in
+    let roles = c.newly_vacant-roles.result in
+    let spares = c.put-done.result.spares in
+    let end = c.ops-end-2.result in
+    let body = sectors_of c.args.from.now in
+    rw (← c.self.view_is) (replied (list_length a.members.newest) (AsksWrite c.args.at body) c.args.who a.epoch.entries.items c.enter_behind.new.epoch.entries.items
+    end (losses_of roles spares) (Wrote c.args.at body)
+    (c.enter_behind.ensures.items ∙ ap (λ (l : List Entry). l ++ entries_of c.args.who end (losses_of roles spares ++ Wrote c.args.at c.in-Ok.body ∷ [])) c.make_room.ensures.items
+    ∙ ap (λ (b : List Sector). a.epoch.entries.items ++ entries_of c.args.who end (losses_of roles spares ++ Wrote c.args.at b ∷ [])) c.in-Ok.ensures)
+    number (λ call. (refl, refl)) (inside-losses c.args.who end (losses_of roles spares) (losses-are roles spares)) (torn-losses (AsksWrite c.args.at body) c.args.who end (losses_of roles spares) (losses-are roles spares)))
+
+pub returns-clause-called : goal.returns-clause-called
+returns-clause-called g c =
+    let was = c.self.invariant in
+    let here = was.kept.members_are in
+    let a = c.self.inside in
+    let given = g.B.Bank.given a.bank in
+    let did = c.put-done.ensures in
+    let m = c.put-done.new.members in
+    let before = g.B.Bank.faults_of a.bank in
+    let after = g.B.Bank.faults_of c.put-done.new.bank in
+    let roles = c.newly_vacant-roles.result in
+    let spares = c.put-done.result.spares in
+    let end = c.ops-end-2.result in
+    let event = Wrote c.args.at c.in-Ok.body in
+    let since = lost-since given a.members m c.shape_in-shape.result.disks c.vacant_roles-before.result roles spares before after here.placed did.moved did.failed
+    (ap (λ (s : Shape). s.disks) c.shape_in-shape.ensures ∙ sym (count-still a.members.newest here.still)) c.vacant_roles-before.ensures c.newly_vacant-roles.ensures in
+    rw (← c.self.view_is) (called did.grows did.moved
+    (ended-behind (g.B.Bank.tape c.put-done.new.bank) c.enter_behind.new.epoch.first c.make_room.new.self.items c.args.who end (losses_of roles spares) event c.enter_behind.ensures.items c.ops-end-2.ensures.count)
+    (losses-behind a.members m before after a.epoch.entries.items c.make_room.new.self.items c.enter_behind.new.epoch.entries.items c.args.who end roles spares event since tt c.make_room.ensures.items c.enter_behind.ensures.items)
+    did.counts
+    (record { uuid = c.enter_behind.ensures.uuid; given = c.enter_behind.ensures.given; first = c.enter_behind.ensures.first; backup = refl; work = refl; ahead = refl })
+    (λ t. (was.kept.recorded t).begun))
+
+pub returns-clause-caused : goal.returns-clause-caused
+returns-clause-caused g c = rw (← c.self.view_is) c.in_default.ensures.why
+
+pub returns-clause-failed : goal.returns-clause-failed
+returns-clause-failed g c = rw (← c.self.view_is) c.put-done.ensures.failed.roles
+
+pub returns-clause-first : goal.returns-clause-first
+returns-clause-first g c = rw (← c.self.view_is) (sym c.in_default.ensures.first)

@@ -1,0 +1,54 @@
+-- What the steps of an array without an active reshape leave, besides their answers.
+use Rattle.std.specs.Prelude.{◌≡◌, ◌⊎◌, ℕ, ◌<◌, List, [], None, MatchOption, ⊤}
+use Rattle.md_base.specs.declared.answers.Refusal.{Refusal}
+use Rattle.md_base.specs.declared.answers.Refusal.TheVariants.{Nothing}
+use Rattle.md_base.specs.declared.answers.Who.{Who}
+use Rattle.bank.specs.Given.{Given, NeverFalls}
+use Rattle.bank.specs.declared.bank.Operation.{Operation}
+use Rattle.grow_plan.specs.Plans.{phases_steps}
+use Rattle.superblocks.specs.declared.members.Members.{Members}
+use Rattle.superblocks.specs.Reading.{shape_of}
+use Rattle.flat_history.specs.declared.events.Entry.{Entry}
+use Rattle.flat_history.specs.declared.events.Event.{Event}
+use Rattle.flat_history.specs.declared.events.Event.TheVariants.{Refused, Stepped}
+use Rattle.flat_history.specs.Reshaped.{open_plans}
+use Rattle.flat_history.specs.World.{World}
+use Rattle.views.specs.declared.work.Work.{Work}
+use Rattle.views.specs.Lacking.{AreTooMany, HaveRolesFailed}
+use Rattle.views.specs.Moving.{Grows}
+use Rattle.grow_asked.specs.declared.window.PhasesLeft.{PhasesLeft}
+use Rattle.grow_asked.specs.Left.{phases_of}
+use Rattle.array_kept.specs.Calls.{AreLossesBy, IsEndOf, IsUnmendable}
+use Rattle.kept_history.specs.Recorded.{IsCallGoing, IsOpenBehind}
+use Rattle.history_calls.specs.Reliable.{IsReliable}
+use Rattle.running_words.specs.Parts.{RunningParts, still_left}
+use Rattle.running_words.specs.Calls.{moving_world, IsSameReshape}
+
+-- What a step leaves that is done or refused, by the slots that may have had the roles that it lost: more was done on the bank, and the entries end with that; each
+-- role has the slot that held it, or that slot has failed since; each loss has its cause; and it is the same array.
+pub record IsStepped {B : Type 0} (tells : Type 0) (given : Given) (tape tape' : List Operation) (Had : ℕ → ℕ → Type 0) (before after : ℕ → ℕ) (old new : RunningParts B) : Type 0 where
+  pub grows : Grows tells tape tape'
+  pub ended : IsEndOf tells new.parts.first new.parts.entries tape'
+  pub failed : HaveRolesFailed old.parts.members new.parts.members before after
+  pub losses : AreLossesBy Had before after old.parts.entries new.parts.entries
+  pub never_falls : NeverFalls before after
+  pub same : IsSameReshape tells old new (moving_world given tape old) (moving_world given tape' new)
+
+-- a step may leave none behind it: no plan is open, or its phases are ahead
+abbrev pub MayLeaveNone : {B : Type 0} → RunningParts B → Type 0
+MayLeaveNone array = (open_plans array.parts.entries ≡ []) ⊎ (0 < phases_steps (shape_of array.parts.members.newest) array.parts.members.newest.size (phases_of array.ahead))
+
+-- a step that ended the request with this refusal was refused rightly, by the members that are left
+abbrev pub IsEndedRight : Work → Members → Refusal → Type 0
+IsEndedRight work members refusal = IsUnmendable members refusal × (work.resync ≡ None → AreTooMany members refusal)
+
+-- a reply to a request for steps: nothing was left to do; or so many steps are left, and a step was refused rightly that ended it
+abbrev pub IsStepsReplyNow : Work → Members → PhasesLeft → Event → Type 0
+IsStepsReplyNow work members ahead (Refused Nothing) = still_left work members ahead ≡ 0
+IsStepsReplyNow work members ahead (Stepped done left ended) = (left ≡ still_left work members ahead) × MatchOption ended ⊤ (IsEndedRight work members)
+IsStepsReplyNow work members ahead event = ⊥
+
+-- The call goes on, and nothing was left open by what it entered: each length was kept by some slot, and steps are left.
+pub record IsCallUnbroken (tells : Type 0) (world : World) (entries : List Entry) (who : Who) : Type 0 where
+  pub goes : IsCallGoing entries who
+  pub kept : tells → IsReliable world entries → IsOpenBehind world goes.call

@@ -1,0 +1,6 @@
+//! An array without an active reshape, whether some were before or not: it is read and written, and keeps its history.
+#![tactic(auto)]
+
+mod state;
+
+pub use state::Still;

@@ -1,0 +1,135 @@
+//! An array without an active reshape.
+
+ghost use Rattle.std.specs.Prelude.{◌≡◌, ◌≤◌, ◌^◌, length, IfSome, IsTrue};
+ghost use Rattle.md_base.specs.Shapes.{is_valid_shape};
+ghost use Rattle.grow_plan.specs.Plans.{AreSound};
+ghost use Rattle.superblocks.specs.Reading.{shape_of};
+ghost use Rattle.flat_history.specs.Flat.{next_number};
+ghost use Rattle.views.specs.Status.{stripes_of};
+ghost use Rattle.grow_asked.specs.Left.{phases_of};
+ghost use Rattle.running_words.specs.Parts.{still_left};
+
+mod adding;
+mod asking;
+mod ending;
+mod examining;
+mod failing;
+mod mending;
+mod reading;
+mod rebuilding;
+mod settling;
+mod steps;
+mod writing;
+
+use array_state::asking::steps_left;
+use bank::Bank;
+use flat_history::Epoch;
+use grow_asked::{PhasesLeft, planned_left};
+use safe_updates::roles::shape_in;
+use std::alloc::Global;
+use std::marker::Model;
+use superblocks::Members;
+use views::Work;
+
+/// An array over slots of a bank whose superblocks tell no active reshape, whether one was before or not. `ahead` are the phases of a
+/// plan that hasn't begun.
+#[derive(Drop)]
+pub struct Still<B: Bank> {
+    alloc: Global,
+    bank: B,
+    epoch: Epoch,
+    backup: Option<u32>,
+    members: Members,
+    work: Work,
+    ahead: PhasesLeft,
+    steps: u64,
+    rows: Vec<u64>,
+    buffer: Vec<u8>,
+    far_rows: Vec<u64>,
+    far_buffer: Vec<u8>,
+}
+
+impl<B: Bank> Model for Still<B> {
+    ghost use Rattle.std.specs.Prelude.{vec_capacity, length};
+    ghost use Rattle.array_kept.specs.Kept.{scope_in};
+    ghost use Rattle.course_kept.specs.Laws.{closed};
+    ghost use Rattle.running_words.specs.Parts.{RunningParts};
+    ghost use Rattle.still.specs.Ready.{IsReady};
+
+    ghost Value = { RunningParts B };
+
+    ghost view = { λ a. record {
+      parts = record {
+        bank = a.bank;
+        uuid = a.epoch.uuid;
+        given = a.epoch.given;
+        first = a.epoch.first;
+        last = a.epoch.last;
+        entries = a.epoch.entries.items;
+        backup = a.backup;
+        members = a.members;
+        work = a.work;
+        steps = a.steps;
+      };
+      course = closed 0;
+      ahead = a.ahead;
+    } };
+
+    ghost invariant = { λ a. IsReady B.tells (B.given a.bank) (B.tape a.bank) (scope_in (B.given a.bank) a.epoch.uuid a.epoch.given a.backup)
+        a.epoch.first a.epoch.entries.items a.members a.work a.ahead (B.faults_of a.bank) a.steps a.epoch.entries.room
+        (vec_capacity a.rows) (length a.buffer.items) (vec_capacity a.far_rows) (length a.far_buffer.items) };
+}
+
+// The steps that are left: of a pending resync, of the roles that are to be rebuilt, and of the phases ahead.
+pub(crate) fn all_left(members: &Members, work: &Work, ahead: &PhasesLeft) -> u64
+    requires shape { IsTrue (is_valid_shape (shape_of members.now.newest)) }
+    requires size { members.now.newest.size ≤ 2 ^ 48 }
+    requires roles { (shape_of members.now.newest).disks ≤ length members.now.roles }
+    requires progress { IfSome work.now.resync (λ mended. mended ≤ stripes_of members.now) }
+    requires sound { AreSound (shape_of members.now.newest) members.now.newest.size (phases_of ahead.now) }
+    ensures { result ≡ still_left work.now members.now ahead.now }
+{
+    let left = steps_left(members, work);
+    left + planned_left(&shape_in(members), members.newest.size, ahead)
+}
+
+impl<B: Bank> Still<B> {
+    /// The number that the caller's next call bears.
+    pub fn next_number(&self, caller: u32) -> u64
+        ensures { result ≡ next_number caller self.now.parts.entries }
+    {
+        self.epoch.entries.next_number(caller)
+    }
+
+    /// How many operations the bank has made. It takes no memory and makes no device call.
+    pub fn ops(&self) -> u64
+        ensures { B.tells → result ≡ length (B.tape self.now.parts.bank) }
+    {
+        self.bank.ops()
+    }
+
+    /// What happened so far.
+    pub fn epoch(&self) -> &Epoch
+        ensures entries { result.now.entries.items ≡ self.now.parts.entries }
+        ensures uuid { result.now.uuid ≡ self.now.parts.uuid }
+        ensures given { result.now.given ≡ self.now.parts.given }
+        ensures first { result.now.first ≡ self.now.parts.first }
+        ensures last { result.now.last ≡ self.now.parts.last }
+    {
+        &self.epoch
+    }
+
+    /// What is known of the superblocks.
+    pub fn members(&self) -> &Members
+        ensures { result.now ≡ self.now.parts.members }
+    {
+        &self.members
+    }
+
+    /// How many background steps are left, those of the phases of a plan among them.
+    pub fn left(&self) -> u64
+        ensures { result ≡ still_left self.now.parts.work self.now.parts.members self.now.ahead }
+    {
+        all_left(&self.members, &self.work, &self.ahead)
+    }
+}

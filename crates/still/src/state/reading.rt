@@ -1,0 +1,114 @@
+//! Reads of an array without an active reshape.
+
+ghost use Rattle.std.specs.Prelude.{◌≡◌, ◌≢◌, ◌+◌, ◌/◌, ◌^◌, ◌<◌, ◌≤◌, false, length, OnOk, OnErr, IfSome, IsTrue};
+ghost use Rattle.md_base.specs.Sectors.{IsWhole, sectors_of};
+ghost use Rattle.md_base.specs.Shapes.{is_valid_shape, is_multiple};
+ghost use Rattle.bank.specs.Tape.{AreSectors};
+ghost use Rattle.superblocks.specs.Reading.{is_reshaping, is_clean, shape_of, list_length};
+ghost use Rattle.row_io.specs.Rows.{present};
+ghost use Rattle.flat_history.specs.Flat.{next_number, now};
+ghost use Rattle.flat_history.specs.World.{opening_list};
+ghost use Rattle.flat_history.specs.declared.events.Event.TheVariants.{Read};
+ghost use Rattle.flat_history.specs.declared.events.Request.TheVariants.{Read as AsksRead};
+ghost use Rattle.shape_changes.specs.Marking.{AreOthersPresent};
+ghost use Rattle.views.specs.Lacking.{HaveRolesFailed, IsUnread, mended_rows};
+ghost use Rattle.views.specs.Placed.{AreWhole};
+ghost use Rattle.views.specs.Status.{stripes_of};
+ghost use Rattle.safe_updates.specs.First.{read_refusal, call_refusal, IsFirstRefused};
+ghost use Rattle.array_kept.specs.Calls.{IsAnswered, IsCausedBy, IsRefusalOf, OnNoMemory};
+ghost use Rattle.kept_history.specs.Safe.{IsFilledRight};
+ghost use Rattle.running_words.specs.Calls.{moving_world, IsCalled};
+
+use crate::state::Still;
+use array_state::refusing::unread_from;
+use array_state::room::zeros;
+use bank::Bank;
+use call_entries::calls::{check_number, enter, enter_behind};
+use flat_history::Event;
+use md_base::{Fault, Refusal, Sectors, Who};
+use safe_rows::fetching::fetch;
+use safe_rows::mending::mended_rows;
+use safe_updates::naming::newly_vacant;
+use safe_updates::roles::{shape_in, vacant_roles};
+use superblocks::Members;
+
+// Why so many sectors from one on aren't read, before any is: the first of `PastEnd`, `TooManyMissing` and `NotResynced`.
+fn unread_here(members: &Members, resync: Option<u64>, at: u64, count: u64) -> Option<Refusal>
+    requires still { is_reshaping members.now.newest ≡ false }
+    requires shape { IsTrue (is_valid_shape (shape_of members.now.newest)) }
+    requires multiple { IsTrue (is_multiple members.now.newest.size (shape_of members.now.newest).chunk) }
+    requires roles { (shape_of members.now.newest).disks ≤ length members.now.roles }
+    requires size { members.now.newest.size ≤ 2 ^ 48 }
+    requires progress { IfSome resync (λ mended. mended ≤ stripes_of members.now) }
+    requires short { at + count < 2 ^ 63 }
+    ensures first { result ≡ call_refusal (list_length members.now.newest) (at + count) (read_refusal (shape_of members.now.newest) (mended_rows resync members.now) at count members.now) }
+    ensures why { IsRefusalOf (list_length members.now.newest) (at + count) (IsUnread (shape_of members.now.newest) (mended_rows resync members.now) at count) members.now result }
+{
+    unread_from(members, resync, at, count)
+}
+
+impl<B: Bank> Still<B> {
+    /// Fills `into`, of whole sectors, with those of the list from `at` on; what a missing member held is filled in from the
+    /// others. Refusals: `PastEnd`, `TooManyMissing`, and `NotResynced` where a resync is pending.
+    pub fn read(&mut self, who: Who, at: u64, into: &mut [u8]) -> Result<(), Fault>
+        requires next { who.number ≡ next_number who.caller self.old.parts.entries }
+        requires caller { who.caller ≢ 254 }
+        requires whole { IsWhole into.old }
+        requires short { at + length into.old / 512 < 2 ^ 63 }
+        ensures answered { IsAnswered (list_length self.old.parts.members.newest) (AsksRead at (length into.old / 512)) who self.old.parts.entries self.new.parts.entries (Read at (sectors_of into.new)) result }
+        ensures holds { OnOk result (B.tells → IsFilledRight (moving_world (B.given self.old.parts.bank) (B.tape self.old.parts.bank) self.old) self.new.parts.entries
+            → AreSectors (now (opening_list (moving_world (B.given self.old.parts.bank) (B.tape self.old.parts.bank) self.old)) self.old.parts.entries) at into.new) }
+        ensures unread { OnErr result (into.new ≡ into.old) }
+        ensures unchanged { OnNoMemory result (self.new ≡ self.old) }
+        ensures called { IsCalled B.tells (B.given self.old.parts.bank) (B.tape self.old.parts.bank) (B.tape self.new.parts.bank) (B.faults_of self.old.parts.bank) (B.faults_of self.new.parts.bank) self.old self.new }
+        ensures tape { AreWhole self.new.parts.members → B.tells → B.tape self.new.parts.bank ≡ B.tape self.old.parts.bank }
+        ensures others { B.tells → AreOthersPresent (present (B.given self.old.parts.bank) (B.tape self.old.parts.bank)) (present (B.given self.old.parts.bank) (B.tape self.new.parts.bank)) }
+        ensures clean { is_clean self.new.parts.members.newest ≡ is_clean self.old.parts.members.newest }
+        ensures caused { IsCausedBy (list_length self.old.parts.members.newest) (at + length into.old / 512) (IsUnread (shape_of self.old.parts.members.newest) (mended_rows self.old.parts.work.resync self.old.parts.members) at (length into.old / 512)) self.old.parts.members self.new.parts.members result }
+        ensures first { IsFirstRefused (λ members. call_refusal (list_length self.old.parts.members.newest) (at + length into.old / 512)
+            (read_refusal (shape_of self.old.parts.members.newest) (mended_rows self.old.parts.work.resync self.old.parts.members) at (length into.old / 512) members)) self.old.parts.members self.new.parts.members result }
+        ensures failed { HaveRolesFailed self.old.parts.members self.new.parts.members (B.faults_of self.old.parts.bank) (B.faults_of self.new.parts.bank) }
+        ensures given { B.given self.new.parts.bank ≡ B.given self.old.parts.bank }
+    {
+        let mut bytes = match zeros(self.alloc, into.len()) {
+            Ok(bytes) => bytes,
+            Err(fault) => return Err(fault),
+        };
+        match self.epoch.entries.make_room(50) {
+            Ok(()) => {}
+            Err(_) => return Err(Fault::NoMemory),
+        }
+        self.steps = 0;
+        check_number(&self.epoch.entries, who);
+        let count = (into.len() / 512) as u64;
+        if let Some(refusal) = unread_here(&self.members, self.work.resync, at, count) {
+            let end = self.bank.ops();
+            enter(&mut self.epoch, who, end, Event::Refused { refusal });
+            return Err(Fault::Refused(refusal));
+        }
+        let shape = shape_in(&self.members);
+        let before = vacant_roles(&self.members, shape.disks);
+        let mended = mended_rows(&self.members, self.work.resync);
+        let fetched = fetch(
+            &mut self.members,
+            &mut self.bank,
+            &shape,
+            at,
+            bytes.as_mut_slice(),
+            self.buffer.as_mut_slice(),
+            mended,
+        );
+        let roles = newly_vacant(&self.members, shape.disks, before);
+        let end = self.bank.ops();
+        if let Some(refusal) = fetched.refusal {
+            let event = Event::Refused { refusal };
+            enter_behind(&mut self.epoch, who, end, roles, fetched.spares, event);
+            return Err(Fault::Refused(refusal));
+        }
+        into.copy_from_slice(bytes.as_slice());
+        let body = Sectors::from_bytes(bytes);
+        let event = Event::Read { at, body };
+        enter_behind(&mut self.epoch, who, end, roles, fetched.spares, event);
+        Ok(())
+    }
+}

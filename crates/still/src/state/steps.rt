@@ -1,0 +1,91 @@
+//! What the steps of an array without an active reshape share.
+
+ghost use Rattle.std.specs.Prelude.{◌≡◌, ◌≢◌, ◌+◌, ◌≤◌, ◌∷◌, [], length, None, OnOk, OnErr};
+ghost use Rattle.flat_history.specs.declared.events.Event.TheVariants.{Refused};
+ghost use Rattle.views.specs.Placed.{AreStillHeld};
+ghost use Rattle.views.specs.Rebuilding.{Held};
+ghost use Rattle.views.specs.Lacking.{AreTooMany};
+ghost use Rattle.array_kept.specs.Calls.{IsBehind, IsEntered, IsUnmendable, AreSparesFewer, AreStepsKept};
+ghost use Rattle.kept_history.specs.Recorded.{IsCallGoing};
+ghost use Rattle.running_words.specs.Parts.{still_left};
+ghost use Rattle.still.specs.Steps.{IsStepped, MayLeaveNone, IsStepsReplyNow};
+
+use crate::state::Still;
+use bank::Bank;
+use call_entries::calls::enter;
+use flat_history::{Entries, Event};
+use md_base::{NoMemory, Refusal, Who};
+
+// The number of a call that goes on is at most the number of entries.
+pub(crate) fn check_going(entries: &Entries, who: Who)
+    requires { IsCallGoing entries.now.items who }
+    ensures { who.number ≤ length entries.now.items }
+{
+    let _ = entries.next_number(who.caller);
+}
+
+impl<B: Bank> Still<B> {
+    /// Makes room for the entries of so many steps, each of which takes the room of one: none of them wants memory.
+    pub fn make_room(&mut self, steps: u64) -> Result<(), NoMemory>
+        ensures room { OnOk result (self.new ≡ record self.old { parts = record self.old.parts { steps = steps } }) }
+        ensures unchanged { OnErr result (self.new ≡ self.old) }
+    {
+        let Some(entries) = steps.checked_mul(50) else {
+            return Err(NoMemory {});
+        };
+        let Some(entries) = entries.checked_add(1) else {
+            return Err(NoMemory {});
+        };
+        match self.epoch.entries.make_room(entries as usize) {
+            Ok(()) => {}
+            Err(none) => return Err(none),
+        }
+        self.steps = steps;
+        Ok(())
+    }
+
+    // Enters that a step is refused, before anything was done.
+    pub(crate) fn refuse_step(&mut self, who: Who, refusal: Refusal)
+        requires open { IsCallGoing self.old.parts.entries who }
+        requires caller { who.caller ≢ 254 }
+        requires room { 1 ≤ self.old.parts.steps }
+        requires why { IsUnmendable self.old.parts.members refusal }
+        requires synced { self.old.parts.work.resync ≡ None → AreTooMany self.old.parts.members refusal }
+        ensures entered { IsBehind who self.old.parts.entries self.new.parts.entries (Refused refusal) }
+        ensures stepped { IsStepped B.tells (B.given self.old.parts.bank) (B.tape self.old.parts.bank) (B.tape self.new.parts.bank) (Held self.old.parts.members) (B.faults_of self.old.parts.bank) (B.faults_of self.new.parts.bank) self.old self.new }
+        ensures held { AreStillHeld self.old.parts.members self.new.parts.members }
+        ensures spares { AreSparesFewer self.old.parts.members self.new.parts.members }
+        ensures stays { AreStepsKept self.old.parts.entries self.new.parts.entries (still_left self.old.parts.work self.old.parts.members self.old.ahead) (still_left self.new.parts.work self.new.parts.members self.new.ahead) }
+        ensures open { IsCallGoing self.new.parts.entries who }
+        ensures room { self.new.parts.steps + 1 ≡ self.old.parts.steps }
+        ensures bank { self.new.parts.bank ≡ self.old.parts.bank }
+        ensures members { self.new.parts.members ≡ self.old.parts.members }
+        ensures work { self.new.parts.work ≡ self.old.parts.work }
+        ensures ahead { self.new.ahead ≡ self.old.ahead }
+    {
+        self.steps -= 1;
+        check_going(&self.epoch.entries, who);
+        let end = self.bank.ops();
+        enter(&mut self.epoch, who, end, Event::Refused { refusal });
+    }
+    /// Answers a request for steps: that nothing was left to do, or how many were done and what refused one. It makes no device
+    /// call, and takes no memory.
+    pub fn answer(&mut self, who: Who, event: Event)
+        requires open { IsCallGoing self.old.parts.entries who }
+        requires caller { who.caller ≢ 254 }
+        requires room { 1 ≤ self.old.parts.steps }
+        requires plans { MayLeaveNone self.old }
+        requires reply { IsStepsReplyNow self.old.parts.work self.old.parts.members self.old.ahead event }
+        ensures entered { IsEntered B.tells (B.tape self.old.parts.bank) who self.old.parts.entries self.new.parts.entries (event ∷ []) }
+        ensures room { self.new.parts.steps + 1 ≡ self.old.parts.steps }
+        ensures bank { self.new.parts.bank ≡ self.old.parts.bank }
+        ensures members { self.new.parts.members ≡ self.old.parts.members }
+        ensures work { self.new.parts.work ≡ self.old.parts.work }
+        ensures stepped { IsStepped B.tells (B.given self.old.parts.bank) (B.tape self.old.parts.bank) (B.tape self.new.parts.bank) (Held self.old.parts.members) (B.faults_of self.old.parts.bank) (B.faults_of self.new.parts.bank) self.old self.new }
+    {
+        self.steps -= 1;
+        check_going(&self.epoch.entries, who);
+        let end = self.bank.ops();
+        enter(&mut self.epoch, who, end, event);
+    }
+}

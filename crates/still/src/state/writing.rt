@@ -1,0 +1,116 @@
+//! Writes to an array without an active reshape.
+
+ghost use Rattle.std.specs.Prelude.{◌≡◌, ◌≢◌, ◌+◌, ◌/◌, ◌^◌, ◌<◌, ◌≤◌, false, length, OnOk, OnErr, IfSome, IsFalse, IsTrue};
+ghost use Rattle.md_base.specs.Sectors.{IsWhole, sectors_of};
+ghost use Rattle.md_base.specs.Shapes.{is_valid_shape, is_multiple};
+ghost use Rattle.superblocks.specs.Reading.{is_reshaping, is_clean, shape_of, list_length};
+ghost use Rattle.row_io.specs.Rows.{present};
+ghost use Rattle.flat_history.specs.Flat.{next_number};
+ghost use Rattle.flat_history.specs.declared.events.Event.TheVariants.{Wrote};
+ghost use Rattle.flat_history.specs.declared.events.Request.TheVariants.{Write as AsksWrite};
+ghost use Rattle.shape_changes.specs.Marking.{AreOthersPresent};
+ghost use Rattle.views.specs.Lacking.{HaveRolesFailed, IsUnwritten, are_mended, mended_rows};
+ghost use Rattle.views.specs.Status.{stripes_of};
+ghost use Rattle.safe_updates.specs.First.{write_refusal, call_refusal, IsFirstRefused};
+ghost use Rattle.array_kept.specs.Calls.{IsAnswered, IsCausedBy, IsRefusalOf, OnNoMemory, has_torn};
+ghost use Rattle.running_words.specs.Calls.{IsCalled};
+
+use crate::state::Still;
+use array_state::refusing::{are_mended, unwritten_from};
+use bank::Bank;
+use call_entries::calls::{check_number, enter, enter_behind, enter_failure};
+use flat_history::Event;
+use md_base::{Fault, Refusal, Sectors, Who};
+use safe_rows::putting::put;
+use safe_updates::naming::newly_vacant;
+use safe_updates::roles::{shape_in, vacant_roles};
+use superblocks::Members;
+
+// Why so many sectors from one on aren't written, before any row is read: the first of `PastEnd`, `TooManyMissing` and `NotResynced`.
+fn unwritten_here(members: &Members, resync: Option<u64>, at: u64, count: u64) -> Option<Refusal>
+    requires still { is_reshaping members.now.newest ≡ false }
+    requires shape { IsTrue (is_valid_shape (shape_of members.now.newest)) }
+    requires multiple { IsTrue (is_multiple members.now.newest.size (shape_of members.now.newest).chunk) }
+    requires roles { (shape_of members.now.newest).disks ≤ length members.now.roles }
+    requires size { members.now.newest.size ≤ 2 ^ 48 }
+    requires progress { IfSome resync (λ mended. mended ≤ stripes_of members.now) }
+    requires short { at + count < 2 ^ 63 }
+    ensures first { result ≡ call_refusal (list_length members.now.newest) (at + count) (write_refusal (shape_of members.now.newest) (are_mended (shape_of members.now.newest) (mended_rows resync members.now) (at + count)) members.now) }
+    ensures why { IsRefusalOf (list_length members.now.newest) (at + count) (IsUnwritten (shape_of members.now.newest) (are_mended (shape_of members.now.newest) (mended_rows resync members.now) (at + count))) members.now result }
+{
+    unwritten_from(members, resync, at, count)
+}
+
+impl<B: Bank> Still<B> {
+    /// Makes the list hold `from`, of 1 to 128 whole sectors, from `at` on. Refusals: `PastEnd`, `TooManyMissing`, and
+    /// `NotResynced` where a resync is pending.
+    pub fn write(&mut self, who: Who, at: u64, from: &[u8]) -> Result<(), Fault>
+        requires next { who.number ≡ next_number who.caller self.old.parts.entries }
+        requires caller { who.caller ≢ 254 }
+        requires whole { IsWhole from.now }
+        requires few { length from.now / 512 ≤ 128 }
+        requires short { at + length from.now / 512 < 2 ^ 63 }
+        ensures answered { IsAnswered (list_length self.old.parts.members.newest) (AsksWrite at (sectors_of from.now)) who self.old.parts.entries self.new.parts.entries (Wrote at (sectors_of from.now)) result }
+        ensures unchanged { OnNoMemory result (self.new ≡ self.old) }
+        ensures called { IsCalled B.tells (B.given self.old.parts.bank) (B.tape self.old.parts.bank) (B.tape self.new.parts.bank) (B.faults_of self.old.parts.bank) (B.faults_of self.new.parts.bank) self.old self.new }
+        ensures dirty { OnOk result (is_clean self.new.parts.members.newest ≡ false) }
+        ensures untouched { OnErr result (IsFalse (has_torn self.old.parts.entries self.new.parts.entries) → B.tells
+            → AreOthersPresent (present (B.given self.old.parts.bank) (B.tape self.old.parts.bank)) (present (B.given self.old.parts.bank) (B.tape self.new.parts.bank))) }
+        ensures caused { IsCausedBy (list_length self.old.parts.members.newest) (at + length from.now / 512) (IsUnwritten (shape_of self.old.parts.members.newest)
+            (are_mended (shape_of self.old.parts.members.newest) (mended_rows self.old.parts.work.resync self.old.parts.members) (at + length from.now / 512))) self.old.parts.members self.new.parts.members result }
+        ensures first { IsFirstRefused (λ members. call_refusal (list_length self.old.parts.members.newest) (at + length from.now / 512)
+            (write_refusal (shape_of self.old.parts.members.newest) (are_mended (shape_of self.old.parts.members.newest) (mended_rows self.old.parts.work.resync self.old.parts.members) (at + length from.now / 512)) members)) self.old.parts.members self.new.parts.members result }
+        ensures failed { HaveRolesFailed self.old.parts.members self.new.parts.members (B.faults_of self.old.parts.bank) (B.faults_of self.new.parts.bank) }
+        ensures given { B.given self.new.parts.bank ≡ B.given self.old.parts.bank }
+    {
+        let body = match Sectors::copy_of(self.alloc, from) {
+            Ok(body) => body,
+            Err(_) => return Err(Fault::NoMemory),
+        };
+        match self.epoch.entries.make_room(51) {
+            Ok(()) => {}
+            Err(_) => return Err(Fault::NoMemory),
+        }
+        self.steps = 0;
+        check_number(&self.epoch.entries, who);
+        let count = (from.len() / 512) as u64;
+        if let Some(refusal) = unwritten_here(&self.members, self.work.resync, at, count) {
+            let end = self.bank.ops();
+            enter(&mut self.epoch, who, end, Event::Refused { refusal });
+            return Err(Fault::Refused(refusal));
+        }
+        let shape = shape_in(&self.members);
+        let before = vacant_roles(&self.members, shape.disks);
+        let synced = are_mended(&self.members, self.work.resync, &shape, at + count);
+        let done = put(
+            &mut self.members,
+            &mut self.bank,
+            &shape,
+            at,
+            count,
+            from,
+            &mut self.rows,
+            &mut self.buffer,
+            synced,
+        );
+        let roles = newly_vacant(&self.members, shape.disks, before);
+        let end = self.bank.ops();
+        if let Some(refusal) = done.refusal {
+            enter_failure(
+                &mut self.epoch,
+                who,
+                end,
+                roles,
+                done.spares,
+                done.begun,
+                at,
+                body,
+                refusal,
+            );
+            return Err(Fault::Refused(refusal));
+        }
+        let event = Event::Wrote { at, body };
+        enter_behind(&mut self.epoch, who, end, roles, done.spares, event);
+        Ok(())
+    }
+}
