@@ -19,6 +19,7 @@ mod parting;
 mod reading;
 mod recording;
 mod settling;
+mod stepping;
 mod writing;
 mod stepping;
 mod zeroing;
