@@ -9,6 +9,7 @@ ghost use Rattle.views.specs.Status.{stripes_of};
 ghost use Rattle.grow_asked.specs.Left.{phases_of};
 ghost use Rattle.running_words.specs.Parts.{still_left};
 
+mod adopting;
 mod asking;
 mod ending;
 mod failing;
@@ -16,6 +17,7 @@ mod reading;
 mod settling;
 mod writing;
 
+pub use adopting::Opened;
 use array_state::asking::steps_left;
 use bank::Bank;
 use flat_history::Epoch;
