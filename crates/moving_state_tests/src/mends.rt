@@ -2,7 +2,7 @@
 
 use crate::members::{Made, are_fit, members_of};
 use grow_asked::Window;
-use md_base::Span;
+use moving_state::reshape::next_window_of;
 use region_mends::counting::{mends_at, resync_left};
 use region_mends::stripes::{mend_stripes, next_mend, relied_sector};
 use std::test::Fail;
@@ -65,15 +65,20 @@ fn stripes_of_a_resync(rt: HostRuntime) -> Result<(), Fail> {
 fn steps_behind_a_window(rt: HostRuntime) -> Result<(), Fail> {
     let members = members_of(rt.alloc(), (5, 128, (5, 1), 0, 0))?;
     assert!(rt; are_fit(&members));
-    let span = Span { lo: 0, hi: 96 };
-    let entered = Window::Entered {
-        span,
-        copied: 1,
-        sectioned: true,
-    };
-    assert!(rt; mends_at(&members, 96) == 15);
-    assert!(rt; resync_left(&members, &entered, Some(0)) == 16);
-    assert!(rt; resync_left(&members, &Window::Closed, Some(0)) == 17);
-    assert!(rt; resync_left(&members, &entered, None) == 0);
+    match next_window_of(&members) {
+        None => assert!(rt; false),
+        Some(span) => {
+            let entered = Window::Entered {
+                span,
+                copied: 1,
+                sectioned: true,
+            };
+            assert!(rt; span.hi == 96);
+            assert!(rt; mends_at(&members, span.hi) == 15);
+            assert!(rt; resync_left(&members, &entered, Some(0)) == 16);
+            assert!(rt; resync_left(&members, &Window::Closed, Some(0)) == 17);
+            assert!(rt; resync_left(&members, &entered, None) == 0);
+        }
+    }
     Ok(())
 }
