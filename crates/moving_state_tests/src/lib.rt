@@ -1,9 +1,12 @@
-//! Tests of `moving_state`: the steps of a reshape, what is left of it at each, and what is refused, against tables worked out by hand.
+//! Tests of `moving_state`: the steps of a reshape, what is left of it at each, and what is refused, against tables worked out by hand;
+//! and of `reshape_openings`: the window of a stored reshape.
 #![tactic(auto)]
 
 #[cfg(test)]
 mod courses;
 #[cfg(test)]
 mod members;
+#[cfg(test)]
+mod openings;
 #[cfg(test)]
 mod rows;
