@@ -58,7 +58,7 @@ impl<B: Bank> Model for Moving<B> {
     ghost use Rattle.std.specs.Prelude.{vec_capacity, length, Some};
     ghost use Rattle.array_kept.specs.Kept.{scope_in};
     ghost use Rattle.running_words.specs.Parts.{RunningParts};
-    ghost use Rattle.moving.specs.Ready.{IsReady};
+    ghost use Rattle.moving_laws.specs.Ready.{IsReady};
 
     ghost Value = { RunningParts B };
 

@@ -2,7 +2,7 @@
 
 ghost use Rattle.std.specs.Prelude.{◌≡◌, Some, length, vec_capacity};
 ghost use Rattle.array_kept.specs.Kept.{scope_in};
-ghost use Rattle.moving.specs.Ready.{IsReady};
+ghost use Rattle.moving_laws.specs.Ready.{IsReady};
 
 use super::Moving;
 use bank::Bank;

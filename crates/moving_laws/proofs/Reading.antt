@@ -85,7 +85,7 @@ use Rattle.moving_kept.proofs.Staying.{course-moved, stays-moves}
 use Rattle.moving_kept.proofs.Steps.{AreMissingSince, missing-moved}
 use Rattle.moving_kept.proofs.Writing.{unrelied-short}
 use Rattle.moving_state.proofs.ReshapeLaws.{window-reach}
-use Rattle.moving.specs.Ready.{bytes_in}
+use Rattle.moving_laws.specs.Ready.{bytes_in}
 
 -- ---- where nobody was lost
 
