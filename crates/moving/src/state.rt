@@ -21,7 +21,6 @@ mod recording;
 mod settling;
 mod stepping;
 mod writing;
-mod stepping;
 mod zeroing;
 
 use bank::Bank;

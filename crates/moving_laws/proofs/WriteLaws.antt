@@ -31,6 +31,7 @@ use Rattle.flat_history.specs.Stands.{covers, shape_for}
 use Rattle.flat_history.specs.World.{opening_list}
 use Rattle.shape_views.specs.Regions.{AreShapesFit, DoWithout}
 use Rattle.shape_views.specs.Windows.{moved_past}
+use Rattle.shape_changes.specs.Safety.{HasLiveSlot}
 use Rattle.views.specs.declared.work.Work.{Work}
 use Rattle.views.specs.Lacking.{DoesWithout, HaveRolesFailed, AreLostSince, HaveFailedSince, AreTooMany}
 use Rattle.views.specs.Moving.{Grows, IsMoved}
