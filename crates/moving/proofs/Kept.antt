@@ -168,25 +168,26 @@ takes-before {tape = tape} {tape' = tape'} given scope first entries added grows
 
 -- ---- after a call's last step in memory
 
-pub ready : {tells : Type 0} {given given' : Given} {tape tape' : List Operation} {scope scope' : Scope} {first first' : ℕ} {entries mid entries' : List Entry} {members members' : Members}
-    {work : Work} {course course' : Course} {ahead : PhasesLeft} {window window' : List ℕ} {steps steps' room room' rows buffer far_rows far_buffer : ℕ} {before after : ℕ → ℕ} (added : List Entry)
+-- where the work may have changed too, but for the resync
+pub ready-with : {tells : Type 0} {given given' : Given} {tape tape' : List Operation} {scope scope' : Scope} {first first' : ℕ} {entries mid entries' : List Entry} {members members' : Members}
+    {work work' : Work} {course course' : Course} {ahead : PhasesLeft} {window window' : List ℕ} {steps steps' room room' rows buffer far_rows far_buffer : ℕ} {before after : ℕ → ℕ} (added : List Entry)
     → IsReady tells given tape scope first entries members work course ahead window before steps room rows buffer far_rows far_buffer
     → Grows tells tape tape' → AreSameShapes members.newest members'.newest
-    → IsMoving tells given tape' scope first (entries ++ added) members' (is_carried work) course' (bytes_in course'.window window') (left_in members' course' ahead)
-    → length window' ≡ length window → NeverFalls before after → IsLengthKept added
+    → IsMoving tells given tape' scope first (entries ++ added) members' (is_carried work') course' (bytes_in course'.window window') (left_in members' course' ahead)
+    → work'.resync ≡ work.resync → length window' ≡ length window → NeverFalls before after → IsLengthKept added
     → (TakesNone (world_in given tape' scope first) (entries ++ added) → AreWhole members → AreWhole members')
     → given' ≡ given → scope' ≡ scope → first' ≡ first → mid ≡ entries → entries' ≡ mid ++ added → 50 * steps' < room'
-    → IsReady tells given' tape' scope' first' entries' members' work course' ahead window' after steps' room' rows buffer far_rows far_buffer
-ready {tells = tells} {given = given} {given' = given'} {tape' = tape'} {scope = scope} {scope' = scope'} {first = first} {first' = first'} {entries = entries} {mid = mid} {members = members} {members' = members'}
-    {work = work} {course' = course'} {ahead = ahead} {window' = window'} {steps' = steps'} {room' = room'} {rows = rows} {buffer = buffer} {far_rows = far_rows} {far_buffer = far_buffer} {after = after}
-    added was grows same kept long rises quiet whole same_given scope_is first_is mid_is is room_left =
-    subst (λ (l : List Entry). IsReady tells given' tape' scope' first' l members' work course' ahead window' after steps' room' rows buffer far_rows far_buffer) (sym (is ∙ ap (λ (l : List Entry). l ++ added) mid_is))
-    (subst (λ (n : ℕ). IsReady tells given' tape' scope' n (entries ++ added) members' work course' ahead window' after steps' room' rows buffer far_rows far_buffer) (sym first_is)
-    (subst (λ (s : Scope). IsReady tells given' tape' s first (entries ++ added) members' work course' ahead window' after steps' room' rows buffer far_rows far_buffer) (sym scope_is)
-    (subst (λ (g : Given). IsReady tells g tape' scope first (entries ++ added) members' work course' ahead window' after steps' room' rows buffer far_rows far_buffer) (sym same_given)
+    → IsReady tells given' tape' scope' first' entries' members' work' course' ahead window' after steps' room' rows buffer far_rows far_buffer
+ready-with {tells = tells} {given = given} {given' = given'} {tape' = tape'} {scope = scope} {scope' = scope'} {first = first} {first' = first'} {entries = entries} {mid = mid} {members = members} {members' = members'}
+    {work' = work'} {course' = course'} {ahead = ahead} {window' = window'} {steps' = steps'} {room' = room'} {rows = rows} {buffer = buffer} {far_rows = far_rows} {far_buffer = far_buffer} {after = after}
+    added was grows same kept resync long rises quiet whole same_given scope_is first_is mid_is is room_left =
+    subst (λ (l : List Entry). IsReady tells given' tape' scope' first' l members' work' course' ahead window' after steps' room' rows buffer far_rows far_buffer) (sym (is ∙ ap (λ (l : List Entry). l ++ added) mid_is))
+    (subst (λ (n : ℕ). IsReady tells given' tape' scope' n (entries ++ added) members' work' course' ahead window' after steps' room' rows buffer far_rows far_buffer) (sym first_is)
+    (subst (λ (s : Scope). IsReady tells given' tape' s first (entries ++ added) members' work' course' ahead window' after steps' room' rows buffer far_rows far_buffer) (sym scope_is)
+    (subst (λ (g : Given). IsReady tells g tape' scope first (entries ++ added) members' work' course' ahead window' after steps' room' rows buffer far_rows far_buffer) (sym same_given)
     (record {
       kept = kept;
-      synced = was.synced;
+      synced = resync ∙ was.synced;
       sized = subst (λ (n : ℕ). length_of n (entries ++ added) ≡ n) (sym (long-same members.newest members'.newest same))
           (length-more (list_length members.newest) entries added was.sized (quiet.long (list_length members.newest)));
       unlimited = limit-more entries added was.unlimited quiet.free;
@@ -202,6 +203,18 @@ ready {tells = tells} {given = given} {given' = given'} {tape' = tape'} {scope =
       far_rows_fit = was.far_rows_fit;
       far_buffer_fits = was.far_buffer_fits;
     }))))
+
+-- where it is as it was
+pub ready : {tells : Type 0} {given given' : Given} {tape tape' : List Operation} {scope scope' : Scope} {first first' : ℕ} {entries mid entries' : List Entry} {members members' : Members}
+    {work : Work} {course course' : Course} {ahead : PhasesLeft} {window window' : List ℕ} {steps steps' room room' rows buffer far_rows far_buffer : ℕ} {before after : ℕ → ℕ} (added : List Entry)
+    → IsReady tells given tape scope first entries members work course ahead window before steps room rows buffer far_rows far_buffer
+    → Grows tells tape tape' → AreSameShapes members.newest members'.newest
+    → IsMoving tells given tape' scope first (entries ++ added) members' (is_carried work) course' (bytes_in course'.window window') (left_in members' course' ahead)
+    → length window' ≡ length window → NeverFalls before after → IsLengthKept added
+    → (TakesNone (world_in given tape' scope first) (entries ++ added) → AreWhole members → AreWhole members')
+    → given' ≡ given → scope' ≡ scope → first' ≡ first → mid ≡ entries → entries' ≡ mid ++ added → 50 * steps' < room'
+    → IsReady tells given' tape' scope' first' entries' members' work course' ahead window' after steps' room' rows buffer far_rows far_buffer
+ready added was grows same kept = ready-with added was grows same kept refl
 
 -- with another buffer for rows
 pub with-buffer : {tells : Type 0} {given : Given} {tape : List Operation} {scope : Scope} {first : ℕ} {entries : List Entry} {members : Members}

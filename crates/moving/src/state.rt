@@ -18,6 +18,7 @@ mod moves;
 mod reading;
 mod recording;
 mod settling;
+mod stepping;
 mod writing;
 mod stepping;
 mod zeroing;

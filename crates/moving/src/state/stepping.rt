@@ -1,6 +1,6 @@
 //! The step of a reshape that is due.
 
-ghost use Rattle.std.specs.Prelude.{◌≡◌, ◌≢◌, ◌+◌, ◌≤◌, OnOk};
+ghost use Rattle.std.specs.Prelude.{◌≡◌, ◌≢◌, ◌⊎◌, ◌+◌, ◌≤◌, OnOk, OnErr};
 ghost use Rattle.md_base.specs.declared.places.Span.{Span};
 ghost use Rattle.superblocks.specs.Reading.{is_clean};
 ghost use Rattle.course_kept.specs.Laws.{unsure};
@@ -8,7 +8,7 @@ ghost use Rattle.kept_history.specs.Recorded.{IsCallGoing};
 ghost use Rattle.moving_state.specs.Due.{due_of};
 ghost use Rattle.moving_state.specs.declared.stepping.Due.TheVariants.{Finish as EndsReshape};
 ghost use Rattle.running_words.specs.Parts.{left_in};
-ghost use Rattle.running_words.specs.Calls.{IsCalled, IsStepTaken};
+ghost use Rattle.running_words.specs.Calls.{IsCalled, IsStepTaken, IsNextUnsure};
 ghost use Rattle.moving.specs.Steps.{kind_of, IsStepCaused};
 
 use crate::state::Moving;
@@ -30,6 +30,7 @@ impl<B: Bank> Moving<B> {
         ensures clean { is_clean self.new.parts.members.newest ≡ is_clean self.old.parts.members.newest }
         ensures caused { IsStepCaused (due_of self.old.parts.members.newest self.old.course) self.old.parts.backup self.old.parts.members self.new.parts.members (B.faults_of self.old.parts.bank) (B.faults_of self.new.parts.bank) result }
         ensures left { OnOk result (left_in self.new.parts.members self.new.course self.new.ahead + 1 ≡ left_in self.old.parts.members self.old.course self.old.ahead) }
+        ensures course { OnErr result ((self.new.course ≡ self.old.course) ⊎ IsNextUnsure self.old.parts.members self.new.course) }
         ensures room { self.new.parts.steps + 1 ≡ self.old.parts.steps }
         ensures given { B.given self.new.parts.bank ≡ B.given self.old.parts.bank }
     {

@@ -21,7 +21,7 @@ use Rattle.kept_history.proofs.Records.{begins-going}
 use Rattle.moving_kept.proofs.AddedSpare.{unadded-moves}
 use Rattle.running_words.specs.Parts.{left_in}
 use Rattle.moving.specs.Ready.{bytes_in}
-use Rattle.moving.proofs.AddLaws.{still-called, none-added}
+use Rattle.moving.proofs.AddLaws.{with-room, still-called, none-added}
 use Rattle.moving.proofs.Called.{not_254, called, alone-lossless}
 use Rattle.moving.proofs.Kept.{ready, shapes-same, alone-keeps}
 use Rattle.moving.proofs.state.Moving.add.Goals as goal
@@ -40,8 +40,19 @@ is_held_up-requires g c =
 pub make_spare-requires-clause-addable : goal.make_spare-requires-clause-addable
 make_spare-requires-clause-addable g c = rw (← c.self.view_is) c.in_default.ensures
 
+-- ---- want of memory, or of a number
+
+pub returns-in_default-free_number-clause-called : goal.returns-in_default-free_number-clause-called
+returns-in_default-free_number-clause-called g c = rw (← c.self.view_is) (still-called refl refl (λ t. (c.self.invariant.kept.recorded t).ended))
+
 pub returns-then-is_held_up-clause-called : goal.returns-then-is_held_up-clause-called
-returns-then-is_held_up-clause-called g c = rw (← c.self.view_is) (still-called _ (λ t. (c.self.invariant.kept.recorded t).ended))
+returns-then-is_held_up-clause-called g c = rw (← c.self.view_is) (still-called refl refl (λ t. (c.self.invariant.kept.recorded t).ended))
+
+pub invariant_of-self : goal.invariant_of-self
+invariant_of-self g c = with-room c.make_room.ensures.items (omega (arith, c.self.invariant.room_left, c.in-Err.ensures.keeps)) c.self.invariant
+
+pub returns-in-Err-clause-called : goal.returns-in-Err-clause-called
+returns-in-Err-clause-called g c = rw (← c.self.view_is) (still-called c.make_room.ensures.items refl (λ t. (c.self.invariant.kept.recorded t).ended))
 
 -- ---- it may not be one
 

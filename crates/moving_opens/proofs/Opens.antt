@@ -1,0 +1,379 @@
+-- What an opening finds of a clean array in a reshape that fits is what such an array keeps.
+use Rattle.std.proofs.Common.{◌≡◌, inl, inr, ℕ, ◌+◌, ◌<◌, ◌&&◌, ◌||◌, nat_le, Bool, true, false, not, cond, if◌then◌else◌, List, [], ◌∷◌, length, take, drop, MatchOption, Option, Some, None, IfSome, refl, sym, ◌∙◌, ap, subst, arith}
+use Rattle.std.specs.Prelude.{slice_index_or, ⊤}
+use Rattle.std.specs.Option.{option_map_or}
+use Rattle.md_base.specs.declared.answers.Refusal.{Refusal}
+use Rattle.md_base.specs.declared.answers.Refusal.TheVariants.{BackupAbsent}
+use Rattle.md_base.specs.declared.places.Span.{Span}
+use Rattle.md_base.specs.declared.status.Role.{Role}
+use Rattle.md_base.specs.declared.status.Role.TheVariants.{Whole, Recovering, Missing}
+use Rattle.md_base.specs.Sectors.{Sector}
+use Rattle.md_base.specs.Shapes.{has_slot, tolerance, tolerance_of}
+use Rattle.bank.specs.declared.bank.Operation.{Operation}
+use Rattle.bank.specs.Given.{Given, sizes}
+use Rattle.bank.specs.Tape.{Contents, IsIn, disk}
+use Rattle.bank.proofs.Whole.{sectors-whole}
+use Rattle.backup.specs.Section.{is_header_of, names_span}
+use Rattle.superblocks.specs.declared.members.Members.{Members}
+use Rattle.superblocks.specs.Election.{reading_in}
+use Rattle.superblocks.specs.Found.{AreLikeNewest}
+use Rattle.superblocks.specs.Reading.{Scope, Reading, reading, is_reshaping, is_clean, is_whole, shape_of, list_length, role_count, role_state, holder}
+use Rattle.row_io.specs.Rows.{reading_of, present, is_missing, role_without, members_without}
+use Rattle.row_io.proofs.Losses.{state_after}
+use Rattle.flat_history.specs.declared.events.Entry.{Entry}
+use Rattle.flat_history.specs.declared.events.Event.{Event}
+use Rattle.flat_history.specs.Epochs.{HasRoomForEvents, OpensAlike}
+use Rattle.flat_history.specs.Flat.{now}
+use Rattle.flat_history.specs.Legal.{IsAbsentAtFirst, level_at}
+use Rattle.flat_history.specs.Losses.{was_dirty, is_unsynced}
+use Rattle.flat_history.specs.OneShape.{is_unsettled}
+use Rattle.flat_history.specs.Opened.{IsSound}
+use Rattle.flat_history.specs.Plain.{entries_of}
+use Rattle.flat_history.specs.Sound.{OpensFit}
+use Rattle.flat_history.specs.Stands.{reach_of, stands}
+use Rattle.flat_history.specs.World.{World, reading_at, opening_list}
+use Rattle.shape_views.specs.Regions.{AreShapesFit, ArePlaced, DoWithout, IsReadOf, header_in, open_by}
+use Rattle.shape_views.specs.Views.{Disk, Ledger, AreHeadersFit, IsViewRight}
+use Rattle.shape_views.specs.Windows.{AreTailsStanding, RowsStand}
+use Rattle.shape_views.proofs.Standing.{read-length}
+use Rattle.shape_views.proofs.Stands.{window-inside}
+use Rattle.shape_changes.specs.Safety.{HasLiveSlot}
+use Rattle.shape_changes.specs.Steady.{IsSafeOver}
+use Rattle.views.specs.Moving.{IsMoved}
+use Rattle.views.specs.Placed.{IsPlaced}
+use Rattle.views.specs.Under.{StandsUnder, RowsStandUnder}
+use Rattle.views.proofs.HeldRows.{missing-moved}
+use Rattle.views.proofs.SoundViews.{leaves-now}
+use Rattle.array_kept.specs.Adopting.{opener, absent_losses}
+use Rattle.kept_history.specs.Recorded.{IsHistoryKept}
+use Rattle.kept_history.specs.Safe.{world_in, IsFilledRight, IsCounted, IsSafeHistory}
+use Rattle.kept_history.specs.Told.{told_now}
+use Rattle.kept_history.proofs.Opened.{opened-kept, opened-safe}
+use Rattle.history_calls.specs.Reliable.{IsReliable, AreToldGone, HasLastStep}
+use Rattle.history_calls.proofs.LastStep.{opened-last}
+use Rattle.grow_asked.specs.declared.window.Window.{Window}
+use Rattle.course_kept.specs.declared.course.Course.{Course}
+use Rattle.course_kept.specs.Course.{IsStoredAs, HasSection, IsStored, AnyShape, StandsInCourse}
+use Rattle.course_kept.proofs.Frames.{stands-without}
+use Rattle.course_kept.proofs.Courses.{courses-move}
+use Rattle.course_kept.proofs.Under.{courses-stand-under}
+use Rattle.moving_kept.specs.Moving.{HasListInCourse}
+use Rattle.found_members.specs.Found.{AreStored}
+use Rattle.found_members.proofs.Elected.{elected-does}
+use Rattle.found_members.proofs.Held.{found-numbers, found-is-held}
+use Rattle.found_members.proofs.Read.{found-read}
+use Rattle.reshape_openings.specs.Finding.{window_for, IsFoundIn}
+use Rattle.reshape_openings.specs.Recovering.{AreRecovering}
+use Rattle.moving_opens.specs.Opening.{scope_of, IsOpenedMoving, opening_entries, AreAmong, found_course, IsReshapeFit, IsCleanAndFit, OpeningsMove, OpeningsStand, SoundReshapesFit}
+use Rattle.moving_opens.proofs.Listed.{found-list, list-in, tails-stand, row-stands, found-stands}
+use Rattle.moving_opens.proofs.Losses.{all-found, events-are, all-absent, all-gone, no-resync, same-level, no-left, same-length, same-values}
+use Rattle.moving_opens.proofs.Members.{fit-here, placed-here, backed-here, moved-here, reshaping-here}
+use Rattle.moving_opens.proofs.Right.{first-in, first-now, found-right, found-flushed, found-carried}
+
+only : (v w : Sector) → IsIn (w ∷ []) v → v ≡ w
+only v w (inl same) = same
+only v w (inr none) = absurd none
+
+first : (a b : Bool) → (a && b) ≡ true → a ≡ true
+first true b is = refl
+first false b is = absurd (cc)
+
+-- an active reshape has room in its backup where that isn't refused
+roomy : (a b : Bool) → a ≡ true → ◌≡◌ {A = Option Refusal} (cond (not a || b) None (Some BackupAbsent)) None → b ≡ true
+roomy true true is none = refl
+roomy true false is none = absurd (cc)
+roomy false b is none = absurd (cc)
+
+-- what a sound opening finds
+found-sound : (bank : Given) (tape : List Operation) (scope : Scope) (r : Reading) → reading scope (present bank tape) ≡ Some r → OpensFit (world_in bank tape scope (length tape)) → IsSound scope (present bank tape) r
+unfolding reading_at
+found-sound bank tape scope r says fits = subst (λ (o : Option Reading). IfSome o (IsSound scope (present bank tape))) says fits
+
+module _ {tells : Type 0} {bank : Given} {tape : List Operation} {given backup : ℕ} {former : Members} {window : Window} {buffer : List ℕ} (opened : IsOpenedMoving tells bank tape given backup former window buffer)
+    (lost : ℕ) (recovering : AreRecovering former lost) where
+  abbrev scope : Scope
+  scope = scope_of bank given backup former
+
+  abbrev m : Members
+  m = members_without lost former
+
+  abbrev c : Contents
+  c = present bank tape
+
+  abbrev d : Disk
+  d = disk bank.start tape
+
+  abbrev r : Reading
+  r = reading_in bank.slots former
+
+  abbrev world : World
+  world = world_in bank tape (scope_of bank given backup former) (length tape)
+
+  abbrev n : ℕ
+  n = role_count former.newest
+
+  abbrev entries : List Entry
+  entries = opening_entries (length tape) (members_without lost former)
+
+  fit : AreShapesFit former.newest
+  fit = fit-here bank given backup former opened.elected opened.aside opened.active opened.backed
+
+  placed : IsPlaced bank former
+  placed = placed-here bank given backup former opened.elected opened.aside opened.active opened.backed
+
+  backed : ArePlaced (scope_of bank given backup former) bank former
+  backed = backed-here bank given backup former opened.elected opened.aside opened.active opened.backed
+
+  moved : IsMoved bank former (members_without lost former)
+  moved = moved-here bank given backup former opened.elected opened.aside opened.active opened.backed lost recovering
+
+  read : IsReadOf (scope_of bank given backup former) former (reading_in bank.slots former)
+  read = found-read bank given former opened.elected placed scope refl
+
+  does : DoWithout former
+  does = elected-does (sizes bank).sectors (take bank.slots former.own) former.lost former opened.elected.elected
+
+  -- a role that isn't whole without the recovering slots wasn't whole with them
+  was-missing : (role : ℕ) → is_missing (reading_of m) role ≡ true → is_whole (role_state (reading_of former) role) ≡ false
+  was-missing role miss = of (role_state (reading_of former) role) refl (ap (λ (s : Role). not (is_whole s)) (sym (state_after former lost role)) ∙ miss)
+    where
+      kept : (slot : ℕ) (b : Bool) → role_state (reading_of former) role ≡ Whole slot → has_slot lost slot ≡ b → b ≡ false
+      kept slot true is has = absurd (
+          let other = recovering.only slot has in
+          let same : role ≡ other.0 = placed.apart role other.0 slot (ap holder is) (ap holder other.1) in
+          let clash : Whole slot ≡ Recovering slot = sym is ∙ ap (role_state (reading_of former)) same ∙ other.1 in
+          cc)
+      kept slot false is has = refl
+
+      of : (state : Role) → role_state (reading_of former) role ≡ state → not (is_whole (role_without lost state)) ≡ true → is_whole state ≡ false
+      of (Whole slot) is gone = absurd (
+          let here = kept slot (has_slot lost slot) is refl in
+          let clash = sym (ap (λ (b : Bool). not (is_whole (if b then Missing else Whole slot))) here) ∙ gone in
+          cc)
+      of (Recovering slot) is gone = refl
+      of Missing is gone = refl
+
+  module _ (t : tells) where
+    stored : AreStored bank (scope_of bank given backup former) former (present bank tape) (disk bank.start tape)
+    stored = opened.stored t
+
+    reading-is : reading_at world (length tape) ≡ Some r
+    unfolding reading_at
+    reading-is = stored.says
+
+    opening-is : opening_list world ≡ stands scope c
+    unfolding opening_list
+    opening-is = refl
+
+    list-long : length (opening_list world) ≡ list_length former.newest
+    list-long = ap (λ (l : List Sector). length l) opening-is ∙ read-length scope bank former backed c r read stored.says
+
+    -- ---- what is told
+
+    level : tolerance_of (level_at world entries) ≡ tolerance (shape_of former.newest)
+    level = ap tolerance_of
+        (same-level opener (length tape) (reading_of m) n (option_map_or (λ q. q.newest.level) (reading_at world (length tape)) 5)
+        ∙ ap (λ (o : Option Reading). option_map_or (λ q. q.newest.level) o 5) reading-is)
+
+    gone : AreToldGone world entries m
+    gone role lt miss = all-gone opener (length tape) (reading_of m) n world role lt miss
+
+    dirty : is_clean former.newest ≡ false → was_dirty world ≡ true
+    dirty unclean = ap (λ (o : Option Reading). option_map_or (λ q. not (is_clean q.newest)) o false) reading-is ∙ ap not unclean
+
+    unclean : is_clean former.newest ≡ false → (is_unsynced world entries || is_unsettled entries) ≡ true
+    unclean is = ap (λ (b : Bool). b || is_unsettled entries) unsynced
+      where
+        unsynced : is_unsynced world entries ≡ true
+        unsynced = λ i. dirty is i && not (no-resync opener (length tape) (reading_of m) n i)
+
+    absent : (role : ℕ) → role < n → is_missing (reading_of m) role ≡ true → IsAbsentAtFirst world role
+    absent role lt miss = subst (λ (o : Option Reading). MatchOption o ⊥ (λ q. (role < role_count q.newest) × (is_whole (role_state q role) ≡ false))) (sym reading-is) (lt, was-missing role miss)
+
+    recorded : IsHistoryKept (IsReliable world entries) world (list_length former.newest) entries
+    recorded =
+        subst (λ (k : ℕ). IsHistoryKept (IsReliable world entries) world k entries) list-long
+        (subst (λ (l : List Event). IsHistoryKept (IsReliable world entries) world (length (opening_list world)) (entries_of opener (length tape) l)) (events-are (reading_of m) n)
+        (opened-kept (IsReliable world entries) world opener (all-found (reading_of m) n) refl refl refl (all-absent world (reading_of m) n absent)))
+
+    last-step : HasLastStep world entries (list_length former.newest)
+    last-step =
+        subst (λ (k : ℕ). HasLastStep world entries k) list-long
+        (subst (λ (l : List Event). HasLastStep world (entries_of opener (length tape) l) (length (opening_list world))) (events-are (reading_of m) n)
+        (opened-last world opener (all-found (reading_of m) n) refl refl refl (all-absent world (reading_of m) n absent)))
+
+    -- ---- the backup
+
+    -- it is a given slot
+    backup-given : has_slot given backup ≡ true
+    backup-given = first (has_slot given backup) (nat_le (8 + reach_of former.newest) (scope.sizes.sectors backup)) (roomy (is_reshaping former.newest) (has_slot given backup && nat_le (8 + reach_of former.newest) (scope.sizes.sectors backup)) opened.active opened.backed)
+
+    header-is : (header : Sector) → IsIn (disk bank.start tape backup 0) header → header ≡ header_in scope c
+    header-is header may = only header (c backup 0) (subst (λ (l : List Sector). IsIn l header) (stored.flushed backup 0 backup-given) may)
+
+    stored-as : (o : Option Span) → open_by scope former.newest (header_in scope c) ≡ o → IsStoredAs scope m (window_for o) d
+    stored-as None is = λ header may. ap (open_by scope former.newest) (header-is header may) ∙ is
+    stored-as (Some span) is = λ header may. ap (open_by scope former.newest) (header-is header may) ∙ is
+
+    section-as : (o : Option Span) → IsFoundIn (c backup) (window_for o) buffer → HasSection scope (window_for o) buffer d
+    section-as None found = tt
+    section-as (Some span) found = λ i lt v may.
+        only v (c backup (8 + i)) (subst (λ (l : List Sector). IsIn l v) (stored.flushed backup (8 + i) backup-given) may) ∙ sym (found.each i lt)
+
+    window-now : window ≡ window_for (open_by scope former.newest (header_in scope c))
+    window-now = opened.found t
+
+    sound-is : OpensFit world → IsSound scope c r
+    sound-is fits = found-sound bank tape scope r stored.says fits
+
+    module _ (reshape : IsReshapeFit (scope_of bank given backup former) (present bank tape) (reading_in bank.slots former)) where
+      -- the headers fit
+      headers : AreHeadersFit scope m d
+      headers slot header is may span names =
+          let same : header ≡ c slot 0 = subst (λ (s : ℕ). IsIn (disk bank.start tape s 0) header → header ≡ c s 0) (one backup slot is) (header-is header) may in
+          reshape.sections slot span is (subst (λ (h : Sector). (is_header_of scope.uuid h && names_span h span) ≡ true) same names)
+        where
+          one : (a b : ℕ) → Some a ≡ Some b → a ≡ b
+          one a b e = cc
+
+      is-stored : IsStored scope m window buffer d
+      is-stored = record {
+        section = subst (λ (w : Window). IsStoredAs scope m w d) (sym window-now) (stored-as (open_by scope former.newest (header_in scope c)) refl);
+        sectors = subst (λ (w : Window). HasSection scope w buffer d) (sym window-now)
+            (section-as (open_by scope former.newest (header_in scope c)) (subst (λ (w : Window). IsFoundIn (c backup) w buffer) window-now (opened.sectors t)));
+        headers = headers;
+      }
+
+    -- ---- the list
+
+    abbrev list : ℕ → Sector
+    list = found-list bank scope refl former backed opened.active does c read stored.says
+
+    list-now : (x : ℕ) → x < list_length former.newest → list x ≡ slice_index_or (opening_list world) x []
+    list-now x lt = list-in bank scope refl former backed opened.active does c read stored.says x lt ∙ ap (λ (l : List Sector). slice_index_or l x []) (sym opening-is)
+
+    module _ (reshape : IsReshapeFit (scope_of bank given backup former) (present bank tape) (reading_in bank.slots former)) where
+      tails : AreTailsStanding former c list
+      tails = tails-stand bank scope refl former backed opened.active does c read stored.says reshape.tail
+
+      rows : IsCleanAndFit world former → RowsStand (open_by scope former.newest (header_in scope c)) former c list
+      rows so x shown =
+          row-stands bank scope refl former backed opened.active does c read stored.says (λ slot k within. sectors-whole bank tape (length tape) slot k (opened.whole t) within) placed
+          ((sound-is so.fit).rows so.clean) reshape.tail x shown
+
+      stands-former : StandsInCourse (IsCleanAndFit world former) AnyShape former (found_course window) buffer c list
+      stands-former =
+          found-stands bank scope refl former backed opened.active does c read stored.says (IsCleanAndFit world former) placed buffer window (λ span next. window-inside former.newest fit span next)
+          window-now (opened.sectors t) tails rows
+
+      stands-here : StandsInCourse (IsCleanAndFit world former) AnyShape m (found_course window) buffer c list
+      stands-here = courses-move (IsCleanAndFit world former) AnyShape bank former m (found_course window) buffer c c list placed moved (λ slot k other. refl) stands-former
+
+      listed : HasListInCourse (IsCleanAndFit world former) m (found_course window) buffer c (now (opening_list world) entries)
+      listed = record {
+        list = list;
+        is = λ x lt. list-now x lt ∙ sym (ap (λ (l : List Sector). slice_index_or l 0 []) (same-values opener (length tape) (reading_of m) n (opening_list world) x) ∙ first-now (opening_list world) x);
+        stands = stands-without (IsCleanAndFit world former) m (found_course window) buffer c list stands-here;
+      }
+
+      -- ---- what a stop may leave
+
+      module _ (carried : ℕ → Bool) (among : AreAmong carried former) where
+        abbrev told : Ledger
+        told = told_now world carried true entries
+
+        sized : list_length former.newest ≡ told.size
+        sized = sym (same-length opener (length tape) (reading_of m) n (length (opening_list world)) ∙ list-long)
+
+        values : (x : ℕ) → x < list_length former.newest → IsIn (told.values x) (list x)
+        values x lt = subst (λ (l : List Sector). IsIn l (list x)) (sym (same-values opener (length tape) (reading_of m) n (opening_list world) x))
+            (subst (λ (v : Sector). IsIn (take 1 (drop x (opening_list world))) v) (sym (list-now x lt)) (first-in (opening_list world) x (let long = list-long in omega (arith, lt, long))))
+
+        under : StandsUnder scope former c d list × (IsCleanAndFit world former → RowsStandUnder scope former c d list)
+        under = courses-stand-under (IsCleanAndFit world former) scope former (found_course window) buffer c d list (is-stored-former) stands-former
+          where
+            is-stored-former : IsStored scope former window buffer d
+            is-stored-former = let s = is-stored reshape in record { section = s.section; sectors = s.sectors; headers = s.headers }
+
+        seen-right : IsViewRight (OpensFit world) scope bank told former d
+        seen-right =
+            found-right (OpensFit world) bank tape scope former told list backed placed (found-flushed bank tape scope former stored.says stored.flushed) sized values
+            (λ role lt miss. gone role lt (missing-moved moved role miss)) unclean refl under.0 (λ clean so. under.1 (record { clean = clean; fit = so })) (λ so. headers reshape) tails (λ x tail. stands-former.zeros tail.forth x tail.past)
+
+        safe-now : OpensAlike world → IsSafeOver world bank told m tape
+        safe-now alike = inl (record {
+          former = former;
+          since = record {
+            gone = lost;
+            since = refl;
+            held = found-is-held bank former.newest.set_uuid given (Some backup) former c d opened.elected stored (subst (λ (o : Option Reading). IfSome o (λ q. AreLikeNewest scope q.newest c)) reading-is alike);
+          };
+          right = seen-right;
+          numbers = found-carried scope carried former d among (found-numbers bank former.newest.set_uuid given (Some backup) former c d opened.elected stored);
+        })
+
+        counted : HasLiveSlot m → IsCounted world m
+        counted live = record { found = r; is = reading-is; events = omega arith }
+
+        safe : IsFilledRight world entries → OpensAlike world → IsSafeHistory ⊤ world bank m carried true entries
+        safe right alike =
+            opened-safe ⊤ bank tape scope m carried true opener (absent_losses (reading_of m) n) refl right (safe-now alike)
+            (λ claimed so. leaves-now world bank told m refl (safe-now alike) so) counted
+
+pub openings-move : (tells : Type 0) → OpeningsMove tells
+openings-move tells bank tape given backup lost first left former window buffer carried opened recovering clean among first_is reshape = record {
+  slots = opened.elected.few;
+  members_are = reshaping-here bank given backup former opened.elected opened.aside opened.active opened.backed lost recovering;
+  course_is = record { window = opened.window_is; through = λ some. absurd (omega (arith, some)); few = omega arith };
+  sizes_are = refl;
+  left_told = subst (λ (o : Option ℕ). IfSome o (λ k. k ≡ left)) (sym (no-left opener first (reading_of (members_without lost former)) (role_count former.newest))) tt;
+  levelled = λ t. at t (λ (k : ℕ). IsReliable (world_in bank tape (scope_of bank given backup former) k) (opening_entries k (members_without lost former)) → tolerance_of (level_at (world_in bank tape (scope_of bank given backup former) k) (opening_entries k (members_without lost former))) ≡ tolerance (shape_of former.newest))
+      (λ right. level opened lost recovering t);
+  gone = λ t. at t (λ (k : ℕ). IsReliable (world_in bank tape (scope_of bank given backup former) k) (opening_entries k (members_without lost former)) → AreToldGone (world_in bank tape (scope_of bank given backup former) k) (opening_entries k (members_without lost former)) (members_without lost former)) (λ right. gone opened lost recovering t);
+  unclean = λ t. at t (λ (k : ℕ). is_clean former.newest ≡ false → (is_unsynced (world_in bank tape (scope_of bank given backup former) k) (opening_entries k (members_without lost former)) || is_unsettled (opening_entries k (members_without lost former))) ≡ true) (unclean opened lost recovering t);
+  recorded = λ t. at t (λ (k : ℕ). IsHistoryKept (IsReliable (world_in bank tape (scope_of bank given backup former) k) (opening_entries k (members_without lost former))) (world_in bank tape (scope_of bank given backup former) k) (list_length former.newest) (opening_entries k (members_without lost former)))
+      (recorded opened lost recovering t);
+  last_step = λ t. at t (λ (k : ℕ). HasLastStep (world_in bank tape (scope_of bank given backup former) k) (opening_entries k (members_without lost former)) (list_length former.newest)) (last-step opened lost recovering t);
+  stored = λ t. is-stored opened lost recovering t (reshape t);
+  listed = λ t. at t (λ (k : ℕ). IsFilledRight (world_in bank tape (scope_of bank given backup former) k) (opening_entries k (members_without lost former))
+      → HasListInCourse (OpensFit (world_in bank tape (scope_of bank given backup former) k)) (members_without lost former) (found_course window) buffer (present bank tape) (now (opening_list (world_in bank tape (scope_of bank given backup former) k)) (opening_entries k (members_without lost former))))
+      (λ right. listed-clean (listed opened lost recovering t (reshape t)));
+  safe = λ t. at t (λ (k : ℕ). IsFilledRight (world_in bank tape (scope_of bank given backup former) k) (opening_entries k (members_without lost former)) → HasRoomForEvents (world_in bank tape (scope_of bank given backup former) k) → OpensAlike (world_in bank tape (scope_of bank given backup former) k)
+      → IsSafeHistory ⊤ (world_in bank tape (scope_of bank given backup former) k) bank (members_without lost former) carried true (opening_entries k (members_without lost former)))
+      (λ right room alike. safe opened lost recovering t (reshape t) carried among right alike);
+  now_safe = λ t. at t (λ (k : ℕ). IsFilledRight (world_in bank tape (scope_of bank given backup former) k) (opening_entries k (members_without lost former)) → HasRoomForEvents (world_in bank tape (scope_of bank given backup former) k) → OpensAlike (world_in bank tape (scope_of bank given backup former) k)
+      → IsSafeOver (world_in bank tape (scope_of bank given backup former) k) bank (told_now (world_in bank tape (scope_of bank given backup former) k) carried true (opening_entries k (members_without lost former))) (members_without lost former) tape)
+      (λ right room alike. safe-now opened lost recovering t (reshape t) carried among alike);
+}
+  where
+    at : tells → (P : ℕ → Type 0) → P (length tape) → P first
+    at t P holds = subst P (sym (first_is t)) holds
+
+    listed-clean : {world : World} {m : Members} {course : Course} {sectors : List ℕ} {c : Contents} {current : ℕ → Sector}
+        → HasListInCourse (IsCleanAndFit world former) m course sectors c current → HasListInCourse (OpensFit world) m course sectors c current
+    listed-clean {world} was = record {
+      list = was.list;
+      is = was.is;
+      stands = record {
+        stands = was.stands.stands;
+        window = was.stands.window;
+        zeros = was.stands.zeros;
+        copied = was.stands.copied;
+        tail = was.stands.tail;
+        zeroed = was.stands.zeroed;
+        rows = λ so. was.stands.rows (record { clean = clean; fit = so });
+      };
+    }
+
+-- ---- a dirty one
+
+pub openings-stand : (tells : Type 0) → OpeningsStand tells
+openings-stand tells bank tape given backup lost former window buffer carried opened recovering among t reshape = record {
+  listed = listed opened lost recovering t reshape;
+  safe = λ right alike. safe opened lost recovering t reshape carried among right alike;
+}
+
+pub sound-reshapes-fit : (tells : Type 0) → SoundReshapesFit tells
+sound-reshapes-fit tells bank tape given backup former window buffer opened t fits =
+    let sound = found-sound bank tape (scope_of bank given backup former) (reading_in bank.slots former) (opened.stored t).says fits in
+    record { sections = sound.sections opened.active; tail = sound.tail opened.active }

@@ -1,0 +1,97 @@
+-- What an opening finds of an array in a reshape, and that this is what such an array keeps.
+use Rattle.std.specs.Prelude.{◌≡◌, ℕ, Bool, true, List, length, Some, None, ⊤}
+use Rattle.sb1.specs.declared.sb.Sb.{Sb}
+use Rattle.bank.specs.declared.bank.Operation.{Operation}
+use Rattle.bank.specs.Given.{Given}
+use Rattle.bank.specs.Tape.{Contents, disk}
+use Rattle.bank.specs.Whole.{HasWholeSectors}
+use Rattle.superblocks.specs.declared.members.Members.{Members}
+use Rattle.superblocks.specs.Election.{reading_in}
+use Rattle.superblocks.specs.Reading.{Scope, Reading, is_reshaping, is_clean, role_count}
+use Rattle.superblocks.specs.Update.{own_in}
+use Rattle.row_io.specs.Rows.{reading_of, present, members_without}
+use Rattle.flat_history.specs.declared.events.Entry.{Entry}
+use Rattle.flat_history.specs.Epochs.{OpensAlike}
+use Rattle.flat_history.specs.Flat.{now}
+use Rattle.flat_history.specs.Opened.{HasFittingSections, HasZeroTail}
+use Rattle.flat_history.specs.Plain.{entries_of}
+use Rattle.flat_history.specs.Sound.{OpensFit}
+use Rattle.flat_history.specs.Stands.{backup_absent}
+use Rattle.flat_history.specs.World.{World, opening_list}
+use Rattle.shape_views.specs.Regions.{header_in, open_by}
+use Rattle.array_kept.specs.Kept.{scope_in}
+use Rattle.array_kept.specs.Adopting.{opener, absent_losses}
+use Rattle.kept_history.specs.Safe.{world_in, IsFilledRight, IsSafeHistory}
+use Rattle.grow_asked.specs.declared.window.Window.{Window}
+use Rattle.course_kept.specs.Course.{IsWindowOf}
+use Rattle.course_kept.specs.declared.course.Course.{Course}
+use Rattle.moving_kept.specs.Moving.{HasListInCourse, IsMoving}
+use Rattle.found_members.specs.Found.{AreElected, AreStored}
+use Rattle.reshape_openings.specs.Finding.{window_for, IsFoundIn}
+use Rattle.reshape_openings.specs.Recovering.{AreRecovering}
+
+-- these slots of the bank, looked at for the array that was elected
+abbrev pub scope_of : Given → ℕ → ℕ → Members → Scope
+scope_of bank given backup members = scope_in bank members.newest.set_uuid given (Some backup)
+
+-- The members are elected, a reshape is active, and the backup that it needs is there and holds no superblock of the array. Over a bank that tells its contents
+-- they are read from what the given slots hold, and a stop leaves just that; the window is the one that the backup's header tells, and these bytes are its
+-- section's.
+pub record IsOpenedMoving (tells : Type 0) (bank : Given) (tape : List Operation) (given backup : ℕ) (members : Members) (window : Window) (buffer : List ℕ) : Type 0 where
+  pub elected : AreElected bank given members
+  pub aside : own_in members.own backup ≡ None
+  pub active : is_reshaping members.newest ≡ true
+  pub backed : backup_absent (scope_of bank given backup members) members.newest ≡ None
+  pub window_is : IsWindowOf members.newest window
+  pub stored : tells → AreStored bank (scope_of bank given backup members) members (present bank tape) (disk bank.start tape)
+  pub whole : tells → HasWholeSectors bank tape
+  pub found : tells → window ≡ window_for (open_by (scope_of bank given backup members) members.newest (header_in (scope_of bank given backup members) (present bank tape)))
+  pub sectors : tells → IsFoundIn (present bank tape backup) window buffer
+
+-- the first entries of such an array: a loss for each role of either shape that isn't whole
+abbrev pub opening_entries : ℕ → Members → List Entry
+opening_entries first members = entries_of opener first (absent_losses (reading_of members) (role_count members.newest))
+
+-- each of the superblocks bears one of these numbers
+abbrev pub AreAmong : (ℕ → Bool) → Members → Type 0
+AreAmong carried members = (slot : ℕ) (sb : Sb) → own_in members.own slot ≡ Some sb → carried sb.dev_number ≡ true
+
+-- the window is under way, and nothing behind the list is zeroed
+abbrev pub found_course : Window → Course
+found_course window = record { window = window; zeroed = 0 }
+
+-- What a sound opening finds of the reshape itself: each section that the header names is that of the next window, or lies in the new region, and the tail is zero.
+pub record IsReshapeFit (scope : Scope) (c : Contents) (r : Reading) : Type 0 where
+  pub sections : HasFittingSections scope c r.newest
+  pub tail : HasZeroTail c r
+
+-- A clean array whose reshape is found so keeps, without the slots that recover a role, what an array in a reshape keeps, whatever number of steps is left.
+abbrev pub OpeningsMove : (tells : Type 0) → Type 0
+OpeningsMove tells = (bank : Given) (tape : List Operation) (given backup recovering first left : ℕ) (former : Members) (window : Window) (buffer : List ℕ) (carried : ℕ → Bool)
+    → IsOpenedMoving tells bank tape given backup former window buffer → AreRecovering former recovering → is_clean former.newest ≡ true → AreAmong carried former
+    → (tells → first ≡ length tape) → (tells → IsReshapeFit (scope_of bank given backup former) (present bank tape) (reading_in bank.slots former))
+    → IsMoving tells bank tape (scope_of bank given backup former) first (opening_entries first (members_without recovering former)) (members_without recovering former) carried
+    (found_course window) buffer left
+
+-- the array was found clean, by a sound opening: only then is the parity of its rows relied on
+pub record IsCleanAndFit (world : World) (members : Members) : Type 0 where
+  pub clean : is_clean members.newest ≡ true
+  pub fit : OpensFit world
+
+-- Clean or not: the list of such an opening stands in its course, but for what is said of rows, and each mark so far is safe.
+pub record IsFoundInCourse (bank : Given) (tape : List Operation) (scope : Scope) (former members : Members) (window : Window) (buffer : List ℕ) (carried : ℕ → Bool) : Type 0 where
+  pub listed : HasListInCourse (IsCleanAndFit (world_in bank tape scope (length tape)) former) members (found_course window) buffer (present bank tape)
+      (now (opening_list (world_in bank tape scope (length tape))) (opening_entries (length tape) members))
+  pub safe : IsFilledRight (world_in bank tape scope (length tape)) (opening_entries (length tape) members) → OpensAlike (world_in bank tape scope (length tape))
+      → IsSafeHistory ⊤ (world_in bank tape scope (length tape)) bank members carried true (opening_entries (length tape) members)
+
+abbrev pub OpeningsStand : (tells : Type 0) → Type 0
+OpeningsStand tells = (bank : Given) (tape : List Operation) (given backup recovering : ℕ) (former : Members) (window : Window) (buffer : List ℕ) (carried : ℕ → Bool)
+    → IsOpenedMoving tells bank tape given backup former window buffer → AreRecovering former recovering → AreAmong carried former → tells
+    → IsReshapeFit (scope_of bank given backup former) (present bank tape) (reading_in bank.slots former)
+    → IsFoundInCourse bank tape (scope_of bank given backup former) former (members_without recovering former) window buffer carried
+
+-- A sound opening finds the reshape so.
+abbrev pub SoundReshapesFit : (tells : Type 0) → Type 0
+SoundReshapesFit tells = (bank : Given) (tape : List Operation) (given backup : ℕ) (former : Members) (window : Window) (buffer : List ℕ) → IsOpenedMoving tells bank tape given backup former window buffer → tells
+    → OpensFit (world_in bank tape (scope_of bank given backup former) (length tape)) → IsReshapeFit (scope_of bank given backup former) (present bank tape) (reading_in bank.slots former)

@@ -1,0 +1,98 @@
+-- The resync of an array in a reshape: the stripes of both regions in the order of the list, how far parity is relied on, and why a stripe isn't mended.
+use Rattle.std.specs.Prelude.{◌≡◌, ◌⊎◌, ℕ, ◌+◌, ◌-◌, ◌*◌, ◌/◌, ◌<◌, ◌≤◌, nat_lt, false, if◌then◌else◌, Option, Some, None}
+use Rattle.md_base.specs.declared.places.Shape.{Shape}
+use Rattle.md_base.specs.declared.answers.Refusal.{Refusal}
+use Rattle.md_base.specs.Sectors.{Sector}
+use Rattle.md_base.specs.Shapes.{stripe_sectors}
+use Rattle.bank.specs.Tape.{Contents}
+use Rattle.sb1.specs.declared.sb.Sb.{Sb}
+use Rattle.layout.specs.Layout.{place}
+use Rattle.geometry.specs.Geometry.{ceiling}
+use Rattle.superblocks.specs.declared.members.Members.{Members}
+use Rattle.superblocks.specs.Reading.{is_reshaping, shape_of, final_shape, list_length, data_offset_of}
+use Rattle.row_io.specs.Rows.{reading_of, held_slot}
+use Rattle.flat_history.specs.Stands.{shape_for}
+use Rattle.shape_views.specs.Regions.{DoWithout}
+use Rattle.views.specs.Lacking.{DataStandsAmong, IsOfStripe, too_many, AreTooMany, IsNotResynced}
+use Rattle.safe_updates.specs.First.{are_too_many, write_refusal}
+use Rattle.region_mends.specs.declared.stripes.Stripe.{Stripe}
+
+-- ---- the regions
+
+-- the sectors of the list below this one are the region below the position; without a reshape there is none
+abbrev pub low_end : Sb → ℕ
+low_end newest = if is_reshaping newest then newest.reshape_position else 0
+
+-- the shape that places them, and that of the others
+abbrev pub low_shape : Sb → Shape
+low_shape newest = shape_for newest 0
+
+abbrev pub high_shape : Sb → Shape
+high_shape newest = shape_for newest (low_end newest)
+
+-- how many stripes they have, of which the last may go past the position, where the list ends there
+abbrev pub low_stripes : Sb → ℕ
+low_stripes newest = ceiling (low_end newest) (stripe_sectors (low_shape newest))
+
+-- the first stripe of the others
+abbrev pub high_stripe : Sb → ℕ
+high_stripe newest = low_end newest / stripe_sectors (high_shape newest)
+
+-- ---- the stripes
+
+-- a resync has so many: those of both regions
+abbrev pub mend_stripes : Sb → ℕ
+mend_stripes newest = low_stripes newest + (newest.size / (high_shape newest).chunk - high_stripe newest)
+
+-- the one behind so many of them, in the order of the list
+abbrev pub stripe_behind : Sb → ℕ → Stripe
+stripe_behind newest mended =
+    if nat_lt mended (low_stripes newest) then record { shape = low_shape newest; at = mended }
+    else record { shape = high_shape newest; at = high_stripe newest + (mended - low_stripes newest) }
+
+-- the one that is mended next, where so many are; none where all are
+abbrev pub next_mend : Sb → ℕ → Option Stripe
+next_mend newest mended = if nat_lt mended (mend_stripes newest) then Some (stripe_behind newest mended) else None
+
+-- where a stripe begins in the list
+abbrev pub first_sector : Stripe → ℕ
+first_sector stripe = stripe.at * stripe_sectors stripe.shape
+
+-- parity is relied on below this sector of the list: where a resync is pending, below the first stripe that it hasn't mended
+abbrev pub relied_sector : Sb → Option ℕ → ℕ
+relied_sector newest None = list_length newest
+relied_sector newest (Some mended) = first_sector (stripe_behind newest mended)
+
+-- the shape of the stripe behind so many, and a row of it
+abbrev pub mend_shape : Sb → ℕ → Shape
+mend_shape newest mended = (stripe_behind newest mended).shape
+
+abbrev pub IsMendRow : Sb → ℕ → ℕ → Type 0
+IsMendRow newest mended row = IsOfStripe (mend_shape newest mended) (stripe_behind newest mended).at row
+
+-- the list stands in the data of its rows
+abbrev pub MendStands : Sb → ℕ → Members → Contents → (ℕ → Sector) → Type 0
+MendStands newest mended m c list = DataStandsAmong (mend_shape newest mended) (IsMendRow newest mended) m c list
+
+-- ---- behind the list's end
+
+-- Where the region below the position ends with the list, within a stripe, what slots hold of that stripe behind the end is the list's too.
+abbrev pub AreEndsStanding : Members → Contents → (ℕ → Sector) → Type 0
+AreEndsStanding m c list = (x slot : ℕ) → list_length m.newest ≤ x → (place (low_shape m.newest) x).row < low_stripes m.newest * (low_shape m.newest).chunk
+    → held_slot (reading_of m) (place (low_shape m.newest) x).role (place (low_shape m.newest) x).row ≡ Some slot
+    → c slot (data_offset_of (reading_of m) slot + (place (low_shape m.newest) x).row) ≡ list x
+
+-- ---- why a stripe isn't mended
+
+-- too many roles are missing of a shape in force, of the old one first; or else this
+abbrev pub lacking_or : Members → Option Refusal → Option Refusal
+lacking_or m rest = if are_too_many (shape_of m.newest) m then Some (too_many (shape_of m.newest) m)
+    else if are_too_many (final_shape m.newest) m then Some (too_many (final_shape m.newest) m) else rest
+
+-- the first of two causes: that, or the lowest missing role that has data in the stripe's shape
+abbrev pub mend_refusal : Shape → Members → Option Refusal
+mend_refusal shape m = lacking_or m (write_refusal shape false m)
+
+-- a refusal tells one of them
+abbrev pub IsNotMended : Shape → Members → Refusal → Type 0
+IsNotMended shape m refusal = AreTooMany m refusal ⊎ (DoWithout m × IsNotResynced shape false m refusal)

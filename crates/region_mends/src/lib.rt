@@ -1,0 +1,6 @@
+//! The resync of an array in a reshape, stripe by stripe over both regions.
+#![tactic(auto)]
+
+pub mod laws;
+pub mod mending;
+pub mod stripes;

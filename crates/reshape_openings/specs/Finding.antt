@@ -1,0 +1,41 @@
+-- The window that an opening finds of a reshape, by what the backup holds.
+use Rattle.std.specs.Prelude.{◌≡◌, ℕ, ◌+◌, ◌-◌, ◌*◌, ◌<◌, true, List, [], take, Option, Some, None, ⊤}
+use Rattle.md_base.specs.declared.places.Span.{Span}
+use Rattle.md_base.specs.Sectors.{Sector}
+use Rattle.md_base.specs.Shapes.{has_slot}
+use Rattle.sb1.specs.declared.sb.Sb.{Sb}
+use Rattle.bank.specs.Given.{Given, sizes}
+use Rattle.parity.specs.Rows.{sector_of}
+use Rattle.superblocks.specs.Reading.{Scope}
+use Rattle.window_rows.specs.Copies.{IsRoomFor}
+use Rattle.grow_asked.specs.declared.window.Window.{Window}
+use Rattle.grow_asked.specs.declared.window.Window.TheVariants.{Closed, Entered, Unsure}
+
+-- An array with this newest superblock is looked for in slots of the bank, of which this one is its backup.
+pub record IsLookedFor (bank : Given) (newest : Sb) (backup : ℕ) (scope : Scope) : Type 0 where
+  pub uuid : scope.uuid ≡ newest.set_uuid
+  pub backup_is : scope.backup ≡ Some backup
+  pub given : has_slot scope.given backup ≡ true
+  pub sizes_are : scope.sizes ≡ sizes bank
+
+-- the window whose section is active, entered, with nothing copied; where none is active, no window is open
+abbrev pub window_for : Option Span → Window
+window_for None = Closed
+window_for (Some span) = Entered span 0 true
+
+-- the bytes of a buffer that have the window's sectors: its first ones
+abbrev pub bytes_for : Window → List ℕ → List ℕ
+bytes_for Closed buffer = []
+bytes_for (Entered span copied sectioned) buffer = take (512 * (span.hi - span.lo)) buffer
+bytes_for (Unsure span) buffer = take (512 * (span.hi - span.lo)) buffer
+
+-- these bytes are the sectors of the section that the slot has behind its header
+pub record AreOfSection (slot : ℕ → Sector) (span : Span) (bytes : List ℕ) : Type 0 where
+  pub room : IsRoomFor span bytes
+  pub each : (i : ℕ) → i < span.hi - span.lo → sector_of bytes i ≡ slot (8 + i)
+
+-- so it is of an entered window; an opening leaves none of which nothing is sure
+abbrev pub IsFoundIn : (ℕ → Sector) → Window → List ℕ → Type 0
+IsFoundIn slot Closed bytes = ⊤
+IsFoundIn slot (Entered span copied sectioned) bytes = AreOfSection slot span bytes
+IsFoundIn slot (Unsure span) bytes = ⊥
