@@ -10,3 +10,4 @@ pub mod WriteLaws
 pub mod WriteReplies
 pub mod EnterLaws
 pub mod Entered
+pub mod Reading

@@ -13,6 +13,7 @@ mod entering;
 mod failing;
 mod finishing;
 mod moves;
+mod reading;
 mod recording;
 mod settling;
 mod writing;

@@ -1,0 +1,412 @@
+-- A read of the list of an array in a reshape, from what `fetch_beside` leaves: it is done, or refused behind what it lost.
+use Rattle.std.proofs.Common.{◌≡◌, ◌⊎◌, inl, inr, ℕ, ◌+◌, ◌-◌, ◌*◌, ◌/◌, ◌<◌, ◌≤◌, ◌==◌, nat_le, Bool, true, false, if◌then◌else◌, Option, Some, None, List, [], ◌∷◌, ◌++◌, length, take, refl, sym, ◌∙◌, ap, subst, arith, append_assoc, append-nil}
+use Rattle.std.specs.Prelude.{IsFalse, IfSome, fold, min, slice_index_or, ⊤}
+use Rattle.std.specs.Option.{option_map_or}
+use Rattle.std.specs.List.{list_any}
+use Rattle.std.proofs.lemmas.Bool.{cases_lt}
+use Rattle.std.proofs.lemmas.Bool.Decides.{nat_tests}
+use Rattle.std.proofs.lemmas.List.Sums.{fold-append}
+use Rattle.md_base.specs.Sectors.{Sector, sectors_of}
+use Rattle.md_base.specs.Shapes.{tolerance, tolerance_of, stripe_sectors}
+use Rattle.md_base.specs.declared.answers.Refusal.{Refusal}
+use Rattle.md_base.specs.declared.answers.Refusal.TheVariants.{PastEnd}
+use Rattle.md_base.specs.declared.answers.Who.{Who}
+use Rattle.md_base.specs.declared.places.Shape.{Shape}
+use Rattle.md_base.specs.declared.places.Span.{Span}
+use Rattle.md_base.proofs.SectorLaws.{length-sectors_of}
+use Rattle.bank.specs.declared.bank.Operation.{Operation}
+use Rattle.bank.specs.Given.{Given}
+use Rattle.bank.specs.Tape.{Contents, disk}
+use Rattle.parity.specs.Rows.{sector_of}
+use Rattle.sb1.specs.declared.sb.Sb.{Sb}
+use Rattle.superblocks.specs.declared.members.Members.{Members}
+use Rattle.superblocks.specs.Reading.{Scope, is_clean, list_length, role_count}
+use Rattle.row_io.specs.Rows.{reading_of, present, is_missing}
+use Rattle.list_io.specs.Full.{RowStands}
+use Rattle.flat_history.specs.declared.events.Entry.{Entry}
+use Rattle.flat_history.specs.declared.events.Event.{Event}
+use Rattle.flat_history.specs.declared.events.Event.TheVariants.{Read, Refused}
+use Rattle.flat_history.specs.declared.events.Request.TheVariants.{Read as AsksRead}
+use Rattle.flat_history.specs.Flat.{now, next_number, length_of, limit_of, limit_after, visible_of, values_of, values_after}
+use Rattle.flat_history.specs.Legal.{visible_at, IsRefusedRight}
+use Rattle.flat_history.specs.Losses.{is_gone_after, loses}
+use Rattle.flat_history.specs.Plain.{entries_of}
+use Rattle.flat_history.specs.Sound.{OpensFit}
+use Rattle.flat_history.specs.Stands.{shape_for, reach_of}
+use Rattle.flat_history.specs.Transfers.{IsReadOver}
+use Rattle.flat_history.specs.World.{World, opening_list}
+use Rattle.flat_history.proofs.SoundLaws.{fit-before}
+use Rattle.shape_views.specs.Regions.{AreShapesFit, place_by}
+use Rattle.shape_views.specs.Views.{Ledger}
+use Rattle.shape_views.specs.Windows.{IsShown}
+use Rattle.shape_views.proofs.Alike.{row-below}
+use Rattle.shape_changes.specs.Marking.{AreOthersPresent}
+use Rattle.shape_changes.specs.Safety.{HasRoomLeft, IsRisen}
+use Rattle.shape_changes.specs.Steady.{IsSafeOver, KeepsSafe, AreGoneTold, IsUncleanTold}
+use Rattle.views.specs.Placed.{AreWhole}
+use Rattle.views.specs.Lacking.{DoesWithout, LacksTooMany, lacking, too_many}
+use Rattle.views.specs.Moving.{Grows, IsMoved}
+use Rattle.views.proofs.Fit.{list-alike}
+use Rattle.views.proofs.LackingLists.{row-sector}
+use Rattle.safe_updates.specs.Unused.{IsUnusedKept}
+use Rattle.call_entries.specs.Losing.{losses_of}
+use Rattle.call_entries.proofs.CallLaws.{losses-are, limit-losses, length-losses, values-losses}
+use Rattle.call_entries.proofs.LeftLaws.{left-behind, left-more}
+use Rattle.call_entries.proofs.LosingLaws.{entries-both}
+use Rattle.array_kept.specs.Calls.{IsRefusedFor, IsReplied}
+use Rattle.array_kept.proofs.NowLaws.{sectors_of-at}
+use Rattle.array_kept.proofs.ReplyLaws.{IsOfMissing, unread-of, refused_reply, read_kind}
+use Rattle.region_rows.specs.Stretches.{relied_rows, ListStandsIn, RowsStandIn, IsListUnread}
+use Rattle.region_writes.proofs.Together.{shape-force}
+use Rattle.window_rows.specs.Copies.{HasWindow, IsRoomFor}
+use Rattle.window_calls.specs.Fetching.{IsShapeBeside, IsUnreadBeside}
+use Rattle.kept_history.specs.Recorded.{IsCallGoing}
+use Rattle.kept_history.specs.Safe.{world_in, TakesNone}
+use Rattle.kept_history.proofs.Entered.{values-more, length-more}
+use Rattle.kept_history.proofs.Growing.{opening-grown}
+use Rattle.kept_history.proofs.Ledgers.{gone-any}
+use Rattle.kept_history.proofs.Tests.{none-before}
+use Rattle.history_calls.specs.Reliable.{IsReliable, AreToldGone}
+use Rattle.history_calls.proofs.Behind.{IsAmong, early-losses, legal-losses}
+use Rattle.history_calls.proofs.Quiet.{IsQuiet, LeavesList, IsLeftBehind, quiet-leaves, quiet-now}
+use Rattle.course_kept.specs.declared.course.Course.{Course}
+use Rattle.grow_asked.specs.declared.window.Window.{Window}
+use Rattle.grow_asked.specs.declared.window.Window.TheVariants.{Closed, Entered, Unsure}
+use Rattle.course_kept.specs.Course.{HasWindowIn, IsWindowOf, StandsInCourse, hidden_in}
+use Rattle.course_kept.proofs.Frames.{stands-later}
+use Rattle.course_kept.proofs.Courses.{courses-move}
+use Rattle.moving_kept.specs.Moving.{IsMoving}
+use Rattle.moving_kept.proofs.BackupKept.{stored-kept}
+use Rattle.moving_kept.proofs.MembersMove.{reshaping-moved}
+use Rattle.moving_kept.proofs.Quiet.{listed-later}
+use Rattle.moving_kept.proofs.Refusals.{quiet-refusal, lacking-right}
+use Rattle.moving_kept.proofs.Staying.{course-moved, stays-moves}
+use Rattle.moving_kept.proofs.Steps.{AreMissingSince, missing-moved}
+use Rattle.moving_state.proofs.ReshapeLaws.{window-reach}
+use Rattle.moving.specs.Ready.{bytes_in}
+
+-- ---- where nobody was lost
+
+-- what is gone was taken
+taken-by : (world : World) (role : ℕ) (xs : List Entry) → is_gone_after world xs role ≡ true → list_any (loses world role) xs ≡ true
+unfolding is_gone_after
+taken-by world role xs is = gone-any world role [] xs is
+
+-- no role is missing where no entry takes a role's holder
+whole-told : (world : World) (xs : List Entry) (m : Members) → TakesNone world xs → AreToldGone world xs m → AreWhole m
+whole-told world xs m none gone role lt = by (is_missing (reading_of m) role) refl
+  where
+    by : (b : Bool) → is_missing (reading_of m) role ≡ b → b ≡ false
+    by true is = absurd (let took = sym (none role) ∙ taken-by world role xs (gone role lt is) in cc)
+    by false is = refl
+
+takes-first : (world : World) (entries : List Entry) (who : Who) (end : ℕ) (early late : List Event) → TakesNone world (entries ++ entries_of who end (early ++ late)) → TakesNone world (entries ++ entries_of who end early)
+takes-first world entries who end early late none role =
+    none-before (loses world role) (entries ++ entries_of who end early) (entries_of who end late)
+    (subst (λ (l : List Entry). list_any (loses world role) l ≡ false)
+    (ap (λ (l : List Entry). entries ++ l) (entries-both who end early late) ∙ sym (append_assoc entries (entries_of who end early) (entries_of who end late))) (none role))
+
+-- ---- behind losses
+
+module _ (entries : List Entry) (who : Who) (end roles spares : ℕ) where
+  alone : (P : List Event → Type 0) → P (losses_of roles spares ++ []) → P (losses_of roles spares)
+  alone P is = subst P (append-nil (losses_of roles spares)) is
+
+  -- as much of the list is visible
+  visible-behind : (n : ℕ) → visible_of n (entries ++ entries_of who end (losses_of roles spares)) ≡ visible_of n entries
+  visible-behind n = λ i. option_map_or (λ limit. min limit (long i)) (limited i) (long i)
+    where
+      long : length_of n (entries ++ entries_of who end (losses_of roles spares)) ≡ length_of n entries
+      long = length-more n entries (entries_of who end (losses_of roles spares))
+          ∙ alone (λ (l : List Event). length_of (length_of n entries) (entries_of who end l) ≡ length_of n entries) (length-losses who end (losses_of roles spares) [] (losses-are roles spares) (length_of n entries))
+
+      limited : limit_of (entries ++ entries_of who end (losses_of roles spares)) ≡ limit_of entries
+      limited = fold-append (λ (limit : Option ℕ) e. limit_after limit e.event) None entries (entries_of who end (losses_of roles spares))
+          ∙ alone (λ (l : List Event). fold (λ (limit : Option ℕ) e. limit_after limit e.event) (limit_of entries) (entries_of who end l) ≡ limit_of entries) (limit-losses who end (losses_of roles spares) [] (losses-are roles spares) (limit_of entries))
+
+  -- and each sector holds what it held
+  now-behind : (list : List Sector) (x : ℕ) → now list (entries ++ entries_of who end (losses_of roles spares)) x ≡ now list entries x
+  now-behind list x = ap (λ (l : List Sector). slice_index_or l 0 [])
+      (values-more list entries (entries_of who end (losses_of roles spares)) x
+      ∙ alone (λ (l : List Event). fold (λ values e. values_after x values e.event) (values_of list entries x) (entries_of who end l) ≡ values_of list entries x)
+      (values-losses who end (losses_of roles spares) [] (losses-are roles spares) x (values_of list entries x)))
+
+-- ---- why it is refused
+
+-- where the row of a sector of the list isn't relied on, not all are
+unrelied-short : (newest : Sb) → AreShapesFit newest → (relied x : ℕ) → x < list_length newest → relied_rows newest relied (shape_for newest x) ≤ (place_by newest x).row → relied < list_length newest
+unrelied-short newest fit relied x lt far = elim (cases_lt relied (list_length newest)) [
+  | inl less ↦ less
+  | inr all ↦ absurd (
+      let whole : relied_rows newest relied (shape_for newest x) ≡ newest.size =
+      ap (λ (b : Bool). if b then newest.size else relied / stripe_sectors (shape_for newest x) * (shape_for newest x).chunk) (le-is (list_length newest) relied all) in
+      let below = row-below newest fit x lt in
+      omega (arith, whole, below, far))
+]
+  where
+    le-is : (a b : ℕ) → a ≤ b → nat_le a b ≡ true
+    le-is a b le = grind (arith, nat_tests, le)
+
+-- where all rows are relied on, more roles of the shape of a sector are missing than that tolerates
+lacked-of : (m : Members) → AreShapesFit m.newest → (relied from to : ℕ) (refusal : Refusal) → list_length m.newest ≤ relied → to ≤ list_length m.newest → IsListUnread relied from to m refusal
+    → (x : ℕ) × LacksTooMany (shape_for m.newest x) m refusal
+lacked-of m fit relied from to refusal all within why = elim why.3 [
+  | inl many ↦ (why.0, many)
+  | inr lacked ↦ absurd (
+      let lt = why.2 in
+      let less = unrelied-short m.newest fit relied why.0 (omega (arith, lt, within)) lacked.1.1 in
+      omega (arith, less, all))
+]
+
+-- where no sector is refused, each shape that places one does without what is missing of it
+pub read-does : (m : Members) (relied from to : ℕ) → ((refusal : Refusal) → IsListUnread relied from to m refusal → ⊥) → (x : ℕ) → from ≤ x → x < to → DoesWithout (shape_for m.newest x) m
+read-does m relied from to none x low high = elim (cases_lt (tolerance (shape_for m.newest x)) (lacking (shape_for m.newest x) m)) [
+  | inl above ↦ absurd (none (too_many (shape_for m.newest x) m) (x, low, high, inl (record { above = above; told = refl })))
+  | inr few ↦ few
+]
+
+-- beside a window the cause is one of the list too
+pub beside-unread : (hidden : Option Span) (relied from to : ℕ) (m : Members) (refusal : Refusal) → IsUnreadBeside hidden relied from to m refusal → IsListUnread relied from to m refusal
+beside-unread hidden relied from to m refusal why = (why.0, why.1, why.2, why.4)
+
+-- the refusal tells that members are missing
+pub unread-missing : (m : Members) → AreShapesFit m.newest → (relied from to : ℕ) (refusal : Refusal) → list_length m.newest ≤ relied → to ≤ list_length m.newest → IsListUnread relied from to m refusal → IsOfMissing refusal
+unread-missing m fit relied from to refusal all within why = let lacked = lacked-of m fit relied from to refusal all within why in unread-of (shape_for m.newest lacked.0) 0 0 0 m refusal (inl lacked.1)
+
+-- ---- the window
+
+-- what is hidden is in the buffer
+window-in : (window : Window) (buffer : List ℕ) (list : ℕ → Sector) → HasWindowIn window buffer list → IfSome (hidden_in window) (λ span. HasWindow span buffer list)
+window-in Closed buffer list has = tt
+window-in (Entered span copied true) buffer list has = has.1
+window-in (Entered span copied false) buffer list has = tt
+window-in (Unsure span) buffer list has = tt
+
+-- ---- what it leaves
+
+-- slots may have been lost, and nothing but superblocks was written
+pub record IsFetched (tells : Type 0) (given : Given) (tape tape' : List Operation) (old new : Members) (roles : ℕ) : Type 0 where
+  pub moved : IsMoved given old new
+  pub few : role_count new.newest ≤ 16
+  pub since : AreMissingSince old new roles
+  pub clean : is_clean new.newest ≡ is_clean old.newest
+  pub rise : tells → IsRisen ⊤ old new tape tape'
+  pub unused : tells → IsUnusedKept old (disk given.start tape) (disk given.start tape')
+  pub others : tells → AreOthersPresent (present given tape) (present given tape')
+  pub safe : tells → (world : World) → (told : Ledger) → HasRoomLeft old tape tape' → AreGoneTold told new → IsUncleanTold told old → IsSafeOver world given told old tape → KeepsSafe world given told new tape tape'
+
+module _ {tells : Type 0} {given : Given} {tape : List Operation} {scope : Scope} {first : ℕ} {entries : List Entry} {old : Members} {carried : ℕ → Bool} {course : Course} {buffer : List ℕ} {left : ℕ}
+    (was : IsMoving tells given tape scope first entries old carried course buffer left) (unlimited : limit_of entries ≡ None) where
+  -- all of the list is visible
+  seen : tells → visible_at (world_in given tape scope first) entries ≡ list_length old.newest
+  seen t =
+      ap (λ (o : Option ℕ). option_map_or (λ limit. min limit (length_of (length (opening_list (world_in given tape scope first))) entries)) o (length_of (length (opening_list (world_in given tape scope first))) entries)) unlimited
+      ∙ (was.recorded t).sized
+
+  -- ---- one that is refused before any sector is read
+
+  pub first-right : (at to : ℕ) (refusal : Refusal) → IsRefusedFor (list_length old.newest) to (IsListUnread (list_length old.newest) at to) old old refusal
+      → tells → IsReliable (world_in given tape scope first) entries → IsRefusedRight (world_in given tape scope first) entries refusal
+  first-right at to (PastEnd told) why t right = why.0 ∙ sym (seen t)
+  first-right at to refusal why t right =
+      let lacked = lacked-of old was.members_are.placed.fit (list_length old.newest) at to refusal (omega arith) why.0 why.1 in
+      lacking-right (world_in given tape scope first) entries given old was.members_are.placed (was.gone t right) (was.levelled t right)
+      (shape_for old.newest lacked.0) refusal (shape-force old.newest lacked.0) lacked.1
+
+  module _ {tape' : List Operation} {new : Members} (who : Who) (end roles spares : ℕ) (goes : IsCallGoing entries who) (caller : IsFalse (who.caller == 254)) (at_end : tells → end ≡ length tape')
+      (grows : Grows tells tape tape') (did : IsFetched tells given tape tape' old new roles) where
+    long-same : list_length new.newest ≡ list_length old.newest
+    long-same = list-alike old.newest new.newest did.moved.reshape did.moved.shape did.moved.size
+
+    moves : tells → (sound : Type 0) (among : Shape → Type 0) (list : ℕ → Sector) → StandsInCourse sound among old course buffer (present given tape) list → StandsInCourse sound among new course buffer (present given tape') list
+    moves t sound among list stands = courses-move sound among given old new course buffer (present given tape) (present given tape') list was.members_are.placed did.moved (did.others t) stands
+
+    -- ---- one that is refused behind what it lost
+
+    pub unread-moves : (at to : ℕ) (refusal : Refusal) → to ≤ list_length old.newest → IsListUnread (list_length old.newest) at to new refusal
+        → IsMoving tells given tape' scope first (entries ++ entries_of who end (losses_of roles spares ++ Refused refusal ∷ [])) new carried course buffer left
+    unread-moves at to refusal within why =
+        stays-moves tells given tape tape' scope first entries old new carried course buffer left who end roles spares (Refused refusal) was goes caller at_end grows (quiet-refusal refusal) (λ told is. is)
+        did.moved did.few did.since did.clean did.rise did.unused moves
+        (λ t told fills more room gone unclean safe. did.safe t (world_in given tape scope first) told room gone unclean safe)
+        (λ t right gone level.
+        let lacked = lacked-of new did.moved.placed.fit (list_length old.newest) at to refusal (omega (arith, long-same)) (omega (arith, within, long-same)) why in
+        lacking-right (world_in given tape' scope first) (entries ++ entries_of who end (losses_of roles spares)) given new did.moved.placed gone
+        (ap tolerance_of level ∙ was.levelled t right ∙ ap tolerance (sym did.moved.shape)) (shape_for new.newest lacked.0) refusal (shape-force new.newest lacked.0) lacked.1)
+
+    -- ---- one that is done
+
+    module _ (at : ℕ) (bytes : List ℕ) (does : (x : ℕ) → at ≤ x → x < at + length bytes / 512 → DoesWithout (shape_for old.newest x) old) (within : at + length bytes / 512 ≤ list_length old.newest)
+        (holds : tells → (list : ℕ → Sector) → ListStandsIn (IsShapeBeside (hidden_in course.window) old.newest at (at + length bytes / 512)) (hidden_in course.window) old (present given tape) list
+        → IfSome (hidden_in course.window) (λ span. HasWindow span buffer list)
+        → AreWhole new ⊎ RowsStandIn (IsShapeBeside (hidden_in course.window) old.newest at (at + length bytes / 512)) (hidden_in course.window) (list_length old.newest) old (present given tape) list
+        → (i : ℕ) → i < length bytes / 512 → sector_of bytes i ≡ list (at + i)) where
+      abbrev all : List Entry
+      all = entries ++ entries_of who end (losses_of roles spares ++ Read at (sectors_of bytes) ∷ [])
+
+      quiet : IsQuiet (Read at (sectors_of bytes))
+      quiet = record { adds = refl; gives = refl; ends = refl; still = λ x values. refl; level = λ n. refl }
+
+      opened : tells → opening_list (world_in given tape' scope first) ≡ opening_list (world_in given tape scope first)
+      opened t =
+          let g = grows.more t in
+          subst (λ (l : List Operation). opening_list (world_in given l scope first) ≡ opening_list (world_in given tape scope first)) (sym g.1)
+          (opening-grown (world_in given tape scope first) g.0 (was.recorded t).begun)
+
+      fit-earlier : tells → OpensFit (world_in given tape' scope first) → OpensFit (world_in given tape scope first)
+      fit-earlier t fit =
+          let g = grows.more t in
+          fit-before (world_in given tape scope first) g.0 (was.recorded t).begun (subst (λ (l : List Operation). OpensFit (world_in given l scope first)) g.1 fit)
+
+      -- what is read is what the history's list holds
+      list-is : (t : tells) → IsReliable (world_in given tape scope first) entries → AreWhole new ⊎ OpensFit (world_in given tape scope first)
+          → (i : ℕ) → i < length bytes / 512 → sector_of bytes i ≡ now (opening_list (world_in given tape scope first)) entries (at + i)
+      list-is t right filled i lt =
+          let l = was.listed t right.fills in
+          holds t l.list (λ x slot own shown held. l.stands.stands x slot (does-beside (shape_for old.newest x) own) shown held) (window-in course.window buffer l.list l.stands.window)
+          (rows-beside l.list filled l.stands.rows) i lt ∙ l.is (at + i) (omega (arith, lt, within))
+        where
+          does-beside : (shape : Shape) → IsShapeBeside (hidden_in course.window) old.newest at (at + length bytes / 512) shape → DoesWithout shape old
+          does-beside shape own = subst (λ (s : Shape). DoesWithout s old) own.4 (does own.0 own.1 own.2)
+
+          rows-beside : (list : ℕ → Sector) → AreWhole new ⊎ OpensFit (world_in given tape scope first)
+              → (OpensFit (world_in given tape scope first) → (x : ℕ) → DoesWithout (shape_for old.newest x) old → IsShown (hidden_in course.window) old.newest x
+              → RowStands (reading_of old) (present given tape) (shape_for old.newest x) list (place_by old.newest x).row)
+              → AreWhole new ⊎ RowsStandIn (IsShapeBeside (hidden_in course.window) old.newest at (at + length bytes / 512)) (hidden_in course.window) (list_length old.newest) old (present given tape) list
+          rows-beside list (inl whole) stands = inl whole
+          rows-beside list (inr fit) stands = inr (λ x below own shown. stands fit x (does-beside (shape_for old.newest x) own) shown)
+
+      legal : (t : tells) → IsReliable (world_in given tape' scope first) all → IsReliable (world_in given tape scope first) entries
+          → AreToldGone (world_in given tape' scope first) (entries ++ entries_of who end (losses_of roles spares)) new
+          → IsReadOver (opening_list (world_in given tape' scope first)) (entries ++ entries_of who end (losses_of roles spares)) at (sectors_of bytes)
+      legal t right_all right gone = record {
+        within =
+            let same : visible_of (length (opening_list (world_in given tape' scope first))) (entries ++ entries_of who end (losses_of roles spares)) ≡ visible_at (world_in given tape scope first) entries =
+            visible-behind entries who end roles spares (length (opening_list (world_in given tape' scope first))) ∙ ap (λ (o : List Sector). visible_of (length o) entries) (opened t) in
+            let n = length-sectors_of bytes in
+            let all_seen = seen t in
+            omega (arith, all_seen, n, same, within);
+        holds = λ i lt.
+            let n = length-sectors_of bytes in
+            let below : i < length bytes / 512 = omega (arith, lt, n) in
+            sectors_of-at i bytes below ∙ sym (row-sector bytes i)
+            ∙ list-is t right filled i below
+            ∙ ap (λ (o : List Sector). now o entries (at + i)) (sym (opened t)) ∙ sym (now-behind entries who end roles spares (opening_list (world_in given tape' scope first)) (at + i));
+      }
+        where
+          filled : AreWhole new ⊎ OpensFit (world_in given tape scope first)
+          filled = elim right_all.fills [
+            | inl none ↦ inl (whole-told (world_in given tape' scope first) (entries ++ entries_of who end (losses_of roles spares)) new
+                (takes-first (world_in given tape' scope first) entries who end (losses_of roles spares) (Read at (sectors_of bytes) ∷ []) none) gone)
+            | inr fit ↦ inr (fit-earlier t fit)
+          ]
+
+      call : tells → LeavesList given tape scope first entries old new carried true who (losses_of roles spares) (Read at (sectors_of bytes)) tape' end
+      call t = record {
+        rise = did.rise t;
+        keeps = λ told fills more room gone unclean safe. did.safe t (world_in given tape scope first) told room gone unclean safe;
+        legal = λ right_all right gone level.
+            legal-losses (world_in given tape' scope first) entries who end (losses_of roles spares) (Read at (sectors_of bytes) ∷ []) (losses-are roles spares) (legal t right_all right gone, tt, tt);
+      }
+
+      abbrev Then : List Operation → ℕ → Type 0
+      Then l e = LeavesList given tape scope first entries old new carried true who (losses_of roles spares) (Read at (sectors_of bytes)) l e
+          → IsLeftBehind given tape scope first entries (entries ++ entries_of who e (losses_of roles spares ++ Read at (sectors_of bytes) ∷ [])) new carried true l
+
+      leaves : tells → IsLeftBehind given tape scope first entries all new carried true tape'
+      leaves t =
+          let g = grows.more t in
+          subst (λ (l : List Operation). Then l end) (sym g.1)
+          (subst (Then (tape ++ g.0)) (sym (at_end t ∙ ap (λ (l : List Operation). length l) g.1))
+          (λ call_to. quiet-leaves given tape scope first entries old new carried true who (losses_of roles spares) (IsAmong roles) (Read at (sectors_of bytes)) g.0 (early-losses roles spares) goes caller quiet did.few
+          (missing-moved roles did.moved did.since) long-same did.clean was.sizes_are (was.gone t) (was.unclean t) (was.recorded t) (was.safe t) (was.now_safe t) call_to))
+          (call t)
+
+      -- where what is filled in is right by all entries
+      pub holds-read : tells → IsReliable (world_in given tape' scope first) all → (i : ℕ) → i < length bytes / 512 → sector_of bytes i ≡ now (opening_list (world_in given tape scope first)) entries (at + i)
+      holds-read t right = list-is t ((leaves t).right right) (elim right.fills [
+        | inl none ↦ inl (whole-told (world_in given tape' scope first) all new none ((leaves t).gone right))
+        | inr fit ↦ inr (fit-earlier t fit)
+      ])
+
+      pub read-moves : IsMoving tells given tape' scope first all new carried course buffer left
+      read-moves = record {
+        slots = was.slots;
+        members_are = reshaping-moved scope given old new did.moved was.members_are;
+        course_is = course-moved given old new course did.moved was.course_is;
+        sizes_are = was.sizes_are;
+        left_told = left-more left entries who end (losses_of roles spares ++ Read at (sectors_of bytes) ∷ []) was.left_told
+            (left-behind left who end (losses_of roles spares) (Read at (sectors_of bytes) ∷ []) (losses-are roles spares) (λ told is. is));
+        levelled = λ t fills. ap tolerance_of (leaves t).levelled ∙ was.levelled t ((leaves t).right fills) ∙ sym (ap tolerance did.moved.shape);
+        gone = λ t. (leaves t).gone;
+        unclean = λ t. (leaves t).unclean;
+        recorded = λ t. (leaves t).recorded;
+        stored = λ t. stored-kept scope given old new course.window buffer (disk given.start tape) (disk given.start tape') was.members_are did.moved (did.unused t) (was.stored t);
+        listed = λ t. listed-later given tape scope first entries all new carried course buffer tape' (now (opening_list (world_in given tape scope first)) entries) (leaves t)
+            (quiet-now (opening_list (world_in given tape scope first)) entries who end (losses_of roles spares) (IsAmong roles) (Read at (sectors_of bytes)) (early-losses roles spares) quiet)
+            (λ fills.
+            let l = was.listed t fills in
+            record {
+              list = l.list;
+              is = λ x lt. l.is x (subst (λ (n : ℕ). x < n) long-same lt);
+              stands = moves t (OpensFit (world_in given tape scope first)) (λ shape. DoesWithout shape new) l.list
+                  (stands-later (OpensFit (world_in given tape scope first)) given old new course buffer (present given tape) l.list did.moved l.stands);
+            });
+        safe = λ t. (leaves t).safe;
+        now_safe = λ t. (leaves t).now_safe;
+      }
+
+-- ---- the bytes
+
+-- so many sectors are asked for as the buffer has
+pub asked-is : (bytes slice into : List ℕ) → length bytes ≡ length into → slice ≡ bytes → length slice / 512 ≡ length into / 512
+asked-is bytes slice into len same = ap (λ (l : List ℕ). length l / 512) same ∙ ap (λ (n : ℕ). n / 512) len
+
+-- the buffer has room for what is hidden
+pub hidden-fits : (newest : Sb) → AreShapesFit newest → (window : Window) → IsWindowOf newest window → (most : ℕ) → 512 * reach_of newest ≤ most → IfSome (hidden_in window) (λ span. 512 * (span.hi - span.lo) ≤ most)
+hidden-fits newest fit Closed is most wide = tt
+hidden-fits newest fit (Entered span copied true) is most wide = let reach = window-reach newest fit span is.0 in omega (arith, reach, wide)
+hidden-fits newest fit (Entered span copied false) is most wide = tt
+hidden-fits newest fit (Unsure span) is most wide = tt
+
+-- so many of its bytes are the window's
+pub hidden-room : (hidden : Option Span) (wide : ℕ) (slice : List ℕ) → IfSome hidden (λ span. wide ≡ 512 * (span.hi - span.lo)) → length slice ≡ wide → IfSome hidden (λ span. IsRoomFor span slice)
+hidden-room None wide slice is long = tt
+hidden-room (Some span) wide slice is long = long ∙ is
+
+pub hidden-slice : (window : Window) (buffer slice : List ℕ) (wide : ℕ) (list : ℕ → Sector) → slice ≡ take wide buffer → IfSome (hidden_in window) (λ span. wide ≡ 512 * (span.hi - span.lo))
+    → IfSome (hidden_in window) (λ span. HasWindow span (bytes_in window buffer) list) → IfSome (hidden_in window) (λ span. HasWindow span slice list)
+hidden-slice Closed buffer slice wide list same is has = tt
+hidden-slice (Entered span copied true) buffer slice wide list same is has = subst (λ (l : List ℕ). HasWindow span l list) (sym (same ∙ ap (λ (n : ℕ). take n buffer) is)) has
+hidden-slice (Entered span copied false) buffer slice wide list same is has = tt
+hidden-slice (Unsure span) buffer slice wide list same is has = tt
+
+-- ---- replies
+
+pub first-reply : (m : Members) → AreShapesFit m.newest → (old : List Entry) → length_of (list_length m.newest) old ≡ list_length m.newest → limit_of old ≡ None → (who : Who) (at count : ℕ) (new : List Entry) (end : ℕ) (refusal : Refusal)
+    → IsRefusedFor (list_length m.newest) (at + count) (IsListUnread (list_length m.newest) at (at + count)) m m refusal → new ≡ old ++ entries_of who end (Refused refusal ∷ []) → who.number ≡ next_number who.caller old
+    → IsReplied (list_length m.newest) (AsksRead at count) who old new (Refused refusal)
+first-reply m fit old sized unlimited who at count new end (PastEnd told) why is number =
+    refused_reply (list_length m.newest) old sized unlimited (AsksRead at count) who (at + count) (λ members refusal. IsOfMissing refusal) new end m (PastEnd told) (read_kind at count) (λ of. of) why is number
+first-reply m fit old sized unlimited who at count new end refusal why is number =
+    refused_reply (list_length m.newest) old sized unlimited (AsksRead at count) who (at + count) (λ members refusal. IsOfMissing refusal) new end m refusal (read_kind at count) (λ of. of)
+    (why.0, unread-missing m fit (list_length m.newest) at (at + count) refusal (omega arith) why.0 why.1) is number
+
+-- what is fetched by the bytes of the window's buffer is so by the list that stands in the course
+pub holds-sliced : (tells : Type 0) (old new : Members) (c : Contents) (window : Window) (buffer slice : List ℕ) (wide : ℕ) (hidden : Option Span) (relied at : ℕ) (bytes : List ℕ) (asked : ℕ) → length bytes / 512 ≡ asked
+    → hidden ≡ hidden_in window → relied ≡ list_length old.newest → slice ≡ take wide buffer → IfSome hidden (λ span. wide ≡ 512 * (span.hi - span.lo))
+    → (tells → (list : ℕ → Sector) → ListStandsIn (IsShapeBeside hidden old.newest at (at + asked)) hidden old c list → IfSome hidden (λ span. HasWindow span slice list)
+    → AreWhole new ⊎ RowsStandIn (IsShapeBeside hidden old.newest at (at + asked)) hidden relied old c list → (i : ℕ) → i < asked → sector_of bytes i ≡ list (at + i))
+    → tells → (list : ℕ → Sector) → ListStandsIn (IsShapeBeside (hidden_in window) old.newest at (at + length bytes / 512)) (hidden_in window) old c list
+    → IfSome (hidden_in window) (λ span. HasWindow span (bytes_in window buffer) list)
+    → AreWhole new ⊎ RowsStandIn (IsShapeBeside (hidden_in window) old.newest at (at + length bytes / 512)) (hidden_in window) (list_length old.newest) old c list
+    → (i : ℕ) → i < length bytes / 512 → sector_of bytes i ≡ list (at + i)
+holds-sliced tells old new c window buffer slice wide hidden relied at bytes asked same hidden_is relied_is slice_is long holds t list stands has rows i lt =
+    holds t list (subst (λ (o : Option Span). ListStandsIn (IsShapeBeside o old.newest at (at + asked)) o old c list) (sym hidden_is)
+    (subst (λ (n : ℕ). ListStandsIn (IsShapeBeside (hidden_in window) old.newest at (at + n)) (hidden_in window) old c list) same stands))
+    (subst (λ (o : Option Span). IfSome o (λ span. HasWindow span slice list)) (sym hidden_is)
+    (hidden-slice window buffer slice wide list slice_is (subst (λ (o : Option Span). IfSome o (λ span. wide ≡ 512 * (span.hi - span.lo))) hidden_is long) has))
+    (subst (λ (o : Option Span). AreWhole new ⊎ RowsStandIn (IsShapeBeside o old.newest at (at + asked)) o relied old c list) (sym hidden_is)
+    (subst (λ (n : ℕ). AreWhole new ⊎ RowsStandIn (IsShapeBeside (hidden_in window) old.newest at (at + asked)) (hidden_in window) n old c list) (sym relied_is)
+    (subst (λ (n : ℕ). AreWhole new ⊎ RowsStandIn (IsShapeBeside (hidden_in window) old.newest at (at + n)) (hidden_in window) (list_length old.newest) old c list) same rows)))
+    i (subst (λ (n : ℕ). i < n) same lt)

@@ -1,0 +1,110 @@
+//! Reads of an array in a reshape.
+
+ghost use Rattle.std.specs.Prelude.{◌≡◌, ◌≢◌, ◌+◌, ◌-◌, ◌*◌, ◌/◌, ◌^◌, ◌<◌, ◌≤◌, length, IfSome, OnOk, OnErr};
+ghost use Rattle.bank.specs.Tape.{AreSectors};
+ghost use Rattle.md_base.specs.Sectors.{IsWhole, sectors_of};
+ghost use Rattle.superblocks.specs.Reading.{is_clean, list_length};
+ghost use Rattle.row_io.specs.Rows.{present};
+ghost use Rattle.flat_history.specs.World.{opening_list};
+ghost use Rattle.flat_history.specs.Flat.{next_number, now};
+ghost use Rattle.flat_history.specs.declared.events.Event.TheVariants.{Read};
+ghost use Rattle.flat_history.specs.declared.events.Request.TheVariants.{Read as AsksRead};
+ghost use Rattle.shape_changes.specs.Marking.{AreOthersPresent};
+ghost use Rattle.views.specs.Lacking.{HaveRolesFailed};
+ghost use Rattle.array_kept.specs.Calls.{IsAnswered, IsCausedBy, OnNoMemory};
+ghost use Rattle.region_rows.specs.Stretches.{IsListUnread};
+ghost use Rattle.history_calls.specs.Reliable.{IsReliable};
+ghost use Rattle.running_words.specs.Calls.{moving_world, IsCalled};
+
+use crate::state::Moving;
+use array_state::room::zeros;
+use bank::Bank;
+use call_entries::calls::{check_number, enter, enter_behind};
+use flat_history::Event;
+use md_base::{Fault, Sectors, Span, Who};
+use moving_state::refusing::unread_from;
+use moving_state::reshape::list_sectors;
+use moving_state::windows::hidden_span;
+use safe_updates::naming::newly_vacant;
+use safe_updates::roles::vacant_roles;
+use window_calls::fetch_beside;
+
+// How many bytes the sectors of this window have; none where there is none.
+fn bytes_of(hidden: Option<Span>, most: usize) -> usize
+    requires { IfSome hidden (λ span. 512 * (span.hi - span.lo) ≤ most) }
+    ensures long { IfSome hidden (λ span. result ≡ 512 * (span.hi - span.lo)) }
+    ensures within { result ≤ most }
+{
+    match hidden {
+        None => 0,
+        Some(span) => 512 * span.hi.saturating_sub(span.lo) as usize,
+    }
+}
+
+impl<B: Bank> Moving<B> {
+    /// Fills `into`, of whole sectors, with those of the list from `at` on: those of a window whose section is stored from its buffer, and
+    /// each other by the shape of its region; what a missing member held is filled in from the others. Refusals: `PastEnd`, and
+    /// `TooManyMissing` where more roles are missing than a shape tolerates that places one of them.
+    pub fn read(&mut self, who: Who, at: u64, into: &mut [u8]) -> Result<(), Fault>
+        requires next { who.number ≡ next_number who.caller self.old.parts.entries }
+        requires caller { who.caller ≢ 254 }
+        requires whole { IsWhole into.old }
+        requires short { at + length into.old / 512 < 2 ^ 63 }
+        ensures answered { IsAnswered (list_length self.old.parts.members.newest) (AsksRead at (length into.old / 512)) who self.old.parts.entries self.new.parts.entries (Read at (sectors_of into.new)) result }
+        ensures holds { OnOk result (B.tells → IsReliable (moving_world (B.given self.new.parts.bank) (B.tape self.new.parts.bank) self.new) self.new.parts.entries
+            → AreSectors (now (opening_list (moving_world (B.given self.old.parts.bank) (B.tape self.old.parts.bank) self.old)) self.old.parts.entries) at into.new) }
+        ensures unread { OnErr result (into.new ≡ into.old) }
+        ensures unchanged { OnNoMemory result (self.new ≡ self.old) }
+        ensures called { IsCalled B.tells (B.given self.old.parts.bank) (B.tape self.old.parts.bank) (B.tape self.new.parts.bank) (B.faults_of self.old.parts.bank) (B.faults_of self.new.parts.bank) self.old self.new }
+        ensures others { B.tells → AreOthersPresent (present (B.given self.old.parts.bank) (B.tape self.old.parts.bank)) (present (B.given self.old.parts.bank) (B.tape self.new.parts.bank)) }
+        ensures clean { is_clean self.new.parts.members.newest ≡ is_clean self.old.parts.members.newest }
+        ensures caused { IsCausedBy (list_length self.old.parts.members.newest) (at + length into.old / 512) (IsListUnread (list_length self.old.parts.members.newest) at (at + length into.old / 512)) self.old.parts.members self.new.parts.members result }
+        ensures failed { HaveRolesFailed self.old.parts.members self.new.parts.members (B.faults_of self.old.parts.bank) (B.faults_of self.new.parts.bank) }
+        ensures course { self.new.course ≡ self.old.course }
+        ensures given { B.given self.new.parts.bank ≡ B.given self.old.parts.bank }
+    {
+        let mut bytes = match zeros(self.alloc, into.len()) {
+            Ok(bytes) => bytes,
+            Err(fault) => return Err(fault),
+        };
+        match self.epoch.entries.make_room(50) {
+            Ok(()) => {}
+            Err(_) => return Err(Fault::NoMemory),
+        }
+        self.steps = 0;
+        check_number(&self.epoch.entries, who);
+        let asked = (into.len() / 512) as u64;
+        let sectors = list_sectors(&self.members);
+        if let Some(refusal) = unread_from(&self.members, sectors, at, asked) {
+            let end = self.bank.ops();
+            enter(&mut self.epoch, who, end, Event::Refused { refusal });
+            return Err(Fault::Refused(refusal));
+        }
+        let count = self.members.roles.len() as u32;
+        let before = vacant_roles(&self.members, count);
+        let hidden = hidden_span(&self.course);
+        let wide = bytes_of(hidden, self.window.len());
+        let fetched = fetch_beside(
+            &mut self.members,
+            &mut self.bank,
+            hidden,
+            &self.window.as_slice()[..wide],
+            at,
+            bytes.as_mut_slice(),
+            self.buffer.as_mut_slice(),
+            sectors,
+        );
+        let roles = newly_vacant(&self.members, count, before);
+        let end = self.bank.ops();
+        if let Some(refusal) = fetched.refusal {
+            let event = Event::Refused { refusal };
+            enter_behind(&mut self.epoch, who, end, roles, fetched.spares, event);
+            return Err(Fault::Refused(refusal));
+        }
+        into.copy_from_slice(bytes.as_slice());
+        let body = Sectors::from_bytes(bytes);
+        let event = Event::Read { at, body };
+        enter_behind(&mut self.epoch, who, end, roles, fetched.spares, event);
+        Ok(())
+    }
+}
