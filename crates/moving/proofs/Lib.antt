@@ -7,6 +7,7 @@ pub mod ZeroLaws
 pub mod Copied
 pub mod RecordLaws
 pub mod WriteLaws
+pub mod WriteReplies
 pub mod EnterLaws
 pub mod Entered
 pub mod Reading

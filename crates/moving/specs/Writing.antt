@@ -1,5 +1,6 @@
 -- What a write of an array in a reshape enters, and why it isn't done.
-use Rattle.std.specs.Prelude.{◌≡◌, ◌⊎◌, ℕ, ◌+◌, ◌-◌, ◌<◌, ◌≤◌, ◌++◌, Bool, true, List, Result, Ok, Err}
+use Rattle.std.specs.Prelude.{◌≡◌, ◌⊎◌, ℕ, ◌+◌, ◌-◌, ◌<◌, ◌≤◌, ◌++◌, Bool, true, List, [], ◌∷◌, Result, Ok, Err}
+use Rattle.std.specs.List.{All}
 use Rattle.md_base.specs.Sectors.{Sector}
 use Rattle.md_base.specs.declared.answers.Fault.{Fault}
 use Rattle.md_base.specs.declared.answers.Fault.TheVariants.{Refused as IsRefusedWith, NoMemory}
@@ -9,13 +10,18 @@ use Rattle.md_base.specs.declared.places.Span.{Span}
 use Rattle.sb1.specs.declared.sb.Sb.{Sb}
 use Rattle.superblocks.specs.declared.members.Members.{Members}
 use Rattle.flat_history.specs.declared.events.Entry.{Entry}
-use Rattle.flat_history.specs.declared.events.Event.TheVariants.{Step, Wrote}
+use Rattle.flat_history.specs.declared.events.Event.{Event}
+use Rattle.flat_history.specs.declared.events.Event.TheVariants.{Step, Wrote, Refused}
+use Rattle.flat_history.specs.declared.events.Request.{Request}
+use Rattle.flat_history.specs.declared.events.Request.TheVariants.{Write as AsksWrite}
+use Rattle.flat_history.specs.OneShape.{IsOfCall, OneShapeFits}
 use Rattle.flat_history.specs.declared.events.StepKind.TheVariants.{WindowFinished as FinishesWindow}
 use Rattle.flat_history.specs.Plain.{entries_of}
 use Rattle.flat_history.specs.Stands.{covers}
 use Rattle.views.specs.Lacking.{AreTooMany}
 use Rattle.call_entries.specs.Losing.{failure_events}
-use Rattle.array_kept.specs.Calls.{IsBehind}
+use Rattle.array_kept.specs.Calls.{IsBehind, StandsInside}
+use Rattle.kept_history.specs.Recorded.{entry_of}
 use Rattle.region_writes.specs.Runs.{IsListUnwritten}
 use Rattle.grow_asked.specs.declared.window.Window.{Window}
 use Rattle.grow_asked.specs.declared.window.Window.TheVariants.{Closed, Entered, Unsure}
@@ -62,3 +68,19 @@ IsWriteEntered window at to body who old new left (Ok x) = (mid : List Entry) ×
 IsWriteEntered window at to body who old new left (Err (IsRefusedWith refusal)) = (mid : List Entry) × (IsFinishedFirst window at to who old mid left ⊎ (mid ≡ old))
     × (roles : ℕ) × (spares : ℕ) × (torn : Bool) × (end : ℕ) × (new ≡ mid ++ entries_of who end (failure_events roles spares torn at body refusal))
 IsWriteEntered window at to body who old new left (Err NoMemory) = new ≡ old
+
+-- ---- its reply
+
+-- A call was answered by this event, which fits its request and stands behind the other entries of the call, those of a step that it took first among them.
+pub record IsRepliedBehind (size : ℕ) (request : Request) (who : Who) (old new : List Entry) (event : Event) : Type 0 where
+  pub call : List Entry
+  pub end : ℕ
+  pub own : All (λ e. IsOfCall who e × StandsInside e.event) call
+  pub is : new ≡ old ++ (call ++ entry_of who end event ∷ [])
+  pub fits : OneShapeFits size (old ++ call) (entry_of who end event) request
+
+-- the reply of a write by its answer
+abbrev pub IsWriteAnswered : {T : Type 0} → ℕ → ℕ → List Sector → Who → List Entry → List Entry → Result T Fault → Type 0
+IsWriteAnswered size at body who old new (Ok x) = IsRepliedBehind size (AsksWrite at body) who old new (Wrote at body)
+IsWriteAnswered size at body who old new (Err (IsRefusedWith refusal)) = IsRepliedBehind size (AsksWrite at body) who old new (Refused refusal)
+IsWriteAnswered size at body who old new (Err NoMemory) = new ≡ old

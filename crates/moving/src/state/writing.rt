@@ -15,7 +15,7 @@ ghost use Rattle.course_kept.specs.Laws.{closed};
 ghost use Rattle.moving_state.specs.Due.{unsure_in};
 ghost use Rattle.running_words.specs.Parts.{left_in};
 ghost use Rattle.running_words.specs.Calls.{IsCalled, IsStepTaken};
-ghost use Rattle.moving.specs.Writing.{IsWindowOpen, TouchesWindow, IsWriteLacked, IsPutEntered, IsWriteEntered};
+ghost use Rattle.moving.specs.Writing.{IsWindowOpen, TouchesWindow, IsWriteLacked, IsPutEntered, IsWriteEntered, IsWriteAnswered};
 
 use crate::state::Moving;
 use crate::state::moves::check_going;
@@ -134,6 +134,7 @@ impl<B: Bank> Moving<B> {
         requires few { length from.now / 512 ≤ 128 }
         requires short { at + length from.now / 512 < 2 ^ 63 }
         requires sure { (x : ℕ) → at ≤ x → x < at + length from.now / 512 → covers (unsure_in self.old.course.window) x ≡ false }
+        ensures answered { IsWriteAnswered (list_length self.old.parts.members.newest) at (sectors_of from.now) who self.old.parts.entries self.new.parts.entries result }
         ensures entered { IsWriteEntered self.old.course.window at (at + length from.now / 512) (sectors_of from.now) who self.old.parts.entries self.new.parts.entries (left_in self.new.parts.members self.new.course self.new.ahead) result }
         ensures unchanged { OnNoMemory result (self.new ≡ self.old) }
         ensures called { IsCalled B.tells (B.given self.old.parts.bank) (B.tape self.old.parts.bank) (B.tape self.new.parts.bank) (B.faults_of self.old.parts.bank) (B.faults_of self.new.parts.bank) self.old self.new }

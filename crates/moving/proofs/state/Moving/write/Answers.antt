@@ -1,11 +1,13 @@
-use Rattle.std.proofs.Common.{inl, ◌≡◌, ◌≤◌, ◌<◌, ◌+◌, ◌/◌, ℕ, true, false, Option, Err, List, [], length, refl, sym, ◌∙◌, ap, subst, arith, append-nil}
+use Rattle.std.proofs.Common.{inl, ◌≡◌, ◌≤◌, ◌<◌, ◌+◌, ◌/◌, ℕ, true, false, Option, None, Err, List, [], length, refl, sym, ◌∙◌, ap, subst, arith, append-nil}
 use Rattle.std.proofs.lemmas.List.Elements.{All-nil}
 use Rattle.md_base.specs.Sectors.{sectors_of}
+use Rattle.md_base.proofs.SectorLaws.{length-sectors_of}
 use Rattle.md_base.specs.declared.places.Span.{Span}
 use Rattle.superblocks.specs.Reading.{list_length}
 use Rattle.flat_history.specs.declared.events.Entry.{Entry}
 use Rattle.flat_history.specs.declared.events.Event.TheVariants.{Step}
 use Rattle.flat_history.specs.declared.events.StepKind.TheVariants.{WindowFinished as FinishesWindow}
+use Rattle.flat_history.specs.Flat.{length_of, limit_of}
 use Rattle.flat_history.specs.Stands.{covers}
 use Rattle.flat_history.specs.Transfers.{last_end_from}
 use Rattle.views.specs.Rebuilding.{Held}
@@ -18,6 +20,7 @@ use Rattle.moving.specs.Writing.{TouchesWindow, IsWriteLacked, IsWriteEntered}
 use Rattle.moving.proofs.Called.{called}
 use Rattle.moving.proofs.Kept.{roomier, long-same}
 use Rattle.moving.proofs.WriteLaws.{failed-then, beside-of, touched-open, roomed, called-then, called-roomed, alone-caused, refused-caused, behind-caused, alone-entered, refused-entered, behind-entered, untouched, never-ok}
+use Rattle.moving.proofs.WriteReplies.{write-answered}
 use Rattle.moving.proofs.state.Moving.write.Goals as goal
 
 -- ---- memory is short
@@ -160,3 +163,38 @@ returns-clause-failed g c =
     let new = c.write_beside-2.new.self in
     rw (← c.self.view_is) (failed-then a.members mid.parts.members new.parts.members (g.B.Bank.faults_of a.bank) (g.B.Bank.faults_of mid.parts.bank) (g.B.Bank.faults_of new.parts.bank)
     c.in-Ok-finish_for.ensures.called.never_falls c.write_beside-2.ensures.called.never_falls c.in-Ok-finish_for.ensures.failed c.write_beside-2.ensures.failed)
+
+-- ---- its reply
+
+pub returns-then-not-meets-clause-answered : goal.returns-then-not-meets-clause-answered
+returns-then-not-meets-clause-answered g c =
+    let old = c.args.self.now in
+    let new = c.write_beside.new.self in
+    let at = c.args.at in
+    let long = length-sectors_of c.args.from.now in
+    let sized = subst (λ p. length_of (list_length p.parts.members.newest) p.parts.entries ≡ list_length p.parts.members.newest) c.self.view_is c.self.invariant.sized in
+    let unlimited = subst (λ p. limit_of p.parts.entries ≡ None) c.self.view_is c.self.invariant.unlimited in
+    write-answered old.course.window (list_length old.parts.members.newest) at (at + length c.args.from.now / 512) (sectors_of c.args.from.now) c.args.who old.parts.entries new.parts.entries old.parts.members new.parts.members
+    (left_in new.parts.members new.course new.ahead) (omega (arith, long)) c.requires.next sized unlimited c.write_beside.result (returns-then-not-meets-clause-entered g c) (returns-then-not-meets-clause-caused g c)
+
+pub returns-in-Err-finish_for-clause-answered : goal.returns-in-Err-finish_for-clause-answered
+returns-in-Err-finish_for-clause-answered g c =
+    let old = c.args.self.now in
+    let new = c.finish_for.new.self in
+    let at = c.args.at in
+    let long = length-sectors_of c.args.from.now in
+    let sized = subst (λ p. length_of (list_length p.parts.members.newest) p.parts.entries ≡ list_length p.parts.members.newest) c.self.view_is c.self.invariant.sized in
+    let unlimited = subst (λ p. limit_of p.parts.entries ≡ None) c.self.view_is c.self.invariant.unlimited in
+    write-answered old.course.window (list_length old.parts.members.newest) at (at + length c.args.from.now / 512) (sectors_of c.args.from.now) c.args.who old.parts.entries new.parts.entries old.parts.members new.parts.members
+    (left_in new.parts.members new.course new.ahead) (omega (arith, long)) c.requires.next sized unlimited {T = ℕ} (Err c.in-Err-finish_for.fault) (returns-in-Err-finish_for-clause-entered g c) (returns-in-Err-finish_for-clause-caused g c)
+
+pub returns-clause-answered : goal.returns-clause-answered
+returns-clause-answered g c =
+    let old = c.args.self.now in
+    let new = c.write_beside-2.new.self in
+    let at = c.args.at in
+    let long = length-sectors_of c.args.from.now in
+    let sized = subst (λ p. length_of (list_length p.parts.members.newest) p.parts.entries ≡ list_length p.parts.members.newest) c.self.view_is c.self.invariant.sized in
+    let unlimited = subst (λ p. limit_of p.parts.entries ≡ None) c.self.view_is c.self.invariant.unlimited in
+    write-answered old.course.window (list_length old.parts.members.newest) at (at + length c.args.from.now / 512) (sectors_of c.args.from.now) c.args.who old.parts.entries new.parts.entries old.parts.members new.parts.members
+    (left_in new.parts.members new.course new.ahead) (omega (arith, long)) c.requires.next sized unlimited c.write_beside-2.result (returns-clause-entered g c) (returns-clause-caused g c)

@@ -1,0 +1,184 @@
+-- The reply of a write fits its request, also behind a window that it finished first.
+use Rattle.std.proofs.Common.{◌≡◌, inl, inr, ℕ, ◌+◌, ◌<◌, ◌≤◌, Bool, true, false, cond, Option, None, Result, Ok, Err, List, [], ◌∷◌, ◌++◌, length, refl, sym, ◌∙◌, ap, subst, append_assoc, append-nil}
+use Rattle.std.specs.Prelude.{fold, reverse}
+use Rattle.std.specs.List.{All}
+use Rattle.std.proofs.lemmas.List.{reverse-append}
+use Rattle.std.proofs.lemmas.List.Elements.{All-nil, All-cons, All-append}
+use Rattle.std.proofs.lemmas.List.Sums.{fold-append}
+use Rattle.md_base.specs.Sectors.{Sector}
+use Rattle.md_base.specs.declared.answers.Fault.{Fault as AnyFault}
+use Rattle.md_base.specs.declared.answers.Fault.TheVariants.{Refused as IsRefusedWith, NoMemory}
+use Rattle.md_base.specs.declared.answers.Refusal.{Refusal}
+use Rattle.md_base.specs.declared.answers.Refusal.TheVariants.{PastEnd}
+use Rattle.md_base.specs.declared.answers.Who.{Who}
+use Rattle.superblocks.specs.declared.members.Members.{Members}
+use Rattle.flat_history.specs.declared.events.Entry.{Entry}
+use Rattle.flat_history.specs.declared.events.Event.{Event}
+use Rattle.flat_history.specs.declared.events.Event.TheVariants.{Lost, SpareLost, Step, Wrote, Torn, Refused}
+use Rattle.flat_history.specs.declared.events.LostCause.TheVariants.{Fault}
+use Rattle.flat_history.specs.declared.events.Request.{Request}
+use Rattle.flat_history.specs.declared.events.Request.TheVariants.{Write as AsksWrite}
+use Rattle.flat_history.specs.declared.events.StepKind.TheVariants.{WindowFinished as FinishesWindow}
+use Rattle.flat_history.specs.Fits.{AreTornOf, IsTornOf}
+use Rattle.flat_history.specs.Flat.{is_same_call, rest_of_call, next_number, length_of, limit_of, length_after, limit_after, visible_of}
+use Rattle.flat_history.specs.OneShape.{IsOfCall, OneShapeAnswers}
+use Rattle.flat_history.specs.Plain.{entries_of}
+use Rattle.call_entries.specs.Losing.{losses_of, failure_events}
+use Rattle.call_entries.proofs.CallLaws.{AreLossEvents, losses-are, length-losses, limit-losses, torn-losses, torn-both, torn-reverse}
+use Rattle.call_entries.proofs.LosingLaws.{entries-both}
+use Rattle.array_kept.specs.Calls.{StandsInside, IsRefusedFor, IsCausedBy}
+use Rattle.array_kept.proofs.NowLaws.{visible-is, length-more, limit-more}
+use Rattle.array_kept.proofs.ReplyLaws.{IsOfMissing, none_before, too-many-of, write_kind}
+use Rattle.grow_asked.specs.declared.window.Window.{Window}
+use Rattle.kept_history.specs.Recorded.{entry_of}
+use Rattle.moving.specs.Writing.{IsWriteLacked, IsFinishedFirst, IsWriteEntered, IsRepliedBehind, IsWriteAnswered}
+use Rattle.moving.proofs.WriteLaws.{torn-missing}
+
+-- ---- the entries of a call before its reply
+
+-- they may stand there, what is torn is the request's, and the length of the list and what is visible of it stay
+record IsInner (who : Who) (request : Request) (call : List Entry) : Type 0 where
+  own : All (λ e. IsOfCall who e × StandsInside e.event) call
+  torn : AreTornOf request call
+  long : (n : ℕ) → fold (λ m e. length_after m e.event) n call ≡ n
+  free : fold (λ (limit : Option ℕ) e. limit_after limit e.event) None call ≡ None
+
+none-inner : (who : Who) (request : Request) → IsInner who request []
+none-inner who request = record { own = All-nil (λ e. IsOfCall who e × StandsInside e.event); torn = tt; long = λ n. refl; free = refl }
+
+one-inner : (who : Who) (request : Request) (end : ℕ) (event : Event) → StandsInside event → IsTornOf request event → ((n : ℕ) → length_after n event ≡ n) → limit_after None event ≡ None
+    → IsInner who request (entry_of who end event ∷ [])
+one-inner who request end event inside torn long free = record {
+  own = All-cons (λ e. IsOfCall who e × StandsInside e.event) (entry_of who end event) [] ((refl, refl), inside) (All-nil (λ e. IsOfCall who e × StandsInside e.event));
+  torn = (torn, tt);
+  long = long;
+  free = free;
+}
+
+both-inner : (who : Who) (request : Request) (xs ys : List Entry) → IsInner who request xs → IsInner who request ys → IsInner who request (xs ++ ys)
+both-inner who request xs ys one two = record {
+  own = All-append (λ e. IsOfCall who e × StandsInside e.event) xs ys one.own two.own;
+  torn = torn-both request xs ys one.torn two.torn;
+  long = λ n. fold-append (λ m e. length_after m e.event) n xs ys ∙ ap (λ (m : ℕ). fold (λ m e. length_after m e.event) m ys) (one.long n) ∙ two.long n;
+  free = fold-append (λ (limit : Option ℕ) e. limit_after limit e.event) None xs ys ∙ ap (λ (o : Option ℕ). fold (λ (limit : Option ℕ) e. limit_after limit e.event) o ys) one.free ∙ two.free;
+}
+
+own-losses : (who : Who) (end : ℕ) (xs : List Event) → AreLossEvents xs → All (λ e. IsOfCall who e × StandsInside e.event) (entries_of who end xs)
+own-losses who end [] are = All-nil (λ e. IsOfCall who e × StandsInside e.event)
+own-losses who end (Lost role Fault ∷ xs) are =
+    All-cons (λ e. IsOfCall who e × StandsInside e.event) (entry_of who end (Lost role Fault)) (entries_of who end xs) ((refl, refl), tt) (own-losses who end xs are)
+own-losses who end (SpareLost slot ∷ xs) are =
+    All-cons (λ e. IsOfCall who e × StandsInside e.event) (entry_of who end (SpareLost slot)) (entries_of who end xs) ((refl, refl), tt) (own-losses who end xs are)
+own-losses who end (event ∷ xs) are = absurd are
+
+losses-inner : (who : Who) (request : Request) (end roles spares : ℕ) → IsInner who request (entries_of who end (losses_of roles spares))
+losses-inner who request end roles spares = record {
+  own = own-losses who end (losses_of roles spares) (losses-are roles spares);
+  torn = torn-losses request who end (losses_of roles spares) (losses-are roles spares);
+  long = λ n. subst (λ (l : List Event). fold (λ m e. length_after m e.event) n (entries_of who end l) ≡ n) (append-nil (losses_of roles spares))
+      (length-losses who end (losses_of roles spares) [] (losses-are roles spares) n);
+  free = subst (λ (l : List Event). fold (λ (limit : Option ℕ) e. limit_after limit e.event) None (entries_of who end l) ≡ None) (append-nil (losses_of roles spares))
+      (limit-losses who end (losses_of roles spares) [] (losses-are roles spares) None);
+}
+
+-- losses, and an event behind them
+behind-inner : (who : Who) (request : Request) (end roles spares : ℕ) (event : Event) → StandsInside event → IsTornOf request event → ((n : ℕ) → length_after n event ≡ n) → limit_after None event ≡ None
+    → IsInner who request (entries_of who end (losses_of roles spares ++ event ∷ []))
+behind-inner who request end roles spares event inside torn long free =
+    subst (IsInner who request) (sym (entries-both who end (losses_of roles spares) (event ∷ [])))
+    (both-inner who request (entries_of who end (losses_of roles spares)) (entry_of who end event ∷ []) (losses-inner who request end roles spares) (one-inner who request end event inside torn long free))
+
+-- ---- a reply behind them
+
+torn-own : (request : Request) (e : Entry) (zs tail : List Entry) → rest_of_call e tail ≡ [] → AreTornOf request zs → AreTornOf request (rest_of_call e (zs ++ tail))
+torn-own request e [] tail none torn = subst (λ (l : List Entry). AreTornOf request l) (sym none) tt
+torn-own request e (z ∷ zs) tail none torn = by (is_same_call e z) (torn-own request e zs tail none torn.1)
+  where
+    by : (b : Bool) → AreTornOf request (rest_of_call e (zs ++ tail)) → AreTornOf request (cond b (z ∷ rest_of_call e (zs ++ tail)) [])
+    by true rest = (torn.0, rest)
+    by false rest = tt
+
+module _ (size : ℕ) (request : Request) (who : Who) (old : List Entry) (number : who.number ≡ next_number who.caller old) (sized : length_of size old ≡ size) (unlimited : limit_of old ≡ None) where
+  all-visible : (call : List Entry) → IsInner who request call → visible_of size (old ++ call) ≡ size
+  all-visible call inner = visible-is size (old ++ call) (length-more size old call sized (inner.long size)) (limit-more old call unlimited inner.free)
+
+  replied-behind : (new call : List Entry) (end : ℕ) (event : Event) → IsInner who request call → new ≡ old ++ (call ++ entry_of who end event ∷ [])
+      → ((before : List Entry) → OneShapeAnswers size (old ++ call) before request event) → IsRepliedBehind size request who old new event
+  replied-behind new call end event inner is answers = record {
+    call = call;
+    end = end;
+    own = inner.own;
+    is = is;
+    fits = record {
+      answers = answers _;
+      torn = subst (λ (l : List Entry). AreTornOf request (rest_of_call (entry_of who end event) l)) (sym (reverse-append old call))
+          (torn-own request (entry_of who end event) (reverse call) (reverse old) (none_before old who end event number) (torn-reverse request call inner.torn));
+    };
+  }
+
+-- what stands behind two stretches of entries
+behind-two : (old pre mid new xs : List Entry) (e : Entry) → mid ≡ old ++ pre → new ≡ mid ++ (xs ++ e ∷ []) → new ≡ old ++ ((pre ++ xs) ++ e ∷ [])
+behind-two old pre mid new xs e one two =
+    two ∙ ap (λ (l : List Entry). l ++ (xs ++ e ∷ [])) one ∙ append_assoc old pre (xs ++ e ∷ []) ∙ ap (λ (l : List Entry). old ++ l) (sym (append_assoc pre xs (e ∷ [])))
+
+-- what may stand before the entries of the write itself: those of the window that it finished
+record IsBefore (who : Who) (request : Request) (old mid : List Entry) : Type 0 where
+  pre : List Entry
+  is : mid ≡ old ++ pre
+  inner : IsInner who request pre
+
+nothing-before : (who : Who) (request : Request) (old mid : List Entry) → mid ≡ old → IsBefore who request old mid
+nothing-before who request old mid is = record { pre = []; is = is ∙ sym (append-nil old); inner = none-inner who request }
+
+finished-before : (window : Window) (at to : ℕ) (body : List Sector) (who : Who) (old mid : List Entry) (left : ℕ) → IsFinishedFirst window at to who old mid left → IsBefore who (AsksWrite at body) old mid
+finished-before window at to body who old mid left (inl (touches, behind)) = record {
+  pre = entries_of who behind.end (losses_of behind.roles behind.spares ++ Step FinishesWindow left ∷ []);
+  is = behind.is;
+  inner = behind-inner who (AsksWrite at body) behind.end behind.roles behind.spares (Step FinishesWindow left) tt tt (λ n. refl) refl;
+}
+finished-before window at to body who old mid left (inr (none, is)) = nothing-before who (AsksWrite at body) old mid is
+
+-- ---- the write
+
+lacked-missing : (window : Window) (relied from to : ℕ) (m : Members) (refusal : Refusal) → IsWriteLacked window relied from to m refusal → IsOfMissing refusal
+lacked-missing window relied from to m refusal (inl unwritten) = torn-missing relied from to m refusal unwritten
+lacked-missing window relied from to m refusal (inr (touches, many)) = too-many-of m refusal many
+
+module _ (window : Window) (size at to : ℕ) (body : List Sector) (who : Who) (old new : List Entry) (m m' : Members) (left : ℕ) (end-is : to ≡ at + length body)
+    (number : who.number ≡ next_number who.caller old) (sized : length_of size old ≡ size) (unlimited : limit_of old ≡ None) where
+  -- why it is refused fits
+  refused-fits : (refusal : Refusal) → IsRefusedFor size to (IsWriteLacked window size at to) m m' refusal → (call : List Entry) → IsInner who (AsksWrite at body) call
+      → (before : List Entry) → OneShapeAnswers size (old ++ call) before (AsksWrite at body) (Refused refusal)
+  refused-fits (PastEnd told) why call inner = (write_kind at body).past size told (old ++ call) (all-visible size (AsksWrite at body) who old number sized unlimited call inner) (subst (λ (n : ℕ). size < n) end-is why.1)
+  refused-fits refusal why call inner = (write_kind at body).missing size refusal (old ++ call) (all-visible size (AsksWrite at body) who old number sized unlimited call inner)
+      (subst (λ (n : ℕ). n ≤ size) end-is why.0) (lacked-missing window size at to m' refusal why.1)
+
+  -- behind the losses of the write
+  tail-losses : (mid : List Entry) → IsBefore who (AsksWrite at body) old mid → (end roles spares : ℕ) (event : Event) → new ≡ mid ++ entries_of who end (losses_of roles spares ++ event ∷ [])
+      → ((call : List Entry) → IsInner who (AsksWrite at body) call → (before : List Entry) → OneShapeAnswers size (old ++ call) before (AsksWrite at body) event)
+      → IsRepliedBehind size (AsksWrite at body) who old new event
+  tail-losses mid first end roles spares event is answers =
+      let xs = entries_of who end (losses_of roles spares) in
+      let inner = both-inner who (AsksWrite at body) first.pre xs first.inner (losses-inner who (AsksWrite at body) end roles spares) in
+      replied-behind size (AsksWrite at body) who old number sized unlimited new (first.pre ++ xs) end event inner
+      (behind-two old first.pre mid new xs (entry_of who end event) first.is (is ∙ ap (λ (l : List Entry). mid ++ l) (entries-both who end (losses_of roles spares) (event ∷ []))))
+      (answers (first.pre ++ xs) inner)
+
+  -- and behind what it tore
+  tail-torn : (mid : List Entry) → IsBefore who (AsksWrite at body) old mid → (end roles spares : ℕ) (torn : Bool) (refusal : Refusal) → new ≡ mid ++ entries_of who end (failure_events roles spares torn at body refusal)
+      → IsRefusedFor size to (IsWriteLacked window size at to) m m' refusal → IsRepliedBehind size (AsksWrite at body) who old new (Refused refusal)
+  tail-torn mid first end roles spares false refusal is why = tail-losses mid first end roles spares (Refused refusal) is (refused-fits refusal why)
+  tail-torn mid first end roles spares true refusal is why =
+      let xs = entries_of who end (losses_of roles spares ++ Torn at body ∷ []) in
+      let inner = both-inner who (AsksWrite at body) first.pre xs first.inner (behind-inner who (AsksWrite at body) end roles spares (Torn at body) tt (refl, refl) (λ n. refl) refl) in
+      replied-behind size (AsksWrite at body) who old number sized unlimited new (first.pre ++ xs) end (Refused refusal) inner
+      (behind-two old first.pre mid new xs (entry_of who end (Refused refusal)) first.is
+      (is ∙ ap (λ (l : List Entry). mid ++ l) (entries-both who end (losses_of roles spares ++ Torn at body ∷ []) (Refused refusal ∷ []))))
+      (refused-fits refusal why (first.pre ++ xs) inner)
+
+  pub write-answered : {T : Type 0} (result : Result T AnyFault) → IsWriteEntered window at to body who old new left result → IsCausedBy size to (IsWriteLacked window size at to) m m' result
+      → IsWriteAnswered size at body who old new result
+  write-answered (Ok x) (mid, first, behind) caused = tail-losses mid (finished-before window at to body who old mid left first) behind.end behind.roles behind.spares (Wrote at body) behind.is (λ call inner before. (refl, refl))
+  write-answered (Err (IsRefusedWith refusal)) (mid, first, roles, spares, torn, end, is) caused =
+      tail-torn mid (elim first [ inl finished ↦ finished-before window at to body who old mid left finished | inr same ↦ nothing-before who (AsksWrite at body) old mid same ]) end roles spares torn refusal is caused
+  write-answered (Err NoMemory) told caused = told
