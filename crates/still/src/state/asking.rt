@@ -1,6 +1,6 @@
 //! What an array without an active reshape tells of itself.
 
-ghost use Rattle.std.specs.Prelude.{◌≡◌, ◌≢◌, ◌<◌, ◌≤◌, [], ◌∷◌, length, IfOk, IfErr, IfSome};
+ghost use Rattle.std.specs.Prelude.{◌≡◌, ◌≢◌, ◌^◌, ◌<◌, ◌≤◌, [], ◌∷◌, length, IfOk, IfErr, IfSome};
 ghost use Rattle.superblocks.specs.Reading.{shape_of, list_length};
 ghost use Rattle.flat_history.specs.Flat.{next_number};
 ghost use Rattle.flat_history.specs.declared.events.Event.TheVariants.{Shown};
@@ -22,7 +22,8 @@ use superblocks::says::is_clean;
 impl<B: Bank> Still<B> {
     /// How many sectors the list has.
     pub fn length(&self) -> u64
-        ensures { result ≡ list_length self.now.parts.members.newest }
+        ensures length { result ≡ list_length self.now.parts.members.newest }
+        ensures few { list_length self.now.parts.members.newest < 2 ^ 63 }
     {
         visible(&self.members)
     }
