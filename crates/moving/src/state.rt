@@ -20,7 +20,6 @@ mod recording;
 mod settling;
 mod stepping;
 mod writing;
-mod stepping;
 mod zeroing;
 
 use bank::Bank;
