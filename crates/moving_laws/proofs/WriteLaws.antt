@@ -34,6 +34,7 @@ use Rattle.shape_views.specs.Windows.{moved_past}
 use Rattle.shape_changes.specs.Safety.{HasLiveSlot}
 use Rattle.views.specs.declared.work.Work.{Work}
 use Rattle.views.specs.Lacking.{DoesWithout, HaveRolesFailed, AreLostSince, HaveFailedSince, AreTooMany}
+use Rattle.shape_changes.specs.Safety.{HasLiveSlot}
 use Rattle.views.specs.Moving.{Grows, IsMoved}
 use Rattle.views.specs.Placed.{AreWhole, IsPlaced, AreStillHeld}
 use Rattle.views.specs.Rebuilding.{Held}

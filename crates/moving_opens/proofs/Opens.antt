@@ -341,9 +341,6 @@ openings-move tells bank tape given backup lost first left former window buffer 
   safe = λ t. at t (λ (k : ℕ). IsFilledRight (world_in bank tape (scope_of bank given backup former) k) (opening_entries k (members_without lost former)) → HasRoomForEvents (world_in bank tape (scope_of bank given backup former) k) → OpensAlike (world_in bank tape (scope_of bank given backup former) k)
       → IsSafeHistory ⊤ (world_in bank tape (scope_of bank given backup former) k) bank (members_without lost former) carried true (opening_entries k (members_without lost former)))
       (λ right room alike. safe opened lost recovering t (reshape t) carried among right alike);
-  now_safe = λ t. at t (λ (k : ℕ). IsFilledRight (world_in bank tape (scope_of bank given backup former) k) (opening_entries k (members_without lost former)) → HasRoomForEvents (world_in bank tape (scope_of bank given backup former) k) → OpensAlike (world_in bank tape (scope_of bank given backup former) k)
-      → IsSafeOver (world_in bank tape (scope_of bank given backup former) k) bank (told_now (world_in bank tape (scope_of bank given backup former) k) carried true (opening_entries k (members_without lost former))) (members_without lost former) tape)
-      (λ right room alike. safe-now opened lost recovering t (reshape t) carried among alike);
 }
   where
     at : tells → (P : ℕ → Type 0) → P (length tape) → P first
