@@ -24,6 +24,7 @@ use Rattle.row_io.specs.Rows.{reading_of, held_slot}
 use Rattle.list_io.specs.Full.{RowStands}
 use Rattle.backup.specs.Section.{names_span, has_section}
 use Rattle.flat_history.specs.ActiveSection.{section_for}
+use Rattle.flat_history.specs.Stands.{shape_for}
 use Rattle.region_laws.specs.Regions.{IsDirected}
 use Rattle.shape_views.specs.Regions.{open_by, place_by}
 use Rattle.shape_views.specs.Windows.{IsShown, ListStands, RowsStand, moved_past}
@@ -43,19 +44,19 @@ use Rattle.window_steps.proofs.CopyLaws.{open-alike}
 use Rattle.window_steps.proofs.PastLaws.{header-alike, past-placed}
 use Rattle.grow_asked.specs.declared.window.Window.{Window}
 use Rattle.grow_asked.specs.declared.window.Window.TheVariants.{Closed, Entered, Unsure}
-use Rattle.course_kept.specs.Course.{IsOfStripes, hidden_in, IsStoredAs, HasSection, IsSectionKept, StandsInCourse, past_stripe}
+use Rattle.course_kept.specs.Course.{IsOfStripes, hidden_in, IsStoredAs, HasSection, IsSectionKept, AnyShape, StandsInCourse, past_stripe}
 use Rattle.course_kept.specs.Laws.{BeginsStand, EntersStand, CoursesMove, CopiesGoOn, CoursesAreCopied, WindowsAreCopied, RecordsClose, ZeroesGoOn, ZeroesAreAll, StoredMove, OpenHeadersFit, entered, closed, next_stripe}
 use Rattle.course_kept.proofs.Frames.{stands-on, past-alike}
 
 -- ---- members that lost slots
 
-pub courses-move : (sound : Type 0) → CoursesMove sound
-courses-move sound given old new course buffer c e list placed moved others was =
-    stands-on sound given old new moved course buffer c e list (λ row. ⊥) (others-same given (λ row. ⊥) old new c e moved placed others) was (record {
-      shown = λ x shown none. none;
-      tail = λ x tail none. none;
-      copied = λ row at none. none;
-      zeroed = λ row at none. none;
+pub courses-move : (sound : Type 0) (among : Shape → Type 0) → CoursesMove sound among
+courses-move sound among given old new course buffer c e list placed moved others was =
+    stands-on sound among given old new moved course buffer c e list (λ row. ⊥) (others-same given (λ row. ⊥) old new c e moved placed others) was (record {
+      shown = λ x own shown none. none;
+      tail = λ own x tail none. none;
+      copied = λ own row at none. none;
+      zeroed = λ own row at none. none;
     })
 
 -- ---- it begins
@@ -67,50 +68,58 @@ none-of-none shape first row at = absurd (let low = at.0 in let high = at.1 in l
     zero-right : (n : ℕ) → n + 0 ≡ n
     zero-right n = omega arith
 
-pub begins-stand : (sound : Type 0) → BeginsStand sound
-begins-stand sound scope given old plan new buffer c e list begun placed moved kept zeros stands rows =
-    stands-on sound given plan new moved (closed 0) buffer c e list (λ row. ⊥) kept (record {
-      stands = (places-alike-stand scope given old plan c list placed (begun-alike old plan begun)).0 stands;
+pub begins-stand : (sound : Type 0) (among : Shape → Type 0) → BeginsStand sound among
+begins-stand sound among scope given old plan new buffer c e list begun placed moved kept zeros stands rows =
+    stands-on sound among given plan new moved (closed 0) buffer c e list (λ row. ⊥) kept (record {
+      stands = λ x slot own shown. (places-alike-stand scope given old plan c list placed (begun-alike old plan begun)).0 (stands (first-shape x own shown.within)) x slot shown;
       window = tt;
       zeros = zeros;
-      copied = λ row none. absurd none;
-      tail = λ x slot tail held. absurd (
+      copied = λ own row none. absurd none;
+      tail = λ own x slot tail held. absurd (
           let start : plan.newest.reshape_position ≡ 0 = begun.start ∙ ap (λ (b : Bool). cond b (list_length plan.newest) 0) tail.forth in
           let some = some-listed plan.newest placed.fit in
           let through = tail.through in
           omega (arith, start, some, through));
-      zeroed = λ row at. absurd (none-of-none (final_shape plan.newest) (past_stripe plan.newest) row at);
-      rows = λ so. (places-alike-stand scope given old plan c list placed (begun-alike old plan begun)).1 (rows so);
+      zeroed = λ own row at. absurd (none-of-none (final_shape plan.newest) (past_stripe plan.newest) row at);
+      rows = λ so x own shown. (places-alike-stand scope given old plan c list placed (begun-alike old plan begun)).1 (rows (first-shape x own shown.within) so) x shown;
     }) (record {
-      shown = λ x shown none. none;
-      tail = λ x tail none. none;
-      copied = λ row at none. none;
-      zeroed = λ row at none. none;
+      shown = λ x own shown none. none;
+      tail = λ own x tail none. none;
+      copied = λ own row at none. none;
+      zeroed = λ own row at none. none;
     })
+  where
+    -- at the first position the shape in force places each sector
+    first-shape : (x : ℕ) → among (shape_for plan.newest x) → x < list_length plan.newest → among (shape_of new.newest)
+    first-shape x own lt = subst among ((ends-place plan.newest x begun.active lt).0 begun.start ∙ sym moved.shape) own
 
 -- ---- a window is entered
 
-pub enters-stand : (sound : Type 0) → EntersStand sound
-enters-stand sound given old new span sectioned former buffer c e list moved kept room has was = (
-  record { stands = hide sectioned; window = (room, has); zeros = on.zeros; copied = λ row at. absurd (none-of-none (final_shape new.newest) (span.lo / stripe_sectors (final_shape new.newest)) row at); tail = on.tail; zeroed = on.zeroed; rows = λ so. hide-rows sectioned (on.rows so) },
-  record { stands = on.stands; window = (room, has); zeros = on.zeros; copied = λ row none. absurd none; tail = on.tail; zeroed = on.zeroed; rows = on.rows },
+pub enters-stand : (sound : Type 0) (among : Shape → Type 0) → EntersStand sound among
+enters-stand sound among given old new span sectioned former buffer c e list moved kept room has was = (
+  record {
+    stands = λ x slot own shown held. on.stands x slot own (shown-closed sectioned x shown) held;
+    window = (room, has);
+    zeros = on.zeros;
+    copied = λ own row at. absurd (none-of-none (final_shape new.newest) (span.lo / stripe_sectors (final_shape new.newest)) row at);
+    tail = on.tail;
+    zeroed = on.zeroed;
+    rows = λ so x own shown. on.rows so x own (shown-closed sectioned x shown);
+  },
+  record { stands = on.stands; window = (room, has); zeros = on.zeros; copied = λ own row none. absurd none; tail = on.tail; zeroed = on.zeroed; rows = on.rows },
 )
   where
-    on : StandsInCourse sound new (closed 0) buffer e list
-    on = stands-on sound given old new moved (closed 0) buffer c e list (λ row. ⊥) kept (record { stands = was.stands; window = tt; zeros = was.zeros; copied = was.copied; tail = was.tail; zeroed = was.zeroed; rows = was.rows }) (record {
-      shown = λ x shown none. none;
-      tail = λ x tail none. none;
-      copied = λ row at none. none;
-      zeroed = λ row at none. none;
+    on : StandsInCourse sound among new (closed 0) buffer e list
+    on = stands-on sound among given old new moved (closed 0) buffer c e list (λ row. ⊥) kept (record { stands = was.stands; window = tt; zeros = was.zeros; copied = was.copied; tail = was.tail; zeroed = was.zeroed; rows = was.rows }) (record {
+      shown = λ x own shown none. none;
+      tail = λ own x tail none. none;
+      copied = λ own row at none. none;
+      zeroed = λ own row at none. none;
     })
 
-    hide : (which : Bool) → ListStands (hidden_in (Entered span 0 which)) new e list
-    hide true = λ x slot shown held. on.stands x slot (record { within = shown.within; outside = refl }) held
-    hide false = on.stands
-
-    hide-rows : (which : Bool) → RowsStand None new e list → RowsStand (hidden_in (Entered span 0 which)) new e list
-    hide-rows true rows = λ x shown. rows x (record { within = shown.within; outside = refl })
-    hide-rows false rows = rows
+    -- what an open window shows is shown without one
+    shown-closed : (which : Bool) (x : ℕ) → IsShown (hidden_in (Entered span 0 which)) new.newest x → IsShown None new.newest x
+    shown-closed which x shown = record { within = shown.within; outside = refl }
 
 -- ---- stripes
 
@@ -174,35 +183,38 @@ pub hidden-same : (span : Span) (a b : ℕ) (sectioned : Bool) → hidden_in (En
 hidden-same span a b true = refl
 hidden-same span a b false = refl
 
-pub copies-go-on : (sound : Type 0) → CopiesGoOn sound
-copies-go-on sound given old new span copied sectioned buffer c e list placed moved next left plain kept was = (on, more)
+pub copies-go-on : (sound : Type 0) (among : Shape → Type 0) → CopiesGoOn sound among
+copies-go-on sound among given old new span copied sectioned buffer c e list placed moved next left plain kept was = (on, more)
   where
-    on : StandsInCourse sound new (entered span copied sectioned) buffer e list
-    on = stands-on sound given old new moved (entered span copied sectioned) buffer c e list (IsOfStripe (final_shape old.newest) (next_stripe old span copied)) kept was (record {
-      shown = λ x shown at. shown-apart given old span copied sectioned placed next plain x shown (of-window (final_shape old.newest) span copied (place_by old.newest x).row left at);
-      tail = λ x tail at. no-tail old.newest span x next tail;
-      copied = λ row of at. of-before (final_shape old.newest) (span.lo / stripe_sectors (final_shape old.newest)) copied row of at;
-      zeroed = λ row of at. none-of-none (final_shape old.newest) (past_stripe old.newest) row of;
+    on : StandsInCourse sound among new (entered span copied sectioned) buffer e list
+    on = stands-on sound among given old new moved (entered span copied sectioned) buffer c e list (IsOfStripe (final_shape old.newest) (next_stripe old span copied)) kept was (record {
+      shown = λ x own shown at. shown-apart given old span copied sectioned placed next plain x shown (of-window (final_shape old.newest) span copied (place_by old.newest x).row left at);
+      tail = λ own x tail at. no-tail old.newest span x next tail;
+      copied = λ own row of at. of-before (final_shape old.newest) (span.lo / stripe_sectors (final_shape old.newest)) copied row of at;
+      zeroed = λ own row of at. none-of-none (final_shape old.newest) (past_stripe old.newest) row of;
     })
 
     more : ((row : ℕ) → IsOfStripe (final_shape old.newest) (next_stripe old span copied) row → RowStands (reading_of new) e (final_shape old.newest) list row)
-        → StandsInCourse sound new (entered span (copied + 1) sectioned) buffer e list
+        → StandsInCourse sound among new (entered span (copied + 1) sectioned) buffer e list
     more done = record {
-      stands = subst (λ (hidden : Option Span). ListStands hidden new e list) (hidden-same span copied (copied + 1) sectioned) on.stands;
+      stands = λ x slot own shown. on.stands x slot own (shown-same (copied + 1) copied x shown);
       window = on.window;
       zeros = on.zeros;
-      copied = λ row at. elim (of-more (final_shape new.newest) (span.lo / stripe_sectors (final_shape new.newest)) copied row at) [
-        | inl before ↦ on.copied row before
+      copied = λ own row at. elim (of-more (final_shape new.newest) (span.lo / stripe_sectors (final_shape new.newest)) copied row at) [
+        | inl before ↦ on.copied own row before
         | inr last ↦ subst (λ (s : Shape). RowStands (reading_of new) e s list row) (sym moved.reshape.final)
             (done row (subst (λ (s : Shape). IsOfStripe s (span.lo / stripe_sectors s + copied) row) moved.reshape.final last))
       ];
       tail = on.tail;
       zeroed = on.zeroed;
-      rows = λ so. subst (λ (hidden : Option Span). RowsStand hidden new e list) (hidden-same span copied (copied + 1) sectioned) (on.rows so);
+      rows = λ so x own shown. on.rows so x own (shown-same (copied + 1) copied x shown);
     }
+      where
+        shown-same : (a b x : ℕ) → IsShown (hidden_in (Entered span a sectioned)) new.newest x → IsShown (hidden_in (Entered span b sectioned)) new.newest x
+        shown-same a b x = subst (λ (hidden : Option Span). IsShown hidden new.newest x) (hidden-same span a b sectioned)
 
-pub courses-copied : (sound : Type 0) → CoursesAreCopied sound
-courses-copied sound scope given m span copied sectioned buffer c list placed next was = record {
+pub courses-copied : (sound : Type 0) (among : Shape → Type 0) → CoursesAreCopied sound among
+courses-copied sound among scope given m span copied sectioned buffer c list placed next was = record {
   window = was.window.1;
   zeros = λ x at. by (is_backward m.newest) refl x at;
 }
@@ -221,24 +233,20 @@ courses-copied sound scope given m span copied sectioned buffer c list placed ne
 -- ---- the window is recorded
 
 -- what an entered window shows is beside it
-module _ (sound : Type 0) (m : Members) (span : Span) (copied : ℕ) (sectioned : Bool) (buffer : List ℕ) (c : Contents) (list : ℕ → Sector) (was : StandsInCourse sound m (entered span copied sectioned) buffer c list) where
+module _ (sound : Type 0) (m : Members) (span : Span) (copied : ℕ) (sectioned : Bool) (buffer : List ℕ) (c : Contents) (list : ℕ → Sector) (was : StandsInCourse sound AnyShape m (entered span copied sectioned) buffer c list) where
+  beside-shown : (which : Bool) (x : ℕ) → IsShown (Some span) m.newest x → IsShown (hidden_in (Entered span copied which)) m.newest x
+  beside-shown true x shown = shown
+  beside-shown false x shown = record { within = shown.within; outside = refl }
+
   pub list-beside : ListStands (Some span) m c list
-  list-beside = hide sectioned was.stands
-    where
-      hide : (which : Bool) → ListStands (hidden_in (Entered span copied which)) m c list → ListStands (Some span) m c list
-      hide true stands = stands
-      hide false stands = λ x slot shown held. stands x slot (record { within = shown.within; outside = refl }) held
+  list-beside x slot shown = was.stands x slot tt (beside-shown sectioned x shown)
 
   pub rows-beside : sound → RowsStand (Some span) m c list
-  rows-beside so = hide sectioned (was.rows so)
-    where
-      hide : (which : Bool) → RowsStand (hidden_in (Entered span copied which)) m c list → RowsStand (Some span) m c list
-      hide true rows = rows
-      hide false rows = λ x shown. rows x (record { within = shown.within; outside = refl })
+  rows-beside so x shown = was.rows so x tt (beside-shown sectioned x shown)
 
 pub windows-copied : (sound : Type 0) → WindowsAreCopied sound
 windows-copied sound m span sectioned buffer c list was = record {
-  window = λ row at. was.copied row (
+  window = λ row at. was.copied tt row (
     at.0,
     let high = at.1 in
         let le : ceiling span.hi (stripe_sectors (final_shape m.newest)) * (final_shape m.newest).chunk ≤ (span.lo / stripe_sectors (final_shape m.newest) + stripes (final_shape m.newest) span.lo span.hi) * (final_shape m.newest).chunk =
@@ -251,49 +259,49 @@ windows-copied sound m span sectioned buffer c list was = record {
 pub records-close : (sound : Type 0) → RecordsClose sound
 records-close sound scope given old new span sectioned buffer c e list placed was_placed next moved others was =
     let done = windows-copied sound old span sectioned buffer c list was in
-    courses-move sound given (moved_past span old) new (closed 0) buffer c e list (past-placed given old span was_placed next) moved others (record {
-      stands = moved-stands scope given old span c list placed next (λ row at. (done.window row at).sectors) done.stands;
+    courses-move sound AnyShape given (moved_past span old) new (closed 0) buffer c e list (past-placed given old span was_placed next) moved others (record {
+      stands = λ x slot any. moved-stands scope given old span c list placed next (λ row at. (done.window row at).sectors) done.stands x slot;
       window = tt;
       zeros = was.zeros;
-      copied = λ row none. absurd none;
-      tail = moved-tails scope given old span c list placed next (λ row at. (done.window row at).sectors);
-      zeroed = λ row at. absurd (none-of-none (final_shape old.newest) (past_stripe old.newest) row at);
-      rows = λ so. moved-rows-stand scope given old span c list placed next done.window (done.rows_are so);
+      copied = λ any row none. absurd none;
+      tail = λ any. moved-tails scope given old span c list placed next (λ row at. (done.window row at).sectors);
+      zeroed = λ any row at. absurd (none-of-none (final_shape old.newest) (past_stripe old.newest) row at);
+      rows = λ so x any. moved-rows-stand scope given old span c list placed next done.window (done.rows_are so) x;
     })
 
 -- ---- a stripe behind the list is zeroed
 
-pub zeroes-go-on : (sound : Type 0) → ZeroesGoOn sound
-zeroes-go-on sound given old new zeroed buffer c e list placed moved through kept was = (on, more)
+pub zeroes-go-on : (sound : Type 0) (among : Shape → Type 0) → ZeroesGoOn sound among
+zeroes-go-on sound among given old new zeroed buffer c e list placed moved through kept was = (on, more)
   where
     past-low : (row : ℕ) → IsOfStripe (final_shape old.newest) (past_stripe old.newest + zeroed) row → past_stripe old.newest * (final_shape old.newest).chunk ≤ row
     past-low row at =
         let low : past_stripe old.newest * (final_shape old.newest).chunk ≤ (past_stripe old.newest + zeroed) * (final_shape old.newest).chunk = mul-le-mul_right (final_shape old.newest).chunk (omega arith) in
         (let a = at.0 in omega (arith, a, low))
 
-    on : StandsInCourse sound new (closed zeroed) buffer e list
-    on = stands-on sound given old new moved (closed zeroed) buffer c e list (IsOfStripe (final_shape old.newest) (past_stripe old.newest + zeroed)) kept was (record {
-      shown = λ x shown at. absurd (
+    on : StandsInCourse sound among new (closed zeroed) buffer e list
+    on = stands-on sound among given old new moved (closed zeroed) buffer c e list (IsOfStripe (final_shape old.newest) (past_stripe old.newest + zeroed)) kept was (record {
+      shown = λ x own shown at. absurd (
           let shape = (ends-place old.newest x through.active shown.within).1 through.last in
           let below = (rows_hold (final_shape old.newest) (record { lo = 0; hi = list_length old.newest }) x placed.fit.valid.final (omega arith, shown.within)).1 in
           let row : (place_by old.newest x).row ≡ (place (final_shape old.newest) x).row = ap (λ (s : Shape). (place s x).row) shape in
           let far = past-low (place_by old.newest x).row at in
           omega (arith, row, below, far));
-      tail = λ x tail at. absurd (let below = row-within old.newest placed.fit x tail in let far = past-low (place (final_shape old.newest) x).row at in omega (arith, below, far));
-      copied = λ row of at. of;
-      zeroed = λ row of at. of-before (final_shape old.newest) (past_stripe old.newest) zeroed row of at;
+      tail = λ own x tail at. absurd (let below = row-within old.newest placed.fit x tail in let far = past-low (place (final_shape old.newest) x).row at in omega (arith, below, far));
+      copied = λ own row of at. of;
+      zeroed = λ own row of at. of-before (final_shape old.newest) (past_stripe old.newest) zeroed row of at;
     })
 
     more : ((row : ℕ) → IsOfStripe (final_shape old.newest) (past_stripe old.newest + zeroed) row → RowStands (reading_of new) e (final_shape old.newest) (λ x. zero_sector) row)
-        → StandsInCourse sound new (closed (zeroed + 1)) buffer e list
+        → StandsInCourse sound among new (closed (zeroed + 1)) buffer e list
     more done = record {
       stands = on.stands;
       window = on.window;
       zeros = on.zeros;
       copied = on.copied;
       tail = on.tail;
-      zeroed = λ row at. elim (of-more (final_shape new.newest) (past_stripe new.newest) zeroed row at) [
-        | inl before ↦ on.zeroed row before
+      zeroed = λ own row at. elim (of-more (final_shape new.newest) (past_stripe new.newest) zeroed row at) [
+        | inl before ↦ on.zeroed own row before
         | inr last ↦ subst (λ (s : Shape). RowStands (reading_of new) e s (λ x. zero_sector) row) (sym moved.reshape.final)
             (done row (subst (λ (n : ℕ). IsOfStripe (final_shape old.newest) (n + zeroed) row) (past-alike old.newest new.newest moved.reshape moved.shape moved.size)
             (subst (λ (s : Shape). IsOfStripe s (past_stripe new.newest + zeroed) row) moved.reshape.final last)))
@@ -304,9 +312,9 @@ zeroes-go-on sound given old new zeroed buffer c e list placed moved through kep
 pub zeroes-are-all : (sound : Type 0) → ZeroesAreAll sound
 zeroes-are-all sound given m buffer c list placed active forth was = record {
   zeros = was.zeros forth;
-  tail = was.tail;
+  tail = was.tail tt;
   past = λ row past. elim (cases_lt row m.newest.size) [
-    | inl within ↦ was.zeroed row (past, high row within)
+    | inl within ↦ was.zeroed tt row (past, high row within)
     | inr beyond ↦ record {
       whole = λ x at. zero-is-sector;
       sectors = λ role slot lt part held. absurd (let lt = held-below m active row role slot held in omega (arith, lt, beyond));

@@ -18,14 +18,15 @@ use Rattle.superblocks.specs.Verdict.{off_unit}
 use Rattle.row_io.specs.Rows.{reading_of, held_slot}
 use Rattle.list_io.specs.Full.{RowStands}
 use Rattle.shape_views.specs.Regions.{AreShapesFit, place_by}
-use Rattle.shape_views.specs.Windows.{ListStands, RowsStand, moved_past}
+use Rattle.shape_views.specs.Windows.{IsShown, moved_past}
 use Rattle.shape_views.proofs.Tails.{no-tail}
 use Rattle.views.specs.Placed.{IsPlaced}
 use Rattle.views.specs.Moving.{IsMoved}
 use Rattle.views.proofs.Fit.{list-alike}
 use Rattle.views.proofs.MovedLaws.{moved-same}
 use Rattle.window_steps.proofs.PastLaws.{roomy, placed-roomy, past-rows, next-moved, free-moved}
-use Rattle.course_kept.specs.Course.{IsOfStripes, StandsInCourse, past_stripe}
+use Rattle.grow_asked.specs.declared.window.Window.TheVariants.{Entered}
+use Rattle.course_kept.specs.Course.{IsOfStripes, hidden_in, AnyShape, StandsInCourse, past_stripe}
 use Rattle.course_kept.specs.Laws.{RestsGoOn, FinishesClose, IsLeftRow, AreStripesStanding, entered, next_stripe}
 use Rattle.course_kept.proofs.Frames.{stands-on}
 use Rattle.course_kept.proofs.Courses.{none-of-none, hidden-same, shown-apart, records-close}
@@ -44,28 +45,31 @@ left-in m span copied row at =
 not-both : (bound row : ℕ) → row < bound → bound ≤ row → ⊥
 not-both bound row below behind = absurd (omega (arith, below, behind))
 
-pub rests-go-on : (sound : Type 0) → RestsGoOn sound
-rests-go-on sound given old new span copied sectioned buffer c e list placed moved next plain kept was = (on, all)
+pub rests-go-on : (sound : Type 0) (among : Shape → Type 0) → RestsGoOn sound among
+rests-go-on sound among given old new span copied sectioned buffer c e list placed moved next plain kept was = (on, all)
   where
-    on : StandsInCourse sound new (entered span copied sectioned) buffer e list
-    on = stands-on sound given old new moved (entered span copied sectioned) buffer c e list (IsLeftRow old span copied) kept was (record {
-      shown = λ x shown at. shown-apart given old span copied sectioned placed next plain x shown (left-in old span copied (place_by old.newest x).row at);
-      tail = λ x tail at. no-tail old.newest span x next tail;
-      copied = λ row of at. not-both (next_stripe old span copied * (final_shape old.newest).chunk) row of.1 at.0;
-      zeroed = λ row of at. none-of-none (final_shape old.newest) (past_stripe old.newest) row of;
+    on : StandsInCourse sound among new (entered span copied sectioned) buffer e list
+    on = stands-on sound among given old new moved (entered span copied sectioned) buffer c e list (IsLeftRow old span copied) kept was (record {
+      shown = λ x own shown at. shown-apart given old span copied sectioned placed next plain x shown (left-in old span copied (place_by old.newest x).row at);
+      tail = λ own x tail at. no-tail old.newest span x next tail;
+      copied = λ own row of at. not-both (next_stripe old span copied * (final_shape old.newest).chunk) row of.1 at.0;
+      zeroed = λ own row of at. none-of-none (final_shape old.newest) (past_stripe old.newest) row of;
     })
 
-    all : AreStripesStanding old new span e list → StandsInCourse sound new (entered span (stripes (final_shape new.newest) span.lo span.hi) sectioned) buffer e list
+    all : AreStripesStanding old new span e list → StandsInCourse sound among new (entered span (stripes (final_shape new.newest) span.lo span.hi) sectioned) buffer e list
     all done = record {
-      stands = subst (λ (hidden : Option Span). ListStands hidden new e list) (hidden-same span copied (stripes (final_shape new.newest) span.lo span.hi) sectioned) on.stands;
+      stands = λ x slot own shown. on.stands x slot own (shown-same x shown);
       window = on.window;
       zeros = on.zeros;
-      copied = λ row at. subst (λ (s : Shape). RowStands (reading_of new) e s list row) (sym moved.reshape.final)
+      copied = λ own row at. subst (λ (s : Shape). RowStands (reading_of new) e s list row) (sym moved.reshape.final)
           (done row (subst (λ (s : Shape). IsOfStripes s (span.lo / stripe_sectors s) (stripes s span.lo span.hi) row) moved.reshape.final at));
       tail = on.tail;
       zeroed = on.zeroed;
-      rows = λ so. subst (λ (hidden : Option Span). RowsStand hidden new e list) (hidden-same span copied (stripes (final_shape new.newest) span.lo span.hi) sectioned) (on.rows so);
+      rows = λ so x own shown. on.rows so x own (shown-same x shown);
     }
+      where
+        shown-same : (x : ℕ) → IsShown (hidden_in (Entered span (stripes (final_shape new.newest) span.lo span.hi) sectioned)) new.newest x → IsShown (hidden_in (Entered span copied sectioned)) new.newest x
+        shown-same x = subst (λ (hidden : Option Span). IsShown hidden new.newest x) (hidden-same span (stripes (final_shape new.newest) span.lo span.hi) copied sectioned)
 
 -- ---- the members between
 
@@ -162,7 +166,7 @@ pub finishes-close : (sound : Type 0) → FinishesClose sound
 finishes-close sound given old new span copied sectioned buffer c e list placed moved next plain kept done was =
     records-close sound (roomy between.newest) given between new span sectioned buffer e e list (placed-roomy given between here.placed) here.placed
     (mid-next given old new span placed next moved) (moved-on given old new span placed next moved) (λ s k other. refl)
-    ((rests-go-on sound given old between span copied sectioned buffer c e list placed here next plain kept was).1
+    ((rests-go-on sound AnyShape given old between span copied sectioned buffer c e list placed here next plain kept was).1
     (λ row at. mid-row given old new span placed next moved (final_shape old.newest) list row e (done row at)))
   where
     between : Members

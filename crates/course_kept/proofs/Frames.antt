@@ -1,33 +1,37 @@
 -- What stands in a course stands on where other rows are written, on members that may have lost slots.
-use Rattle.std.proofs.Common.{◌≡◌, ℕ, ◌+◌, ◌/◌, ◌≤◌, ◌<◌, ◌-◌, List, sym, ◌∙◌, ap, subst}
+use Rattle.std.proofs.Common.{◌≡◌, ◌⊎◌, inl, inr, ℕ, ◌+◌, ◌/◌, ◌≤◌, ◌<◌, ◌-◌, Bool, true, false, if◌then◌else◌, Some, List, sym, ◌∙◌, ap, subst, arith}
+use Rattle.std.proofs.lemmas.Bool.{cases_lt}
 use Rattle.md_base.specs.declared.places.Shape.{Shape}
+use Rattle.md_base.specs.declared.places.Side.{Side}
+use Rattle.md_base.specs.declared.places.Side.TheVariants.{Old, New}
 use Rattle.md_base.specs.Sectors.{Sector, zero_sector}
-use Rattle.md_base.specs.Shapes.{stripe_sectors}
+use Rattle.md_base.specs.Shapes.{stripe_sectors, tolerance}
 use Rattle.bank.specs.Given.{Given}
 use Rattle.bank.specs.Tape.{Contents}
 use Rattle.sb1.specs.declared.sb.Sb.{Sb}
 use Rattle.layout.specs.Layout.{place, stripe_of}
-use Rattle.geometry.specs.Geometry.{ceiling}
+use Rattle.geometry.specs.Geometry.{ceiling, side}
 use Rattle.superblocks.specs.declared.members.Members.{Members}
-use Rattle.superblocks.specs.Reading.{shape_of, final_shape}
-use Rattle.row_io.specs.Rows.{reading_of}
+use Rattle.superblocks.specs.Reading.{is_reshaping, is_backward, shape_of, final_shape, data_offset_of}
+use Rattle.row_io.specs.Rows.{reading_of, held_slot}
 use Rattle.row_io.proofs.Losses.{holder-of}
 use Rattle.list_io.specs.Full.{RowStands}
-use Rattle.flat_history.specs.Stands.{shape_for}
-use Rattle.shape_views.specs.Regions.{place_by}
+use Rattle.flat_history.specs.Stands.{shape_at, shape_for}
+use Rattle.shape_views.specs.Regions.{place_by, DoWithout}
 use Rattle.shape_views.specs.Views.{IsTail}
 use Rattle.shape_views.specs.Windows.{IsShown, ListStands, RowsStand, AreTailsStanding}
 use Rattle.shape_views.proofs.Stands.{StandsAt}
 use Rattle.views.specs.Placed.{HaveSameReshape}
 use Rattle.views.specs.Moving.{IsMoved}
-use Rattle.views.specs.Lacking.{AreOtherRowsKept}
+use Rattle.views.specs.Lacking.{lacking, DoesWithout, AreOtherRowsKept}
 use Rattle.views.proofs.Fit.{for-alike, list-alike}
-use Rattle.views.proofs.HeldRows.{held-moved}
+use Rattle.views.proofs.HeldRows.{held-moved, shape-without-before}
 use Rattle.window_steps.proofs.CopyLaws.{row-later}
 use Rattle.course_kept.specs.declared.course.Course.{Course}
 use Rattle.grow_asked.specs.declared.window.Window.{Window}
 use Rattle.grow_asked.specs.declared.window.Window.TheVariants.{Closed, Entered, Unsure}
-use Rattle.course_kept.specs.Course.{IsOfStripes, IsCopiedRow, IsZeroedRow, hidden_in, StandsInCourse, past_stripe}
+use Rattle.course_kept.specs.Course.{IsOfStripes, IsCopiedRow, IsZeroedRow, hidden_in, AnyShape, StandsInCourse, past_stripe}
+use Rattle.course_kept.specs.Laws.{CoursesStandWhole}
 
 -- ---- what the newest superblock says of rows
 
@@ -54,12 +58,12 @@ module _ (old new : Sb) (reshape : HaveSameReshape old new) (shape : shape_of ne
 
 -- ---- rows that are written besides
 
-module _ (sound : Type 0) (given : Given) (old new : Members) (moved : IsMoved given old new) (course : Course) (buffer : List ℕ) (c e : Contents) (list : ℕ → Sector) (among : ℕ → Type 0)
-    (kept : AreOtherRowsKept among (reading_of new) c e) (was : StandsInCourse sound old course buffer c list) where
-  row-on : (shape : Shape) (l : ℕ → Sector) (row : ℕ) → (among row → ⊥) → RowStands (reading_of old) c shape l row → RowStands (reading_of new) e shape l row
+module _ (sound : Type 0) (among : Shape → Type 0) (given : Given) (old new : Members) (moved : IsMoved given old new) (course : Course) (buffer : List ℕ) (c e : Contents) (list : ℕ → Sector) (touched : ℕ → Type 0)
+    (kept : AreOtherRowsKept touched (reading_of new) c e) (was : StandsInCourse sound among old course buffer c list) where
+  row-on : (shape : Shape) (l : ℕ → Sector) (row : ℕ) → (touched row → ⊥) → RowStands (reading_of old) c shape l row → RowStands (reading_of new) e shape l row
   row-on shape l row out stands = row-later given old new moved shape l row c e (kept row out) stands
 
-  final-row-on : (l : ℕ → Sector) (row : ℕ) → (among row → ⊥) → RowStands (reading_of old) c (final_shape old.newest) l row → RowStands (reading_of new) e (final_shape new.newest) l row
+  final-row-on : (l : ℕ → Sector) (row : ℕ) → (touched row → ⊥) → RowStands (reading_of old) c (final_shape old.newest) l row → RowStands (reading_of new) e (final_shape new.newest) l row
   final-row-on l row out stands = subst (λ (s : Shape). RowStands (reading_of new) e s l row) (sym moved.reshape.final) (row-on (final_shape old.newest) l row out stands)
 
   shown-before : (x : ℕ) → IsShown (hidden_in course.window) new.newest x → IsShown (hidden_in course.window) old.newest x
@@ -68,40 +72,118 @@ module _ (sound : Type 0) (given : Given) (old new : Members) (moved : IsMoved g
     outside = shown.outside;
   }
 
-  -- none of these rows has a sector that is shown, or one of the tail, and none is copied or zeroed
+  own-before : (x : ℕ) → among (shape_for new.newest x) → among (shape_for old.newest x)
+  own-before x = subst among (for-alike old.newest new.newest moved.reshape moved.shape moved.size x)
+
+  final-before : among (final_shape new.newest) → among (final_shape old.newest)
+  final-before = subst among moved.reshape.final
+
+  -- none of these rows has a sector that is shown, or one of the tail, and none is copied or zeroed, by one of the shapes
   pub record AreBeside : Type 0 where
-    pub shown : (x : ℕ) → IsShown (hidden_in course.window) old.newest x → among (place_by old.newest x).row → ⊥
-    pub tail : (x : ℕ) → IsTail old.newest x → among (place (final_shape old.newest) x).row → ⊥
-    pub copied : (row : ℕ) → IsCopiedRow old.newest course.window row → among row → ⊥
-    pub zeroed : (row : ℕ) → IsZeroedRow old.newest course.zeroed row → among row → ⊥
+    pub shown : (x : ℕ) → among (shape_for old.newest x) → IsShown (hidden_in course.window) old.newest x → touched (place_by old.newest x).row → ⊥
+    pub tail : among (final_shape old.newest) → (x : ℕ) → IsTail old.newest x → touched (place (final_shape old.newest) x).row → ⊥
+    pub copied : among (final_shape old.newest) → (row : ℕ) → IsCopiedRow old.newest course.window row → touched row → ⊥
+    pub zeroed : among (final_shape old.newest) → (row : ℕ) → IsZeroedRow old.newest course.zeroed row → touched row → ⊥
 
   module _ (beside : AreBeside) where
-    list-on : ListStands (hidden_in course.window) new e list
-    list-on x slot shown = subst (λ (s : Shape). StandsAt new e list x (place s x)) (sym (for-alike old.newest new.newest moved.reshape moved.shape moved.size x))
-        (λ slot held. kept (place_by old.newest x).row (beside.shown x (shown-before x shown)) (place_by old.newest x).role slot (holder-of (reading_of new) (place_by old.newest x).role (place_by old.newest x).row slot held)
+    list-on : (x slot : ℕ) → among (shape_for new.newest x) → IsShown (hidden_in course.window) new.newest x
+        → held_slot (reading_of new) (place_by new.newest x).role (place_by new.newest x).row ≡ Some slot → e slot (data_offset_of (reading_of new) slot + (place_by new.newest x).row) ≡ list x
+    list-on x slot own shown = subst (λ (s : Shape). StandsAt new e list x (place s x)) (sym (for-alike old.newest new.newest moved.reshape moved.shape moved.size x))
+        (λ slot held. kept (place_by old.newest x).row (beside.shown x (own-before x own) (shown-before x shown)) (place_by old.newest x).role slot
+        (holder-of (reading_of new) (place_by old.newest x).role (place_by old.newest x).row slot held)
         ∙ ap (λ (n : ℕ). c slot (n + (place_by old.newest x).row)) (moved.offsets slot)
-        ∙ was.stands x slot (shown-before x shown) (held-moved moved (place_by old.newest x).role (place_by old.newest x).row slot held)) slot
+        ∙ was.stands x slot (own-before x own) (shown-before x shown) (held-moved moved (place_by old.newest x).role (place_by old.newest x).row slot held)) slot
 
-    rows-on : RowsStand (hidden_in course.window) old c list → RowsStand (hidden_in course.window) new e list
-    rows-on rows x shown = subst (λ (s : Shape). RowStands (reading_of new) e s list (place s x).row) (sym (for-alike old.newest new.newest moved.reshape moved.shape moved.size x))
-        (row-on (shape_for old.newest x) list (place_by old.newest x).row (beside.shown x (shown-before x shown)) (rows x (shown-before x shown)))
+    rows-on : sound → (x : ℕ) → among (shape_for new.newest x) → IsShown (hidden_in course.window) new.newest x → RowStands (reading_of new) e (shape_for new.newest x) list (place_by new.newest x).row
+    rows-on so x own shown = subst (λ (s : Shape). RowStands (reading_of new) e s list (place s x).row) (sym (for-alike old.newest new.newest moved.reshape moved.shape moved.size x))
+        (row-on (shape_for old.newest x) list (place_by old.newest x).row (beside.shown x (own-before x own) (shown-before x shown)) (was.rows so x (own-before x own) (shown-before x shown)))
 
-    tail-on : AreTailsStanding new e list
-    tail-on x slot tail = subst (λ (s : Shape). StandsAt new e list x (place s x)) (sym moved.reshape.final)
+    tail-on : among (final_shape new.newest) → AreTailsStanding new e list
+    tail-on own x slot tail = subst (λ (s : Shape). StandsAt new e list x (place s x)) (sym moved.reshape.final)
         (λ slot held. let before = tail-before old.newest new.newest moved.reshape moved.shape moved.size x tail in
-        kept (place (final_shape old.newest) x).row (beside.tail x before) (place (final_shape old.newest) x).role slot (holder-of (reading_of new) (place (final_shape old.newest) x).role (place (final_shape old.newest) x).row slot held)
+        kept (place (final_shape old.newest) x).row (beside.tail (final-before own) x before) (place (final_shape old.newest) x).role slot
+        (holder-of (reading_of new) (place (final_shape old.newest) x).role (place (final_shape old.newest) x).row slot held)
         ∙ ap (λ (n : ℕ). c slot (n + (place (final_shape old.newest) x).row)) (moved.offsets slot)
-        ∙ was.tail x slot before (held-moved moved (place (final_shape old.newest) x).role (place (final_shape old.newest) x).row slot held)) slot
+        ∙ was.tail (final-before own) x slot before (held-moved moved (place (final_shape old.newest) x).role (place (final_shape old.newest) x).row slot held)) slot
 
-    pub stands-on : StandsInCourse sound new course buffer e list
+    pub stands-on : StandsInCourse sound among new course buffer e list
     stands-on = record {
       stands = list-on;
       window = was.window;
       zeros = λ forth x past. was.zeros (sym moved.reshape.backward ∙ forth) x (subst (λ (n : ℕ). n ≤ x) (list-alike old.newest new.newest moved.reshape moved.shape moved.size) past);
-      copied = λ row at. let before = copied-before old.newest new.newest moved.reshape moved.shape moved.size course.window row at in
-          final-row-on list row (beside.copied row before) (was.copied row before);
+      copied = λ own row at. let before = copied-before old.newest new.newest moved.reshape moved.shape moved.size course.window row at in
+          final-row-on list row (beside.copied (final-before own) row before) (was.copied (final-before own) row before);
       tail = tail-on;
-      zeroed = λ row at. let before = zeroed-before old.newest new.newest moved.reshape moved.shape moved.size course.zeroed row at in
-          final-row-on (λ x. zero_sector) row (beside.zeroed row before) (was.zeroed row before);
-      rows = λ so. rows-on (was.rows so);
+      zeroed = λ own row at. let before = zeroed-before old.newest new.newest moved.reshape moved.shape moved.size course.zeroed row at in
+          final-row-on (λ x. zero_sector) row (beside.zeroed (final-before own) row before) (was.zeroed (final-before own) row before);
+      rows = rows-on;
     }
+
+-- ---- fewer shapes
+
+-- The list that stands by some shapes stands by fewer.
+pub stands-less : (sound : Type 0) (among wider : Shape → Type 0) (m : Members) (course : Course) (buffer : List ℕ) (c : Contents) (list : ℕ → Sector) → ((shape : Shape) → among shape → wider shape)
+    → StandsInCourse sound wider m course buffer c list → StandsInCourse sound among m course buffer c list
+stands-less sound among wider m course buffer c list less was = record {
+  stands = λ x slot own. was.stands x slot (less (shape_for m.newest x) own);
+  window = was.window;
+  zeros = was.zeros;
+  copied = λ own. was.copied (less (final_shape m.newest) own);
+  tail = λ own. was.tail (less (final_shape m.newest) own);
+  zeroed = λ own. was.zeroed (less (final_shape m.newest) own);
+  rows = λ so x own. was.rows so x (less (shape_for m.newest x) own);
+}
+
+-- What stands by any shape stands by those that do without what they miss.
+pub stands-without : (sound : Type 0) (m : Members) (course : Course) (buffer : List ℕ) (c : Contents) (list : ℕ → Sector) → StandsInCourse sound AnyShape m course buffer c list
+    → StandsInCourse sound (λ shape. DoesWithout shape m) m course buffer c list
+stands-without sound m course buffer c list was = stands-less sound (λ shape. DoesWithout shape m) AnyShape m course buffer c list (λ shape does. tt) was
+
+-- A shape that does without what is missing later did so before: the list stands by those that do so later.
+pub stands-later : (sound : Type 0) (given : Given) (old new : Members) (course : Course) (buffer : List ℕ) (c : Contents) (list : ℕ → Sector) → IsMoved given old new
+    → StandsInCourse sound (λ shape. DoesWithout shape old) old course buffer c list → StandsInCourse sound (λ shape. DoesWithout shape new) old course buffer c list
+stands-later sound given old new course buffer c list moved was =
+    stands-less sound (λ shape. DoesWithout shape new) (λ shape. DoesWithout shape old) old course buffer c list (λ shape does. shape-without-before given old new moved shape does) was
+
+-- the shape that places a sector does without what is missing, if each in force does
+pub does-for : (m : Members) → DoWithout m → (x : ℕ) → DoesWithout (shape_for m.newest x) m
+does-for m does x = of (is_reshaping m.newest) (side (is_backward m.newest) m.newest.reshape_position x)
+  where
+    of : (active : Bool) (s : Side) → DoesWithout (if active then shape_at m.newest s else shape_of m.newest) m
+    of true Old = does.old
+    of true New = does.final
+    of false s = does.old
+
+pub stands-whole : (sound : Type 0) → CoursesStandWhole sound
+stands-whole sound m course buffer c list does was = record {
+  stands = λ x slot any. was.stands x slot (does-for m does x);
+  window = was.window;
+  zeros = was.zeros;
+  copied = λ any. was.copied does.final;
+  tail = λ any. was.tail does.final;
+  zeroed = λ any. was.zeroed does.final;
+  rows = λ so x any. was.rows so x (does-for m does x);
+}
+
+-- Sectors of which each shape does without what is missing of it: the list stands by their shapes.
+pub stands-stretch : (sound : Type 0) (m : Members) (course : Course) (buffer : List ℕ) (c : Contents) (list : ℕ → Sector) (from to : ℕ)
+    → ((x : ℕ) → from ≤ x → x < to → DoesWithout (shape_for m.newest x) m) → StandsInCourse sound (λ shape. DoesWithout shape m) m course buffer c list
+    → StandsInCourse sound (λ shape. (x : ℕ) × (from ≤ x) × (x < to) × (shape_for m.newest x ≡ shape)) m course buffer c list
+stands-stretch sound m course buffer c list from to does was =
+    stands-less sound (λ shape. (x : ℕ) × (from ≤ x) × (x < to) × (shape_for m.newest x ≡ shape)) (λ shape. DoesWithout shape m) m course buffer c list
+    (λ shape own. subst (λ (s : Shape). DoesWithout s m) own.3 (does own.0 own.1 own.2)) was
+
+-- what stands by any shape
+module _ (sound : Type 0) (m : Members) (course : Course) (buffer : List ℕ) (c : Contents) (list : ℕ → Sector) (was : StandsInCourse sound AnyShape m course buffer c list) where
+  pub list-whole : ListStands (hidden_in course.window) m c list
+  list-whole x slot shown = was.stands x slot tt shown
+
+  pub rows-whole : sound → RowsStand (hidden_in course.window) m c list
+  rows-whole so x shown = was.rows so x tt shown
+
+-- a shape does without what is missing of it, or not
+pub does-or : (shape : Shape) (m : Members) → DoesWithout shape m ⊎ (DoesWithout shape m → ⊥)
+does-or shape m = elim (cases_lt (tolerance shape) (lacking shape m)) [
+  | inl above ↦ inr (λ few. absurd (omega (arith, above, few)))
+  | inr few ↦ inl few
+]

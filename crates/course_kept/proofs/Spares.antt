@@ -17,6 +17,7 @@ use Rattle.list_io.specs.Full.{RowStands}
 use Rattle.flat_history.specs.Stands.{shape_for}
 use Rattle.shape_views.specs.Regions.{place_by}
 use Rattle.shape_views.specs.Views.{Disk}
+use Rattle.views.specs.Lacking.{DoesWithout}
 use Rattle.views.specs.Rebuilding.{with_spare}
 use Rattle.views.proofs.AddedMembers.{own-other}
 use Rattle.course_kept.specs.declared.course.Course.{Course}
@@ -57,19 +58,19 @@ module _ (old : Members) (own : List (Option Sb)) (spares : List ℕ) (lost : �
     parity = λ role slot lt part held. there c role row slot held ∙ was.parity role slot lt part (held-as role row slot held);
   }
 
-  pub others-stand : (sound : Type 0) (course : Course) (buffer : List ℕ) (c : Contents) (list : ℕ → Sector) → StandsInCourse sound old course buffer c list → StandsInCourse sound with_others course buffer c list
-  others-stand sound course buffer c list was = record {
-    stands = λ x slot shown held.
+  pub others-stand : (sound : Type 0) (among : Shape → Type 0) (course : Course) (buffer : List ℕ) (c : Contents) (list : ℕ → Sector) → StandsInCourse sound among old course buffer c list → StandsInCourse sound among with_others course buffer c list
+  others-stand sound among course buffer c list was = record {
+    stands = λ x slot own shown held.
         there c (place_by old.newest x).role (place_by old.newest x).row slot held
-        ∙ was.stands x slot shown (held-as (place_by old.newest x).role (place_by old.newest x).row slot held);
+        ∙ was.stands x slot own shown (held-as (place_by old.newest x).role (place_by old.newest x).row slot held);
     window = was.window;
     zeros = was.zeros;
-    copied = λ row at. row-as c (final_shape old.newest) list row (was.copied row at);
-    tail = λ x slot tail held.
+    copied = λ own row at. row-as c (final_shape old.newest) list row (was.copied own row at);
+    tail = λ own x slot tail held.
         there c (place (final_shape old.newest) x).role (place (final_shape old.newest) x).row slot held
-        ∙ was.tail x slot tail (held-as (place (final_shape old.newest) x).role (place (final_shape old.newest) x).row slot held);
-    zeroed = λ row at. row-as c (final_shape old.newest) (λ x. zero_sector) row (was.zeroed row at);
-    rows = λ so x shown. row-as c (shape_for old.newest x) list (place_by old.newest x).row (was.rows so x shown);
+        ∙ was.tail own x slot tail (held-as (place (final_shape old.newest) x).role (place (final_shape old.newest) x).row slot held);
+    zeroed = λ own row at. row-as c (final_shape old.newest) (λ x. zero_sector) row (was.zeroed own row at);
+    rows = λ so x own shown. row-as c (shape_for old.newest x) list (place_by old.newest x).row (was.rows so x own shown);
   }
 
   pub others-stored : (scope : Scope) (window : Window) (buffer : List ℕ) (d : Disk) → IsStored scope old window buffer d → IsStored scope with_others window buffer d
@@ -87,9 +88,13 @@ module _ (old : Members) (own : List (Option Sb)) (spares : List ℕ) (lost : �
 others-are : (old new : Members) → DifferInSpares old new → record old { own = new.own; spares = new.spares; lost = new.lost } ≡ new
 others-are old new is = λ i. record new { newest = sym is.newest i; roles = sym is.roles i }
 
-pub spares-leave : (sound : Type 0) → SparesLeaveCourses sound
-spares-leave sound old new course buffer c list is was =
-    subst (λ (m : Members). StandsInCourse sound m course buffer c list) (others-are old new is) (others-stand old new.own new.spares new.lost is.own sound course buffer c list was)
+pub spares-leave : (sound : Type 0) (among : Shape → Type 0) → SparesLeaveCourses sound among
+spares-leave sound among old new course buffer c list is was =
+    subst (λ (m : Members). StandsInCourse sound among m course buffer c list) (others-are old new is) (others-stand old new.own new.spares new.lost is.own sound among course buffer c list was)
+
+-- and they do without as much
+pub spares-without : (old new : Members) → DifferInSpares old new → (shape : Shape) → DoesWithout shape new → DoesWithout shape old
+spares-without old new is shape = subst (λ (m : Members). DoesWithout shape m → DoesWithout shape old) (others-are old new is) (λ does. does)
 
 pub spares-stored : SparesLeaveStored
 spares-stored scope old new window buffer d is was =

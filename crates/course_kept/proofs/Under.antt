@@ -14,6 +14,7 @@ use Rattle.grow_asked.specs.declared.window.Window.TheVariants.{Closed, Entered,
 use Rattle.window_rows.specs.Copies.{HasWindow}
 use Rattle.course_kept.specs.Course.{hidden_in, HasWindowIn, IsStoredAs, HasSection}
 use Rattle.course_kept.specs.Laws.{CoursesStandUnder}
+use Rattle.course_kept.proofs.Frames.{list-whole, rows-whole}
 
 -- what is so of the hidden span is so of the active section, if it is so of a section where it is so of none
 under : (scope : Scope) (m : Members) (d : Disk) (P : Option Span → Type 0) → ((span : Span) → P None → P (Some span)) → (window : Window) → IsStoredAs scope m window d → P (hidden_in window)
@@ -66,11 +67,12 @@ sections-of scope m d (Unsure own) buffer list stored sectors window header may 
 pub courses-stand-under : (sound : Type 0) → CoursesStandUnder sound
 courses-stand-under sound scope m course buffer c d list stored was = (
   record {
-    outside = under scope m d (λ (hidden : Option Span). ListStands hidden m c list) (λ span stands x slot shown held. stands x slot (shown-wide m span x shown) held) course.window stored.section was.stands;
+    outside = under scope m d (λ (hidden : Option Span). ListStands hidden m c list) (λ span stands x slot shown held. stands x slot (shown-wide m span x shown) held) course.window stored.section
+        (list-whole sound m course buffer c list was);
     sections = sections-of scope m d course.window buffer list stored.section stored.sectors was.window;
   },
   λ so. record {
-    rows = under scope m d (λ (hidden : Option Span). RowsStand hidden m c list) (λ span stand x shown. stand x (shown-wide m span x shown)) course.window stored.section (was.rows so);
+    rows = under scope m d (λ (hidden : Option Span). RowsStand hidden m c list) (λ span stand x shown. stand x (shown-wide m span x shown)) course.window stored.section (rows-whole sound m course buffer c list was so);
     zeros = λ x tail. was.zeros tail.forth x tail.past;
   },
 )

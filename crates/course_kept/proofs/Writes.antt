@@ -1,5 +1,5 @@
 -- A write beside the window: the list with the sectors that were written stands in the same course.
-use Rattle.std.proofs.Common.{◌≡◌, inl, inr, ℕ, ◌+◌, ◌*◌, ◌/◌, ◌<◌, ◌≤◌, ◌&&◌, nat_le, nat_lt, Bool, true, false, Some, List, length, sym, ◌∙◌, ap, subst, arith}
+use Rattle.std.proofs.Common.{◌≡◌, inl, inr, ℕ, ◌+◌, ◌*◌, ◌/◌, ◌<◌, ◌≤◌, ◌&&◌, nat_le, nat_lt, Bool, true, false, cond, Some, List, length, sym, ◌∙◌, ap, subst, arith}
 use Rattle.std.proofs.lemmas.Bool.{cases_lt}
 use Rattle.std.proofs.lemmas.Bool.Decides.{nat_tests}
 use Rattle.std.proofs.Math.Nat.{mul-le-mul_right}
@@ -14,6 +14,7 @@ use Rattle.parity.specs.Rows.{IsSector}
 use Rattle.geometry.specs.Geometry.{ceiling, stripes, rows}
 use Rattle.geometry.specs.Geometry as geometry
 use Rattle.geometry.proofs.Rows.{rows_hold}
+use Rattle.sb1.specs.declared.sb.Sb.{Sb}
 use Rattle.superblocks.specs.declared.members.Members.{Members}
 use Rattle.superblocks.specs.Reading.{final_shape, list_length, next_window}
 use Rattle.row_io.specs.Rows.{reading_of}
@@ -21,8 +22,11 @@ use Rattle.list_io.specs.Full.{RowStands}
 use Rattle.list_io.specs.Writing.{IsWritten}
 use Rattle.list_io.proofs.FullLaws.{full-same}
 use Rattle.flat_history.specs.Stands.{covers}
-use Rattle.shape_views.specs.Regions.{place_by}
+use Rattle.shape_views.specs.Regions.{AreShapesFit, place_by}
+use Rattle.shape_views.specs.Views.{IsTail}
 use Rattle.shape_views.proofs.UnderWay.{window-row, row-apart}
+use Rattle.shape_views.proofs.WindowLaws.{region-rows}
+use Rattle.shape_changes.specs.Updates.{IsAtEnd}
 use Rattle.shape_changes.proofs.LessViews.{ends-place}
 use Rattle.views.specs.Placed.{IsPlaced}
 use Rattle.views.specs.Moving.{IsMoved}
@@ -33,9 +37,9 @@ use Rattle.window_steps.specs.Zeroing.{IsThrough}
 use Rattle.window_steps.proofs.CopyLaws.{row-later}
 use Rattle.grow_asked.specs.declared.window.Window.{Window}
 use Rattle.grow_asked.specs.declared.window.Window.TheVariants.{Closed, Entered, Unsure}
-use Rattle.course_kept.specs.Course.{IsWindowOf, span_in, HasWindowIn, IsOfStripes, IsCopiedRow, IsZeroedRow}
-use Rattle.course_kept.specs.Laws.{WritesGoOn}
-use Rattle.course_kept.proofs.Frames.{copied-before, zeroed-before}
+use Rattle.course_kept.specs.Course.{IsWindowOf, span_in, HasWindowIn, IsOfStripes, IsCopiedRow, IsZeroedRow, past_stripe}
+use Rattle.course_kept.specs.Laws.{WritesGoOn, TornWritesGoOn, IsOtherTouched}
+use Rattle.course_kept.proofs.Frames.{copied-before, zeroed-before, stands-on}
 
 -- ---- a row by another list
 
@@ -72,6 +76,16 @@ in-rows shape span count row most at =
     let some = some-of shape first count row at in
     let le : (first + count) * shape.chunk ≤ last * shape.chunk = mul-le-mul_right shape.chunk (omega (arith, most, some)) in
     (at.0, let high = at.1 in omega (arith, high, le))
+
+-- no sector of the list is placed in a row that is behind it
+zeroed-apart : (newest : Sb) → AreShapesFit newest → (zeroed row x : ℕ) → (0 < zeroed → IsThrough newest) → x < list_length newest → IsZeroedRow newest zeroed row → (place_by newest x).row ≡ row → ⊥
+zeroed-apart newest fit zeroed row x through under at here =
+    let there = through (some-of (final_shape newest) (past_stripe newest) zeroed row at) in
+    let shape = (ends-place newest x there.active under).1 there.last in
+    let below = (rows_hold (final_shape newest) (record { lo = 0; hi = list_length newest }) x fit.valid.final (omega arith, under)).1 in
+    let same : (place_by newest x).row ≡ (place (final_shape newest) x).row = ap (λ (s : Shape). (place s x).row) shape in
+    let far = at.0 in
+    absurd (omega (arith, same, below, far, here))
 
 -- ---- a write
 
@@ -133,32 +147,50 @@ module _ (given : Given) (old new : Members) (placed : IsPlaced given old) (move
   -- a row behind the list isn't written
   zeroed-on : (zeroed : ℕ) → (0 < zeroed → IsThrough old.newest) → ((row : ℕ) → IsZeroedRow old.newest zeroed row → RowStands (reading_of old) c (final_shape old.newest) (λ x. zero_sector) row)
       → (row : ℕ) → IsZeroedRow old.newest zeroed row → RowStands (reading_of new) e (final_shape old.newest) (λ x. zero_sector) row
-  zeroed-on zeroed through was row at = row-later given old new moved (final_shape old.newest) (λ x. zero_sector) row c e (kept row apart) (was row at)
-    where
-      apart : IsWrittenRow old first from row → ⊥
-      apart touched =
-          let there = through (some-of (final_shape old.newest) (ceiling (list_length old.newest) (stripe_sectors (final_shape old.newest))) zeroed row at) in
-          let under : touched.0 < list_length old.newest = (let end = touched.2 in omega (arith, end, within)) in
-          let shape = (ends-place old.newest touched.0 there.active under).1 there.last in
-          let below = (rows_hold (final_shape old.newest) (record { lo = 0; hi = list_length old.newest }) touched.0 placed.fit.valid.final (omega arith, under)).1 in
-          let same : (place_by old.newest touched.0).row ≡ (place (final_shape old.newest) touched.0).row = ap (λ (s : Shape). (place s touched.0).row) shape in
-          let far = at.0 in
-          let here = touched.3 in
-          absurd (omega (arith, same, below, far, here))
+  zeroed-on zeroed through was row at =
+      row-later given old new moved (final_shape old.newest) (λ x. zero_sector) row c e
+      (kept row (λ touched. zeroed-apart old.newest placed.fit zeroed row touched.0 through (let end = touched.2 in omega (arith, end, within)) at touched.3)) (was row at)
 
-pub writes-go-on : (sound : Type 0) → WritesGoOn sound
-writes-go-on sound given old new course buffer c e list list' first from placed moved course_is w within beside kept stands tail rows was = record {
+pub writes-go-on : (sound : Type 0) (among : Shape → Type 0) → WritesGoOn sound among
+writes-go-on sound among given old new course buffer c e list list' first from placed moved course_is w within beside kept stands tail rows was = record {
   stands = stands;
   window = window-on given old new placed moved c e list list' first from w within kept course.window buffer beside was.window;
   zeros = λ forth x past.
       let before = subst (λ (n : ℕ). n ≤ x) (list-alike old.newest new.newest moved.reshape moved.shape moved.size) past in
       past-same given old new placed moved c e list list' first from w within kept x before ∙ was.zeros (sym moved.reshape.backward ∙ forth) x before;
-  copied = λ row at. subst (λ (s : Shape). RowStands (reading_of new) e s list' row) (sym moved.reshape.final)
-      (copied-on given old new placed moved c e list list' first from w within kept course.window course_is.window beside was.copied row
+  copied = λ own row at. subst (λ (s : Shape). RowStands (reading_of new) e s list' row) (sym moved.reshape.final)
+      (copied-on given old new placed moved c e list list' first from w within kept course.window course_is.window beside (was.copied (final-own own)) row
       (copied-before old.newest new.newest moved.reshape moved.shape moved.size course.window row at));
   tail = tail;
-  zeroed = λ row at. subst (λ (s : Shape). RowStands (reading_of new) e s (λ x. zero_sector) row) (sym moved.reshape.final)
-      (zeroed-on given old new placed moved c e list list' first from w within kept course.zeroed course_is.through was.zeroed row
+  zeroed = λ own row at. subst (λ (s : Shape). RowStands (reading_of new) e s (λ x. zero_sector) row) (sym moved.reshape.final)
+      (zeroed-on given old new placed moved c e list list' first from w within kept course.zeroed course_is.through (was.zeroed (final-own own)) row
       (zeroed-before old.newest new.newest moved.reshape moved.shape moved.size course.zeroed row at));
   rows = rows;
 }
+  where
+    final-own : among (final_shape new.newest) → among (final_shape old.newest)
+    final-own = subst among moved.reshape.final
+
+-- ---- a write that is cut
+
+pub torn-writes-go-on : (sound : Type 0) (among : Shape → Type 0) → TornWritesGoOn sound among
+torn-writes-go-on sound among scope given old new course buffer c e list first to placed active moved course_is within beside kept was =
+    stands-on sound among given old new moved course buffer c e list (IsOtherTouched among old.newest first to) kept was (record {
+      shown = λ x own shown touched. touched.3 (subst among (region-rows scope given old x touched.0 placed active shown.within (inside touched.0 touched.2) (sym touched.4)) own);
+      tail = λ own x tail touched. touched.3 (subst among (sym ((ends-place old.newest touched.0 active (inside touched.0 touched.2)).1 (last x tail))) own);
+      copied = λ own row at touched. apart course.window course_is.window beside row at touched.0 touched.1 touched.2 touched.4;
+      zeroed = λ own row at touched. zeroed-apart old.newest placed.fit course.zeroed row touched.0 course_is.through (inside touched.0 touched.2) at touched.4;
+    })
+  where
+    inside : (y : ℕ) → y < to → y < list_length old.newest
+    inside y high = omega (arith, high, within)
+
+    last : (x : ℕ) → IsTail old.newest x → IsAtEnd old.newest
+    last x tail = tail.through ∙ sym (ap (λ (b : Bool). cond b 0 (list_length old.newest)) tail.forth)
+
+    apart : (window : Window) → IsWindowOf old.newest window → ((x : ℕ) → first ≤ x → x < to → covers (span_in window) x ≡ false) → (row : ℕ) → IsCopiedRow old.newest window row
+        → (y : ℕ) → first ≤ y → y < to → (place_by old.newest y).row ≡ row → ⊥
+    apart Closed is out row at y low high same = absurd at
+    apart (Entered span copied sectioned) is out row at y low high same =
+        row-apart old.newest placed.fit span is.0 row (in-rows (final_shape old.newest) span copied row is.1 at) y (inside y high) (out y low high) same
+    apart (Unsure span) is out row at y low high same = absurd at

@@ -9,12 +9,13 @@ use Rattle.sb1.specs.declared.sb.Sb.{Sb}
 use Rattle.parity.specs.Rows.{sector_of}
 use Rattle.geometry.specs.Geometry.{ceiling, stripes, is_critical, zeroed_stripes}
 use Rattle.superblocks.specs.declared.members.Members.{Members}
-use Rattle.superblocks.specs.Reading.{Scope, is_backward, shape_of, final_shape, list_length, next_window}
-use Rattle.row_io.specs.Rows.{reading_of}
+use Rattle.superblocks.specs.Reading.{Scope, is_backward, shape_of, final_shape, list_length, next_window, data_offset_of}
+use Rattle.row_io.specs.Rows.{reading_of, held_slot}
 use Rattle.list_io.specs.Full.{RowStands}
-use Rattle.shape_views.specs.Regions.{backup_of}
+use Rattle.flat_history.specs.Stands.{shape_for}
+use Rattle.shape_views.specs.Regions.{backup_of, place_by}
 use Rattle.shape_views.specs.Views.{AreHeadersFit, Disk}
-use Rattle.shape_views.specs.Windows.{HasNoSection, ListStands, RowsStand, AreTailsStanding}
+use Rattle.shape_views.specs.Windows.{HasNoSection, IsShown, AreTailsStanding}
 use Rattle.shape_views.specs.Backups.{IsOpenUnderAll, IsOpenOrNot}
 use Rattle.shape_ends.specs.Grown.{IsZeroPast}
 use Rattle.window_rows.specs.Copies.{HasWindow, IsRoomFor}
@@ -113,14 +114,19 @@ pub record IsCourseOf (newest : Sb) (course : Course) : Type 0 where
   pub through : 0 < course.zeroed → IsThrough newest
   pub few : course.zeroed ≤ zeroed_stripes (shape_of newest) (final_shape newest) newest.size (is_backward newest)
 
--- The list stands on the members, but for the span that is hidden, whose sectors the buffer has; forward it is zero behind its end. The rows that are copied
--- stand by the new shape, with their parity; so does the tail, and the zeroed rows as zeros. Where the epoch opened sound, so does the row of each sector that
--- isn't hidden.
-pub record StandsInCourse (sound : Type 0) (m : Members) (course : Course) (buffer : List ℕ) (c : Contents) (list : ℕ → Sector) : Type 0 where
-  pub stands : ListStands (hidden_in course.window) m c list
+-- whatever the shape
+abbrev pub AnyShape : Shape → Type 0
+AnyShape shape = ⊤
+
+-- The list stands on the members wherever one of these shapes places it, but for the span that is hidden, whose sectors the buffer has; forward it is zero behind
+-- its end. If the new shape is one of these, the rows that are copied stand by it, with their parity; so does the tail, and the zeroed rows as zeros. Where the
+-- epoch opened sound, so does the row of each sector that one of these places and that isn't hidden.
+pub record StandsInCourse (sound : Type 0) (among : Shape → Type 0) (m : Members) (course : Course) (buffer : List ℕ) (c : Contents) (list : ℕ → Sector) : Type 0 where
+  pub stands : (x slot : ℕ) → among (shape_for m.newest x) → IsShown (hidden_in course.window) m.newest x
+      → held_slot (reading_of m) (place_by m.newest x).role (place_by m.newest x).row ≡ Some slot → c slot (data_offset_of (reading_of m) slot + (place_by m.newest x).row) ≡ list x
   pub window : HasWindowIn course.window buffer list
   pub zeros : is_backward m.newest ≡ false → IsZeroPast (list_length m.newest) list
-  pub copied : (row : ℕ) → IsCopiedRow m.newest course.window row → RowStands (reading_of m) c (final_shape m.newest) list row
-  pub tail : AreTailsStanding m c list
-  pub zeroed : (row : ℕ) → IsZeroedRow m.newest course.zeroed row → RowStands (reading_of m) c (final_shape m.newest) (λ x. zero_sector) row
-  pub rows : sound → RowsStand (hidden_in course.window) m c list
+  pub copied : among (final_shape m.newest) → (row : ℕ) → IsCopiedRow m.newest course.window row → RowStands (reading_of m) c (final_shape m.newest) list row
+  pub tail : among (final_shape m.newest) → AreTailsStanding m c list
+  pub zeroed : among (final_shape m.newest) → (row : ℕ) → IsZeroedRow m.newest course.zeroed row → RowStands (reading_of m) c (final_shape m.newest) (λ x. zero_sector) row
+  pub rows : sound → (x : ℕ) → among (shape_for m.newest x) → IsShown (hidden_in course.window) m.newest x → RowStands (reading_of m) c (shape_for m.newest x) list (place_by m.newest x).row

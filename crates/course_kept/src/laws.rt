@@ -1,36 +1,41 @@
 //! Laws of the course of a reshape. Each function's contract is the law.
 
 ghost use Rattle.std.specs.Prelude.{⊤};
-ghost use Rattle.course_kept.specs.Laws.{BeginsStand, EntersStand, CoursesMove, CopiesGoOn, CoursesAreCopied, WindowsAreCopied, RecordsClose, RestsGoOn, FinishesClose, ZeroesGoOn, ZeroesAreAll, CoursesStandUnder, StoredMove, OpenHeadersFit, WritesGoOn, SparesLeaveCourses, SparesLeaveStored};
+ghost use Rattle.course_kept.specs.Laws.{ByShapes, CoursesStandWhole, BeginsStand, EntersStand, CoursesMove, CopiesGoOn, CoursesAreCopied, WindowsAreCopied, RecordsClose, RestsGoOn, FinishesClose, ZeroesGoOn, ZeroesAreAll, CoursesStandUnder, StoredMove, OpenHeadersFit, WritesGoOn, TornWritesGoOn, SparesLeaveCourses, SparesLeaveStored};
+
+/// Members that do without what they miss stand in it by any shape.
+pub fn a_course_stands_whole()
+    ensures { CoursesStandWhole ⊤ }
+{}
 
 /// A reshape begins.
 pub fn a_begun_reshape_stands()
-    ensures { BeginsStand ⊤ }
+    ensures { ByShapes (BeginsStand ⊤) }
 {}
 
 /// A window is entered.
 pub fn an_entered_window_stands()
-    ensures { EntersStand ⊤ }
+    ensures { ByShapes (EntersStand ⊤) }
 {}
 
 /// Members that lost slots stand in the same course.
 pub fn a_course_moves()
-    ensures { CoursesMove ⊤ }
+    ensures { ByShapes (CoursesMove ⊤) }
 {}
 
 /// Members that differ in spares stand in the same course.
 pub fn spares_leave_a_course()
-    ensures { SparesLeaveCourses ⊤ }
+    ensures { ByShapes (SparesLeaveCourses ⊤) }
 {}
 
 /// A stripe of the window is copied.
 pub fn a_copy_goes_on()
-    ensures { CopiesGoOn ⊤ }
+    ensures { ByShapes (CopiesGoOn ⊤) }
 {}
 
 /// What a copy writes is the list that stands.
 pub fn a_course_is_copied()
-    ensures { CoursesAreCopied ⊤ }
+    ensures { ByShapes (CoursesAreCopied ⊤) }
 {}
 
 /// All stripes of a window are copied.
@@ -45,7 +50,7 @@ pub fn a_record_closes()
 
 /// The stripes that are left of a window are copied.
 pub fn a_rest_goes_on()
-    ensures { RestsGoOn ⊤ }
+    ensures { ByShapes (RestsGoOn ⊤) }
 {}
 
 /// They are copied, and the window is recorded.
@@ -55,7 +60,7 @@ pub fn a_finish_closes()
 
 /// A stripe behind the list is zeroed.
 pub fn a_zeroing_goes_on()
-    ensures { ZeroesGoOn ⊤ }
+    ensures { ByShapes (ZeroesGoOn ⊤) }
 {}
 
 /// All stripes behind the list are zeroed.
@@ -65,7 +70,12 @@ pub fn all_is_zeroed()
 
 /// Sectors are written beside the window.
 pub fn a_write_goes_on()
-    ensures { WritesGoOn ⊤ }
+    ensures { ByShapes (WritesGoOn ⊤) }
+{}
+
+/// A write beside the window is cut.
+pub fn a_torn_write_goes_on()
+    ensures { ByShapes (TornWritesGoOn ⊤) }
 {}
 
 /// The list stands whichever header a stop leaves.

@@ -1,6 +1,6 @@
 -- A call that enters losses, or more, and one event behind them, by which the list may change: a write.
 use Rattle.std.proofs.Common.{◌≡◌, ◌⊎◌, inl, inr, ℕ, ◌<◌, ◌≤◌, ◌==◌, ◌||◌, Bool, true, false, List, [], ◌∷◌, ◌++◌, length, refl, sym, ◌∙◌, ap, subst, arith, append-nil}
-use Rattle.std.specs.Prelude.{IsFalse, ⊤}
+use Rattle.std.specs.Prelude.{IsFalse, fold, ⊤}
 use Rattle.std.specs.List.{list_any}
 use Rattle.std.proofs.lemmas.List.Folds.{list_any-append}
 use Rattle.md_base.specs.Sectors.{Sector}
@@ -13,8 +13,8 @@ use Rattle.superblocks.specs.Reading.{Scope, is_clean, list_length, role_count}
 use Rattle.flat_history.specs.declared.events.Entry.{Entry}
 use Rattle.flat_history.specs.declared.events.Event.{Event}
 use Rattle.flat_history.specs.Epochs.{HasRoomForEvents, OpensAlike}
-use Rattle.flat_history.specs.Flat.{now, values_of}
-use Rattle.flat_history.specs.Legal.{level_at, level_after, IsLegalEvent}
+use Rattle.flat_history.specs.Flat.{now, values_of, values_after}
+use Rattle.flat_history.specs.Legal.{is_loss, level_at, level_after, IsLegalEvent}
 use Rattle.flat_history.specs.Losses.{is_unsynced, unsettles}
 use Rattle.flat_history.specs.OneShape.{is_unsettled}
 use Rattle.flat_history.specs.Plain.{entries_of}
@@ -35,24 +35,27 @@ use Rattle.kept_history.proofs.Lists.{newest-in}
 use Rattle.kept_history.proofs.Seen.{now-more}
 use Rattle.kept_history.proofs.Calls.{safe-called}
 use Rattle.kept_history.proofs.KeptCalls.{kept-call}
-use Rattle.kept_history.proofs.Entered.{adds_only, AreAdding, told-adding, told-added, length-adding}
+use Rattle.kept_history.proofs.Entered.{adds_only, AreAdding, told-adding, told-added, values-more, length-adding}
 use Rattle.kept_history.proofs.Reshapes.{call-ends_none}
-use Rattle.history_calls.specs.Reliable.{IsReliable, AreToldGone}
+use Rattle.history_calls.specs.Reliable.{IsReliable, AreToldGone, IsNonePast}
+use Rattle.history_calls.proofs.LastStep.{IsWithin, AreWithin, losses-within, none-past}
 use Rattle.history_calls.proofs.Behind.{telling-of, AreFirst, first-of, AreLostOrMissing, IsAmong, IsBehind, early-losses, is-behind, legal-losses, or-false, and-true}
 use Rattle.history_calls.proofs.Quiet.{IsLeftBehind}
 
--- An event that only adds to what is told: it settles nothing, keeps the length and the level, and neither ends a reshape nor gives a role.
+-- An event that only adds to what is told: it settles nothing, keeps the length and the level, neither ends a reshape nor gives a role, and is no loss.
 pub record IsAdding (event : Event) : Type 0 where
   pub adds : adds_only event ≡ true
   pub gives : gives_some event ≡ false
   pub ends : ends_reshape event ≡ false
   pub level : (n : ℕ) → level_after n event ≡ n
+  pub other : is_loss event ≡ false
 
 -- ---- with more before its event
 
 -- What is asked of a call, from this tape to that one with its end there, that enters these events before its last one: by each value that they allow.
 pub record ChangesEarly (given : Given) (tape : List Operation) (scope : Scope) (first : ℕ) (entries : List Entry) (old new : Members) (carried : ℕ → Bool) (reshaping : Bool)
     (who : Who) (early : List Event) (event : Event) (tape' : List Operation) (end : ℕ) : Type 0 where
+  pub within : AreWithin (list_length old.newest) (early ++ event ∷ [])
   pub rise : IsRisen ⊤ old new tape tape'
   pub keeps : (told : Ledger) → IsReliable (world_in given tape' scope first) (entries ++ entries_of who end (early ++ event ∷ []))
       → AreToldGone (world_in given tape' scope first) (entries ++ entries_of who end (early ++ event ∷ [])) new → IsFilledRight (world_in given tape scope first) entries
@@ -144,6 +147,13 @@ module _ (given : Given) (tape : List Operation) (scope : Scope) (first : ℕ) (
       (last_end-behind first entries who end early event) (λ fills. call.legal (behind.right fills) (behind.gone_more fills) behind.level_more)
       (λ fills fit. call-ends_none later entries who end (early ++ event ∷ []) (are.ends (event ∷ []) (or-false (ends_reshape event) false adding.ends refl)))
 
+  -- past the list's end it tells no more than before
+  past-all : (size : ℕ) → list_length new.newest ≤ size → IsNonePast world entries size → IsNonePast later all size
+  past-all size le none fills x high =
+      ap (λ (l : List Sector). values_of l all x) behind.opened ∙ values-more (opening_list world) entries added x
+      ∙ ap (λ (l : List Sector). fold (λ values e. values_after x values e.event) l added) (none (behind.fills fills) x high)
+      ∙ none-past (list_length old.newest) x who end (early ++ event ∷ []) (omega (arith, le, high, sized)) call.within
+
   -- ---- each mark
 
   module _ (fills : IsFilledRight later all) (room : HasRoomForEvents later) (alike : OpensAlike later) where
@@ -180,6 +190,7 @@ module _ (given : Given) (tape : List Operation) (scope : Scope) (first : ℕ) (
   changing-leaves = record {
     right = behind.right;
     fills = behind.fills;
+    past = past-all;
     levelled = behind.level_all;
     gone = behind.gone_all;
     unclean = unclean-all;
@@ -196,6 +207,7 @@ module _ (given : Given) (tape : List Operation) (scope : Scope) (first : ℕ) (
 -- What is asked of a call, from this tape to that one with its end there.
 pub record ChangesList (given : Given) (tape : List Operation) (scope : Scope) (first : ℕ) (entries : List Entry) (old new : Members) (carried : ℕ → Bool) (reshaping : Bool)
     (who : Who) (roles spares : ℕ) (event : Event) (tape' : List Operation) (end : ℕ) : Type 0 where
+  pub within : IsWithin (list_length old.newest) event
   pub rise : IsRisen ⊤ old new tape tape'
   pub keeps : (told : Ledger) → IsReliable (world_in given tape' scope first) (entries ++ entries_of who end (losses_of roles spares ++ event ∷ []))
       → AreToldGone (world_in given tape' scope first) (entries ++ entries_of who end (losses_of roles spares ++ event ∷ [])) new → IsFilledRight (world_in given tape scope first) entries
@@ -254,6 +266,7 @@ module _ (given : Given) (tape : List Operation) (scope : Scope) (first : ℕ) (
         | inr wrote ↦ inr (unsettled-last who (length (tape ++ ops)) (losses_of roles spares) event wrote)
       ]) sizes_are gone unclean recorded safe now_safe
       (record {
+        within = losses-within (list_length old.newest) (losses_of roles spares) (event ∷ []) (losses-are roles spares) (call.within, tt);
         rise = call.rise;
         keeps = λ told all all_gone fills more allowed room told_gone told_unclean unsettled before.
             call.keeps told all all_gone fills more (λ x lt. allowed x (now (opening_list (world_in given tape scope first)) (entries ++ entries_of who (length (tape ++ ops)) (losses_of roles spares ++ event ∷ [])) x) (newest x lt)) room told_gone told_unclean

@@ -5,6 +5,7 @@ use Rattle.std.specs.List.{list_any, list_all}
 use Rattle.std.specs.Option.{option_map_or}
 use Rattle.std.proofs.lemmas.Bool.Decides.{nat_tests}
 use Rattle.std.proofs.lemmas.List.Sums.{fold-append}
+use Rattle.md_base.specs.Sectors.{Sector}
 use Rattle.md_base.specs.declared.answers.Who.{Who}
 use Rattle.bank.specs.declared.bank.Operation.{Operation}
 use Rattle.bank.specs.Given.{Given, sizes}
@@ -16,6 +17,7 @@ use Rattle.flat_history.specs.declared.events.Entry.{Entry}
 use Rattle.flat_history.specs.declared.events.Event.{Event}
 use Rattle.flat_history.specs.declared.events.Event.TheVariants.{Rebuilt}
 use Rattle.flat_history.specs.Epochs.{HasRoomForEvents, OpensAlike}
+use Rattle.flat_history.specs.Flat.{values_of, values_after}
 use Rattle.flat_history.specs.Legal.{level_at, level_after}
 use Rattle.flat_history.specs.Losses.{loses, is_gone_after, is_unsynced}
 use Rattle.flat_history.specs.OneShape.{is_lost, is_unsettled}
@@ -35,10 +37,11 @@ use Rattle.kept_history.proofs.Growing.{fit-grown, now-grown, alike-before, room
 use Rattle.kept_history.proofs.Seen.{now-more}
 use Rattle.kept_history.proofs.Calls.{safe-called}
 use Rattle.kept_history.proofs.KeptCalls.{kept-call}
-use Rattle.kept_history.proofs.Entered.{adds_only, AreAdding, told-adding, length-adding}
+use Rattle.kept_history.proofs.Entered.{adds_only, AreAdding, told-adding, values-more, length-adding}
 use Rattle.kept_history.proofs.Tests.{none-before}
 use Rattle.kept_history.proofs.Turned.{told-rebuilt, filled-before}
-use Rattle.history_calls.specs.Reliable.{IsReliable, AreToldGone}
+use Rattle.history_calls.specs.Reliable.{IsReliable, AreToldGone, IsNonePast}
+use Rattle.history_calls.proofs.LastStep.{AreWithin, none-past}
 use Rattle.history_calls.proofs.Behind.{AreTelling, AreLostOrMissing, IsBehind, is-behind, or-false, and-true}
 use Rattle.history_calls.proofs.Quiet.{IsLeftBehind}
 
@@ -58,6 +61,7 @@ telling-then {early = early} event are adding giving level = record {
 -- with the role gone, and what a stop leaves there without, too.
 pub record GivesRole (given : Given) (tape : List Operation) (scope : Scope) (first : ℕ) (entries : List Entry) (old new : Members) (carried : ℕ → Bool) (reshaping : Bool)
     (who : Who) (early : List Event) (role : ℕ) (tape' : List Operation) (end : ℕ) : Type 0 where
+  pub within : AreWithin (list_length old.newest) (early ++ Rebuilt role ∷ [])
   pub rise : IsRisen ⊤ old new tape tape'
   pub keeps : (told : Ledger) → IsReliable (world_in given tape scope first) entries → IsMoreTold (told_now (world_in given tape scope first) carried reshaping entries) told
       → HasRoomLeft old tape tape' → AreGoneTold told new → IsUncleanTold told old
@@ -181,6 +185,13 @@ module _ (given : Given) (tape : List Operation) (scope : Scope) (first : ℕ) (
       (last_end-behind first entries who end early (Rebuilt role)) (λ right. call.legal right (right-before right))
       (λ right fit. call.reshaped)
 
+  -- past the list's end it tells no more than before
+  past-all : (size : ℕ) → list_length new.newest ≤ size → IsNonePast world entries size → IsNonePast later all size
+  past-all size le none fills x high =
+      ap (λ (l : List Sector). values_of l all x) behind.opened ∙ values-more (opening_list world) entries added x
+      ∙ ap (λ (l : List Sector). fold (λ values e. values_after x values e.event) l added) (none (fills-before fills) x high)
+      ∙ none-past (list_length old.newest) x who end (early ++ Rebuilt role ∷ []) (omega (arith, le, high, sized)) call.within
+
   -- ---- each mark
 
   module _ (fills : IsFilledRight later all) (room : HasRoomForEvents later) (alike : OpensAlike later) where
@@ -217,6 +228,7 @@ module _ (given : Given) (tape : List Operation) (scope : Scope) (first : ℕ) (
   giving-leaves = record {
     right = right-before;
     fills = fills-before;
+    past = past-all;
     levelled = level-all;
     gone = gone-all;
     unclean = unclean-all;

@@ -1,3 +1,4 @@
+pub mod LastStep
 pub mod Behind
 pub mod Quiet
 pub mod Adding

@@ -13,7 +13,7 @@ use Rattle.flat_history.specs.declared.events.Entry.{Entry}
 use Rattle.flat_history.specs.declared.events.Event.{Event}
 use Rattle.flat_history.specs.Epochs.{HasRoomForEvents, OpensAlike}
 use Rattle.flat_history.specs.Flat.{now, values_of, values_after}
-use Rattle.flat_history.specs.Legal.{level_at, level_after}
+use Rattle.flat_history.specs.Legal.{is_loss, level_at, level_after}
 use Rattle.flat_history.specs.Transfers.{last_end_from}
 use Rattle.flat_history.specs.Losses.{is_unsynced}
 use Rattle.flat_history.specs.OneShape.{is_unsettled}
@@ -38,16 +38,18 @@ use Rattle.kept_history.proofs.Calls.{safe-called}
 use Rattle.kept_history.proofs.KeptCalls.{kept-call}
 use Rattle.kept_history.proofs.Entered.{adds_only, AreAdding, told-adding, told-added, values-more, length-adding}
 use Rattle.kept_history.proofs.Reshapes.{call-ends_none}
-use Rattle.history_calls.specs.Reliable.{IsReliable, AreToldGone}
+use Rattle.history_calls.specs.Reliable.{IsReliable, AreToldGone, IsNonePast, HasLastStep}
+use Rattle.history_calls.proofs.LastStep.{last-of}
 use Rattle.history_calls.proofs.Behind.{telling-of, AreEarly, first-of, AreLostOrMissing, IsBehind, is-behind, or-false, and-true}
 
--- An event that leaves the list and the level, settles nothing and neither ends a reshape nor gives a role.
+-- An event that leaves the list and the level, settles nothing, neither ends a reshape nor gives a role, and is no loss.
 pub record IsQuiet (event : Event) : Type 0 where
   pub adds : adds_only event ≡ true
   pub gives : gives_some event ≡ false
   pub ends : ends_reshape event ≡ false
   pub still : (x : ℕ) (values : List Sector) → values_after x values event ≡ values
   pub level : (n : ℕ) → level_after n event ≡ n
+  pub other : is_loss event ≡ false
 
 -- The same of the last events of a call, none or one.
 pub record AreQuietLast (who : Who) (end : ℕ) (tail : List Event) : Type 0 where
@@ -102,6 +104,7 @@ pub record IsLeftBehind (given : Given) (tape : List Operation) (scope : Scope) 
   pub begun : first ≤ length tape
   pub grown : (ops : List Operation) × (tape' ≡ tape ++ ops)
   pub fills : IsFilledRight (world_in given tape' scope first) all → IsFilledRight (world_in given tape scope first) entries
+  pub past : (size : ℕ) → list_length new.newest ≤ size → IsNonePast (world_in given tape scope first) entries size → IsNonePast (world_in given tape' scope first) all size
   pub safe : IsFilledRight (world_in given tape' scope first) all → HasRoomForEvents (world_in given tape' scope first) → OpensAlike (world_in given tape' scope first)
       → IsSafeHistory ⊤ (world_in given tape' scope first) given new carried reshaping all
   pub now_safe : IsFilledRight (world_in given tape' scope first) all → HasRoomForEvents (world_in given tape' scope first) → OpensAlike (world_in given tape' scope first)
@@ -112,6 +115,16 @@ pub fit-later : {given : Given} {tape tape' : List Operation} {scope : Scope} {f
     → IsLeftBehind given tape scope first entries all new carried reshaping tape' → OpensFit (world_in given tape' scope first) ≡ OpensFit (world_in given tape scope first)
 fit-later {given = given} {tape = tape} {scope = scope} {first = first} left =
     ap (λ (l : List Operation). OpensFit (world_in given l scope first)) left.grown.1 ∙ fit-grown (world_in given tape scope first) left.grown.0 left.begun
+
+-- its last step ended with the tape, if its last event is no loss
+pub last-left : (given : Given) (tape tape' : List Operation) (scope : Scope) (first : ℕ) (entries : List Entry) (size : ℕ) (new : Members) (carried : ℕ → Bool) (reshaping : Bool)
+    (who : Who) (end : ℕ) (early : List Event) (event : Event) → IsLeftBehind given tape scope first entries (entries ++ entries_of who end (early ++ event ∷ [])) new carried reshaping tape'
+    → end ≡ length tape' → is_loss event ≡ false → list_length new.newest ≡ size → IsNonePast (world_in given tape scope first) entries size
+    → HasLastStep (world_in given tape' scope first) (entries ++ entries_of who end (early ++ event ∷ [])) (list_length new.newest)
+last-left given tape tape' scope first entries size new carried reshaping who end early event left at_end other sized none = record {
+  last = last-of (world_in given tape' scope first) entries who end early event [] other tt ∙ at_end;
+  past = left.past (list_length new.newest) (omega arith) (subst (λ (n : ℕ). IsNonePast (world_in given tape scope first) entries n) (sym sized) none);
+}
 
 module _ (given : Given) (tape : List Operation) (scope : Scope) (first : ℕ) (entries : List Entry) (old new : Members) (carried carried' : ℕ → Bool) (reshaping : Bool)
     (who : Who) (early : List Event) (IsTaken : ℕ → Type 0) (tail : List Event) (ops : List Operation) (are : AreEarly early IsTaken) (carries : (number : ℕ) → carried number ≡ true → carried' number ≡ true)
@@ -190,6 +203,12 @@ module _ (given : Given) (tape : List Operation) (scope : Scope) (first : ℕ) (
       ended (λ fills. call.legal fills (behind.right fills) (behind.gone_more fills) behind.level_more)
       (λ fills fit. reshaped)
 
+  -- past the list's end it tells no more than before
+  past-all : (size : ℕ) → list_length new.newest ≤ size → IsNonePast world entries size → IsNonePast later all size
+  past-all size le none fills x high =
+      ap (λ (l : List Sector). values_of l all x) behind.opened ∙ values-more (opening_list world) entries added x
+      ∙ are.values who end tail x (values_of (opening_list world) entries x) ∙ quiet.still x (values_of (opening_list world) entries x) ∙ none (behind.fills fills) x high
+
   -- ---- each mark
 
   module _ (fills : IsFilledRight later all) (room : HasRoomForEvents later) (alike : OpensAlike later) where
@@ -216,6 +235,7 @@ module _ (given : Given) (tape : List Operation) (scope : Scope) (first : ℕ) (
   numbers-leaves = record {
     right = behind.right;
     fills = behind.fills;
+    past = past-all;
     levelled = behind.level_all;
     gone = behind.gone_all;
     unclean = unclean-all;

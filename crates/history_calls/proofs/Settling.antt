@@ -40,7 +40,7 @@ use Rattle.kept_history.proofs.Calls.{safe-called}
 use Rattle.kept_history.proofs.KeptCalls.{kept-call}
 use Rattle.kept_history.proofs.Entered.{told-adding, values-more, length-more, length-adding, all-stay, settled-now}
 use Rattle.kept_history.proofs.Reshapes.{call-ends_none}
-use Rattle.history_calls.specs.Reliable.{IsReliable, AreToldGone}
+use Rattle.history_calls.specs.Reliable.{IsReliable, AreToldGone, IsNonePast}
 use Rattle.history_calls.proofs.Behind.{telling-of, first-of, AreLostOrMissing, IsAmong, IsBehind, early-losses, is-behind, legal-losses, or-false}
 use Rattle.history_calls.proofs.Quiet.{IsLeftBehind}
 
@@ -53,6 +53,7 @@ pub record IsSettlement (event : Event) : Type 0 where
   pub length : (n : ℕ) → length_after n event ≡ n
   pub newest : (x : ℕ) (values : List Sector) → IsIn values (slice_index_or values 0 []) → IsIn (values_after x values event) (slice_index_or values 0 [])
   pub same : (x : ℕ) (values : List Sector) → slice_index_or (values_after x values event) 0 [] ≡ slice_index_or values 0 []
+  pub none : (x : ℕ) → values_after x [] event ≡ []
 
 -- the newest value is among those that stay, and is the newest of them
 first-in : (values : List Sector) (v : Sector) → IsIn values v → IsIn (take 1 values) (slice_index_or values 0 [])
@@ -72,6 +73,7 @@ takes-newest event gives level length takes = record {
   length = length;
   newest = λ x values has. subst (λ (l : List Sector). IsIn l (slice_index_or values 0 [])) (sym (takes x values)) (first-in values (slice_index_or values 0 []) has);
   same = λ x values. ap (λ (l : List Sector). slice_index_or l 0 []) (takes x values) ∙ first-stays values;
+  none = λ x. takes x [];
 }
 
 -- where it ends no reshape, and leaves steps, the call does so
@@ -243,6 +245,12 @@ module _ (given : Given) (tape : List Operation) (scope : Scope) (first : ℕ) (
       (last_end-behind first entries who end losses event) legal-call
       (λ fills fit. call.reshaped)
 
+  -- past the list's end it tells no more than before
+  past-all : (size : ℕ) → list_length new.newest ≤ size → IsNonePast world entries size → IsNonePast later all size
+  past-all size le none fills x high =
+      values-all x ∙ ap (λ (l : List Sector). values_after x (values_of l entries x) event) behind.opened
+      ∙ ap (λ (values : List Sector). values_after x values event) (none (behind.fills fills) x high) ∙ settling.none x
+
   -- ---- each mark
 
   told-last : (list : ℕ → Sector) → ((x : ℕ) → x < list_length old.newest → list x ≡ now (opening_list world) entries x) → IsMoreTold (settled_ledger unsynced list told) (told_now later carried reshaping all)
@@ -286,6 +294,7 @@ module _ (given : Given) (tape : List Operation) (scope : Scope) (first : ℕ) (
   settling-leaves = record {
     right = behind.right;
     fills = behind.fills;
+    past = past-all;
     levelled = behind.level_all;
     gone = behind.gone_all;
     unclean = unclean-all;

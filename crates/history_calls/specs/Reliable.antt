@@ -1,12 +1,14 @@
--- What a history says can be relied on, and who is gone by it.
-use Rattle.std.specs.Prelude.{◌≡◌, ℕ, ◌<◌, true, List}
+-- What a history says can be relied on, who is gone by it, and what it says of its last step and past the list's end.
+use Rattle.std.specs.Prelude.{◌≡◌, ℕ, ◌<◌, ◌≤◌, true, List, [], length}
 use Rattle.superblocks.specs.declared.members.Members.{Members}
 use Rattle.superblocks.specs.Reading.{role_count}
 use Rattle.row_io.specs.Rows.{reading_of, is_missing}
 use Rattle.flat_history.specs.declared.events.Entry.{Entry}
 use Rattle.flat_history.specs.Epochs.{HasRoomForEvents, OpensAlike}
+use Rattle.flat_history.specs.Flat.{values_of}
+use Rattle.flat_history.specs.Legal.{end_before}
 use Rattle.flat_history.specs.Losses.{is_gone_after}
-use Rattle.flat_history.specs.World.{World}
+use Rattle.flat_history.specs.World.{World, opening_list}
 use Rattle.kept_history.specs.Safe.{IsFilledRight}
 
 -- What is filled in is right, and the superblocks can be read, for the event counts have room, and those of the opening that have the same count are alike.
@@ -18,3 +20,12 @@ pub record IsReliable (world : World) (entries : List Entry) : Type 0 where
 -- each role that is missing is gone by the history
 abbrev pub AreToldGone : World → List Entry → Members → Type 0
 AreToldGone world entries members = (role : ℕ) → role < role_count members.newest → is_missing (reading_of members) role ≡ true → is_gone_after world entries role ≡ true
+
+-- past the end of a list of this size no sector has a value
+abbrev pub IsNonePast : World → List Entry → ℕ → Type 0
+IsNonePast world entries size = IsFilledRight world entries → (x : ℕ) → size ≤ x → values_of (opening_list world) entries x ≡ []
+
+-- So it is, and the last entry but for losses ended with the tape.
+pub record HasLastStep (world : World) (entries : List Entry) (size : ℕ) : Type 0 where
+  pub last : end_before world entries ≡ length world.tape
+  pub past : IsNonePast world entries size

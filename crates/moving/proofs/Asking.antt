@@ -44,10 +44,10 @@ status-same array one other a b i = record {
 }
 
 shown-quiet : (status : Status) → IsQuiet (Shown status)
-shown-quiet status = record { adds = refl; gives = refl; ends = refl; still = λ x values. refl; level = λ n. refl }
+shown-quiet status = record { adds = refl; gives = refl; ends = refl; still = λ x values. refl; level = λ n. refl; other = refl }
 
 halted-quiet : IsQuiet Halted
-halted-quiet = record { adds = refl; gives = refl; ends = refl; still = λ x values. refl; level = λ n. refl }
+halted-quiet = record { adds = refl; gives = refl; ends = refl; still = λ x values. refl; level = λ n. refl; other = refl }
 
 -- what an array keeps behind a call that makes no device call
 module _ {tells : Type 0} {given : Given} {tape : List Operation} {scope : Scope} {first : ℕ} {entries : List Entry} {members : Members} {carried : ℕ → Bool} {course : Course} {buffer : List ℕ} {left : ℕ}

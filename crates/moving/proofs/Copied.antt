@@ -184,8 +184,8 @@ module _ (tells : Type 0) (given : Given) (tape tape' : List Operation) (scope :
       (subst (λ (c : Course). IsMoving tells given tape' scope first (entries ++ entries_of who end (losses_of roles spares ++ Refused refusal ∷ [])) new carried c (bytes_in c.window window) (left_in old course ahead)) (sym is)
       (refused-moves tells given tape tape' scope first entries old new carried (entered span copied sectioned) bytes (left_in old course ahead) who end roles spares refusal
       opened goes caller at_end grows did.moved few did.since did.clean (inr many) did.rise did.unused
-      (λ t sound list stands.
-      (copies-go-on sound given old new span copied sectioned bytes (present given tape) (present given tape') list was.members_are.placed did.moved opened.course_is.window.0 more
+      (λ t sound among list stands.
+      (copies-go-on sound among given old new span copied sectioned bytes (present given tape) (present given tape') list was.members_are.placed did.moved opened.course_is.window.0 more
       (plain-of old.newest span copied sectioned opened.course_is.window) (did.others t) stands).0)
       (λ t told fills more_told room gone unclean now. did.safe t (world_in given tape scope first) told room gone unclean
       (able-kept scope given old span copied sectioned (disk given.start tape) opened.course_is.window (opened.stored t).section) now)))

@@ -111,9 +111,10 @@ closed-bare count buffer left was = record {
   gone = was.gone;
   unclean = was.unclean;
   recorded = was.recorded;
+  last_step = was.last_step;
   stored = λ t. let stored = was.stored t in record { section = stored.section; sectors = tt; headers = stored.headers };
-  listed = λ t does fills.
-      let l = was.listed t does fills in
+  listed = λ t fills.
+      let l = was.listed t fills in
       let stands = l.stands in
       record {
         list = l.list;
@@ -143,7 +144,7 @@ module _ {tells : Type 0} {given : Given} {tape tape' : List Operation} {scope :
       subst (λ (n : ℕ). IsMoving tells given tape' scope first (entries ++ entries_of who end (losses_of roles spares ++ Refused refusal ∷ [])) new carried course buffer n) (sym (left-moved given old new course ahead moved))
       (refused-moves tells given tape tape' scope first entries old new carried course buffer (left_in old course ahead) who end roles spares refusal was goes (not_254 who.caller caller) at_end grows
       moved (few-roles new.newest moved.placed.fit.valid) (missing-since roles moved since.vacant) clean (inr many) (risen-told rise) unused
-      (λ t sound list stands. courses-move sound given old new course buffer (present given tape) (present given tape') list was.members_are.placed moved (others t) stands)
+      (λ t sound among list stands. courses-move sound among given old new course buffer (present given tape) (present given tape') list was.members_are.placed moved (others t) stands)
       (λ t told filled more room gone unclean. safe t (world_in given tape scope first) told room gone unclean (λ x. zero_sector) (λ none. absurd (let both = sym none ∙ is in cc))))
 
   -- it is done

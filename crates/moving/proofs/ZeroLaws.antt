@@ -135,9 +135,9 @@ module _ {tells : Type 0} {given : Given} {tape tape' : List Operation} {scope :
       subst (λ (n : ℕ). IsMoving tells given tape' scope first (entries ++ entries_of who end (losses_of roles spares ++ Refused refusal ∷ [])) new carried course buffer n) (sym (left-moved given old new course ahead did.moved))
       (refused-moves tells given tape tape' scope first entries old new carried course buffer (left_in old course ahead) who end roles spares refusal was goes (not_254 who.caller caller) at_end did.grows
       did.moved (few-roles new.newest did.moved.placed.fit.valid) did.since did.clean (inr many) did.rise did.unused
-      (λ t sound list stands. subst (λ (k : Course). StandsInCourse sound new k buffer (present given tape') list) (sym is)
-      ((zeroes-go-on sound given old new course.zeroed buffer (present given tape) (present given tape') list was.members_are.placed did.moved (through-of old.newest was.members_are.placed.fit was.members_are.active none) (did.others t)
-      (subst (λ (k : Course). StandsInCourse sound old k buffer (present given tape) list) is stands)).0))
+      (λ t sound among list stands. subst (λ (k : Course). StandsInCourse sound among new k buffer (present given tape') list) (sym is)
+      ((zeroes-go-on sound among given old new course.zeroed buffer (present given tape) (present given tape') list was.members_are.placed did.moved (through-of old.newest was.members_are.placed.fit was.members_are.active none) (did.others t)
+      (subst (λ (k : Course). StandsInCourse sound among old k buffer (present given tape) list) is stands)).0))
       (λ t told filled more room gone unclean. did.safe t (world_in given tape scope first) told room gone unclean))
 
   -- it is done

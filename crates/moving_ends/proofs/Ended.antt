@@ -72,16 +72,17 @@ use Rattle.kept_history.proofs.Seen.{now-more}
 use Rattle.kept_history.proofs.Turned.{filled-before}
 use Rattle.kept_history.proofs.Turns.{either-call, resized-call}
 use Rattle.reshape_ends.specs.Finished.{IsFinishable}
-use Rattle.course_kept.specs.Course.{StandsInCourse}
+use Rattle.course_kept.specs.Course.{AnyShape, StandsInCourse}
 use Rattle.course_kept.specs.Laws.{closed}
+use Rattle.course_kept.proofs.Frames.{stands-whole, list-whole, rows-whole}
 use Rattle.course_kept.proofs.Courses.{zeroes-are-all}
-use Rattle.history_calls.specs.Reliable.{IsReliable, AreToldGone}
+use Rattle.history_calls.specs.Reliable.{IsReliable, AreToldGone, IsNonePast}
+use Rattle.history_calls.proofs.LastStep.{last-behind, last-step}
 use Rattle.moving_kept.specs.Moving.{HasListInCourse, HasListStill, IsMoving}
 use Rattle.history_calls.proofs.Behind.{IsAmong, inner-of, legal-losses}
 use Rattle.moving_ends.proofs.Consistent.{consistent-at}
 use Rattle.moving_ends.proofs.EndedRows.{HaveEnded, ended-short, listed-still}
-use Rattle.moving_ends.proofs.Ending.{length_by, grown_to, ending_events, only-adds, only-gives, only-lost, ending-gives, ending-settles, ending-level, ending-values, ending-length, ending-lost, ending-late, ending-last, ending-comes, ending-ends, behind-all, comes-more, last-behind, last-step, before-step, ArePlannedTo, plans-behind, plans-done, told-longer}
-use Rattle.moving_ends.proofs.LastStep.{IsNonePast, HasLastStep}
+use Rattle.moving_ends.proofs.Ending.{length_by, grown_to, ending_events, only-adds, only-gives, only-lost, ending-gives, ending-settles, ending-level, ending-values, ending-length, ending-lost, ending-late, ending-last, ending-comes, ending-ends, behind-all, comes-more, before-step, ArePlannedTo, plans-behind, plans-done, told-longer}
 use Rattle.moving_kept.proofs.ReadShapes.{HasShapesOf, IsEitherRead}
 use Rattle.moving_kept.proofs.Steps.{told-behind}
 
@@ -96,7 +97,7 @@ pub record IsEndingCall (given : Given) (tape : List Operation) (scope : Scope) 
   pub since : (role : ℕ) → role < role_count new.newest → is_missing (reading_of new) role ≡ true
       → ((role < role_count old.newest) × (is_missing (reading_of old) role ≡ true)) ⊎ (IsAmong roles role ⊎ IsAmong late role)
   pub rise : IsRisen ⊤ old new tape tape'
-  pub stands : (list : ℕ → Sector) → StandsInCourse (OpensFit (world_in given tape scope first)) old (closed zeroed) buffer (present given tape) list
+  pub stands : (list : ℕ → Sector) → StandsInCourse (OpensFit (world_in given tape scope first)) AnyShape old (closed zeroed) buffer (present given tape) list
       → ListStands None new (present given tape') list × (OpensFit (world_in given tape scope first) → RowsStand None new (present given tape') list)
   pub read : (told : Ledger) → HasRoomLeft old tape tape' → AreGoneTold told old → ((role : ℕ) → IsAmong roles role → told.gone role ≡ true) → IsUncleanTold told old
       → IsSafeOver (world_in given tape scope first) given told old tape → IsEitherRead scope (present given tape') old.newest new.newest
@@ -105,11 +106,9 @@ pub record IsEndingCall (given : Given) (tape : List Operation) (scope : Scope) 
       → ((number : ℕ) → told.carried number ≡ true → more.carried number ≡ true) → IsSafeOver (world_in given tape scope first) given told old tape
       → IsSafeChange (OpensFit (world_in given tape scope first)) scope given told more new tape tape'
 
--- What the history is asked of an array whose reshape is about to end: its last step ended with the tape, past the list's end it tells nothing, and if no step
--- is left, the plans that are open go to the shape of this reshape.
-pub record IsAtLastStep (world : World) (entries : List Entry) (old : Members) (left : ℕ) : Type 0 where
-  pub stands : HasLastStep world entries (list_length old.newest)
-  pub planned : left ≡ 0 → ArePlannedTo world (final_shape old.newest) (open_plans entries)
+-- If no step is left, the plans that are open go to the shape of this reshape.
+abbrev pub IsPlannedTo : World → List Entry → Members → ℕ → Type 0
+IsPlannedTo world entries old left = left ≡ 0 → ArePlannedTo world (final_shape old.newest) (open_plans entries)
 
 -- As many steps are left as one fewer, or a role is missing, so that more steps may follow the reshape.
 abbrev pub IsStepped : Members → ℕ → ℕ → Type 0
@@ -128,7 +127,7 @@ module _ (given : Given) (tape : List Operation) (scope : Scope) (first : ℕ) (
     (who : Who) (roles spares late late_spares : ℕ) (ops : List Operation) (tells : Type 0) (was : IsMoving tells given tape scope first entries old carried (closed zeroed) buffer steps) (t : tells)
     (few_roles : role_count old.newest ≤ 16)
     (all_zeroed : zeroed ≡ zeroed_stripes (shape_of old.newest) (final_shape old.newest) old.newest.size (is_backward old.newest))
-    (stepped : IsStepped old steps left) (at_last : IsAtLastStep (world_in given tape scope first) entries old left)
+    (stepped : IsStepped old steps left) (planned : IsPlannedTo (world_in given tape scope first) entries old left)
     (call : IsEndingCall given tape scope first old new carried carried' zeroed buffer roles late (tape ++ ops)) where
   abbrev world : World
   world = world_in given tape scope first
@@ -281,14 +280,14 @@ module _ (given : Given) (tape : List Operation) (scope : Scope) (first : ℕ) (
   zero-all fills x le lt =
       values-all x
       ∙ ap (λ (b : Bool). cond b (resized (nat_lt x size) (values_of (opening_list world) entries x)) (values_of (opening_list world) entries x)) (less-is (list_length old.newest) (list_length new.newest) (omega (arith, le, lt)))
-      ∙ ap (λ (c : Bool). resized c (values_of (opening_list world) entries x)) (less-is x (list_length new.newest) lt) ∙ ap (λ (l : List Sector). resized true l) (at_last.stands.past fills x le)
+      ∙ ap (λ (c : Bool). resized c (values_of (opening_list world) entries x)) (less-is x (list_length new.newest) lt) ∙ ap (λ (l : List Sector). resized true l) ((was.last_step t).past fills x le)
 
   -- past its end it tells nothing
   pub ended-past : IsNonePast later all (list_length new.newest)
   ended-past fills x le =
       values-all x
       ∙ ap (λ (c : Bool). cond longer (resized c (values_of (opening_list world) entries x)) (values_of (opening_list world) entries x)) (not-below x (list_length new.newest) le)
-      ∙ ap (λ (l : List Sector). cond longer [] l) (at_last.stands.past (filled-before world ops entries added begun recorded.ends fills) x (omega (arith, le, no-shorter))) ∙ of longer
+      ∙ ap (λ (l : List Sector). cond longer [] l) ((was.last_step t).past (filled-before world ops entries added begun recorded.ends fills) x (omega (arith, le, no-shorter))) ∙ of longer
     where
       not-below : (a b : ℕ) → b ≤ a → nat_lt a b ≡ false
       not-below a b h = grind (arith, nat_tests, h)
@@ -373,11 +372,15 @@ module _ (given : Given) (tape : List Operation) (scope : Scope) (first : ℕ) (
         ))
   ]
 
+  -- it stands by each shape in force
+  whole-list : (l : HasListInCourse (OpensFit world) old (closed zeroed) buffer (present given tape) (now (opening_list world) entries)) → StandsInCourse (OpensFit world) AnyShape old (closed zeroed) buffer (present given tape) l.list
+  whole-list l = stands-whole (OpensFit world) old (closed zeroed) buffer (present given tape) l.list call.have.enough l.stands
+
   pub ended-listed : IsFilledRight later all → HasListStill (OpensFit later) new (present given (tape ++ ops)) (now (opening_list later) all)
   ended-listed fills =
       let before = filled-before world ops entries added begun recorded.ends fills in
-      let l = was.listed t call.have.enough before in
-      let there = call.stands l.list l.stands in
+      let l = was.listed t before in
+      let there = call.stands l.list (whole-list l) in
       listed-still scope given new call.have.placed call.have.still (present given (tape ++ ops)) (OpensFit later) l.list (now (opening_list later) all)
       (λ x lt. (list-then before l x lt).0) there.0 (λ fit. there.1 (fit-before world ops begun fit))
 
@@ -405,16 +408,16 @@ module _ (given : Given) (tape : List Operation) (scope : Scope) (first : ℕ) (
     more = told_now later carried' reshaping' all
 
     listed : HasListInCourse (OpensFit world) old (closed zeroed) buffer (present given tape) (now (opening_list world) entries)
-    listed = was.listed t call.have.enough before.fills
+    listed = was.listed t before.fills
 
     finishable : IsFinishable (OpensFit world) more old (present given tape) listed.list
     finishable = record {
       sized = length-later ∙ long;
       allowed = λ x lt. (list-then before.fills listed x (subst (λ (n : ℕ). x < n) length-later lt)).1;
-      stands = listed.stands.stands;
-      rows = λ clean does so. listed.stands.rows so;
+      stands = list-whole (OpensFit world) old (closed zeroed) buffer (present given tape) listed.list (whole-list listed);
+      rows = λ clean does so. rows-whole (OpensFit world) old (closed zeroed) buffer (present given tape) listed.list (whole-list listed) so;
       behind = λ forth. zeroes-are-all (OpensFit world) given old buffer (present given tape) listed.list was.members_are.placed was.members_are.active forth
-          (subst (λ (k : ℕ). StandsInCourse (OpensFit world) old (closed k) buffer (present given tape) listed.list) all_zeroed listed.stands);
+          (subst (λ (k : ℕ). StandsInCourse (OpensFit world) AnyShape old (closed k) buffer (present given tape) listed.list) all_zeroed (whole-list listed));
     }
 
     change : IsSafeChange (OpensFit world) scope given told more new tape (tape ++ ops)
@@ -445,7 +448,7 @@ module _ (given : Given) (tape : List Operation) (scope : Scope) (first : ℕ) (
         )
 
     end-is : end_before later (entries ++ flushed) ≡ length tape
-    end-is = ap (λ (o : Option Entry). option_map_or (λ e. e.end) o first) (last-behind entries who end losses (losses-are roles spares)) ∙ at_last.stands.last
+    end-is = ap (λ (o : Option Entry). option_map_or (λ e. e.end) o first) (last-behind entries who end losses (losses-are roles spares)) ∙ (was.last_step t).last
 
     target : target_at later (end_before later (entries ++ flushed)) ≡ Some (final_shape old.newest)
     target = ap (λ (n : ℕ). target_at later n) end-is ∙ ap (λ (o : Option Reading). option_map_or (λ r. target_of r.newest) o None) at-start.1 ∙ at-start.2
@@ -561,7 +564,7 @@ module _ (given : Given) (tape : List Operation) (scope : Scope) (first : ℕ) (
         subst (λ (l : List Entry). IsConsistentAt later l end (final_shape old.newest)) parts
         (subst (λ (s : Shape). IsConsistentAt later all end s) call.have.shape
         (consistent-at (OpensFit world) later given all told more new tape (tape ++ ops) listed.list call.have.placed call.have.unlost call.have.still refl (ended-gone right) change
-        (λ does. (call.stands listed.list listed.stands).1 (fit-before world ops begun fit))))
+        (λ does. (call.stands listed.list (whole-list listed)).1 (fit-before world ops begun fit))))
 
     comes : behind comes_with_finish step rest ≡ rest
     comes = behind-all comes_with_finish who end (Step Finished left) tail (ending-comes who end roles spares left longer size late late_spares)
@@ -584,7 +587,7 @@ module _ (given : Given) (tape : List Operation) (scope : Scope) (first : ℕ) (
         of true is =
             subst (λ (l : List Entry). ArePlansDone later (entries ++ flushed) step l (open_plans (entries ++ flushed))) (sym comes-too)
             (subst (λ (plans : List Entry). ArePlansDone later (entries ++ flushed) step rest plans) (sym (plans-behind entries who end losses (losses-are roles spares)))
-            (plans-done world ops (entries ++ flushed) step rest (final_shape old.newest) (consistent fit) entries recorded.ends (at_last.planned (is-zero left is))))
+            (plans-done world ops (entries ++ flushed) step rest (final_shape old.newest) (consistent fit) entries recorded.ends (planned (is-zero left is))))
 
     pub ended-right : OpensFit later → IsReshapedCall later entries who end events
     ended-right fit = reshaped-losses later entries who end losses (Step Finished left ∷ tail) (faults-are losses (losses-are roles spares))

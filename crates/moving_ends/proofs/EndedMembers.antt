@@ -26,12 +26,11 @@ use Rattle.views.proofs.MarkEnds.{some-or-none}
 use Rattle.kept_history.specs.Recorded.{IsHistoryKept, IsCallGoing}
 use Rattle.kept_history.specs.Safe.{world_in, IsFilledRight, IsSafeHistory}
 use Rattle.course_kept.specs.Laws.{closed}
-use Rattle.history_calls.specs.Reliable.{IsReliable, AreToldGone}
+use Rattle.history_calls.specs.Reliable.{IsReliable, AreToldGone, IsNonePast}
 use Rattle.moving_kept.specs.Moving.{HasListStill, IsStillKept, IsMoving}
-use Rattle.moving_ends.proofs.Ended.{IsAtLastStep, IsStepped, IsEndingCall, ended-before, ended-gone, ended-unclean, ended-level, ended-listed, ended-past, ended-safe, ended-recorded}
+use Rattle.moving_ends.proofs.Ended.{IsPlannedTo, IsStepped, IsEndingCall, ended-before, ended-gone, ended-unclean, ended-level, ended-listed, ended-past, ended-safe, ended-recorded}
 use Rattle.moving_ends.proofs.EndedCall.{IsEndedBy, ended-call}
 use Rattle.moving_ends.proofs.Ending.{grown_to, ending_events}
-use Rattle.moving_ends.proofs.LastStep.{IsNonePast}
 
 -- Whether superblocks may tell the reshape still: where no live slot is left.
 record IsToldStill (m : Members) : Type 0 where
@@ -61,7 +60,7 @@ module _ (tells : Type 0) (given : Given) (tape tape' : List Operation) (scope :
     (who : Who) (end roles spares late late_spares : ℕ) (was : IsMoving tells given tape scope first entries old carried (closed zeroed) buffer steps) (goes : IsCallGoing entries who) (caller : IsFalse (who.caller == 254))
     (at_end : tells → end ≡ length tape') (grows : Grows tells tape tape')
     (all_zeroed : zeroed ≡ zeroed_stripes (shape_of old.newest) (final_shape old.newest) old.newest.size (is_backward old.newest))
-    (stepped : IsStepped old steps left) (at_last : tells → IsAtLastStep (world_in given tape scope first) entries old left) (numbers : (number : ℕ) → carried number ≡ true → carried' number ≡ true)
+    (stepped : IsStepped old steps left) (planned : tells → IsPlannedTo (world_in given tape scope first) entries old left) (numbers : (number : ℕ) → carried number ≡ true → carried' number ≡ true)
     (did : IsEndedBy tells given tape tape' old new roles late) where
   few : role_count old.newest ≤ 16
   few = few-roles old.newest was.members_are.placed.fit.valid
@@ -73,14 +72,14 @@ module _ (tells : Type 0) (given : Given) (tape tape' : List Operation) (scope :
 
   left-by : (t : tells) (ops : List Operation) → Then (tape ++ ops) (length (tape ++ ops))
   left-by t ops call = record {
-    right = ended-before given tape scope first entries old new carried carried' buffer zeroed steps left who roles spares late late_spares ops tells was t few all_zeroed stepped (at_last t) call;
-    levelled = ended-level given tape scope first entries old new carried carried' buffer zeroed steps left who roles spares late late_spares ops tells was t few all_zeroed stepped (at_last t) call;
-    gone = ended-gone given tape scope first entries old new carried carried' buffer zeroed steps left who roles spares late late_spares ops tells was t few all_zeroed stepped (at_last t) call;
-    unclean = ended-unclean given tape scope first entries old new carried carried' buffer zeroed steps left who roles spares late late_spares ops tells was t few all_zeroed stepped (at_last t) call;
-    recorded = ended-recorded given tape scope first entries old new carried carried' buffer zeroed steps left who roles spares late late_spares ops tells was t few all_zeroed stepped (at_last t) call goes caller;
-    past = ended-past given tape scope first entries old new carried carried' buffer zeroed steps left who roles spares late late_spares ops tells was t few all_zeroed stepped (at_last t) call;
-    listed = ended-listed given tape scope first entries old new carried carried' buffer zeroed steps left who roles spares late late_spares ops tells was t few all_zeroed stepped (at_last t) call;
-    safe = ended-safe given tape scope first entries old new carried carried' buffer zeroed steps left who roles spares late late_spares ops tells was t few all_zeroed stepped (at_last t) call
+    right = ended-before given tape scope first entries old new carried carried' buffer zeroed steps left who roles spares late late_spares ops tells was t few all_zeroed stepped (planned t) call;
+    levelled = ended-level given tape scope first entries old new carried carried' buffer zeroed steps left who roles spares late late_spares ops tells was t few all_zeroed stepped (planned t) call;
+    gone = ended-gone given tape scope first entries old new carried carried' buffer zeroed steps left who roles spares late late_spares ops tells was t few all_zeroed stepped (planned t) call;
+    unclean = ended-unclean given tape scope first entries old new carried carried' buffer zeroed steps left who roles spares late late_spares ops tells was t few all_zeroed stepped (planned t) call;
+    recorded = ended-recorded given tape scope first entries old new carried carried' buffer zeroed steps left who roles spares late late_spares ops tells was t few all_zeroed stepped (planned t) call goes caller;
+    past = ended-past given tape scope first entries old new carried carried' buffer zeroed steps left who roles spares late late_spares ops tells was t few all_zeroed stepped (planned t) call;
+    listed = ended-listed given tape scope first entries old new carried carried' buffer zeroed steps left who roles spares late late_spares ops tells was t few all_zeroed stepped (planned t) call;
+    safe = ended-safe given tape scope first entries old new carried carried' buffer zeroed steps left who roles spares late late_spares ops tells was t few all_zeroed stepped (planned t) call
         (told-still new).reshaping (told-still new).goes_on;
   }
 
@@ -107,10 +106,7 @@ module _ (tells : Type 0) (given : Given) (tape tape' : List Operation) (scope :
     gone = λ t. (leaves t).gone;
     unclean = λ t dirty. (leaves t).unclean (was.unclean t (sym did.over.clean ∙ dirty));
     recorded = λ t. (leaves t).recorded;
+    past = λ t. (leaves t).past;
     listed = λ t does fills. (leaves t).listed fills;
     safe = λ t. (leaves t).safe;
   }
-
-  -- and past the list's end its history tells nothing
-  pub none-past-end : tells → IsNonePast (world_in given tape' scope first) (entries ++ entries_of who end (ending_events roles spares left (grown_to (list_length old.newest) (list_length new.newest)) late late_spares)) (list_length new.newest)
-  none-past-end t = (leaves t).past

@@ -37,8 +37,9 @@ use Rattle.views.proofs.Fit.{fit-alike, valid, multiple}
 use Rattle.views.proofs.HeldRows.{rows-same}
 use Rattle.views.proofs.Still.{length-still, placed-two, backup-still}
 use Rattle.reshape_ends.specs.Finished.{IsZeroBehind}
-use Rattle.course_kept.specs.Course.{StandsInCourse}
+use Rattle.course_kept.specs.Course.{AnyShape, StandsInCourse}
 use Rattle.course_kept.specs.Laws.{closed}
+use Rattle.course_kept.proofs.Frames.{list-whole, rows-whole}
 use Rattle.course_kept.proofs.Courses.{courses-move, zeroes-are-all}
 use Rattle.moving_kept.specs.Moving.{HasListStill}
 use Rattle.moving_kept.proofs.MembersMove.{backed-moved}
@@ -169,25 +170,25 @@ module _ (scope : Scope) (given : Given) (old new : Members) (was : IsPlaced giv
   }
 
   module _ (sound : Type 0) (buffer : List ℕ) (zeroed : ℕ) (all : zeroed ≡ zeroed_stripes (shape_of old.newest) (final_shape old.newest) old.newest.size (is_backward old.newest)) (c e : Contents) (list : ℕ → Sector)
-      (others : AreOthersPresent c e) (stands : StandsInCourse sound old (closed zeroed) buffer c list) where
-    there : StandsInCourse sound Before (closed zeroed) buffer e list
-    there = courses-move sound given old Before (closed zeroed) buffer c e list was before-moved others stands
+      (others : AreOthersPresent c e) (stands : StandsInCourse sound AnyShape old (closed zeroed) buffer c list) where
+    there : StandsInCourse sound AnyShape Before (closed zeroed) buffer e list
+    there = courses-move sound AnyShape given old Before (closed zeroed) buffer c e list was before-moved others stands
 
     behind : is_backward old.newest ≡ false → IsZeroBehind Before e list
-    behind forth = zeroes-are-all sound given Before buffer e list placed-before active forth (subst (λ (k : ℕ). StandsInCourse sound Before (closed k) buffer e list) all there)
+    behind forth = zeroes-are-all sound given Before buffer e list placed-before active forth (subst (λ (k : ℕ). StandsInCourse sound AnyShape Before (closed k) buffer e list) all there)
 
     stands-or : (back : Bool) → is_backward old.newest ≡ back → ListStands None new e list × (RowsStand None Before e list → RowsStand None new e list)
     stands-or true back =
         let stand = places-alike-stand scope given Before new e list backed-new (alike (ended-short back)) in
-        (stand.0 there.stands, stand.1)
+        (stand.0 (list-whole sound Before (closed zeroed) buffer e list there), stand.1)
     stands-or false forth =
         let z = behind forth in
         let stand = grown-stands scope given Before new e list ended backed-before backed-new forth z.zeros in
-        (stand.0 there.stands z.tail (λ row past. (z.past row past).sectors), λ rows. stand.1 rows z.past)
+        (stand.0 (list-whole sound Before (closed zeroed) buffer e list there) z.tail (λ row past. (z.past row past).sectors), λ rows. stand.1 rows z.past)
 
     -- So the list stands by the new shape, and its rows where they did.
     pub ended-stands : ListStands None new e list × (sound → RowsStand None new e list)
-    ended-stands = let stand = stands-or (is_backward old.newest) refl in (stand.0, λ so. stand.1 (there.rows so))
+    ended-stands = let stand = stands-or (is_backward old.newest) refl in (stand.0, λ so. stand.1 (rows-whole sound Before (closed zeroed) buffer e list there so))
 
 -- ---- without a reshape
 

@@ -1,9 +1,8 @@
 -- The entries of a call by which a reshape ends: losses, the step, the new length where the list grew, and more losses. What they tell, and what a history says
 -- of the step before them and of its plans.
-use Rattle.std.proofs.Common.{◌≡◌, ℕ, suc, ◌+◌, ◌<◌, ◌≤◌, ◌&&◌, ◌||◌, nat_lt, Bool, true, false, not, cond, Option, Some, option_map, List, [], ◌∷◌, ◌++◌, length, take, fold, MatchOption, refl, sym, ◌∙◌, ap, ap₂, subst, arith, append_assoc, append-nil}
-use Rattle.std.specs.Prelude.{filter, ⊤}
+use Rattle.std.proofs.Common.{◌≡◌, ℕ, suc, ◌+◌, ◌<◌, ◌≤◌, ◌&&◌, ◌||◌, nat_lt, Bool, true, false, cond, Option, Some, option_map, List, [], ◌∷◌, ◌++◌, length, take, fold, MatchOption, refl, sym, ◌∙◌, ap, ap₂, subst, arith, append_assoc, append-nil}
+use Rattle.std.specs.Prelude.{⊤}
 use Rattle.std.specs.List.{list_any, list_all}
-use Rattle.std.proofs.lemmas.List.Elements.{filter-append}
 use Rattle.std.proofs.lemmas.List.Folds.{list_any-append}
 use Rattle.std.proofs.lemmas.List.Sums.{fold-append}
 use Rattle.md_base.specs.Sectors.{Sector}
@@ -18,16 +17,15 @@ use Rattle.flat_history.specs.declared.events.Event.{Event}
 use Rattle.flat_history.specs.declared.events.Event.TheVariants.{Lost, SpareLost, Resized, Planned, Step}
 use Rattle.flat_history.specs.declared.events.LostCause.TheVariants.{Fault}
 use Rattle.flat_history.specs.declared.events.StepKind.TheVariants.{Finished}
-use Rattle.flat_history.specs.Flat.{is_same_call, last_of, length_of, values_after, values_of, resized}
+use Rattle.flat_history.specs.Flat.{is_same_call, length_of, values_after, values_of, resized}
 use Rattle.flat_history.specs.Growing.{grown, EndBy}
-use Rattle.flat_history.specs.Legal.{is_loss, last_but_losses, before_last_step, level_after}
+use Rattle.flat_history.specs.Legal.{is_loss, before_last_step, level_after}
 use Rattle.flat_history.specs.Losses.{loses, is_gone_after, is_unsynced, settles, unsettles}
 use Rattle.flat_history.specs.OneShape.{is_lost, is_unsettled}
 use Rattle.flat_history.specs.Plain.{entries_of, loses_role}
 use Rattle.flat_history.specs.Reshaped.{behind, comes_with_finish, comes_with_step, is_rebuilt, is_done, is_planned, plans_after, open_plans, planned_shape, IsConsistentAt, ArePlansDone}
 use Rattle.flat_history.specs.Transfers.{last_end_from}
 use Rattle.flat_history.specs.World.{World, opening_list}
-use Rattle.flat_history.proofs.OneShapeLegal.{last-snoc}
 use Rattle.history_laws.proofs.OneShapeGrowing.{entries-both}
 use Rattle.call_entries.specs.Losing.{losses_of}
 use Rattle.call_entries.proofs.CallLaws.{AreLossEvents, losses-are, length-losses}
@@ -198,24 +196,6 @@ comes-more (x ∷ events) all =
     and-true (comes_with_step x) (list_all comes_with_step events) (ap (λ (b : Bool). b || is_rebuilt x) parts.0) (comes-more events parts.1)
 
 -- ---- the step before
-
-losses-none : (who : Who) (end : ℕ) (xs : List Event) → AreLossEvents xs → filter (λ e. not (is_loss e.event)) (entries_of who end xs) ≡ []
-losses-none who end [] are = refl
-losses-none who end (Lost role Fault ∷ xs) are = losses-none who end xs are
-losses-none who end (SpareLost slot ∷ xs) are = losses-none who end xs are
-losses-none who end (event ∷ xs) are = absurd are
-
--- behind losses it is the same
-pub last-behind : (before : List Entry) (who : Who) (end : ℕ) (xs : List Event) → AreLossEvents xs → last_but_losses (before ++ entries_of who end xs) ≡ last_but_losses before
-last-behind before who end xs are =
-    ap last_of (filter-append (λ e. not (is_loss e.event)) before (entries_of who end xs)
-    ∙ ap (λ (l : List Entry). filter (λ e. not (is_loss e.event)) before ++ l) (losses-none who end xs are) ∙ append-nil (filter (λ e. not (is_loss e.event)) before))
-
--- and behind an entry that is no loss it is that
-pub last-step : (before : List Entry) (e : Entry) → is_loss e.event ≡ false → last_but_losses (before ++ e ∷ []) ≡ Some e
-last-step before e other =
-    ap last_of (filter-append (λ e. not (is_loss e.event)) before (e ∷ [])
-    ∙ ap (λ (b : Bool). filter (λ e. not (is_loss e.event)) before ++ cond (not b) (e ∷ []) []) other) ∙ last-snoc (filter (λ e. not (is_loss e.event)) before) e
 
 and-false : (a : Bool) → (a && false) ≡ false
 and-false true = refl

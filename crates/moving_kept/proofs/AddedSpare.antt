@@ -36,6 +36,7 @@ use Rattle.shape_changes.specs.Safety.{HasLiveSlot, HasRoomLeft, IsRisen}
 use Rattle.shape_changes.specs.Steady.{IsMoreTold, IsSafeOver, KeepsSafe, AreGoneTold, IsUncleanTold, with_number}
 use Rattle.shape_changes.proofs.Without.{live-is}
 use Rattle.views.specs.Flushing.{OnlyFlushesAdded}
+use Rattle.views.specs.Lacking.{DoesWithout}
 use Rattle.views.specs.Moving.{Grows, IsMoved}
 use Rattle.views.specs.Numbers.{IsSpareSb, IsOfScope}
 use Rattle.views.specs.Placed.{IsPlaced}
@@ -44,6 +45,7 @@ use Rattle.views.specs.Under.{IsRestKept}
 use Rattle.views.proofs.AddedMembers.{placed-with, unlost-roles, free-with, spares-with}
 use Rattle.views.proofs.Fit.{list-alike}
 use Rattle.views.proofs.Flushed.{contents-added}
+use Rattle.views.proofs.HeldRows.{shape-without-before}
 use Rattle.views.proofs.LiveLeft.{without-left}
 use Rattle.views.proofs.MarkedSafe.{added-longer, flushed-safe}
 use Rattle.views.proofs.MarkLaws.{few-below}
@@ -62,7 +64,8 @@ use Rattle.grow_asked.specs.declared.window.Window.{Window}
 use Rattle.grow_asked.specs.declared.window.Window.TheVariants.{Closed, Entered, Unsure}
 use Rattle.course_kept.specs.Course.{IsStored, IsSectionKept, IsBackupKept, StandsInCourse}
 use Rattle.course_kept.proofs.Courses.{courses-move, stored-moves}
-use Rattle.course_kept.proofs.Spares.{spares-leave, spares-stored, differ-with}
+use Rattle.course_kept.proofs.Frames.{stands-less}
+use Rattle.course_kept.proofs.Spares.{spares-leave, spares-without, spares-stored, differ-with}
 use Rattle.history_calls.specs.Reliable.{AreToldGone}
 use Rattle.moving_kept.specs.Moving.{AreReshaping, HasListInCourse, IsMoving}
 use Rattle.history_calls.proofs.Behind.{early-losses, early-none, IsAmong, legal-losses}
@@ -217,9 +220,15 @@ module _ (tells : Type 0) (given : Given) (tape mid tape' : List Operation) (sco
   stored-all t = stored-moves scope given with_it new course.window buffer (disk given.start tape) (disk given.start tape') did.moved (backup-all t)
       (spares-stored scope old with_it course.window buffer (disk given.start tape) (differ-with old slot sb unheld-it) (was.stored t))
 
-  stands-all : tells → (sound : Type 0) (list : ℕ → Sector) → StandsInCourse sound old course buffer (present given tape) list → StandsInCourse sound new course buffer (present given tape') list
-  stands-all t sound list stands = courses-move sound given with_it new course buffer (present given tape) (present given tape') list reshaping.placed did.moved (others-all t)
-      (spares-leave sound old with_it course buffer (present given tape) list (differ-with old slot sb unheld-it) stands)
+  -- what new members do without the former ones did
+  without-all : (shape : Shape) → DoesWithout shape new → DoesWithout shape old
+  without-all shape does = spares-without old with_it (differ-with old slot sb unheld-it) shape (shape-without-before given with_it new did.moved shape does)
+
+  stands-all : tells → (sound : Type 0) (list : ℕ → Sector) → StandsInCourse sound (λ shape. DoesWithout shape old) old course buffer (present given tape) list
+      → StandsInCourse sound (λ shape. DoesWithout shape new) new course buffer (present given tape') list
+  stands-all t sound list stands = courses-move sound (λ shape. DoesWithout shape new) given with_it new course buffer (present given tape) (present given tape') list reshaping.placed did.moved (others-all t)
+      (spares-leave sound (λ shape. DoesWithout shape new) old with_it course buffer (present given tape) list (differ-with old slot sb unheld-it)
+      (stands-less sound (λ shape. DoesWithout shape new) (λ shape. DoesWithout shape old) old course buffer (present given tape) list without-all stands))
 
   -- ---- each mark
 
@@ -259,7 +268,7 @@ module _ (tells : Type 0) (given : Given) (tape mid tape' : List Operation) (sco
         (λ t. record {
           rise = rise-all t;
           keeps = λ told same fills more room gone unclean before. keeps-all t told same room gone unclean before;
-          listed = λ does fills. on t (was.listed t did.does fills);
+          listed = λ fills. on t (was.listed t fills);
           legal = λ fills gone level. legal-losses (world_in given tape' scope first) entries who end (losses_of roles spares) (event ∷ []) (losses-are roles spares)
               (legal (world_in given tape' scope first) (entries ++ entries_of who end (losses_of roles spares)) (entry_of who end event), tt, tt);
         })
@@ -274,7 +283,7 @@ module _ (tells : Type 0) (given : Given) (tape mid tape' : List Operation) (sco
 
   -- It is a spare: how many steps are left isn't told then.
   pub added-moves : IsMoving tells given tape' scope first (entries ++ entries_of who end (losses_of roles spares ++ Added slot ∷ [])) new carried' course buffer left
-  added-moves = spare-moves (Added slot) (record { adds = refl; gives = refl; ends = refl; still = λ x values. refl; level = λ n. refl }) (λ told is. tt) (λ world before e. tt)
+  added-moves = spare-moves (Added slot) (record { adds = refl; gives = refl; ends = refl; still = λ x values. refl; level = λ n. refl; other = refl }) (λ told is. tt) (λ world before e. tt)
 
   -- It was lost in this.
   pub added-lost-moves : IsMoving tells given tape' scope first (entries ++ entries_of who end (losses_of roles spares ++ Refused (SlotFault slot) ∷ [])) new carried' course buffer left
@@ -296,8 +305,8 @@ looked-moves tells given tape tape' scope first entries m carried course buffer 
     (λ t. record {
       rise = record { left = λ live. live; events = λ u live. let longer = added-longer tape tape' (looked t) in omega (arith, longer) };
       keeps = λ told fills more room gone unclean before. flushed-safe (OpensFit (world_in given tape scope first)) scope given told m tape tape' (looked t) before;
-      listed = λ does fills. subst (λ (c : Contents). HasListInCourse (OpensFit (world_in given tape scope first)) m course buffer c (now (opening_list (world_in given tape scope first)) entries))
-          (sym (contents-added given.start tape tape' (looked t))) (was.listed t does fills);
+      listed = λ fills. subst (λ (c : Contents). HasListInCourse (OpensFit (world_in given tape scope first)) m course buffer c (now (opening_list (world_in given tape scope first)) entries))
+          (sym (contents-added given.start tape tape' (looked t))) (was.listed t fills);
       legal = λ fills gone level. (tt, tt, tt);
     })
 

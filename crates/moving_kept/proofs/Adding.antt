@@ -17,7 +17,6 @@ use Rattle.flat_history.specs.Losses.{unsettles, loses, is_gone_after, is_unsync
 use Rattle.flat_history.specs.Plain.{entries_of}
 use Rattle.flat_history.specs.Sound.{OpensFit}
 use Rattle.flat_history.specs.World.{opening_list, World}
-use Rattle.shape_views.specs.Regions.{DoWithout}
 use Rattle.shape_views.specs.Views.{Ledger}
 use Rattle.shape_changes.specs.Safety.{HasRoomLeft, IsRisen}
 use Rattle.shape_changes.specs.Steady.{IsMoreTold, IsSafeOver, KeepsSafe, AreGoneTold, IsUncleanTold}
@@ -30,7 +29,8 @@ use Rattle.course_kept.specs.declared.course.Course.{Course}
 use Rattle.course_kept.specs.Course.{IsCourseOf, IsStored}
 use Rattle.history_calls.specs.Reliable.{IsReliable, AreToldGone}
 use Rattle.history_calls.proofs.Behind.{AreLostOrMissing, IsAmong, AreFirst, first-of, early-losses, legal-losses, and-true}
-use Rattle.history_calls.proofs.Quiet.{IsLeftBehind}
+use Rattle.history_calls.proofs.LastStep.{IsWithin, AreWithin, losses-within}
+use Rattle.history_calls.proofs.Quiet.{IsLeftBehind, last-left}
 use Rattle.history_calls.proofs.Adding.{IsAdding, changing-leaves, ChangesEarly, unsettled-last}
 use Rattle.moving_kept.specs.Moving.{AreReshaping, HasListInCourse, IsMoving}
 use Rattle.moving_kept.proofs.Quiet.{listed-later}
@@ -48,6 +48,7 @@ use Rattle.kept_history.proofs.Entered.{adds_only, length-adding}
 -- filled in is right, where it is by its entries.
 pub record IsAddingBehind (given : Given) (tape : List Operation) (scope : Scope) (first : ℕ) (entries : List Entry) (old new : Members) (carried : ℕ → Bool) (course' : Course) (buffer' : List ℕ)
     (who : Who) (early : List Event) (event : Event) (tape' : List Operation) (end : ℕ) : Type 0 where
+  pub within : AreWithin (list_length old.newest) (early ++ event ∷ [])
   pub rise : IsRisen ⊤ old new tape tape'
   pub keeps : (told : Ledger) → IsFilledRight (world_in given tape scope first) entries → AreWhole new ⊎ OpensFit (world_in given tape scope first)
       → IsMoreTold (told_now (world_in given tape scope first) carried true entries) told
@@ -55,7 +56,7 @@ pub record IsAddingBehind (given : Given) (tape : List Operation) (scope : Scope
       → ((x : ℕ) → x < list_length old.newest → IsIn (told.values x) (now (opening_list (world_in given tape scope first)) (entries ++ entries_of who end (early ++ event ∷ [])) x))
       → HasRoomLeft old tape tape' → AreGoneTold told new → IsUncleanTold told old → (unsettles event ≡ true → told.unclean ≡ true)
       → IsSafeOver (world_in given tape scope first) given told old tape → KeepsSafe (world_in given tape scope first) given told new tape tape'
-  pub listed : DoWithout new → IsFilledRight (world_in given tape scope first) entries
+  pub listed : IsFilledRight (world_in given tape scope first) entries
       → HasListInCourse (OpensFit (world_in given tape scope first)) new course' buffer' (present given tape')
       (now (opening_list (world_in given tape scope first)) (entries ++ entries_of who end (early ++ event ∷ [])))
   pub legal : IsReliable (world_in given tape scope first) entries → AreToldGone (world_in given tape' scope first) (entries ++ entries_of who end early) new
@@ -65,12 +66,13 @@ pub record IsAddingBehind (given : Given) (tape : List Operation) (scope : Scope
 -- The same of a call that enters losses before its event.
 pub record IsAddingCall (given : Given) (tape : List Operation) (scope : Scope) (first : ℕ) (entries : List Entry) (old new : Members) (carried : ℕ → Bool) (course' : Course) (buffer' : List ℕ)
     (who : Who) (roles spares : ℕ) (event : Event) (tape' : List Operation) (end : ℕ) : Type 0 where
+  pub within : IsWithin (list_length old.newest) event
   pub rise : IsRisen ⊤ old new tape tape'
   pub keeps : (told : Ledger) → IsFilledRight (world_in given tape scope first) entries → IsMoreTold (told_now (world_in given tape scope first) carried true entries) told
       → ((x : ℕ) → x < list_length old.newest → IsIn (told.values x) (now (opening_list (world_in given tape scope first)) (entries ++ entries_of who end (losses_of roles spares ++ event ∷ [])) x))
       → HasRoomLeft old tape tape' → AreGoneTold told new → IsUncleanTold told old → (unsettles event ≡ true → told.unclean ≡ true)
       → IsSafeOver (world_in given tape scope first) given told old tape → KeepsSafe (world_in given tape scope first) given told new tape tape'
-  pub listed : DoWithout new → IsFilledRight (world_in given tape scope first) entries
+  pub listed : IsFilledRight (world_in given tape scope first) entries
       → HasListInCourse (OpensFit (world_in given tape scope first)) new course' buffer' (present given tape')
       (now (opening_list (world_in given tape scope first)) (entries ++ entries_of who end (losses_of roles spares ++ event ∷ [])))
   pub legal : IsReliable (world_in given tape scope first) entries
@@ -113,6 +115,7 @@ module _ (given : Given) (tape : List Operation) (scope : Scope) (first : ℕ) (
 
   changes : ChangesEarly given tape scope first entries old new carried true who early event (tape ++ ops) (length (tape ++ ops))
   changes = record {
+    within = call_to.within;
     rise = call_to.rise;
     keeps = λ told right all_gone fills more values room told_gone told_unclean unsettled before.
         call_to.keeps told fills (whole right all_gone) more values (λ x lt. values x (now (opening_list (world_in given tape scope first)) (entries ++ entries_of who (length (tape ++ ops)) (early ++ event ∷ [])) x) (newest x lt))
@@ -145,6 +148,7 @@ behind-moves tells given tape tape' scope first entries old new carried course c
       gone = λ t. (leaves t).gone;
       unclean = λ t. (leaves t).unclean;
       recorded = λ t. (leaves t).recorded;
+      last_step = λ t. last-left given tape tape' scope first entries (list_length old.newest) new carried true who end early event (leaves t) (at_end t) adding.other sized (was.last_step t).past;
       stored = stored;
       listed = λ t. listed-later given tape scope first entries (entries ++ entries_of who end (early ++ event ∷ [])) new carried course' buffer' tape'
           (now (opening_list (world_in given tape scope first)) (entries ++ entries_of who end (early ++ event ∷ []))) (leaves t) (λ x. refl) (call t).listed;
@@ -189,6 +193,7 @@ adding-moves tells given tape tape' scope first entries old new carried course c
     ])
     course_is stored told
     (λ t. let of = call t in record {
+      within = losses-within (list_length old.newest) (losses_of roles spares) (event ∷ []) (losses-are roles spares) (of.within, tt);
       rise = of.rise;
       keeps = λ told fills whole more values allowed room gone unclean unsettled before. of.keeps told fills more allowed room gone unclean unsettled before;
       listed = of.listed;

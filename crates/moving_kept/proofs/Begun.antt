@@ -1,7 +1,9 @@
 -- A reshape that begins in an array that keeps its record without one leaves an array that keeps it in the reshape.
-use Rattle.std.proofs.Common.{◌≡◌, ◌≢◌, ℕ, ◌+◌, ◌≤◌, ◌==◌, Bool, Option, Some, None, List, [], ◌∷◌, ◌++◌, length, refl, sym, ◌∙◌, ap, subst, arith, append-nil}
+use Rattle.std.proofs.Common.{◌≡◌, ◌≢◌, inl, inr, ℕ, ◌+◌, ◌<◌, ◌≤◌, ◌==◌, nat_lt, Bool, true, false, cond, Option, Some, None, List, [], ◌∷◌, ◌++◌, length, refl, sym, ◌∙◌, ap, subst, arith, append-nil}
 use Rattle.std.specs.Prelude.{IsFalse, IfSome, fold}
+use Rattle.std.proofs.lemmas.Bool.Decides.{nat_tests}
 use Rattle.md_base.specs.Search.{count_below}
+use Rattle.md_base.specs.Sectors.{Sector, zero_sector}
 use Rattle.md_base.specs.Shapes.{tolerance, tolerance_of}
 use Rattle.md_base.specs.declared.answers.Who.{Who}
 use Rattle.md_base.specs.declared.places.Shape.{Shape}
@@ -15,7 +17,7 @@ use Rattle.flat_history.specs.declared.events.Entry.{Entry}
 use Rattle.flat_history.specs.declared.events.Event.{Event}
 use Rattle.flat_history.specs.declared.events.Event.TheVariants.{Step}
 use Rattle.flat_history.specs.declared.events.StepKind.TheVariants.{Begun}
-use Rattle.flat_history.specs.Flat.{now}
+use Rattle.flat_history.specs.Flat.{now, values_after}
 use Rattle.flat_history.specs.Legal.{told_left, left_after}
 use Rattle.flat_history.specs.Plain.{entries_of}
 use Rattle.flat_history.specs.Sound.{OpensFit}
@@ -25,7 +27,8 @@ use Rattle.shape_views.proofs.Stands.{final-still}
 use Rattle.shape_ends.specs.Ends.{IsBegun, IsCleared}
 use Rattle.shape_ends.proofs.EndLaws.{cleared-plain, fewer-pass}
 use Rattle.views.specs.Moving.{Grows, IsMoved}
-use Rattle.views.specs.Lacking.{AreOtherRowsKept}
+use Rattle.views.specs.Lacking.{DoesWithout, AreOtherRowsKept}
+use Rattle.views.proofs.Fit.{list-alike}
 use Rattle.views.proofs.HeldRows.{missing-moved}
 use Rattle.call_entries.specs.Losing.{losses_of}
 use Rattle.call_entries.proofs.CallLaws.{losses-are}
@@ -36,8 +39,11 @@ use Rattle.kept_history.proofs.Growing.{fit-grown, alike-before, room-before}
 use Rattle.kept_history.proofs.Turned.{filled-before}
 use Rattle.course_kept.specs.Course.{StandsInCourse}
 use Rattle.course_kept.specs.Laws.{closed}
+use Rattle.course_kept.proofs.Frames.{does-or}
 use Rattle.course_kept.proofs.Courses.{begins-stand}
-use Rattle.history_calls.specs.Reliable.{IsReliable}
+use Rattle.history_calls.specs.Reliable.{IsReliable, HasLastStep}
+use Rattle.history_calls.proofs.Behind.{early-losses}
+use Rattle.history_calls.proofs.LastStep.{keeps-last}
 use Rattle.moving_kept.specs.Moving.{AreReshaping, HasListInCourse, IsStillKept, IsMoving}
 use Rattle.moving_kept.proofs.Beginning.{IsBeginningCall, begun-gone, begun-recorded, begun-level, begun-unclean, begun-values, begun-safe, begun-now, safe-over}
 use Rattle.moving_kept.proofs.Quiet.{IsLeftBy}
@@ -68,7 +74,7 @@ module _ (given : Given) (tape : List Operation) (scope : Scope) (first : ℕ) (
   recorded = was.recorded t
 
   -- what it can do without, it could before
-  without-old : DoWithout new → DoWithout old
+  without-old : DoesWithout (shape_of new.newest) new → DoWithout old
   without-old does = record { old = few; final = subst (λ (s : Shape). count_below s.disks (is_missing (reading_of old)) ≤ tolerance s) (sym (final-still old.newest are.begun.still)) few }
     where
       shape : shape_of new.newest ≡ shape_of old.newest
@@ -77,20 +83,55 @@ module _ (given : Given) (tape : List Operation) (scope : Scope) (first : ℕ) (
       few : count_below (shape_of old.newest).disks (is_missing (reading_of old)) ≤ tolerance (shape_of old.newest)
       few =
           let pass = fewer-pass (shape_of old.newest).disks (is_missing (reading_of old)) (is_missing (reading_of new)) (λ j lt miss. missing-moved are.moved j (are.begun.missing j lt miss)) in
-          let most = subst (λ (s : Shape). count_below s.disks (is_missing (reading_of new)) ≤ tolerance s) shape does.old in
+          let most = subst (λ (s : Shape). count_below s.disks (is_missing (reading_of new)) ≤ tolerance s) shape does in
           omega (arith, pass, most)
 
-  listed : DoWithout new → IsFilledRight later all → HasListInCourse (OpensFit later) new (closed 0) buffer (present given (tape ++ ops)) (now (opening_list later) all)
-  listed does fills =
+  -- the list stands by the shape in force, if that does without what is missing of it
+  listed-old : DoesWithout (shape_of new.newest) new → IsFilledRight later all → HasListInCourse (OpensFit later) new (closed 0) buffer (present given (tape ++ ops)) (now (opening_list later) all)
+  listed-old does fills =
       let l = was.listed t (without-old does) (filled-before world ops entries (entries_of who (length (tape ++ ops)) (Step Begun left ∷ losses_of roles spares)) recorded.begun recorded.ends fills) in
       record {
         list = l.list;
         is = λ x lt. l.is x (let n = call.sized in omega (arith, lt, n))
             ∙ sym (begun-values given tape scope first entries old plan new carried carried' who left roles spares ops was.sizes_are recorded.begun recorded.ends recorded.sized (was.gone t) call x);
-        stands = subst (λ (sound : Type 0). StandsInCourse sound new (closed 0) buffer (present given (tape ++ ops)) l.list) (sym (fit-grown world ops recorded.begun))
-            (begins-stand (OpensFit world) scope given old plan new buffer (present given tape) (present given (tape ++ ops)) l.list are.begun are.backed are.moved rows
-            (λ forth x past. l.zeros x (let n = call.planned in omega (arith, past, n))) l.stands l.rows);
+        stands = subst (λ (sound : Type 0). StandsInCourse sound (λ shape. DoesWithout shape new) new (closed 0) buffer (present given (tape ++ ops)) l.list) (sym (fit-grown world ops recorded.begun))
+            (begins-stand (OpensFit world) (λ shape. DoesWithout shape new) scope given old plan new buffer (present given tape) (present given (tape ++ ops)) l.list are.begun are.backed are.moved rows
+            (λ forth x past. l.zeros x (let n = call.planned in omega (arith, past, n))) (λ own. l.stands) (λ own. l.rows));
       }
+
+  -- the list as it is now, with zeros behind its end
+  abbrev zeroed : ℕ → Sector
+  zeroed x = cond (nat_lt x (list_length plan.newest)) (now (opening_list later) all x) zero_sector
+
+  -- and if it doesn't, no row is asked to stand
+  listed-none : (DoesWithout (shape_of new.newest) new → ⊥) → HasListInCourse (OpensFit later) new (closed 0) buffer (present given (tape ++ ops)) (now (opening_list later) all)
+  listed-none lacks = record {
+    list = zeroed;
+    is = λ x lt. ap (λ (b : Bool). cond b (now (opening_list later) all x) zero_sector) (below x (subst (λ (n : ℕ). x < n) (list-alike plan.newest new.newest are.moved.reshape are.moved.shape are.moved.size) lt));
+    stands = begins-stand (OpensFit later) (λ shape. DoesWithout shape new) scope given old plan new buffer (present given tape) (present given (tape ++ ops)) zeroed are.begun are.backed are.moved rows
+        (λ forth x past. ap (λ (b : Bool). cond b (now (opening_list later) all x) zero_sector) (behind-end x past)) (λ own. absurd (lacks own)) (λ own. absurd (lacks own));
+  }
+    where
+      below : (x : ℕ) → x < list_length plan.newest → nat_lt x (list_length plan.newest) ≡ true
+      below x lt = grind (arith, nat_tests, lt)
+
+      behind-end : (x : ℕ) → list_length plan.newest ≤ x → nat_lt x (list_length plan.newest) ≡ false
+      behind-end x past = grind (arith, nat_tests, past)
+
+  listed : IsFilledRight later all → HasListInCourse (OpensFit later) new (closed 0) buffer (present given (tape ++ ops)) (now (opening_list later) all)
+  listed fills = elim (does-or (shape_of new.newest) new) [
+    | inl does ↦ listed-old does fills
+    | inr lacks ↦ listed-none lacks
+  ]
+
+  -- what it enters gives no sector a value
+  begun-still : (x : ℕ) (values : List Sector) → fold (λ values e. values_after x values e.event) values (entries_of who (length (tape ++ ops)) (Step Begun left ∷ losses_of roles spares)) ≡ values
+  begun-still x values = subst (λ (l : List Event). fold (λ values e. values_after x values e.event) values (entries_of who (length (tape ++ ops)) l) ≡ values) (append-nil (losses_of roles spares))
+      ((early-losses roles spares).values who (length (tape ++ ops)) [] x values)
+
+  last-step : HasLastStep later all (list_length new.newest)
+  last-step = keeps-last world ops entries (list_length old.newest) (list_length new.newest) who [] (Step Begun left) (losses_of roles spares) recorded.begun recorded.ends refl (losses-are roles spares)
+      (λ x values le none. begun-still x values ∙ none (let n = call.sized in omega (arith, le, n))) (was.past t)
 
   begun-leaves : IsLeftBy given tape scope first entries all new carried' (closed 0) buffer (tape ++ ops)
   begun-leaves = record {
@@ -103,6 +144,7 @@ module _ (given : Given) (tape : List Operation) (scope : Scope) (first : ℕ) (
     gone = begun-gone given tape scope first entries old plan new carried carried' who left roles spares ops was.sizes_are recorded.begun recorded.ends recorded.sized (was.gone t) call;
     unclean = λ dirty. begun-unclean given tape scope first entries old plan new carried carried' who left roles spares ops was.sizes_are recorded.begun recorded.ends recorded.sized (was.gone t) call (was.unclean t (sym are.clean ∙ dirty));
     recorded = begun-recorded given tape scope first entries old plan new carried carried' who left roles spares ops was.sizes_are recorded.begun recorded.ends recorded.sized (was.gone t) call recorded goes caller behind told some;
+    last_step = last-step;
     listed = listed;
     safe = begun-safe given tape scope first entries old plan new carried carried' who left roles spares ops was.sizes_are recorded.begun recorded.ends recorded.sized (was.gone t) call (safe-over was t call.live);
     now_safe = begun-now given tape scope first entries old plan new carried carried' who left roles spares ops was.sizes_are recorded.begun recorded.ends recorded.sized (was.gone t) call (safe-over was t call.live);
@@ -126,6 +168,7 @@ begun-moves tells given tape tape' scope first entries old plan new carried carr
   gone = λ t. (leaves t).gone;
   unclean = λ t. (leaves t).unclean;
   recorded = λ t. (leaves t).recorded;
+  last_step = λ t. (leaves t).last_step;
   stored = λ t. let plain = cleared-plain scope new (disk given.start tape') (cleared t) in record { section = plain.0; sectors = tt; headers = plain.1 };
   listed = λ t. (leaves t).listed;
   safe = λ t. (leaves t).safe;

@@ -18,14 +18,12 @@ use Rattle.flat_history.specs.declared.events.Event.TheVariants.{Refused, Step}
 use Rattle.flat_history.specs.declared.events.StepKind.TheVariants.{Entered as EntersWindow}
 use Rattle.flat_history.specs.Plain.{entries_of}
 use Rattle.flat_history.specs.Sound.{OpensFit}
-use Rattle.shape_views.specs.Regions.{DoWithout}
 use Rattle.shape_views.specs.Views.{Ledger}
 use Rattle.shape_changes.specs.Safety.{HasRoomLeft, IsRisen}
 use Rattle.shape_changes.specs.Steady.{IsMoreTold, IsSafeOver, KeepsSafe, AreGoneTold, IsUncleanTold}
 use Rattle.views.specs.Moving.{Grows, IsMoved}
-use Rattle.views.specs.Lacking.{AreOtherRowsKept}
+use Rattle.views.specs.Lacking.{DoesWithout, AreOtherRowsKept}
 use Rattle.views.proofs.Fit.{list-alike}
-use Rattle.views.proofs.HeldRows.{without-before}
 use Rattle.call_entries.specs.Losing.{losses_of}
 use Rattle.call_entries.proofs.CallLaws.{losses-are}
 use Rattle.call_entries.proofs.LeftLaws.{left-behind, left-more}
@@ -37,6 +35,7 @@ use Rattle.kept_history.specs.Told.{told_now}
 use Rattle.grow_asked.specs.declared.window.Window.TheVariants.{Entered, Unsure}
 use Rattle.course_kept.specs.Course.{IsStored, StandsInCourse}
 use Rattle.course_kept.specs.Laws.{closed, entered, unsure}
+use Rattle.course_kept.proofs.Frames.{stands-later}
 use Rattle.course_kept.proofs.Courses.{enters-stand}
 use Rattle.moving_kept.specs.Moving.{IsMoving}
 use Rattle.moving_kept.proofs.MembersMove.{reshaping-moved}
@@ -56,8 +55,8 @@ pub record IsWindowRead (tells : Type 0) (given : Given) (tape tape' : List Oper
   pub room : IsRoomFor span buffer
   pub rise : tells → IsRisen ⊤ old new tape tape'
   pub kept : tells → AreOtherRowsKept (λ row. ⊥) (reading_of new) (present given tape) (present given tape')
-  pub has : tells → DoWithout new → IsFilledRight (world_in given tape scope first) entries → (list : ℕ → Sector)
-      → StandsInCourse (OpensFit (world_in given tape scope first)) old (closed 0) former (present given tape) list → HasWindow span buffer list
+  pub has : tells → IsFilledRight (world_in given tape scope first) entries → (list : ℕ → Sector)
+      → StandsInCourse (OpensFit (world_in given tape scope first)) (λ shape. DoesWithout shape old) old (closed 0) former (present given tape) list → HasWindow span buffer list
   pub keeps : tells → (told : Ledger) → IsFilledRight (world_in given tape scope first) entries → IsMoreTold (told_now (world_in given tape scope first) carried true entries) told
       → HasRoomLeft old tape tape' → AreGoneTold told new → IsUncleanTold told old → IsSafeOver (world_in given tape scope first) given told old tape → KeepsSafe (world_in given tape scope first) given told new tape tape'
 
@@ -87,13 +86,13 @@ module _ (tells : Type 0) (given : Given) (tape tape' : List Operation) (scope :
       (λ t. record {
         rise = did.rise t;
         keeps = did.keeps t;
-        listed = λ does fills.
-            let l = was.listed t (without-before given old new moved does) fills in
+        listed = λ fills.
+            let l = was.listed t fills in
             record {
               list = l.list;
               is = λ x lt. l.is x (subst (λ (n : ℕ). x < n) (list-alike old.newest new.newest moved.reshape moved.shape moved.size) lt);
-              stands = (enters-stand (OpensFit (world_in given tape scope first)) given old new span sectioned former buffer (present given tape) (present given tape') l.list moved (did.kept t) did.room
-                  (did.has t does fills l.list l.stands) l.stands).0;
+              stands = (enters-stand (OpensFit (world_in given tape scope first)) (λ shape. DoesWithout shape new) given old new span sectioned former buffer (present given tape) (present given tape') l.list moved (did.kept t) did.room
+                  (did.has t fills l.list l.stands) (stands-later (OpensFit (world_in given tape scope first)) given old new (closed 0) former (present given tape) l.list moved l.stands)).0;
             };
         legal = λ fills gone level. step-is (world_in given tape' scope first) (entries ++ entries_of who end (losses_of roles spares)) (entry_of who end (Step EntersWindow left)) EntersWindow left
             (told-behind (left + 1) entries who end (losses_of roles spares) (losses-are roles spares) was.left_told);
@@ -114,13 +113,13 @@ module _ (tells : Type 0) (given : Given) (tape tape' : List Operation) (scope :
       (λ t. record {
         rise = did.rise t;
         keeps = did.keeps t;
-        listed = λ does fills.
-            let l = was.listed t (without-before given old new moved does) fills in
+        listed = λ fills.
+            let l = was.listed t fills in
             record {
               list = l.list;
               is = λ x lt. l.is x (subst (λ (n : ℕ). x < n) (list-alike old.newest new.newest moved.reshape moved.shape moved.size) lt);
-              stands = (enters-stand (OpensFit (world_in given tape scope first)) given old new span false former buffer (present given tape) (present given tape') l.list moved (did.kept t) did.room
-                  (did.has t does fills l.list l.stands) l.stands).1;
+              stands = (enters-stand (OpensFit (world_in given tape scope first)) (λ shape. DoesWithout shape new) given old new span false former buffer (present given tape) (present given tape') l.list moved (did.kept t) did.room
+                  (did.has t fills l.list l.stands) (stands-later (OpensFit (world_in given tape scope first)) given old new (closed 0) former (present given tape) l.list moved l.stands)).1;
             };
         legal = λ fills gone level. tt;
       })

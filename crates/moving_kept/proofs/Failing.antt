@@ -20,15 +20,16 @@ use Rattle.shape_changes.specs.Marking.{AreOthersPresent}
 use Rattle.shape_changes.specs.Safety.{HasRoomLeft, IsRisen}
 use Rattle.shape_changes.specs.Steady.{IsSafeOver, KeepsSafe, AreGoneTold, IsUncleanTold}
 use Rattle.views.specs.Moving.{Grows, IsMoved}
+use Rattle.views.specs.Lacking.{DoesWithout}
 use Rattle.safe_updates.specs.Unused.{IsUnusedKept}
 use Rattle.views.proofs.Fit.{list-alike, count-alike}
-use Rattle.views.proofs.HeldRows.{without-before}
 use Rattle.call_entries.specs.Losing.{losses_of}
 use Rattle.call_entries.proofs.CallLaws.{losses-are}
 use Rattle.call_entries.proofs.LeftLaws.{left-behind, left-more}
 use Rattle.kept_history.specs.Recorded.{IsCallGoing}
 use Rattle.kept_history.specs.Safe.{world_in}
 use Rattle.course_kept.specs.declared.course.Course.{Course}
+use Rattle.course_kept.proofs.Frames.{stands-later}
 use Rattle.course_kept.proofs.Courses.{courses-move}
 use Rattle.moving_kept.specs.Moving.{IsMoving}
 use Rattle.history_calls.proofs.Behind.{AreLostOrMissing}
@@ -56,7 +57,7 @@ pub failed-moves : (tells : Type 0) (given : Given) (tape tape' : List Operation
     → IsMoving tells given tape' scope first (entries ++ entries_of who end ((Lost role Command ∷ losses_of roles spares) ++ Failed role ∷ [])) new carried course buffer left
 failed-moves tells given tape tape' scope first entries old new carried course buffer left who end role roles spares was goes caller at_end grows did =
     early-moves tells given tape tape' scope first entries old new carried course course buffer buffer left left who end (Lost role Command ∷ losses_of roles spares) (IsFailedOrAmong role roles) (Failed role)
-    was goes caller at_end grows (record { adds = refl; gives = refl; ends = refl; still = λ x values. refl; level = λ n. refl })
+    was goes caller at_end grows (record { adds = refl; gives = refl; ends = refl; still = λ x values. refl; level = λ n. refl; other = refl })
     (reshaping-moved scope given old new did.moved was.members_are) did.few (early-failed role roles spares) missing list-same (ap (λ (s : Shape). s.level) did.moved.shape) did.clean
     (course-moved given old new course did.moved was.course_is)
     (λ t. stored-kept scope given old new course.window buffer (disk given.start tape) (disk given.start tape') was.members_are did.moved (did.unused t) (was.stored t))
@@ -65,12 +66,13 @@ failed-moves tells given tape tape' scope first entries old new carried course b
     (λ t. record {
       rise = did.rise t;
       keeps = λ told fills more room gone unclean before. did.safe t (world_in given tape scope first) told room gone unclean before;
-      listed = λ does fills.
-          let l = was.listed t (without-before given old new did.moved does) fills in
+      listed = λ fills.
+          let l = was.listed t fills in
           record {
             list = l.list;
             is = λ x lt. l.is x (subst (λ (n : ℕ). x < n) list-same lt);
-            stands = courses-move (OpensFit (world_in given tape scope first)) given old new course buffer (present given tape) (present given tape') l.list was.members_are.placed did.moved (did.others t) l.stands;
+            stands = courses-move (OpensFit (world_in given tape scope first)) (λ shape. DoesWithout shape new) given old new course buffer (present given tape) (present given tape') l.list was.members_are.placed did.moved (did.others t)
+                (stands-later (OpensFit (world_in given tape scope first)) given old new course buffer (present given tape) l.list did.moved l.stands);
           };
       legal = λ fills gone level. legal-failed (world_in given tape' scope first) entries who end role roles spares;
     })

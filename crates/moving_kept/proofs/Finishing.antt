@@ -27,7 +27,7 @@ use Rattle.shape_changes.specs.Safety.{HasRoomLeft, IsRisen}
 use Rattle.shape_changes.specs.Steady.{IsMoreTold, IsSafeOver, KeepsSafe, AreGoneTold, IsUncleanTold}
 use Rattle.safe_updates.specs.Unused.{IsUnusedKept}
 use Rattle.views.specs.Moving.{Grows, IsMoved}
-use Rattle.views.specs.Lacking.{AreTooMany, AreOtherRowsKept}
+use Rattle.views.specs.Lacking.{DoesWithout, AreTooMany, AreOtherRowsKept}
 use Rattle.views.proofs.Fit.{list-alike}
 use Rattle.window_rows.specs.Copies.{tail_of, IsCopied}
 use Rattle.window_calls.specs.Finishing.{IsOfRest, AreStripesCopied, IsOpenWindow}
@@ -37,7 +37,9 @@ use Rattle.kept_history.specs.Recorded.{IsCallGoing}
 use Rattle.kept_history.specs.Safe.{world_in}
 use Rattle.kept_history.specs.Told.{told_now}
 use Rattle.kept_history.proofs.Lists.{newest-in}
+use Rattle.course_kept.specs.Course.{AnyShape, StandsInCourse}
 use Rattle.course_kept.specs.Laws.{closed, entered}
+use Rattle.course_kept.proofs.Frames.{stands-whole, stands-without}
 use Rattle.course_kept.proofs.Courses.{courses-copied, list-beside, rows-beside}
 use Rattle.course_kept.proofs.Finishes.{rests-go-on, finishes-close}
 use Rattle.moving_kept.specs.Moving.{HasListInCourse, IsMoving}
@@ -51,21 +53,24 @@ use Rattle.moving_kept.proofs.Steps.{AreMissingSince, quiet-step, missing-moved,
 -- What is kept of it is what the call asks, by whatever tells more than the history does.
 pub window-open : (tells : Type 0) (given : Given) (tape : List Operation) (scope : Scope) (first : ℕ) (entries : List Entry) (old : Members) (carried : ℕ → Bool)
     (span : Span) (copied : ℕ) (sectioned : Bool) (buffer : List ℕ) (left : ℕ) → IsMoving tells given tape scope first entries old carried (entered span copied sectioned) buffer left → tells
-    → (told : Ledger) → IsMoreTold (told_now (world_in given tape scope first) carried true entries) told
+    → DoWithout old → (told : Ledger) → IsMoreTold (told_now (world_in given tape scope first) carried true entries) told
     → (l : HasListInCourse (OpensFit (world_in given tape scope first)) old (entered span copied sectioned) buffer (present given tape) (now (opening_list (world_in given tape scope first)) entries))
     → IsOpenWindow (OpensFit (world_in given tape scope first)) scope told old span buffer copied l.list (present given tape) (disk given.start tape)
-window-open tells given tape scope first entries old carried span copied sectioned buffer left was t told more l = record {
+window-open tells given tape scope first entries old carried span copied sectioned buffer left was t enough told more l = record {
   able = able-kept scope given old span copied sectioned (disk given.start tape) was.course_is.window (was.stored t).section;
-  written = λ row at. l.stands.copied row at;
-  buffered = courses-copied (OpensFit (world_in given tape scope first)) scope given old span copied sectioned buffer (present given tape) l.list was.members_are.backed was.course_is.window.0 l.stands;
+  written = λ row at. l.stands.copied enough.final row at;
+  buffered = courses-copied (OpensFit (world_in given tape scope first)) (λ shape. DoesWithout shape old) scope given old span copied sectioned buffer (present given tape) l.list was.members_are.backed was.course_is.window.0 l.stands;
   allowed = λ x lt. more.values x (within x lt) (l.list x) (subst (λ (v : Sector). IsIn (values_of (opening_list (world_in given tape scope first)) entries x) v) (sym (l.is x lt))
       (newest-in (opening_list (world_in given tape scope first)) entries x (within x lt)));
-  stands = list-beside (OpensFit (world_in given tape scope first)) old span copied sectioned buffer (present given tape) l.list l.stands;
-  rows_are = λ is enough so. rows-beside (OpensFit (world_in given tape scope first)) old span copied sectioned buffer (present given tape) l.list l.stands so;
+  stands = list-beside (OpensFit (world_in given tape scope first)) old span copied sectioned buffer (present given tape) l.list whole;
+  rows_are = λ is few so. rows-beside (OpensFit (world_in given tape scope first)) old span copied sectioned buffer (present given tape) l.list whole so;
   headers = (was.stored t).headers;
   zeros = λ so x tail. l.stands.zeros tail.forth x tail.past;
 }
   where
+    whole : StandsInCourse (OpensFit (world_in given tape scope first)) AnyShape old (entered span copied sectioned) buffer (present given tape) l.list
+    whole = stands-whole (OpensFit (world_in given tape scope first)) old (entered span copied sectioned) buffer (present given tape) l.list enough l.stands
+
     within : (x : ℕ) → x < list_length old.newest → x < length_of (length (opening_list (world_in given tape scope first))) entries
     within x lt = let size = (was.recorded t).sized in omega (arith, lt, size)
 
@@ -105,9 +110,9 @@ module _ (tells : Type 0) (given : Given) (tape tape' : List Operation) (scope :
       (λ t. record {
         rise = did.rise t;
         keeps = λ told fills more room gone unclean here.
-            let l = was.listed t did.enough fills in
-            did.safe t (world_in given tape scope first) told room gone unclean l.list (window-open tells given tape scope first entries old carried span copied sectioned buffer former was t told more l) here;
-        listed = λ enough fills. on t (was.listed t did.enough fills);
+            let l = was.listed t fills in
+            did.safe t (world_in given tape scope first) told room gone unclean l.list (window-open tells given tape scope first entries old carried span copied sectioned buffer former was t did.enough told more l) here;
+        listed = λ fills. on t (was.listed t fills);
         legal = λ fills gone level. tt;
       })
     where
@@ -116,10 +121,12 @@ module _ (tells : Type 0) (given : Given) (tape tape' : List Operation) (scope :
       on t l = record {
         list = l.list;
         is = λ x lt. l.is x (subst (λ (n : ℕ). x < n) (list-alike (moved_past span old).newest new.newest moved.reshape moved.shape moved.size) lt);
-        stands = finishes-close (OpensFit (world_in given tape scope first)) given old new span copied sectioned buffer (present given tape) (present given tape') l.list was.members_are.placed moved
+        stands = stands-without (OpensFit (world_in given tape scope first)) new (closed 0) buffer (present given tape') l.list
+            (finishes-close (OpensFit (world_in given tape scope first)) given old new span copied sectioned buffer (present given tape) (present given tape') l.list was.members_are.placed moved
             was.course_is.window.0 (plain-of old.newest span copied sectioned was.course_is.window) (did.others t)
-            (stands t l.list (courses-copied (OpensFit (world_in given tape scope first)) scope given old span copied sectioned buffer (present given tape) l.list was.members_are.backed was.course_is.window.0 l.stands)
-            (λ row at. l.stands.copied row at)) l.stands;
+            (stands t l.list (courses-copied (OpensFit (world_in given tape scope first)) (λ shape. DoesWithout shape old) scope given old span copied sectioned buffer (present given tape) l.list was.members_are.backed was.course_is.window.0 l.stands)
+            (λ row at. l.stands.copied did.enough.final row at))
+            (stands-whole (OpensFit (world_in given tape scope first)) old (entered span copied sectioned) buffer (present given tape) l.list did.enough l.stands));
       }
 
   -- It is refused: the window is open as before, and what was copied of it in the call is copied again.
@@ -127,8 +134,8 @@ module _ (tells : Type 0) (given : Given) (tape tape' : List Operation) (scope :
       → IsMoving tells given tape' scope first (entries ++ entries_of who end (losses_of roles spares ++ Refused refusal ∷ [])) new carried (entered span copied sectioned) buffer left
   unfinished-moves left refusal was moved many =
       refused-moves tells given tape tape' scope first entries old new carried (entered span copied sectioned) buffer left who end roles spares refusal was goes caller at_end grows moved did.few did.since did.clean (inr many) did.rise did.unused
-      (λ t sound list stands. (rests-go-on sound given old new span copied sectioned buffer (present given tape) (present given tape') list was.members_are.placed moved was.course_is.window.0
+      (λ t sound among list stands. (rests-go-on sound among given old new span copied sectioned buffer (present given tape) (present given tape') list was.members_are.placed moved was.course_is.window.0
       (plain-of old.newest span copied sectioned was.course_is.window) (did.others t) stands).0)
       (λ t told fills more room gone unclean here.
-      let l = was.listed t did.enough fills in
-      did.safe t (world_in given tape scope first) told room gone unclean l.list (window-open tells given tape scope first entries old carried span copied sectioned buffer left was t told more l) here)
+      let l = was.listed t fills in
+      did.safe t (world_in given tape scope first) told room gone unclean l.list (window-open tells given tape scope first entries old carried span copied sectioned buffer left was t did.enough told more l) here)

@@ -1,18 +1,17 @@
 -- A flush or a stop of an array in a reshape, from what `settle` leaves of its members, and one that is refused for missing members.
-use Rattle.std.proofs.Common.{◌≡◌, ◌⊎◌, inl, inr, ℕ, ◌<◌, ◌≤◌, ◌==◌, Bool, true, false, List, [], ◌∷◌, ◌++◌, length, refl, sym, ◌∙◌, ap, subst, arith}
+use Rattle.std.proofs.Common.{◌≡◌, inl, inr, ℕ, ◌<◌, ◌≤◌, ◌==◌, Bool, true, false, List, [], ◌∷◌, ◌++◌, length, refl, sym, ◌∙◌, ap, subst}
 use Rattle.std.specs.Prelude.{IsFalse, slice_index_or, ⊤}
-use Rattle.std.proofs.lemmas.Bool.{cases_lt}
 use Rattle.md_base.specs.Sectors.{Sector}
 use Rattle.md_base.specs.declared.answers.Refusal.{Refusal}
 use Rattle.md_base.specs.declared.answers.Who.{Who}
 use Rattle.md_base.specs.declared.places.Shape.{Shape}
-use Rattle.md_base.specs.Shapes.{tolerance, tolerance_of}
+use Rattle.md_base.specs.Shapes.{tolerance_of}
 use Rattle.bank.specs.declared.bank.Operation.{Operation}
 use Rattle.bank.specs.Given.{Given}
 use Rattle.bank.specs.Tape.{IsIn, disk}
 use Rattle.superblocks.specs.declared.members.Members.{Members}
-use Rattle.superblocks.specs.Reading.{Scope, is_clean, shape_of, final_shape, list_length, role_count}
-use Rattle.row_io.specs.Rows.{reading_of, present, missing_count}
+use Rattle.superblocks.specs.Reading.{Scope, is_clean, shape_of, list_length, role_count}
+use Rattle.row_io.specs.Rows.{present}
 use Rattle.flat_history.specs.declared.events.Entry.{Entry}
 use Rattle.flat_history.specs.declared.events.Event.{Event}
 use Rattle.flat_history.specs.declared.events.Event.TheVariants.{Refused}
@@ -26,13 +25,11 @@ use Rattle.shape_views.specs.Views.{Ledger}
 use Rattle.shape_changes.specs.Marking.{AreOthersPresent}
 use Rattle.shape_changes.specs.Safety.{HasRoomLeft, IsRisen}
 use Rattle.shape_changes.specs.Steady.{IsSafeOver, KeepsSafe, AreGoneTold, IsUncleanTold, AreWritesAllowed, settled_ledger}
-use Rattle.views.specs.Lacking.{AreTooMany}
+use Rattle.views.specs.Lacking.{DoesWithout, AreTooMany}
 use Rattle.views.specs.Moving.{Grows, IsMoved}
 use Rattle.views.specs.Under.{StandsUnder, RowsStandUnder}
 use Rattle.safe_updates.specs.Unused.{IsUnusedKept}
 use Rattle.views.proofs.Fit.{list-alike}
-use Rattle.views.proofs.HeldRows.{without-before}
-use Rattle.views.proofs.LackingLaws.{never-both}
 use Rattle.call_entries.specs.Losing.{losses_of}
 use Rattle.call_entries.proofs.CallLaws.{losses-are, values-losses}
 use Rattle.call_entries.proofs.LeftLaws.{left-behind, left-more}
@@ -40,6 +37,7 @@ use Rattle.kept_history.specs.Recorded.{IsCallGoing}
 use Rattle.kept_history.specs.Safe.{world_in, IsFilledRight}
 use Rattle.kept_history.proofs.Entered.{values-more}
 use Rattle.course_kept.specs.declared.course.Course.{Course}
+use Rattle.course_kept.proofs.Frames.{stands-whole, stands-later}
 use Rattle.course_kept.proofs.Courses.{courses-move}
 use Rattle.course_kept.proofs.Under.{courses-stand-under}
 use Rattle.moving_kept.specs.Moving.{HasListInCourse, IsMoving}
@@ -50,16 +48,6 @@ use Rattle.moving_kept.proofs.Refusals.{refused-right}
 use Rattle.moving_kept.proofs.Settling.{IsSettling, settling-moves}
 use Rattle.moving_kept.proofs.Staying.{course-moved}
 use Rattle.moving_kept.proofs.Steps.{AreMissingSince, missing-moved}
-
--- an array can do without what it misses, or not
-without-or : (m : Members) → DoWithout m ⊎ (DoWithout m → ⊥)
-without-or m = elim (cases_lt (tolerance (shape_of m.newest)) (missing_count (reading_of m) (shape_of m.newest))) [
-  | inl above ↦ inr (λ does. let few = does.old in absurd (omega (arith, above, few)))
-  | inr old ↦ elim (cases_lt (tolerance (final_shape m.newest)) (missing_count (reading_of m) (final_shape m.newest))) [
-    | inl above ↦ inr (λ does. let few = does.final in absurd (omega (arith, above, few)))
-    | inr new ↦ inl (record { old = old; final = new })
-  ]
-]
 
 -- What a flush of the members leaves, in an array whose resync is pending or not: none but superblocks is written, and each mark is safe as long as the list
 -- stands whichever header a stop leaves.
@@ -99,23 +87,20 @@ module _ (tells : Type 0) (given : Given) (tape tape' : List Operation) (scope :
     (at_end : tells → end ≡ length tape') (grows : Grows tells tape tape')
     (did : AreFlushed tells given tape tape' scope first entries old new roles unsynced) where
   flushable : tells → IsFilledRight (world_in given tape scope first) entries → IsFlushable given tape scope first entries old
-  flushable t fills = elim (without-or old) [
-    | inl does ↦
-        let l = was.listed t does fills in
-        let both = courses-stand-under (OpensFit (world_in given tape scope first)) scope old course buffer (present given tape) (disk given.start tape) l.list (was.stored t) l.stands in
-        record {
-          list = l.list;
-          is = l.is;
-          stands = λ same. both.0;
-          rows = λ same fit. both.1 fit;
-        }
-    | inr not ↦ record {
-      list = now (opening_list (world_in given tape scope first)) entries;
-      is = λ x lt. refl;
-      stands = λ does. absurd (not does);
-      rows = λ does fit. absurd (not does);
-    }
-  ]
+  flushable t fills =
+      let l = was.listed t fills in
+      record {
+        list = l.list;
+        is = l.is;
+        stands = λ does. (under t l does).0;
+        rows = λ does fit. (under t l does).1 fit;
+      }
+    where
+      under : (t : tells) → (l : HasListInCourse (OpensFit (world_in given tape scope first)) old course buffer (present given tape) (now (opening_list (world_in given tape scope first)) entries)) → DoWithout old
+          → StandsUnder scope old (present given tape) (disk given.start tape) l.list
+          × (OpensFit (world_in given tape scope first) → RowsStandUnder scope old (present given tape) (disk given.start tape) l.list)
+      under t l does = courses-stand-under (OpensFit (world_in given tape scope first)) scope old course buffer (present given tape) (disk given.start tape) l.list (was.stored t)
+          (stands-whole (OpensFit (world_in given tape scope first)) old course buffer (present given tape) l.list does l.stands)
 
   list-same : list_length new.newest ≡ list_length old.newest
   list-same = list-alike old.newest new.newest did.moved.reshape did.moved.shape did.moved.size
@@ -124,14 +109,15 @@ module _ (tells : Type 0) (given : Given) (tape tape' : List Operation) (scope :
   level-same = ap (λ (s : Shape). s.level) did.moved.shape
 
   -- the list stands on, on the members that are left
-  still-listed : tells → DoWithout new → IsFilledRight (world_in given tape scope first) entries
+  still-listed : tells → IsFilledRight (world_in given tape scope first) entries
       → HasListInCourse (OpensFit (world_in given tape scope first)) new course buffer (present given tape') (now (opening_list (world_in given tape scope first)) entries)
-  still-listed t does fills =
-      let l = was.listed t (without-before given old new did.moved does) fills in
+  still-listed t fills =
+      let l = was.listed t fills in
       record {
         list = l.list;
         is = λ x lt. l.is x (subst (λ (n : ℕ). x < n) list-same lt);
-        stands = courses-move (OpensFit (world_in given tape scope first)) given old new course buffer (present given tape) (present given tape') l.list was.members_are.placed did.moved (did.others t) l.stands;
+        stands = courses-move (OpensFit (world_in given tape scope first)) (λ shape. DoesWithout shape new) given old new course buffer (present given tape) (present given tape') l.list was.members_are.placed did.moved (did.others t)
+            (stands-later (OpensFit (world_in given tape scope first)) given old new course buffer (present given tape) l.list did.moved l.stands);
       }
 
   -- each mark of it is safe
@@ -169,16 +155,19 @@ module _ (tells : Type 0) (given : Given) (tape tape' : List Operation) (scope :
       → IsMoving tells given tape' scope first (entries ++ entries_of who end (losses_of roles spares ++ Refused refusal ∷ [])) new carried course buffer left
   unflushed-moves refusal many =
       adding-moves tells given tape tape' scope first entries old new carried course course buffer buffer left left who end roles spares (Refused refusal) was goes caller at_end grows
-      (record { adds = refl; gives = refl; ends = refl; level = λ n. refl })
+      (record { adds = refl; gives = refl; ends = refl; level = λ n. refl; other = refl })
       (reshaping-moved scope given old new did.moved was.members_are) did.few (missing-moved roles did.moved did.since) list-same level-same (λ dirty. inr (unsettled refusal many))
       (course-moved given old new course did.moved was.course_is)
       (λ t. stored-kept scope given old new course.window buffer (disk given.start tape) (disk given.start tape') was.members_are did.moved (did.unused t) (was.stored t))
       (left-more left entries who end (losses_of roles spares ++ Refused refusal ∷ []) was.left_told (left-behind left who end (losses_of roles spares) (Refused refusal ∷ []) (losses-are roles spares) (λ told is. is)))
       (λ t. record {
+        within = tt;
         rise = did.rise t;
         keeps = λ told fills more allowed room gone unclean unsettled before.
             keeps t told fills (λ x lt. subst (IsIn (told.values x)) (now-same x) (allowed x lt)) room gone unclean before;
-        listed = λ does fills. absurd (never-both new refusal does many);
+        listed = λ fills.
+            let l = still-listed t fills in
+            record { list = l.list; is = λ x lt. l.is x lt ∙ sym (now-same x); stands = l.stands };
         legal = λ fills gone level. refused-right (world_in given tape' scope first) (entries ++ entries_of who end (losses_of roles spares)) given new did.moved.placed gone
             (ap tolerance_of level ∙ was.levelled t fills ∙ sym (ap tolerance_of level-same)) refusal many;
       })

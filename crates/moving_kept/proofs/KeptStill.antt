@@ -17,7 +17,7 @@ use Rattle.flat_history.specs.declared.events.Entry.{Entry}
 use Rattle.flat_history.specs.declared.events.Event.{Event}
 use Rattle.flat_history.specs.declared.events.Event.TheVariants.{Lost, Step}
 use Rattle.flat_history.specs.declared.events.StepKind.TheVariants.{TakenOver}
-use Rattle.flat_history.specs.Flat.{now, values_of}
+use Rattle.flat_history.specs.Flat.{now}
 use Rattle.flat_history.specs.Legal.{level_at, level_after}
 use Rattle.flat_history.specs.Losses.{takes, loses}
 use Rattle.flat_history.specs.OneShape.{opening_in, is_lost, is_unsettled, keeps_shape_event, KeepShape}
@@ -40,7 +40,7 @@ use Rattle.kept_history.specs.Recorded.{IsHistoryKept}
 use Rattle.kept_history.specs.Safe.{world_in, IsFilledRight}
 use Rattle.kept_history.proofs.Lists.{past-none}
 use Rattle.one_shape_history.proofs.Kept.{safe-alike, recorded-alike}
-use Rattle.history_calls.specs.Reliable.{IsReliable}
+use Rattle.history_calls.specs.Reliable.{IsReliable, IsNonePast}
 use Rattle.moving_kept.specs.Moving.{HasListStill, IsStillKept}
 
 -- ---- entries
@@ -101,8 +101,8 @@ module _ {tells : Type 0} {given : Given} {tape : List Operation} {scope : Scope
       }
 
   -- past the list's end the history tells nothing
-  pub kept-past : tells → IsFilledRight world entries → (x : ℕ) → list_length members.newest ≤ x → values_of (opening_list world) entries x ≡ []
-  kept-past t right x le =
+  past : tells → IsNonePast world entries (list_length members.newest)
+  past t right x le =
       let legal = (one_shape-legal world (opening_in world) entries (found-in world) (kept-legal was t (fills right))).0 in
       past-none world entries legal x (let n = (recorded t).sized in omega (arith, le, n))
 
@@ -164,6 +164,7 @@ module _ {tells : Type 0} {given : Given} {tape : List Operation} {scope : Scope
     gone = λ t right role lt miss. after-gone world role entries (keep t right.fills) ∙ was.told role lt miss;
     unclean = λ t dirty. ap (λ (b : Bool). b || is_unsettled entries) (was.recorded t).dirty ∙ was.unclean dirty;
     recorded = recorded;
+    past = past;
     listed = listed;
     safe = λ t right room alike. safe-alike world given members work entries (keep t right) (was.safe t (fills right) room alike);
   }

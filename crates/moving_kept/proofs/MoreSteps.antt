@@ -27,9 +27,8 @@ use Rattle.shape_changes.specs.Marking.{AreOthersPresent}
 use Rattle.shape_changes.specs.Safety.{HasRoomLeft, IsRisen}
 use Rattle.shape_changes.specs.Steady.{IsMoreTold, IsSafeOver, KeepsSafe, AreGoneTold, IsUncleanTold}
 use Rattle.views.specs.Moving.{Grows, IsMoved}
-use Rattle.views.specs.Lacking.{IsOfStripe, AreOtherRowsKept}
+use Rattle.views.specs.Lacking.{DoesWithout, IsOfStripe, AreOtherRowsKept}
 use Rattle.views.proofs.Fit.{list-alike}
-use Rattle.views.proofs.HeldRows.{without-before}
 use Rattle.call_entries.specs.Losing.{losses_of}
 use Rattle.call_entries.proofs.CallLaws.{losses-are}
 use Rattle.window_rows.specs.Copies.{tail_of, IsZeroIn}
@@ -44,6 +43,7 @@ use Rattle.kept_history.proofs.Lists.{newest-in}
 use Rattle.grow_asked.specs.declared.window.Window.TheVariants.{Closed}
 use Rattle.course_kept.specs.Course.{IsCourseOf, past_stripe}
 use Rattle.course_kept.specs.Laws.{closed, entered, IsWindowCopied}
+use Rattle.course_kept.proofs.Frames.{stands-whole, stands-without, stands-later}
 use Rattle.course_kept.proofs.Courses.{zeroes-go-on, windows-copied, records-close}
 use Rattle.moving_kept.specs.Moving.{HasListInCourse, IsMoving}
 use Rattle.moving_kept.proofs.BackupKept.{stored-kept}
@@ -74,7 +74,7 @@ zeroed-moves tells given tape tape' scope first entries old new carried zeroed b
     (λ t. record {
       rise = rise t;
       keeps = λ told fills more_told room gone unclean here. safe t (world_in given tape scope first) told room gone unclean here;
-      listed = λ does fills. on t (was.listed t (without-before given old new moved does) fills);
+      listed = λ fills. on t (was.listed t fills);
       legal = λ fills gone level. step-is (world_in given tape' scope first) (entries ++ entries_of who end (losses_of roles spares)) (entry_of who end (Step ZeroesStripe left)) ZeroesStripe left
           (told-behind (left + 1) entries who end (losses_of roles spares) (losses-are roles spares) was.left_told);
     })
@@ -91,7 +91,8 @@ zeroed-moves tells given tape tape' scope first entries old new carried zeroed b
     on t l = record {
       list = l.list;
       is = λ x lt. l.is x (subst (λ (n : ℕ). x < n) (list-alike old.newest new.newest moved.reshape moved.shape moved.size) lt);
-      stands = (zeroes-go-on (OpensFit (world_in given tape scope first)) given old new zeroed buffer (present given tape) (present given tape') l.list was.members_are.placed moved through (others t) l.stands).1
+      stands = (zeroes-go-on (OpensFit (world_in given tape scope first)) (λ shape. DoesWithout shape new) given old new zeroed buffer (present given tape) (present given tape') l.list was.members_are.placed moved through (others t)
+          (stands-later (OpensFit (world_in given tape scope first)) given old new (closed zeroed) buffer (present given tape) l.list moved l.stands)).1
           (λ row at. stands t (λ x. zero_sector) (λ x at. refl) row at);
     }
 
@@ -118,9 +119,9 @@ recorded-moves tells given tape tape' scope first entries old new carried span s
     (λ t. record {
       rise = rise t;
       keeps = λ told fills more_told room gone unclean here.
-          let l = was.listed t does fills in
+          let l = was.listed t fills in
           safe t (world_in given tape scope first) told room gone unclean l.list (copied t told more_told l) here;
-      listed = λ enough fills. on t (was.listed t does fills);
+      listed = λ fills. on t (was.listed t fills);
       legal = λ fills gone level. step-is (world_in given tape' scope first) (entries ++ entries_of who end (losses_of roles spares)) (entry_of who end (Step RecordsWindow left)) RecordsWindow left
           (told-behind (left + 1) entries who end (losses_of roles spares) (losses-are roles spares) was.left_told);
     })
@@ -142,7 +143,8 @@ recorded-moves tells given tape tape' scope first entries old new carried span s
     }
       where
         done : IsWindowCopied (OpensFit (world_in given tape scope first)) old span (present given tape) l.list
-        done = windows-copied (OpensFit (world_in given tape scope first)) old span sectioned buffer (present given tape) l.list l.stands
+        done = windows-copied (OpensFit (world_in given tape scope first)) old span sectioned buffer (present given tape) l.list
+            (stands-whole (OpensFit (world_in given tape scope first)) old (entered span (stripes (final_shape old.newest) span.lo span.hi) sectioned) buffer (present given tape) l.list does l.stands)
 
         within : (x : ℕ) → x < list_length old.newest → x < length_of (length (opening_list (world_in given tape scope first))) entries
         within x lt = let size = (was.recorded t).sized in omega (arith, lt, size)
@@ -152,6 +154,7 @@ recorded-moves tells given tape tape' scope first entries old new carried span s
     on t l = record {
       list = l.list;
       is = λ x lt. l.is x (subst (λ (n : ℕ). x < n) (list-alike (moved_past span old).newest new.newest moved.reshape moved.shape moved.size) lt);
-      stands = records-close (OpensFit (world_in given tape scope first)) scope given old new span sectioned buffer (present given tape) (present given tape') l.list was.members_are.backed was.members_are.placed
-          was.course_is.window.0 moved (others t) l.stands;
+      stands = stands-without (OpensFit (world_in given tape scope first)) new (closed 0) buffer (present given tape') l.list
+          (records-close (OpensFit (world_in given tape scope first)) scope given old new span sectioned buffer (present given tape) (present given tape') l.list was.members_are.backed was.members_are.placed
+          was.course_is.window.0 moved (others t) (stands-whole (OpensFit (world_in given tape scope first)) old (entered span (stripes (final_shape old.newest) span.lo span.hi) sectioned) buffer (present given tape) l.list does l.stands));
     }

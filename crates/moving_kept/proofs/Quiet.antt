@@ -20,10 +20,10 @@ use Rattle.flat_history.specs.OneShape.{is_unsettled}
 use Rattle.flat_history.specs.Plain.{entries_of}
 use Rattle.flat_history.specs.Sound.{OpensFit}
 use Rattle.flat_history.specs.World.{opening_list}
-use Rattle.shape_views.specs.Regions.{DoWithout}
 use Rattle.shape_views.specs.Views.{Ledger}
 use Rattle.shape_changes.specs.Safety.{HasRoomLeft, IsRisen}
 use Rattle.shape_changes.specs.Steady.{IsMoreTold, IsSafeOver, KeepsSafe, AreGoneTold, IsUncleanTold}
+use Rattle.views.specs.Lacking.{DoesWithout}
 use Rattle.views.specs.Moving.{Grows}
 use Rattle.call_entries.specs.Losing.{losses_of}
 use Rattle.call_entries.proofs.CallLaws.{losses-are, last_end-behind}
@@ -33,9 +33,9 @@ use Rattle.kept_history.specs.Told.{told_now}
 use Rattle.course_kept.specs.declared.course.Course.{Course}
 use Rattle.course_kept.specs.Course.{IsCourseOf, IsStored, StandsInCourse}
 use Rattle.kept_history.proofs.Reshapes.{call-ends_none}
-use Rattle.history_calls.specs.Reliable.{IsReliable, AreToldGone}
+use Rattle.history_calls.specs.Reliable.{IsReliable, AreToldGone, HasLastStep}
 use Rattle.history_calls.proofs.Behind.{AreEarly, AreLostOrMissing, IsAmong, early-losses, legal-losses, or-false}
-use Rattle.history_calls.proofs.Quiet.{IsQuiet, IsLeftBehind, fit-later, quiet-last, stretch-more, numbers-leaves, quiet-leaves, quiet-now}
+use Rattle.history_calls.proofs.Quiet.{IsQuiet, IsLeftBehind, fit-later, quiet-last, last-left, stretch-more, numbers-leaves, quiet-leaves, quiet-now}
 use Rattle.moving_kept.specs.Moving.{AreReshaping, HasListInCourse, IsMoving}
 
 -- ---- the call
@@ -47,7 +47,7 @@ pub record IsEarlyCall (given : Given) (tape : List Operation) (scope : Scope) (
   pub keeps : (told : Ledger) → IsFilledRight (world_in given tape scope first) entries → IsMoreTold (told_now (world_in given tape scope first) carried true entries) told
       → HasRoomLeft old tape tape' → AreGoneTold told new → IsUncleanTold told old
       → IsSafeOver (world_in given tape scope first) given told old tape → KeepsSafe (world_in given tape scope first) given told new tape tape'
-  pub listed : DoWithout new → IsFilledRight (world_in given tape scope first) entries
+  pub listed : IsFilledRight (world_in given tape scope first) entries
       → HasListInCourse (OpensFit (world_in given tape scope first)) new course' buffer' (present given tape') (now (opening_list (world_in given tape scope first)) entries)
   pub legal : IsReliable (world_in given tape scope first) entries → AreToldGone (world_in given tape' scope first) (entries ++ entries_of who end early) new
       → level_at (world_in given tape' scope first) (entries ++ entries_of who end early) ≡ level_at (world_in given tape scope first) entries
@@ -60,7 +60,7 @@ pub record IsCarryingCall (given : Given) (tape : List Operation) (scope : Scope
   pub keeps : (told : Ledger) → told.carried ≡ carried → IsFilledRight (world_in given tape scope first) entries → IsMoreTold (told_now (world_in given tape scope first) carried true entries) told
       → HasRoomLeft old tape tape' → AreGoneTold told new → IsUncleanTold told old
       → IsSafeOver (world_in given tape scope first) given told old tape → KeepsSafe (world_in given tape scope first) given (record told { carried = carried' }) new tape tape'
-  pub listed : DoWithout new → IsFilledRight (world_in given tape scope first) entries
+  pub listed : IsFilledRight (world_in given tape scope first) entries
       → HasListInCourse (OpensFit (world_in given tape scope first)) new course' buffer' (present given tape') (now (opening_list (world_in given tape scope first)) entries)
   pub legal : IsReliable (world_in given tape scope first) entries → AreToldGone (world_in given tape' scope first) (entries ++ entries_of who end early) new
       → level_at (world_in given tape' scope first) (entries ++ entries_of who end early) ≡ level_at (world_in given tape scope first) entries
@@ -73,7 +73,7 @@ pub record IsQuietCall (given : Given) (tape : List Operation) (scope : Scope) (
   pub keeps : (told : Ledger) → IsFilledRight (world_in given tape scope first) entries → IsMoreTold (told_now (world_in given tape scope first) carried true entries) told
       → HasRoomLeft old tape tape' → AreGoneTold told new → IsUncleanTold told old
       → IsSafeOver (world_in given tape scope first) given told old tape → KeepsSafe (world_in given tape scope first) given told new tape tape'
-  pub listed : DoWithout new → IsFilledRight (world_in given tape scope first) entries
+  pub listed : IsFilledRight (world_in given tape scope first) entries
       → HasListInCourse (OpensFit (world_in given tape scope first)) new course' buffer' (present given tape') (now (opening_list (world_in given tape scope first)) entries)
   pub legal : IsReliable (world_in given tape scope first) entries
       → AreToldGone (world_in given tape' scope first) (entries ++ entries_of who end (losses_of roles spares)) new
@@ -87,7 +87,8 @@ pub record IsLeftBy (given : Given) (tape : List Operation) (scope : Scope) (fir
   pub gone : IsReliable (world_in given tape' scope first) all → AreToldGone (world_in given tape' scope first) all new
   pub unclean : is_clean new.newest ≡ false → (is_unsynced (world_in given tape' scope first) all || is_unsettled all) ≡ true
   pub recorded : IsHistoryKept (IsReliable (world_in given tape' scope first) all) (world_in given tape' scope first) (list_length new.newest) all
-  pub listed : DoWithout new → IsFilledRight (world_in given tape' scope first) all
+  pub last_step : HasLastStep (world_in given tape' scope first) all (list_length new.newest)
+  pub listed : IsFilledRight (world_in given tape' scope first) all
       → HasListInCourse (OpensFit (world_in given tape' scope first)) new course' buffer' (present given tape') (now (opening_list (world_in given tape' scope first)) all)
   pub safe : IsFilledRight (world_in given tape' scope first) all → HasRoomForEvents (world_in given tape' scope first) → OpensAlike (world_in given tape' scope first)
       → IsSafeHistory ⊤ (world_in given tape' scope first) given new carried true all
@@ -97,15 +98,15 @@ pub record IsLeftBy (given : Given) (tape : List Operation) (scope : Scope) (fir
 -- The list of the history that stood in the course stands so by more entries that say the same of it.
 pub listed-later : (given : Given) (tape : List Operation) (scope : Scope) (first : ℕ) (entries all : List Entry) (new : Members) (carried : ℕ → Bool) (course' : Course) (buffer' : List ℕ) (tape' : List Operation) (current : ℕ → Sector)
     → IsLeftBehind given tape scope first entries all new carried true tape' → ((x : ℕ) → now (opening_list (world_in given tape scope first)) all x ≡ current x)
-    → (DoWithout new → IsFilledRight (world_in given tape scope first) entries → HasListInCourse (OpensFit (world_in given tape scope first)) new course' buffer' (present given tape') current)
-    → DoWithout new → IsFilledRight (world_in given tape' scope first) all
+    → (IsFilledRight (world_in given tape scope first) entries → HasListInCourse (OpensFit (world_in given tape scope first)) new course' buffer' (present given tape') current)
+    → IsFilledRight (world_in given tape' scope first) all
     → HasListInCourse (OpensFit (world_in given tape' scope first)) new course' buffer' (present given tape') (now (opening_list (world_in given tape' scope first)) all)
-listed-later given tape scope first entries all new carried course' buffer' tape' current left same listed does fills =
-    let l = listed does (left.fills fills) in
+listed-later given tape scope first entries all new carried course' buffer' tape' current left same listed fills =
+    let l = listed (left.fills fills) in
     record {
       list = l.list;
       is = λ x lt. l.is x lt ∙ sym (same x) ∙ sym (ap (λ (o : List Sector). now o all x) left.opened);
-      stands = subst (λ (sound : Type 0). StandsInCourse sound new course' buffer' (present given tape') l.list) (sym (fit-later left)) l.stands;
+      stands = subst (λ (sound : Type 0). StandsInCourse sound (λ shape. DoesWithout shape new) new course' buffer' (present given tape') l.list) (sym (fit-later left)) l.stands;
     }
 
 -- ---- what is kept
@@ -131,6 +132,7 @@ early-moves tells given tape tape' scope first entries old new carried course co
       gone = λ t. (leaves t).gone;
       unclean = λ t. (leaves t).unclean;
       recorded = λ t. (leaves t).recorded;
+      last_step = λ t. last-left given tape tape' scope first entries (list_length old.newest) new carried true who end early event (leaves t) (at_end t) quiet.other sized (was.last_step t).past;
       stored = stored;
       listed = λ t. listed-later given tape scope first entries (entries ++ entries_of who end (early ++ event ∷ [])) new carried course' buffer' tape' (now (opening_list (world_in given tape scope first)) entries) (leaves t)
           (quiet-now (opening_list (world_in given tape scope first)) entries who end early IsTaken event are quiet) (call t).listed;
@@ -172,6 +174,7 @@ carrying-moves tells given tape tape' scope first entries old new carried carrie
       gone = λ t. (leaves t).gone;
       unclean = λ t. (leaves t).unclean;
       recorded = λ t. (leaves t).recorded;
+      last_step = λ t. last-left given tape tape' scope first entries (list_length old.newest) new carried' true who end early event (leaves t) (at_end t) quiet.other sized (was.last_step t).past;
       stored = stored;
       listed = λ t. listed-later given tape scope first entries (entries ++ entries_of who end (early ++ event ∷ [])) new carried' course' buffer' tape' (now (opening_list (world_in given tape scope first)) entries) (leaves t)
           (quiet-now (opening_list (world_in given tape scope first)) entries who end early IsTaken event are quiet) (call t).listed;

@@ -24,7 +24,7 @@ use Rattle.history_calls.proofs.Quiet.{IsQuiet}
 
 -- a refusal is quiet
 pub quiet-refusal : (refusal : Refusal) → IsQuiet (Refused refusal)
-quiet-refusal refusal = record { adds = refl; gives = refl; ends = refl; still = λ x values. refl; level = λ n. refl }
+quiet-refusal refusal = record { adds = refl; gives = refl; ends = refl; still = λ x values. refl; level = λ n. refl; other = refl }
 
 -- as many pass below more
 count-longer : (f : ℕ → Bool) (n k : ℕ) → count_below n f ≤ count_below (n + k) f

@@ -14,12 +14,11 @@ use Rattle.flat_history.specs.declared.events.Entry.{Entry}
 use Rattle.flat_history.specs.declared.events.Event.{Event}
 use Rattle.flat_history.specs.declared.events.Event.TheVariants.{Flushed, Stopped}
 use Rattle.flat_history.specs.Flat.{now, length_after, values_after}
-use Rattle.flat_history.specs.Legal.{told_left, level_after, IsLegalEvent}
+use Rattle.flat_history.specs.Legal.{is_loss, told_left, level_after, IsLegalEvent}
 use Rattle.flat_history.specs.Losses.{is_unsynced, is_resync_end}
 use Rattle.flat_history.specs.Plain.{entries_of}
 use Rattle.flat_history.specs.Sound.{OpensFit}
 use Rattle.flat_history.specs.World.{World, opening_list}
-use Rattle.shape_views.specs.Regions.{DoWithout}
 use Rattle.shape_views.specs.Views.{Ledger}
 use Rattle.shape_changes.specs.Safety.{HasRoomLeft, IsRisen}
 use Rattle.shape_changes.specs.Steady.{IsMoreTold, IsSafeOver, KeepsSafe, AreGoneTold, IsUncleanTold, AreWritesAllowed}
@@ -32,15 +31,16 @@ use Rattle.kept_history.specs.Told.{told_now}
 use Rattle.course_kept.specs.declared.course.Course.{Course}
 use Rattle.course_kept.specs.Course.{IsCourseOf, IsStored}
 use Rattle.history_calls.proofs.Behind.{AreLostOrMissing, IsAmong}
-use Rattle.history_calls.proofs.Quiet.{IsLeftBehind}
+use Rattle.history_calls.proofs.Quiet.{IsLeftBehind, last-left}
 use Rattle.history_calls.proofs.Settling.{IsSettlement, IsSettledBy, takes-newest, settling-ends, settling-leaves, settled-same}
 use Rattle.moving_kept.specs.Moving.{AreReshaping, HasListInCourse, IsMoving}
 use Rattle.moving_kept.proofs.Quiet.{listed-later}
 
 -- ---- the event
 
--- An event that leaves each sector its newest value alone, and changes nothing else.
+-- An event that leaves each sector its newest value alone, changes nothing else, and is no loss.
 pub record IsSettling (event : Event) : Type 0 where
+  pub other : is_loss event ≡ false
   pub gives : gives_some event ≡ false
   pub ends : ends_reshape event ≡ false
   pub resync : is_resync_end event ≡ false
@@ -51,10 +51,10 @@ pub record IsSettling (event : Event) : Type 0 where
   pub tells : (left : ℕ) (who : Who) (end : ℕ) → TellLeft left who end (event ∷ [])
 
 pub flush-is : IsSettling Flushed
-flush-is = record { gives = refl; ends = refl; resync = refl; level = λ n. refl; length = λ n. refl; newest = λ x values. refl; legal = λ world before e. tt; tells = λ left who end told is. is }
+flush-is = record { other = refl; gives = refl; ends = refl; resync = refl; level = λ n. refl; length = λ n. refl; newest = λ x values. refl; legal = λ world before e. tt; tells = λ left who end told is. is }
 
 pub stop-is : IsSettling Stopped
-stop-is = record { gives = refl; ends = refl; resync = refl; level = λ n. refl; length = λ n. refl; newest = λ x values. refl; legal = λ world before e. tt; tells = λ left who end told is. is }
+stop-is = record { other = refl; gives = refl; ends = refl; resync = refl; level = λ n. refl; length = λ n. refl; newest = λ x values. refl; legal = λ world before e. tt; tells = λ left who end told is. is }
 
 -- so the events settle
 settlement : (event : Event) → IsSettling event → IsSettlement event
@@ -78,7 +78,7 @@ pub record IsSettlingCall (given : Given) (tape : List Operation) (scope : Scope
       → AreWritesAllowed old told.values (now (opening_list (world_in given tape scope first)) entries) → HasRoomLeft old tape tape' → AreGoneTold told new → IsUncleanTold told old
       → IsSafeOver (world_in given tape scope first) given told old tape
       → IsSettledBy (world_in given tape scope first) given told old new tape' unsynced (now (opening_list (world_in given tape scope first)) entries)
-  pub listed : DoWithout new → IsFilledRight (world_in given tape scope first) entries
+  pub listed : IsFilledRight (world_in given tape scope first) entries
       → HasListInCourse (OpensFit (world_in given tape scope first)) new course' buffer' (present given tape') (now (opening_list (world_in given tape scope first)) entries)
 
 -- ---- what is kept
@@ -105,6 +105,7 @@ settling-moves tells given tape tape' scope first entries old new carried unsync
       gone = λ t. (leaves t).gone;
       unclean = λ t. (leaves t).unclean;
       recorded = λ t. (leaves t).recorded;
+      last_step = λ t. last-left given tape tape' scope first entries (list_length old.newest) new carried true who end (losses_of roles spares) event (leaves t) (at_end t) settling.other sized (was.last_step t).past;
       stored = stored;
       listed = λ t. listed-later given tape scope first entries (entries ++ entries_of who end (losses_of roles spares ++ event ∷ [])) new carried course' buffer' tape' (now (opening_list (world_in given tape scope first)) entries) (leaves t)
           (settled-same (opening_list (world_in given tape scope first)) entries who end roles spares event (settlement event settling)) (call t).listed;

@@ -1,8 +1,9 @@
 -- A reshape that makes the list shorter begins in an array that keeps its record without one, from what `begin` leaves where it isn't refused and a live slot is left.
-use Rattle.std.proofs.Common.{◌≡◌, ◌≢◌, ◌⊎◌, ℕ, ◌+◌, ◌*◌, ◌<◌, ◌≤◌, ◌==◌, ◌&&◌, nat_le, nat_lt, min, Bool, true, false, Option, Some, None, List, [], ◌∷◌, ◌++◌, length, refl, sym, ◌∙◌, ap, subst, arith, append-nil}
+use Rattle.std.proofs.Common.{◌≡◌, ◌≢◌, ◌⊎◌, inl, inr, ℕ, ◌+◌, ◌*◌, ◌<◌, ◌≤◌, ◌==◌, ◌&&◌, nat_le, nat_lt, min, Bool, true, false, Option, Some, None, List, [], ◌∷◌, ◌++◌, length, refl, sym, ◌∙◌, ap, subst, arith, append-nil}
 use Rattle.std.specs.Prelude.{IsFalse, IfSome, ◌^◌, fold}
 use Rattle.std.proofs.lemmas.Bool.{and_parts, leb-true}
 use Rattle.std.proofs.lemmas.Bool.Decides.{nat_tests}
+use Rattle.md_base.specs.Sectors.{Sector}
 use Rattle.md_base.specs.declared.answers.Who.{Who}
 use Rattle.md_base.specs.declared.places.Shape.{Shape}
 use Rattle.md_base.specs.Search.{count_below}
@@ -23,7 +24,7 @@ use Rattle.flat_history.specs.declared.events.Event.{Event}
 use Rattle.flat_history.specs.declared.events.Event.TheVariants.{Resized, Step}
 use Rattle.flat_history.specs.declared.events.StepKind.TheVariants.{Begun}
 use Rattle.flat_history.specs.Epochs.{HasRoomForEvents}
-use Rattle.flat_history.specs.Flat.{now}
+use Rattle.flat_history.specs.Flat.{now, values_after, resized}
 use Rattle.flat_history.specs.Legal.{told_left, left_after}
 use Rattle.flat_history.specs.Plain.{entries_of}
 use Rattle.flat_history.specs.Sound.{OpensFit}
@@ -35,7 +36,7 @@ use Rattle.shape_ends.specs.Ends.{IsCleared}
 use Rattle.shape_ends.specs.Plans.{HasNoneRecovering}
 use Rattle.shape_ends.proofs.EndLaws.{cleared-plain, fewer-pass}
 use Rattle.views.specs.Moving.{Grows}
-use Rattle.views.specs.Lacking.{AreOtherRowsKept}
+use Rattle.views.specs.Lacking.{DoesWithout, AreOtherRowsKept}
 use Rattle.views.specs.Rebuilding.{AreSparesFree}
 use Rattle.views.proofs.Fit.{count-alike, roles-still}
 use Rattle.views.proofs.HeldRows.{missing-moved}
@@ -55,8 +56,11 @@ use Rattle.kept_history.proofs.Lengths.{now-drawn}
 use Rattle.kept_history.proofs.Turned.{filled-before}
 use Rattle.course_kept.specs.Course.{StandsInCourse}
 use Rattle.course_kept.specs.Laws.{closed}
+use Rattle.course_kept.proofs.Frames.{does-or}
 use Rattle.course_kept.proofs.Courses.{begins-stand}
-use Rattle.history_calls.specs.Reliable.{IsReliable}
+use Rattle.history_calls.specs.Reliable.{IsReliable, HasLastStep}
+use Rattle.history_calls.proofs.Behind.{early-losses}
+use Rattle.history_calls.proofs.LastStep.{keeps-last}
 use Rattle.moving_kept.specs.Moving.{HasListInCourse, IsStillKept, IsMoving}
 use Rattle.moving_kept.proofs.Begun.{AreBegun}
 use Rattle.moving_kept.proofs.BegunCall.{IsBegunBy}
@@ -87,7 +91,7 @@ module _ (given : Given) (tape : List Operation) (scope : Scope) (first : ℕ) (
   recorded = was.recorded t
 
   -- what it can do without, it could before
-  without-old : DoWithout new → DoWithout old
+  without-old : DoesWithout (shape_of new.newest) new → DoWithout old
   without-old does = record { old = few; final = subst (λ (s : Shape). count_below s.disks (is_missing (reading_of old)) ≤ tolerance s) (sym (final-still old.newest are.begun.still)) few }
     where
       shape : shape_of new.newest ≡ shape_of old.newest
@@ -96,22 +100,49 @@ module _ (given : Given) (tape : List Operation) (scope : Scope) (first : ℕ) (
       few : count_below (shape_of old.newest).disks (is_missing (reading_of old)) ≤ tolerance (shape_of old.newest)
       few =
           let pass = fewer-pass (shape_of old.newest).disks (is_missing (reading_of old)) (is_missing (reading_of new)) (λ j lt miss. missing-moved are.moved j (are.begun.missing j lt miss)) in
-          let most = subst (λ (s : Shape). count_below s.disks (is_missing (reading_of new)) ≤ tolerance s) shape does.old in
+          let most = subst (λ (s : Shape). count_below s.disks (is_missing (reading_of new)) ≤ tolerance s) shape does in
           omega (arith, pass, most)
 
-  -- the list stands, as far as it goes now
-  listed : DoWithout new → IsFilledRight later all → HasListInCourse (OpensFit later) new (closed 0) buffer (present given (tape ++ ops)) (now (opening_list later) all)
-  listed does fills =
+  -- the list stands, as far as it goes now, by the shape in force, if that does without what is missing of it
+  listed-old : DoesWithout (shape_of new.newest) new → IsFilledRight later all → HasListInCourse (OpensFit later) new (closed 0) buffer (present given (tape ++ ops)) (now (opening_list later) all)
+  listed-old does fills =
       let l = was.listed t (without-old does) (filled-before world ops entries (entries_of who (length (tape ++ ops)) (Step Begun left ∷ Resized n ∷ losses_of roles spares)) recorded.begun recorded.ends fills) in
       record {
         list = l.list;
         is = λ x lt. let below : x < n = (let sized = call.sized in omega (arith, lt, sized)) in
             l.is x (let shorter = call.shorter in omega (arith, below, shorter))
             ∙ sym (shortened-values given tape scope first entries old plan new carried carried' who left n roles spares ops was.sizes_are recorded.begun recorded.ends recorded.sized (was.gone t) call x below);
-        stands = subst (λ (sound : Type 0). StandsInCourse sound new (closed 0) buffer (present given (tape ++ ops)) l.list) (sym (fit-grown world ops recorded.begun))
-            (begins-stand (OpensFit world) scope given old plan new buffer (present given tape) (present given (tape ++ ops)) l.list are.begun are.backed are.moved rows
-            (λ forth. absurd (let both = sym forth ∙ back in cc)) l.stands l.rows);
+        stands = subst (λ (sound : Type 0). StandsInCourse sound (λ shape. DoesWithout shape new) new (closed 0) buffer (present given (tape ++ ops)) l.list) (sym (fit-grown world ops recorded.begun))
+            (begins-stand (OpensFit world) (λ shape. DoesWithout shape new) scope given old plan new buffer (present given tape) (present given (tape ++ ops)) l.list are.begun are.backed are.moved rows
+            (λ forth. absurd (let both = sym forth ∙ back in cc)) (λ own. l.stands) (λ own. l.rows));
       }
+
+  -- and if it doesn't, no row is asked to stand
+  listed : IsFilledRight later all → HasListInCourse (OpensFit later) new (closed 0) buffer (present given (tape ++ ops)) (now (opening_list later) all)
+  listed fills = elim (does-or (shape_of new.newest) new) [
+    | inl does ↦ listed-old does fills
+    | inr lacks ↦ record {
+      list = now (opening_list later) all;
+      is = λ x lt. refl;
+      stands = begins-stand (OpensFit later) (λ shape. DoesWithout shape new) scope given old plan new buffer (present given tape) (present given (tape ++ ops)) (now (opening_list later) all) are.begun are.backed are.moved rows
+          (λ forth. absurd (let both = sym forth ∙ back in cc)) (λ own. absurd (lacks own)) (λ own. absurd (lacks own));
+    }
+  ]
+
+  -- what it enters leaves a sector past the new end no value
+  shortened-none : (x : ℕ) (values : List Sector) → n ≤ x → fold (λ values e. values_after x values e.event) values (entries_of who (length (tape ++ ops)) (Step Begun left ∷ Resized n ∷ losses_of roles spares)) ≡ []
+  shortened-none x values past =
+      ap (λ (b : Bool). fold (λ values e. values_after x values e.event) (resized b values) (entries_of who (length (tape ++ ops)) (losses_of roles spares))) (not-below x n past)
+      ∙ subst (λ (l : List Event). fold (λ values e. values_after x values e.event) [] (entries_of who (length (tape ++ ops)) l) ≡ []) (append-nil (losses_of roles spares))
+      ((early-losses roles spares).values who (length (tape ++ ops)) [] x [])
+    where
+      not-below : (a b : ℕ) → b ≤ a → nat_lt a b ≡ false
+      not-below a b le = grind (arith, nat_tests, le)
+
+  last-step : HasLastStep later all (list_length new.newest)
+  last-step =
+      keeps-last world ops entries (list_length old.newest) (list_length new.newest) who (Step Begun left ∷ []) (Resized n) (losses_of roles spares) recorded.begun recorded.ends refl (losses-are roles spares)
+      (λ x values le none. shortened-none x values (let sized = call.sized in omega (arith, le, sized))) (was.past t)
 
   shortened-leaves : IsLeftBy given tape scope first entries all new carried' (closed 0) buffer (tape ++ ops)
   shortened-leaves = record {
@@ -124,6 +155,7 @@ module _ (given : Given) (tape : List Operation) (scope : Scope) (first : ℕ) (
     gone = shortened-gone given tape scope first entries old plan new carried carried' who left n roles spares ops was.sizes_are recorded.begun recorded.ends recorded.sized (was.gone t) call;
     unclean = λ dirty. shortened-unclean given tape scope first entries old plan new carried carried' who left n roles spares ops was.sizes_are recorded.begun recorded.ends recorded.sized (was.gone t) call (was.unclean t (sym are.clean ∙ dirty));
     recorded = shortened-recorded given tape scope first entries old plan new carried carried' who left n roles spares ops was.sizes_are recorded.begun recorded.ends recorded.sized (was.gone t) call (safe-over was t call.live) recorded goes caller behind told some;
+    last_step = last-step;
     listed = listed;
     safe = shortened-safe given tape scope first entries old plan new carried carried' who left n roles spares ops was.sizes_are recorded.begun recorded.ends recorded.sized (was.gone t) call (safe-over was t call.live);
     now_safe = shortened-now given tape scope first entries old plan new carried carried' who left n roles spares ops was.sizes_are recorded.begun recorded.ends recorded.sized (was.gone t) call (safe-over was t call.live);
@@ -147,6 +179,7 @@ shortened-moves tells given tape tape' scope first entries old plan new carried 
   gone = λ t. (leaves t).gone;
   unclean = λ t. (leaves t).unclean;
   recorded = λ t. (leaves t).recorded;
+  last_step = λ t. (leaves t).last_step;
   stored = λ t. let plain = cleared-plain scope new (disk given.start tape') (cleared t) in record { section = plain.0; sectors = tt; headers = plain.1 };
   listed = λ t. (leaves t).listed;
   safe = λ t. (leaves t).safe;

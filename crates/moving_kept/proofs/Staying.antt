@@ -26,10 +26,9 @@ use Rattle.shape_changes.specs.Safety.{HasRoomLeft, IsRisen}
 use Rattle.shape_changes.specs.Steady.{IsMoreTold, IsSafeOver, KeepsSafe, AreGoneTold, IsUncleanTold}
 use Rattle.views.specs.Placed.{HaveSameReshape}
 use Rattle.views.specs.Moving.{Grows, IsMoved}
-use Rattle.views.specs.Lacking.{AreTooMany}
+use Rattle.views.specs.Lacking.{DoesWithout, AreTooMany}
 use Rattle.safe_updates.specs.Unused.{IsUnusedKept}
 use Rattle.views.proofs.Fit.{list-alike}
-use Rattle.views.proofs.HeldRows.{without-before}
 use Rattle.call_entries.specs.Losing.{losses_of}
 use Rattle.call_entries.proofs.CallLaws.{losses-are}
 use Rattle.call_entries.proofs.LeftLaws.{TellLeft, left-behind, left-more}
@@ -42,6 +41,7 @@ use Rattle.course_kept.specs.declared.course.Course.{Course}
 use Rattle.grow_asked.specs.declared.window.Window.{Window}
 use Rattle.grow_asked.specs.declared.window.Window.TheVariants.{Closed, Entered, Unsure}
 use Rattle.course_kept.specs.Course.{IsWindowOf, IsCourseOf, StandsInCourse}
+use Rattle.course_kept.proofs.Frames.{stands-later}
 use Rattle.history_calls.specs.Reliable.{IsReliable, AreToldGone}
 use Rattle.moving_kept.specs.Moving.{IsMoving}
 use Rattle.moving_kept.proofs.BackupKept.{stored-kept}
@@ -76,7 +76,7 @@ pub stays-moves : (tells : Type 0) (given : Given) (tape tape' : List Operation)
     → IsMoving tells given tape scope first entries old carried course buffer left → IsCallGoing entries who → IsFalse (who.caller == 254) → (tells → end ≡ length tape') → Grows tells tape tape'
     → IsQuiet event → TellLeft left who end (event ∷ []) → IsMoved given old new → role_count new.newest ≤ 16 → AreMissingSince old new roles → is_clean new.newest ≡ is_clean old.newest
     → (tells → IsRisen ⊤ old new tape tape') → (tells → IsUnusedKept old (disk given.start tape) (disk given.start tape'))
-    → (tells → (sound : Type 0) (list : ℕ → Sector) → StandsInCourse sound old course buffer (present given tape) list → StandsInCourse sound new course buffer (present given tape') list)
+    → (tells → (sound : Type 0) (among : Shape → Type 0) (list : ℕ → Sector) → StandsInCourse sound among old course buffer (present given tape) list → StandsInCourse sound among new course buffer (present given tape') list)
     → (tells → (told : Ledger) → IsFilledRight (world_in given tape scope first) entries → IsMoreTold (told_now (world_in given tape scope first) carried true entries) told
     → HasRoomLeft old tape tape' → AreGoneTold told new → IsUncleanTold told old → IsSafeOver (world_in given tape scope first) given told old tape → KeepsSafe (world_in given tape scope first) given told new tape tape')
     → (tells → IsReliable (world_in given tape scope first) entries
@@ -93,12 +93,13 @@ stays-moves tells given tape tape' scope first entries old new carried course bu
     (λ t. record {
       rise = rise t;
       keeps = keeps t;
-      listed = λ does fills.
-          let l = was.listed t (without-before given old new moved does) fills in
+      listed = λ fills.
+          let l = was.listed t fills in
           record {
             list = l.list;
             is = λ x lt. l.is x (subst (λ (n : ℕ). x < n) (list-alike old.newest new.newest moved.reshape moved.shape moved.size) lt);
-            stands = stands t (OpensFit (world_in given tape scope first)) l.list l.stands;
+            stands = stands t (OpensFit (world_in given tape scope first)) (λ shape. DoesWithout shape new) l.list
+                (stands-later (OpensFit (world_in given tape scope first)) given old new course buffer (present given tape) l.list moved l.stands);
           };
       legal = legal t;
     })
@@ -110,7 +111,7 @@ pub refused-moves : (tells : Type 0) (given : Given) (tape tape' : List Operatio
     → IsMoving tells given tape scope first entries old carried course buffer left → IsCallGoing entries who → IsFalse (who.caller == 254) → (tells → end ≡ length tape') → Grows tells tape tape'
     → IsMoved given old new → role_count new.newest ≤ 16 → AreMissingSince old new roles → is_clean new.newest ≡ is_clean old.newest → (refusal ≡ BackupFault) ⊎ AreTooMany new refusal
     → (tells → IsRisen ⊤ old new tape tape') → (tells → IsUnusedKept old (disk given.start tape) (disk given.start tape'))
-    → (tells → (sound : Type 0) (list : ℕ → Sector) → StandsInCourse sound old course buffer (present given tape) list → StandsInCourse sound new course buffer (present given tape') list)
+    → (tells → (sound : Type 0) (among : Shape → Type 0) (list : ℕ → Sector) → StandsInCourse sound among old course buffer (present given tape) list → StandsInCourse sound among new course buffer (present given tape') list)
     → (tells → (told : Ledger) → IsFilledRight (world_in given tape scope first) entries → IsMoreTold (told_now (world_in given tape scope first) carried true entries) told
     → HasRoomLeft old tape tape' → AreGoneTold told new → IsUncleanTold told old → IsSafeOver (world_in given tape scope first) given told old tape → KeepsSafe (world_in given tape scope first) given told new tape tape')
     → IsMoving tells given tape' scope first (entries ++ entries_of who end (losses_of roles spares ++ Refused refusal ∷ [])) new carried course buffer left

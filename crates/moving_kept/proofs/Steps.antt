@@ -34,10 +34,10 @@ use Rattle.shape_changes.specs.Safety.{HasRoomLeft, IsRisen}
 use Rattle.shape_changes.specs.Steady.{IsSafeOver, KeepsSafe, AreGoneTold, IsUncleanTold}
 use Rattle.views.specs.Moving.{Grows, IsMoved}
 use Rattle.views.specs.Placed.{is_vacant}
-use Rattle.views.specs.Lacking.{IsOfStripe, AreOtherRowsKept}
+use Rattle.views.specs.Lacking.{DoesWithout, IsOfStripe, AreOtherRowsKept}
 use Rattle.safe_updates.specs.Unused.{IsUnusedKept}
 use Rattle.views.proofs.Fit.{list-alike, count-alike}
-use Rattle.views.proofs.HeldRows.{without-before, missing-before, vacant-missing}
+use Rattle.views.proofs.HeldRows.{missing-before, vacant-missing}
 use Rattle.call_entries.specs.Losing.{losses_of}
 use Rattle.call_entries.proofs.CallLaws.{AreLossEvents, losses-are}
 use Rattle.call_entries.proofs.LeftLaws.{left-behind, left-more, fold-left}
@@ -48,6 +48,7 @@ use Rattle.window_steps.proofs.CopyLaws.{window-alike, critical-alike}
 use Rattle.grow_asked.specs.declared.window.Window.TheVariants.{Entered}
 use Rattle.course_kept.specs.Course.{IsWindowOf, IsCourseOf, IsStoredAs, IsStored}
 use Rattle.course_kept.specs.Laws.{entered, next_stripe}
+use Rattle.course_kept.proofs.Frames.{stands-later}
 use Rattle.course_kept.proofs.Courses.{copies-go-on, courses-copied}
 use Rattle.moving_kept.specs.Moving.{HasListInCourse, IsMoving}
 use Rattle.moving_kept.proofs.BackupKept.{stored-kept}
@@ -70,11 +71,11 @@ not-zero : (n : ℕ) → n ≢ 0 → (n == 0) ≡ false
 not-zero n ne = grind (arith, nat_tests, ne)
 
 pub quiet-step : (kind : StepKind) (left : ℕ) → IsStepBetween kind → left ≢ 0 → IsQuiet (Step kind left)
-quiet-step EntersWindow left is some = record { adds = refl; gives = refl; ends = not-zero left some; still = λ x values. refl; level = λ n. refl }
-quiet-step CopiesStripe left is some = record { adds = refl; gives = refl; ends = not-zero left some; still = λ x values. refl; level = λ n. refl }
-quiet-step RecordsWindow left is some = record { adds = refl; gives = refl; ends = not-zero left some; still = λ x values. refl; level = λ n. refl }
-quiet-step ZeroesStripe left is some = record { adds = refl; gives = refl; ends = not-zero left some; still = λ x values. refl; level = λ n. refl }
-quiet-step FinishesWindow left is some = record { adds = refl; gives = refl; ends = not-zero left some; still = λ x values. refl; level = λ n. refl }
+quiet-step EntersWindow left is some = record { adds = refl; gives = refl; ends = not-zero left some; still = λ x values. refl; level = λ n. refl; other = refl }
+quiet-step CopiesStripe left is some = record { adds = refl; gives = refl; ends = not-zero left some; still = λ x values. refl; level = λ n. refl; other = refl }
+quiet-step RecordsWindow left is some = record { adds = refl; gives = refl; ends = not-zero left some; still = λ x values. refl; level = λ n. refl; other = refl }
+quiet-step ZeroesStripe left is some = record { adds = refl; gives = refl; ends = not-zero left some; still = λ x values. refl; level = λ n. refl; other = refl }
+quiet-step FinishesWindow left is some = record { adds = refl; gives = refl; ends = not-zero left some; still = λ x values. refl; level = λ n. refl; other = refl }
 quiet-step kind left is some = absurd is
 
 -- ---- the steps that are left
@@ -173,7 +174,7 @@ copied-moves tells given tape tape' scope first entries old new carried span cop
       rise = rise t;
       keeps = λ told fills more_told room gone unclean now. safe t (world_in given tape scope first) told room gone unclean
           (able-kept scope given old span copied sectioned (disk given.start tape) was.course_is.window (was.stored t).section) now;
-      listed = λ does fills. on t (was.listed t (without-before given old new moved does) fills);
+      listed = λ fills. on t (was.listed t fills);
       legal = λ fills gone level. step-is (world_in given tape' scope first) (entries ++ entries_of who end (losses_of roles spares)) (entry_of who end (Step CopiesStripe left)) CopiesStripe left
           (told-behind (left + 1) entries who end (losses_of roles spares) (losses-are roles spares) was.left_told);
     })
@@ -201,7 +202,8 @@ copied-moves tells given tape tape' scope first entries old new carried span cop
     on t l = record {
       list = l.list;
       is = λ x lt. l.is x (subst (λ (n : ℕ). x < n) (list-alike old.newest new.newest moved.reshape moved.shape moved.size) lt);
-      stands = (copies-go-on (OpensFit (world_in given tape scope first)) given old new span copied sectioned buffer (present given tape) (present given tape') l.list was.members_are.placed moved was.course_is.window.0 more
-          (plain-of old.newest span copied sectioned was.course_is.window) (others t) l.stands).1
-          (λ row at. stands t l.list (courses-copied (OpensFit (world_in given tape scope first)) scope given old span copied sectioned buffer (present given tape) l.list was.members_are.backed was.course_is.window.0 l.stands) row at);
+      stands = (copies-go-on (OpensFit (world_in given tape scope first)) (λ shape. DoesWithout shape new) given old new span copied sectioned buffer (present given tape) (present given tape') l.list was.members_are.placed moved was.course_is.window.0 more
+          (plain-of old.newest span copied sectioned was.course_is.window) (others t)
+          (stands-later (OpensFit (world_in given tape scope first)) given old new (entered span copied sectioned) buffer (present given tape) l.list moved l.stands)).1
+          (λ row at. stands t l.list (courses-copied (OpensFit (world_in given tape scope first)) (λ shape. DoesWithout shape old) scope given old span copied sectioned buffer (present given tape) l.list was.members_are.backed was.course_is.window.0 l.stands) row at);
     }

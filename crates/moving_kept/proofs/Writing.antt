@@ -23,7 +23,7 @@ use Rattle.list_io.specs.Writing.{IsWritten}
 use Rattle.flat_history.specs.declared.events.Entry.{Entry}
 use Rattle.flat_history.specs.declared.events.Event.{Event}
 use Rattle.flat_history.specs.declared.events.Event.TheVariants.{Wrote, Torn, Refused}
-use Rattle.flat_history.specs.Flat.{covers as writes_at, sector_at, length_of, limit_of, limit_after, visible_of, values_of, now}
+use Rattle.flat_history.specs.Flat.{covers as writes_at, sector_at, behind, values_after, length_of, limit_of, limit_after, visible_of, values_of, now}
 use Rattle.flat_history.specs.Legal.{level_at, IsTorn, IsRefusedRight}
 use Rattle.flat_history.specs.Losses.{is_unsynced, unsettles}
 use Rattle.flat_history.specs.OneShape.{is_unsettled}
@@ -32,17 +32,16 @@ use Rattle.flat_history.specs.Sound.{OpensFit}
 use Rattle.flat_history.specs.Stands.{shape_for, covers}
 use Rattle.flat_history.specs.Transfers.{IsTooMany}
 use Rattle.flat_history.specs.World.{World, opening_list}
-use Rattle.shape_views.specs.Regions.{AreShapesFit, place_by, DoWithout}
+use Rattle.shape_views.specs.Regions.{AreShapesFit, place_by}
 use Rattle.shape_views.specs.Views.{Ledger, IsTailZero}
 use Rattle.shape_views.specs.Windows.{IsShown, AreTailsStanding}
 use Rattle.shape_views.proofs.Alike.{row-below}
-use Rattle.shape_changes.specs.Marking.{AreOthersPresent}
 use Rattle.shape_changes.specs.Safety.{HasRoomLeft, IsRisen}
 use Rattle.shape_changes.specs.Steady.{IsMoreTold, IsSafeOver, KeepsSafe, AreGoneTold, AreWritesAllowed}
-use Rattle.views.specs.Placed.{AreWhole, IsInForce}
+use Rattle.views.specs.Placed.{AreWhole}
 use Rattle.views.specs.Moving.{Grows, IsMoved}
 use Rattle.safe_updates.specs.Unused.{IsUnusedKept}
-use Rattle.views.specs.Lacking.{LacksTooMany, AreOtherRowsKept, AreBytes}
+use Rattle.views.specs.Lacking.{lacking, DoesWithout, AreOtherRowsKept, AreBytes}
 use Rattle.views.proofs.Fit.{list-alike, force-disks}
 use Rattle.views.proofs.LackingLists.{row-sector}
 use Rattle.views.proofs.LackingWrites.{list-with, list-with-is}
@@ -66,12 +65,14 @@ use Rattle.kept_history.proofs.Lists.{newest-in}
 use Rattle.course_kept.specs.declared.course.Course.{Course}
 use Rattle.grow_asked.specs.declared.window.Window.{Window}
 use Rattle.grow_asked.specs.declared.window.Window.TheVariants.{Closed, Entered, Unsure}
-use Rattle.course_kept.specs.Course.{IsWindowOf, hidden_in, span_in}
-use Rattle.course_kept.proofs.Courses.{courses-move}
-use Rattle.course_kept.proofs.Writes.{writes-go-on}
+use Rattle.course_kept.specs.Course.{IsWindowOf, hidden_in, span_in, StandsInCourse}
+use Rattle.course_kept.specs.Laws.{IsOtherTouched}
+use Rattle.course_kept.proofs.Frames.{stands-later, stands-stretch}
+use Rattle.course_kept.proofs.Writes.{writes-go-on, torn-writes-go-on}
 use Rattle.history_calls.specs.Reliable.{IsReliable, AreToldGone}
 use Rattle.moving_kept.specs.Moving.{HasListInCourse, IsMoving}
 use Rattle.moving_kept.proofs.Adding.{behind-moves}
+use Rattle.history_calls.proofs.LastStep.{AreWithin, losses-within}
 use Rattle.history_calls.proofs.Behind.{IsAmong, early-losses, legal-losses, first-of, first-more}
 use Rattle.moving_kept.proofs.BackupKept.{stored-kept}
 use Rattle.moving_kept.proofs.MembersMove.{reshaping-moved}
@@ -109,13 +110,13 @@ pub record AreWritten (tells : Type 0) (given : Given) (tape tape' : List Operat
       → ((x : ℕ) → at ≤ x → x < at + length from / 512 → IsShown hidden old.newest x) → (bound : ℕ) → relied ≤ bound
       → RowsStandIn (λ s. among s ≡ true) hidden bound old (present given tape) list → RowsStandIn (λ s. among s ≡ true) hidden bound new (present given tape') list'
 
--- And where it is refused: it was torn only where too many are missing, and where it wasn't begun nothing but superblocks is written. Parity isn't relied on everywhere only
--- while a resync is pending.
+-- And where it is refused: it was torn only where too many are missing, and no row is written but those that sectors have by a shape of which too many are.
+-- Parity isn't relied on everywhere only while a resync is pending.
 pub record AreUnwritten (tells : Type 0) (given : Given) (tape tape' : List Operation) (scope : Scope) (first : ℕ) (entries : List Entry) (old new : Members) (at : ℕ) (from : List ℕ) (relied : ℕ)
     (begun : Bool) (refusal : Refusal) : Type 0 where
   pub refused : IsListUnwritten relied at (at + length from / 512) new refusal
   pub torn : begun ≡ true → IsListTorn at (at + length from / 512) new refusal
-  pub untouched : begun ≡ false → tells → AreOthersPresent (present given tape) (present given tape')
+  pub torn_rows : tells → AreOtherRowsKept (IsOtherTouched (λ shape. DoesWithout shape new) old.newest at (at + length from / 512)) (reading_of new) (present given tape) (present given tape')
   pub pending : tells → relied < list_length old.newest → is_unsynced (world_in given tape scope first) entries ≡ true
 
 -- ---- the window
@@ -173,13 +174,20 @@ module _ (at to : ℕ) (m : Members) (refusal : Refusal) (torn : IsListTorn at t
   torn-many : IsTooMany (Refused refusal)
   torn-many = subst (λ (r : Refusal). IsTooMany (Refused r)) (sym torn.3.told) tt
 
-  -- an array that does without what it misses tears none
-  torn-never : DoWithout m → ⊥
-  torn-never does = of (shape-force m.newest torn.0)
-    where
-      of : IsInForce m.newest (shape_for m.newest torn.0) → ⊥
-      of (inl same) = let many = subst (λ (s : Shape). LacksTooMany s m refusal) same torn.3 in absurd (let above = many.above in let few = does.old in omega (arith, above, few))
-      of (inr same) = let many = subst (λ (s : Shape). LacksTooMany s m refusal) same torn.3 in absurd (let above = many.above in let few = does.final in omega (arith, above, few))
+-- what is torn stands behind the newest value
+torn-same : (at : ℕ) (body : List Sector) (x : ℕ) (values : List Sector) → slice_index_or (values_after x values (Torn at body)) 0 [] ≡ slice_index_or values 0 []
+torn-same at body x values = by (writes_at at body x) values
+  where
+    by : (b : Bool) (values : List Sector) → slice_index_or (if b then behind (sector_at at body x) values else values) 0 [] ≡ slice_index_or values 0 []
+    by true [] = refl
+    by true (v ∷ values) = refl
+    by false values = refl
+
+le-is : (a b : ℕ) → a ≤ b → nat_le a b ≡ true
+le-is a b le = grind (arith, nat_tests, le)
+
+is-le : (a b : ℕ) → nat_le a b ≡ true → a ≤ b
+is-le a b is = grind (arith, nat_tests, is)
 
 -- where the row of a sector of the list isn't relied on, not all are
 unrelied-short : (newest : Sb) → AreShapesFit newest → (relied x : ℕ) → x < list_length newest → relied_rows newest relied (shape_for newest x) ≤ (place_by newest x).row → relied < list_length newest
@@ -191,16 +199,13 @@ unrelied-short newest fit relied x lt far = elim (cases_lt relied (list_length n
       let below = row-below newest fit x lt in
       omega (arith, whole, below, far))
 ]
-  where
-    le-is : (a b : ℕ) → a ≤ b → nat_le a b ≡ true
-    le-is a b le = grind (arith, nat_tests, le)
 
 -- ---- the call
 
 module _ (tells : Type 0) (given : Given) (tape tape' : List Operation) (scope : Scope) (first : ℕ) (entries : List Entry) (old new : Members) (carried : ℕ → Bool)
     (course : Course) (buffer : List ℕ) (left : ℕ) (who : Who) (end roles spares at : ℕ) (from : List ℕ) (relied : ℕ) (begun : Bool)
     (was : IsMoving tells given tape scope first entries old carried course buffer left) (goes : IsCallGoing entries who) (caller : IsFalse (who.caller == 254))
-    (at_end : tells → end ≡ length tape') (grows : Grows tells tape tape') (does : DoWithout old)
+    (at_end : tells → end ≡ length tape') (grows : Grows tells tape tape') (does : (x : ℕ) → at ≤ x → x < at + length from / 512 → DoesWithout (shape_for old.newest x) old)
     (visible : tells → at + length from / 512 ≤ visible_of (length (opening_list (world_in given tape scope first))) entries)
     (did : ArePut tells given tape tape' old new course at from relied roles begun) where
   list-same : list_length new.newest ≡ list_length old.newest
@@ -238,6 +243,11 @@ module _ (tells : Type 0) (given : Given) (tape tape' : List Operation) (scope :
 
   -- ---- the list
 
+  -- it stands by the shapes that do without what is missing behind the call too
+  later-stands : (list : ℕ → Sector) → StandsInCourse (OpensFit (world_in given tape scope first)) (λ shape. DoesWithout shape old) old course buffer (present given tape) list
+      → StandsInCourse (OpensFit (world_in given tape scope first)) (λ shape. DoesWithout shape new) old course buffer (present given tape) list
+  later-stands list stands = stands-later (OpensFit (world_in given tape scope first)) given old new course buffer (present given tape) list did.moved stands
+
   -- each sector of the list may have its newest value
   newest : tells → (x : ℕ) → x < list_length old.newest → IsIn (values_of (opening_list (world_in given tape scope first)) entries x) (now (opening_list (world_in given tape scope first)) entries x)
   newest t x lt = newest-in (opening_list (world_in given tape scope first)) entries x (let size = (was.recorded t).sized in omega (arith, lt, size))
@@ -248,14 +258,15 @@ module _ (tells : Type 0) (given : Given) (tape tape' : List Operation) (scope :
       → (begun ≡ true → (x : ℕ) → x < list_length old.newest → writes_at at (sectors_of from) x ≡ true → IsIn (told.values x) (sector_at at (sectors_of from) x))
       → HasRoomLeft old tape tape' → AreGoneTold told new → IsSafeOver (world_in given tape scope first) given told old tape → KeepsSafe (world_in given tape scope first) given told new tape tape'
   keeps t told fills whole more unclean writes room gone before =
-      let l = was.listed t does fills in
+      let l = was.listed t fills in
+      let here = stands-stretch (OpensFit (world_in given tape scope first)) old course buffer (present given tape) l.list at (at + length from / 512) does l.stands in
       did.safe t (world_in given tape scope first) told room gone unclean (hidden_in course.window) (hidden-next old.newest course.window was.course_is.window)
-      l.list (list-with l.list at from) (list-with-is l.list at from) shown (λ x slot own out held. l.stands.stands x slot out held)
+      l.list (list-with l.list at from) (list-with-is l.list at from) shown here.stands
       (elim whole [
         | inl all ↦ inl all
-        | inr fit ↦ inr (λ x lt own out. l.stands.rows fit x out)
+        | inr fit ↦ inr (λ x lt own out. here.rows fit x own out)
       ])
-      (λ own. l.stands.tail)
+      here.tail
       (λ is. written-allowed (list_length old.newest) at from l.list (list-with l.list at from) told.values (list-with-is l.list at from)
       (λ x lt. subst (IsIn (told.values x)) (sym (l.is x lt))
       (more.values x (let size = (was.recorded t).sized in omega (arith, lt, size)) (now (opening_list (world_in given tape scope first)) entries x) (newest t x lt)))
@@ -268,20 +279,27 @@ module _ (tells : Type 0) (given : Given) (tape tape' : List Operation) (scope :
       → IsMoving tells given tape' scope first (entries ++ entries_of who end (losses_of roles spares ++ Wrote at (sectors_of from) ∷ [])) new carried course buffer left
   written-moves done =
       behind-moves tells given tape tape' scope first entries old new carried course course buffer buffer left left who end (losses_of roles spares) (IsAmong roles) (Wrote at (sectors_of from))
-      was goes caller at_end grows (record { adds = refl; gives = refl; ends = refl; level = λ n. refl })
+      was goes caller at_end grows (record { adds = refl; gives = refl; ends = refl; level = λ n. refl; other = refl })
       (reshaping-moved scope given old new did.moved was.members_are) did.few (first-of (early-losses roles spares)) (missing-moved roles did.moved did.since) list-same level-same (λ t dirty. inr refl)
       (course-moved given old new course did.moved was.course_is)
       (λ t. stored-kept scope given old new course.window buffer (disk given.start tape) (disk given.start tape') was.members_are did.moved (did.unused t) (was.stored t))
       (left-more left entries who end (losses_of roles spares ++ Wrote at (sectors_of from) ∷ []) was.left_told
       (left-behind left who end (losses_of roles spares) (Wrote at (sectors_of from) ∷ []) (losses-are roles spares) (λ told is. is)))
       (λ t. record {
+        within = losses-within (list_length old.newest) (losses_of roles spares) (Wrote at (sectors_of from) ∷ []) (losses-are roles spares) (written-within, tt);
         rise = did.rise t;
         keeps = λ told fills whole more values allowed room gone unclean unsettled before.
             keeps t told fills whole more (unsettled refl) (λ is x lt covered. values x (sector_at at (sectors_of from) x) (written-in t x covered)) room gone before;
-        listed = λ does_new fills. listed t fills;
+        listed = listed t;
         legal = λ fills gone level. legal-losses (world_in given tape' scope first) entries who end (losses_of roles spares) (Wrote at (sectors_of from) ∷ []) (losses-are roles spares) (ends-within t, tt, tt);
       })
     where
+      written-within : at + length (sectors_of from) ≤ list_length old.newest
+      written-within =
+          let within = did.within in
+          let n : length (sectors_of from) ≡ length from / 512 = length-sectors_of from in
+          omega (arith, within, n)
+
       written-in : tells → (x : ℕ) → writes_at at (sectors_of from) x ≡ true
           → IsIn (values_of (opening_list (world_in given tape scope first)) (entries ++ entries_of who end (losses_of roles spares ++ Wrote at (sectors_of from) ∷ [])) x) (sector_at at (sectors_of from) x)
       written-in t x covered = subst (λ (l : List Sector). IsIn l (sector_at at (sectors_of from) x))
@@ -296,29 +314,58 @@ module _ (tells : Type 0) (given : Given) (tape tape' : List Operation) (scope :
           let w = wrote-is (opening_list (world_in given tape scope first)) entries who end (losses_of roles spares) at from (losses-are roles spares) in
           record { here = λ x low high. w.here x low high ∙ sym (row-sector from (x - at)); other = w.other }
 
+      -- the shapes that do without what is missing behind it
+      tolerated : Shape → Bool
+      tolerated shape = nat_le (lacking shape new) (tolerance shape)
+
+      is-tolerated : (shape : Shape) → DoesWithout shape new → tolerated shape ≡ true
+      is-tolerated shape few = le-is (lacking shape new) (tolerance shape) few
+
+      tolerated-is : (shape : Shape) → tolerated shape ≡ true → DoesWithout shape new
+      tolerated-is shape is = is-le (lacking shape new) (tolerance shape) is
+
       listed : tells → IsFilledRight (world_in given tape scope first) entries
           → HasListInCourse (OpensFit (world_in given tape scope first)) new course buffer (present given tape')
           (now (opening_list (world_in given tape scope first)) (entries ++ entries_of who end (losses_of roles spares ++ Wrote at (sectors_of from) ∷ [])))
       listed t fills =
-          let l = was.listed t does fills in
+          let l = was.listed t fills in
           let w = list-with-is l.list at from in
           record {
             list = list-with l.list at from;
             is = λ x lt. written-same l.list (list-with l.list at from) (now (opening_list (world_in given tape scope first)) entries)
                 (now (opening_list (world_in given tape scope first)) (entries ++ entries_of who end (losses_of roles spares ++ Wrote at (sectors_of from) ∷ []))) at from w is-written x
                 (l.is x (subst (λ (n : ℕ). x < n) list-same lt));
-            stands = writes-go-on (OpensFit (world_in given tape scope first)) given old new course buffer (present given tape) (present given tape') l.list (list-with l.list at from) at from
-                was.members_are.placed did.moved was.course_is w did.within did.beside (done.others t)
-                (λ x slot out held. done.put t (λ s. true) (hidden_in course.window) l.list (list-with l.list at from) w (λ x slot own out held. l.stands.stands x slot out held) x slot refl out held)
-                (done.tail t l.list (list-with l.list at from) w l.stands.tail)
-                (λ fit x out. done.good t (λ s. true) (hidden_in course.window) l.list (list-with l.list at from) w done.bytes shown (relied + list_length new.newest) (omega arith)
-                (λ x lt own out. l.stands.rows fit x out) x (let within = out.within in omega (arith, within)) refl out)
-                l.stands;
+            stands = stand t l.list (list-with l.list at from) w (later-stands l.list l.stands);
           }
+        where
+          stand : (t : tells) (list list' : ℕ → Sector) → IsWritten list list' at from
+              → StandsInCourse (OpensFit (world_in given tape scope first)) (λ shape. DoesWithout shape new) old course buffer (present given tape) list
+              → StandsInCourse (OpensFit (world_in given tape scope first)) (λ shape. DoesWithout shape new) new course buffer (present given tape') list'
+          stand t list list' w before =
+              writes-go-on (OpensFit (world_in given tape scope first)) (λ shape. DoesWithout shape new) given old new course buffer (present given tape) (present given tape') list list' at from
+              was.members_are.placed did.moved was.course_is w did.within did.beside (done.others t)
+              (λ x slot own out held. done.put t tolerated (hidden_in course.window) list list' w
+              (λ x slot own out held. before.stands x slot (tolerated-is (shape_for old.newest x) own) out held) x slot (is-tolerated (shape_for new.newest x) own) out held)
+              (λ own. done.tail t list list' w (before.tail (subst (λ (s : Shape). DoesWithout s new) did.moved.reshape.final own)))
+              (λ fit x own out. done.good t tolerated (hidden_in course.window) list list' w done.bytes shown (relied + list_length new.newest) (omega arith)
+              (λ x lt own out. before.rows fit x (tolerated-is (shape_for old.newest x) own) out) x (let within = out.within in omega (arith, within)) (is-tolerated (shape_for new.newest x) own) out)
+              before
 
   -- ---- it is refused
 
   module _ (refusal : Refusal) (undone : AreUnwritten tells given tape tape' scope first entries old new at from relied begun refusal) where
+    -- The list stands by the shapes that do without what is missing, if the history says the same of it.
+    same-listed : (t : tells) (current : ℕ → Sector) → ((x : ℕ) → current x ≡ now (opening_list (world_in given tape scope first)) entries x) → IsFilledRight (world_in given tape scope first) entries
+        → HasListInCourse (OpensFit (world_in given tape scope first)) new course buffer (present given tape') current
+    same-listed t current same fills =
+        let l = was.listed t fills in
+        record {
+          list = l.list;
+          is = λ x lt. l.is x (subst (λ (n : ℕ). x < n) list-same lt) ∙ sym (same x);
+          stands = torn-writes-go-on (OpensFit (world_in given tape scope first)) (λ shape. DoesWithout shape new) scope given old new course buffer (present given tape) (present given tape') l.list
+              at (at + length from / 512) was.members_are.backed was.members_are.active did.moved was.course_is did.within did.beside (undone.torn_rows t) (later-stands l.list l.stands);
+        }
+
     -- what stands behind a refusal for missing members
     torn-right : (t : tells) → (before : List Entry) → IsReliable (world_in given tape scope first) entries → AreToldGone (world_in given tape' scope first) before new
         → level_at (world_in given tape' scope first) before ≡ level_at (world_in given tape scope first) entries → IsListTorn at (at + length from / 512) new refusal
@@ -331,7 +378,7 @@ module _ (tells : Type 0) (given : Given) (tape tape' : List Operation) (scope :
     torn-moves : begun ≡ true → IsMoving tells given tape' scope first (entries ++ entries_of who end ((losses_of roles spares ++ Torn at (sectors_of from) ∷ []) ++ Refused refusal ∷ [])) new carried course buffer left
     torn-moves is =
         behind-moves tells given tape tape' scope first entries old new carried course course buffer buffer left left who end (losses_of roles spares ++ Torn at (sectors_of from) ∷ []) (IsAmong roles) (Refused refusal)
-        was goes caller at_end grows (record { adds = refl; gives = refl; ends = refl; level = λ n. refl })
+        was goes caller at_end grows (record { adds = refl; gives = refl; ends = refl; level = λ n. refl; other = refl })
         (reshaping-moved scope given old new did.moved was.members_are) did.few
         (first-more (losses_of roles spares) (IsAmong roles) (Torn at (sectors_of from)) (first-of (early-losses roles spares)) refl refl refl (λ n. refl))
         (missing-moved roles did.moved did.since) list-same level-same (λ t dirty. inr (torn-unsettles at (at + length from / 512) new refusal (undone.torn is)))
@@ -341,11 +388,14 @@ module _ (tells : Type 0) (given : Given) (tape tape' : List Operation) (scope :
         (subst (λ (l : List Event). TellLeft left who end l) (sym torn-assoc)
         (left-behind left who end (losses_of roles spares) (Torn at (sectors_of from) ∷ Refused refusal ∷ []) (losses-are roles spares) (λ told is. is))))
         (λ t. record {
+          within = subst (AreWithin (list_length old.newest)) (sym torn-assoc)
+              (losses-within (list_length old.newest) (losses_of roles spares) (Torn at (sectors_of from) ∷ Refused refusal ∷ []) (losses-are roles spares) (tt, (tt, tt)));
           rise = did.rise t;
           keeps = λ told fills whole more values allowed room gone unclean unsettled before.
               keeps t told fills whole more (unsettled (torn-unsettles at (at + length from / 512) new refusal (undone.torn is)))
               (λ now_begun x lt covered. values x (sector_at at (sectors_of from) x) (torn-allowed t x lt covered)) room gone before;
-          listed = λ does_new fills. absurd (torn-never at (at + length from / 512) new refusal (undone.torn is) does_new);
+          listed = same-listed t
+              (now (opening_list (world_in given tape scope first)) (entries ++ entries_of who end ((losses_of roles spares ++ Torn at (sectors_of from) ∷ []) ++ Refused refusal ∷ []))) now-torn;
           legal = λ fills gone level. subst (λ (l : List Event). IsLegalCall (world_in given tape' scope first) entries who end l) (sym torn-assoc)
               (legal-losses (world_in given tape' scope first) entries who end (losses_of roles spares) (Torn at (sectors_of from) ∷ Refused refusal ∷ []) (losses-are roles spares)
               (torn-legal t, tt, (refused-legal t fills gone level, tt, tt)));
@@ -354,14 +404,23 @@ module _ (tells : Type 0) (given : Given) (tape tape' : List Operation) (scope :
         torn-assoc : (losses_of roles spares ++ Torn at (sectors_of from) ∷ []) ++ Refused refusal ∷ [] ≡ losses_of roles spares ++ Torn at (sectors_of from) ∷ Refused refusal ∷ []
         torn-assoc = append_assoc (losses_of roles spares) (Torn at (sectors_of from) ∷ []) (Refused refusal ∷ [])
 
+        -- what each sector may have
+        values-torn : (x : ℕ) → values_of (opening_list (world_in given tape scope first)) (entries ++ entries_of who end ((losses_of roles spares ++ Torn at (sectors_of from) ∷ []) ++ Refused refusal ∷ [])) x
+            ≡ values_after x (values_of (opening_list (world_in given tape scope first)) entries x) (Torn at (sectors_of from))
+        values-torn x =
+            ap (λ (l : List Event). values_of (opening_list (world_in given tape scope first)) (entries ++ entries_of who end l) x) torn-assoc
+            ∙ values-more (opening_list (world_in given tape scope first)) entries (entries_of who end (losses_of roles spares ++ Torn at (sectors_of from) ∷ Refused refusal ∷ [])) x
+            ∙ values-losses who end (losses_of roles spares) (Torn at (sectors_of from) ∷ Refused refusal ∷ []) (losses-are roles spares) x (values_of (opening_list (world_in given tape scope first)) entries x)
+
+        now-torn : (x : ℕ) → now (opening_list (world_in given tape scope first)) (entries ++ entries_of who end ((losses_of roles spares ++ Torn at (sectors_of from) ∷ []) ++ Refused refusal ∷ [])) x
+            ≡ now (opening_list (world_in given tape scope first)) entries x
+        now-torn x = ap (λ (l : List Sector). slice_index_or l 0 []) (values-torn x) ∙ torn-same at (sectors_of from) x (values_of (opening_list (world_in given tape scope first)) entries x)
+
         -- the sectors stand behind the newest values
         torn-allowed : (t : tells) → (x : ℕ) → x < list_length old.newest → writes_at at (sectors_of from) x ≡ true
             → IsIn (values_of (opening_list (world_in given tape scope first)) (entries ++ entries_of who end ((losses_of roles spares ++ Torn at (sectors_of from) ∷ []) ++ Refused refusal ∷ [])) x)
             (sector_at at (sectors_of from) x)
-        torn-allowed t x lt covered = subst (λ (l : List Sector). IsIn l (sector_at at (sectors_of from) x))
-            (sym (ap (λ (l : List Event). values_of (opening_list (world_in given tape scope first)) (entries ++ entries_of who end l) x) torn-assoc
-            ∙ values-more (opening_list (world_in given tape scope first)) entries (entries_of who end (losses_of roles spares ++ Torn at (sectors_of from) ∷ Refused refusal ∷ [])) x
-            ∙ values-losses who end (losses_of roles spares) (Torn at (sectors_of from) ∷ Refused refusal ∷ []) (losses-are roles spares) x (values_of (opening_list (world_in given tape scope first)) entries x)))
+        torn-allowed t x lt covered = subst (λ (l : List Sector). IsIn l (sector_at at (sectors_of from) x)) (sym (values-torn x))
             (torn-in at (sectors_of from) x (values_of (opening_list (world_in given tape scope first)) entries x) (newest t x lt) covered)
 
         torn-legal : tells → IsTorn (world_in given tape' scope first) (entries ++ entries_of who end (losses_of roles spares)) at (sectors_of from) (entries_of who end (Refused refusal ∷ []))
@@ -384,16 +443,17 @@ module _ (tells : Type 0) (given : Given) (tape tape' : List Operation) (scope :
     unbegun-moves : begun ≡ false → IsMoving tells given tape' scope first (entries ++ entries_of who end (losses_of roles spares ++ Refused refusal ∷ [])) new carried course buffer left
     unbegun-moves is =
         behind-moves tells given tape tape' scope first entries old new carried course course buffer buffer left left who end (losses_of roles spares) (IsAmong roles) (Refused refusal)
-        was goes caller at_end grows (record { adds = refl; gives = refl; ends = refl; level = λ n. refl })
+        was goes caller at_end grows (record { adds = refl; gives = refl; ends = refl; level = λ n. refl; other = refl })
         (reshaping-moved scope given old new did.moved was.members_are) did.few (first-of (early-losses roles spares)) (missing-moved roles did.moved did.since) list-same level-same
         (λ t dirty. clean t undone.refused) (course-moved given old new course did.moved was.course_is)
         (λ t. stored-kept scope given old new course.window buffer (disk given.start tape) (disk given.start tape') was.members_are did.moved (did.unused t) (was.stored t))
         (left-more left entries who end (losses_of roles spares ++ Refused refusal ∷ []) was.left_told (left-behind left who end (losses_of roles spares) (Refused refusal ∷ []) (losses-are roles spares) (λ told is. is)))
         (λ t. record {
+          within = losses-within (list_length old.newest) (losses_of roles spares) (Refused refusal ∷ []) (losses-are roles spares) (tt, tt);
           rise = did.rise t;
           keeps = λ told fills whole more values allowed room gone unclean unsettled before.
               keeps t told fills whole more (told-unclean t told more unsettled undone.refused) (λ now_begun. absurd (let both = sym is ∙ now_begun in cc)) room gone before;
-          listed = λ does_new fills. listed t does_new fills undone.refused;
+          listed = same-listed t (now (opening_list (world_in given tape scope first)) (entries ++ entries_of who end (losses_of roles spares ++ Refused refusal ∷ []))) now-same;
           legal = λ fills gone level. legal-losses (world_in given tape' scope first) entries who end (losses_of roles spares) (Refused refusal ∷ []) (losses-are roles spares) (legal t fills gone level undone.refused, tt, tt);
         })
       where
@@ -420,18 +480,6 @@ module _ (tells : Type 0) (given : Given) (tape tape' : List Operation) (scope :
         now-same x = ap (λ (l : List Sector). slice_index_or l 0 [])
             (values-more (opening_list (world_in given tape scope first)) entries (entries_of who end (losses_of roles spares ++ Refused refusal ∷ [])) x
             ∙ values-losses who end (losses_of roles spares) (Refused refusal ∷ []) (losses-are roles spares) x (values_of (opening_list (world_in given tape scope first)) entries x))
-
-        listed : (t : tells) → DoWithout new → IsFilledRight (world_in given tape scope first) entries → IsListUnwritten relied at (at + length from / 512) new refusal
-            → HasListInCourse (OpensFit (world_in given tape scope first)) new course buffer (present given tape')
-            (now (opening_list (world_in given tape scope first)) (entries ++ entries_of who end (losses_of roles spares ++ Refused refusal ∷ [])))
-        listed t does_new fills (inl torn) = absurd (torn-never at (at + length from / 512) new refusal torn does_new)
-        listed t does_new fills (inr (each, there)) =
-            let l = was.listed t does fills in
-            record {
-              list = l.list;
-              is = λ x lt. l.is x (subst (λ (n : ℕ). x < n) list-same lt) ∙ sym (now-same x);
-              stands = courses-move (OpensFit (world_in given tape scope first)) given old new course buffer (present given tape) (present given tape') l.list was.members_are.placed did.moved (undone.untouched is t) l.stands;
-            }
 
         legal : (t : tells) → IsReliable (world_in given tape scope first) entries
             → AreToldGone (world_in given tape' scope first) (entries ++ entries_of who end (losses_of roles spares)) new

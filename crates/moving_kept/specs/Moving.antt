@@ -23,12 +23,13 @@ use Rattle.shape_changes.specs.Steady.{AreUnlost, IsSafeOver}
 use Rattle.shape_ends.specs.Grown.{IsZeroPast}
 use Rattle.shape_ends.specs.Plans.{HasNoneRecovering}
 use Rattle.views.specs.Placed.{IsPlaced}
+use Rattle.views.specs.Lacking.{DoesWithout}
 use Rattle.views.specs.Rebuilding.{AreSparesFree}
 use Rattle.safe_updates.specs.Unused.{IsUnused}
 use Rattle.kept_history.specs.Recorded.{IsHistoryKept}
 use Rattle.kept_history.specs.Safe.{world_in, IsFilledRight, IsSafeHistory}
 use Rattle.kept_history.specs.Told.{told_now}
-use Rattle.history_calls.specs.Reliable.{IsReliable, AreToldGone}
+use Rattle.history_calls.specs.Reliable.{IsReliable, AreToldGone, IsNonePast, HasLastStep}
 use Rattle.course_kept.specs.declared.course.Course.{Course}
 use Rattle.course_kept.specs.Course.{IsCourseOf, IsStored, StandsInCourse}
 
@@ -43,11 +44,11 @@ pub record AreReshaping (scope : Scope) (given : Given) (members : Members) : Ty
   pub free : AreSparesFree given members
   pub spares : length members.spares ≤ 32
 
--- The list of the history stands in the course of the reshape.
+-- The list of the history stands in the course of the reshape, by each shape that does without what is missing of it.
 pub record HasListInCourse (sound : Type 0) (members : Members) (course : Course) (buffer : List ℕ) (c : Contents) (current : ℕ → Sector) : Type 0 where
   pub list : ℕ → Sector
   pub is : (x : ℕ) → x < list_length members.newest → list x ≡ current x
-  pub stands : StandsInCourse sound members course buffer c list
+  pub stands : StandsInCourse sound (λ shape. DoesWithout shape members) members course buffer c list
 
 -- The list of the history stands on members without a reshape: it is zero behind its end, and where the epoch opened sound, its rows stand too.
 pub record HasListStill (sound : Type 0) (members : Members) (c : Contents) (current : ℕ → Sector) : Type 0 where
@@ -58,7 +59,7 @@ pub record HasListStill (sound : Type 0) (members : Members) (c : Contents) (cur
   pub rows : sound → RowsStand None members c list
 
 -- No reshape is active in the array, though some may have been before. What is missing was told so, and a dirty mark; over a bank that tells its contents the
--- history is legal and reaches to the tape's end, the list stands where what is filled in is right, and each mark so far is safe. Superblocks may tell a
+-- history is legal, reaches to the tape's end and tells nothing past the list's, the list stands where what is filled in is right, and each mark so far is safe. Superblocks may tell a
 -- reshape still only where no live slot is left: its end was recorded in none then.
 pub record IsStillKept (tells : Type 0) (given : Given) (tape : List Operation) (scope : Scope) (first : ℕ) (entries : List Entry) (members : Members) (carried : ℕ → Bool) : Type 0 where
   pub slots : given.slots ≤ 32
@@ -71,14 +72,15 @@ pub record IsStillKept (tells : Type 0) (given : Given) (tape : List Operation) 
   pub gone : tells → IsReliable (world_in given tape scope first) entries → AreToldGone (world_in given tape scope first) entries members
   pub unclean : tells → is_clean members.newest ≡ false → (is_unsynced (world_in given tape scope first) entries || is_unsettled entries) ≡ true
   pub recorded : tells → IsHistoryKept (IsReliable (world_in given tape scope first) entries) (world_in given tape scope first) (list_length members.newest) entries
+  pub past : tells → IsNonePast (world_in given tape scope first) entries (list_length members.newest)
   pub listed : tells → DoWithout members → IsFilledRight (world_in given tape scope first) entries
       → HasListStill (OpensFit (world_in given tape scope first)) members (present given tape) (now (opening_list (world_in given tape scope first)) entries)
   pub safe : tells → IsFilledRight (world_in given tape scope first) entries → HasRoomForEvents (world_in given tape scope first) → OpensAlike (world_in given tape scope first)
       → IsSafeHistory ⊤ (world_in given tape scope first) given members carried reshaping entries
 
 -- A reshape is active in the array, and this is how far it has come; so many steps are left. What is missing was told so, and a dirty mark; over a bank that
--- tells its contents the history is legal and reaches to the tape's end, the backup's headers say how far the window has come, the list stands where what is
--- filled in is right, and each mark so far is safe.
+-- tells its contents the history is legal and reaches to the tape's end, as its last step does, and tells nothing past the list's end; the backup's headers say how far the window has come, the list stands where what is
+-- filled in is right, by each shape that does without what is missing of it, and each mark so far is safe.
 pub record IsMoving (tells : Type 0) (given : Given) (tape : List Operation) (scope : Scope) (first : ℕ) (entries : List Entry)
     (members : Members) (carried : ℕ → Bool) (course : Course) (buffer : List ℕ) (left : ℕ) : Type 0 where
   pub slots : given.slots ≤ 32
@@ -90,8 +92,9 @@ pub record IsMoving (tells : Type 0) (given : Given) (tape : List Operation) (sc
   pub gone : tells → IsReliable (world_in given tape scope first) entries → AreToldGone (world_in given tape scope first) entries members
   pub unclean : tells → is_clean members.newest ≡ false → (is_unsynced (world_in given tape scope first) entries || is_unsettled entries) ≡ true
   pub recorded : tells → IsHistoryKept (IsReliable (world_in given tape scope first) entries) (world_in given tape scope first) (list_length members.newest) entries
+  pub last_step : tells → HasLastStep (world_in given tape scope first) entries (list_length members.newest)
   pub stored : tells → IsStored scope members course.window buffer (disk given.start tape)
-  pub listed : tells → DoWithout members → IsFilledRight (world_in given tape scope first) entries
+  pub listed : tells → IsFilledRight (world_in given tape scope first) entries
       → HasListInCourse (OpensFit (world_in given tape scope first)) members course buffer (present given tape) (now (opening_list (world_in given tape scope first)) entries)
   pub safe : tells → IsFilledRight (world_in given tape scope first) entries → HasRoomForEvents (world_in given tape scope first) → OpensAlike (world_in given tape scope first)
       → IsSafeHistory ⊤ (world_in given tape scope first) given members carried true entries

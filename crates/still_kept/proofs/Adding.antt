@@ -47,7 +47,8 @@ pub changing-stands : (tells : Type 0) (given : Given) (tape tape' : List Operat
     → (tells → ChangesEarly given tape scope first entries old new (is_carried work) false who early event tape' end)
     → IsStill tells given tape' scope first (entries ++ entries_of who end (early ++ event ∷ [])) new work left'
 changing-stands tells given tape tape' scope first entries old new work left left' who end early IsTaken event was live goes caller at_end grows adding moved are missing clean dirty told listed call =
-    leaves-stands tells given tape tape' scope first entries (entries ++ added) old new work work left left' was grows (rest-moved given old new moved was.members_are) (ap (λ (s : Shape). s.level) moved.shape) told
+    leaves-stands tells given tape tape' scope first entries (entries ++ added) old new work work left left' was grows (rest-moved given old new moved was.members_are) (ap (λ (s : Shape). s.level) moved.shape)
+    (list-alike old.newest new.newest moved.reshape moved.shape moved.size) told
     (progress-same moved work.resync was.progress)
     (λ t. unsynced-still (world_in given tape scope first) entries added ends ∙ was.pending t)
     dirty listed

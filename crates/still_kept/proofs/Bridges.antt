@@ -81,6 +81,7 @@ module _ (tells : Type 0) (given : Given) (tape : List Operation) (scope : Scope
     gone = was.gone;
     unclean = was.unclean;
     recorded = was.recorded;
+    past = was.past;
     listed = listed;
     reshaping = false;
     over = λ live. refl;
@@ -107,6 +108,7 @@ kept-again tells given tape scope first entries m carried work left was live unl
   full = full;
   unclean = was.unclean;
   recorded = was.recorded;
+  past = was.past;
   listed = listed;
   safe = subst (λ (c : ℕ → Bool). tells → IsFilledRight (world_in given tape scope first) entries → HasRoomForEvents (world_in given tape scope first) → OpensAlike (world_in given tape scope first)
       → IsSafeHistory ⊤ (world_in given tape scope first) given m c false entries) (sym carries) (λ t. safe-over was t live);

@@ -52,6 +52,7 @@ use Rattle.array_kept.proofs.KeptLaws.{left-lost}
 use Rattle.calls_kept.proofs.RebuildGiven.{few-given, free-then, missing-given, list-given, among-given, rebuilt-given}
 use Rattle.kept_history.specs.Recorded.{IsCallGoing}
 use Rattle.kept_history.specs.Safe.{world_in, IsFilledRight}
+use Rattle.history_calls.proofs.LastStep.{AreWithin, losses-within}
 use Rattle.history_calls.proofs.Behind.{AreLostOrMissing, IsAmong, early-losses, legal-losses}
 use Rattle.still_kept.specs.Still.{AreAtRest, HasListStood, IsStill}
 use Rattle.std.proofs.Common.{append_assoc}
@@ -229,6 +230,8 @@ module _ (tells : Type 0) (given : Given) (tape tape' : List Operation) (scope :
 
     call : tells → GivesRole given tape scope first entries old new (is_carried work) false who (losses_of roles spares ++ Step RebuildEnded left' ∷ []) role tape' end
     call t = record {
+      within = subst (AreWithin (list_length old.newest)) (sym split)
+          (losses-within (list_length old.newest) (losses_of roles spares) (Step RebuildEnded left' ∷ Rebuilt role ∷ []) (losses-are roles spares) (tt, (tt, tt)));
       rise = did.rise t;
       keeps = keeps t;
       back = λ told right more room gone unclean began.
@@ -275,7 +278,7 @@ module _ (tells : Type 0) (given : Given) (tape tape' : List Operation) (scope :
 
     pub whole-stands : IsStill tells given tape' scope first (entries ++ entries_of who end (losses_of roles spares ++ Step RebuildEnded left' ∷ Rebuilt role ∷ [])) new work left'
     whole-stands = subst (λ (l : List Event). IsStill tells given tape' scope first (entries ++ entries_of who end l) new work left') split
-        (leaves-stands tells given tape tape' scope first entries (entries ++ added) old new work work left left' was did.grows rest (ap (λ (s : Shape). s.level) did.moved.shape) told
+        (leaves-stands tells given tape tape' scope first entries (entries ++ added) old new work work left left' was did.grows rest (ap (λ (s : Shape). s.level) did.moved.shape) sized told
         (subst (λ (o : Option ℕ). IfSome o (λ mended. mended ≤ stripes_of new)) (sym synced) tt)
         (λ t. unsynced-still (world_in given tape scope first) entries added ends ∙ was.pending t)
         (λ can pending. did.clean ∙ was.dirty does pending)

@@ -52,7 +52,7 @@ pub failed-stands : (tells : Type 0) (given : Given) (tape tape' : List Operatio
     → IsStill tells given tape' scope first (entries ++ entries_of who end ((Lost role Command ∷ losses_of roles spares) ++ Failed role ∷ [])) new work left'
 failed-stands tells given tape tape' scope first entries old new work left left' who end role roles spares was live goes caller at_end did =
     early-stands tells given tape tape' scope first entries old new work work left left' who end (Lost role Command ∷ losses_of roles spares) (IsFailedOrAmong role roles) (Failed role)
-    was live goes caller at_end did.grows (record { adds = refl; gives = refl; ends = refl; still = λ x values. refl; level = λ n. refl }) did.moved (early-failed role roles spares) missing did.clean refl refl
+    was live goes caller at_end did.grows (record { adds = refl; gives = refl; ends = refl; still = λ x values. refl; level = λ n. refl; other = refl }) did.moved (early-failed role roles spares) missing did.clean refl refl
     (progress-same did.moved work.resync was.progress)
     (subst (λ (o : Option ℕ). IfSome o (λ n. n ≡ left')) (sym (fold-left None entries (entries_of who end ((Lost role Command ∷ losses_of roles spares) ++ Failed role ∷ []))))
     (left-behind left' who end (losses_of roles spares) (Failed role ∷ []) (losses-are roles spares) (λ told is. is) None tt))

@@ -47,6 +47,7 @@ use Rattle.kept_history.specs.Recorded.{IsCallGoing, entry_of, ends_reshape}
 use Rattle.kept_history.specs.Safe.{world_in, IsFilledRight}
 use Rattle.kept_history.proofs.Entered.{values-more}
 use Rattle.kept_history.proofs.Lists.{newest-in}
+use Rattle.history_calls.proofs.LastStep.{losses-within}
 use Rattle.history_calls.proofs.Behind.{IsAmong, first-of, early-losses, legal-losses}
 use Rattle.history_calls.proofs.Quiet.{IsLeftBehind}
 use Rattle.history_calls.proofs.Adding.{unsettled-last}
@@ -144,7 +145,8 @@ module _ (tells : Type 0) (given : Given) (tape tape' : List Operation) (scope :
       → (tells → IsLegalEvent (world_in given tape' scope first) (entries ++ entries_of who end (losses_of roles spares)) (entry_of who end event) [] event)
       → IsStill tells given tape' scope first (entries ++ entries_of who end (losses_of roles spares ++ event ∷ [])) new work' left'
   settled-stands work' left' event done settling free carries pends waits progress unsynced_is told again legal =
-      leaves-stands tells given tape tape' scope first entries (entries ++ added) old new work work' left left' was did.grows (rest-moved given old new did.moved was.members_are) (ap (λ (s : Shape). s.level) did.moved.shape) told progress
+      leaves-stands tells given tape tape' scope first entries (entries ++ added) old new work work' left left' was did.grows (rest-moved given old new did.moved was.members_are) (ap (λ (s : Shape). s.level) did.moved.shape)
+      (list-alike old.newest new.newest did.moved.reshape did.moved.shape did.moved.size) told progress
       (λ t. unsynced-then (world_in given tape scope first) entries who end roles spares event ∙ unsynced_is t ∙ pends)
       (λ does is. done.stays (pends ∙ is) ∙ was.dirty (without-before given old new did.moved does) (waits (pends ∙ is)))
       (λ t does fills. subst (λ (l : ℕ → Sector). HasListStood (OpensFit (world_in given tape scope first)) work' new (present given tape') l) (sym same)
@@ -217,12 +219,13 @@ module _ (tells : Type 0) (given : Given) (tape tape' : List Operation) (scope :
       → IsStill tells given tape' scope first (entries ++ entries_of who end (losses_of roles spares ++ Refused refusal ∷ [])) new work left'
   unflushed-stands left' refusal many alike =
       changing-stands tells given tape tape' scope first entries old new work left left' who end (losses_of roles spares) (IsAmong roles) (Refused refusal) was live goes caller at_end did.grows
-      (record { adds = refl; gives = refl; ends = refl; level = λ n. refl }) did.moved (first-of (early-losses roles spares)) (missing-since did.moved did.since)
+      (record { adds = refl; gives = refl; ends = refl; level = λ n. refl; other = refl }) did.moved (first-of (early-losses roles spares)) (missing-since did.moved did.since)
       (λ dirty. inr (unsettled-last who end (losses_of roles spares) (Refused refusal) (unsettled refusal many)))
       (λ does. absurd (never-both new refusal does many))
       (left-lost left left' entries who end (losses_of roles spares) (Refused refusal ∷ []) (losses-are roles spares) alike was.left_told (λ told is. is))
       (λ t does. absurd (never-both new refusal does many))
       (λ t. record {
+        within = losses-within (list_length old.newest) (losses_of roles spares) (Refused refusal ∷ []) (losses-are roles spares) (tt, tt);
         rise = did.rise t;
         keeps = λ told_so reliable all_gone fills more allowed room gone unclean unsettles_so safe.
             did.safe t (world_in given tape scope first) told_so room gone unclean current (under t fills) (rows-under t fills)

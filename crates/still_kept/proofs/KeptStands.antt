@@ -1,5 +1,5 @@
 -- What an array of one shape keeps is what an array keeps without an active reshape.
-use Rattle.std.proofs.Common.{◌≡◌, inl, inr, ℕ, ◌<◌, ◌||◌, Bool, true, false, Option, List, [], ◌∷◌, length, refl, sym, ◌∙◌, ap, subst}
+use Rattle.std.proofs.Common.{◌≡◌, inl, inr, ℕ, ◌<◌, ◌||◌, Bool, true, false, Option, List, [], ◌∷◌, length, refl, sym, ◌∙◌, ap, subst, arith}
 use Rattle.std.specs.Prelude.{fold}
 use Rattle.std.specs.List.{list_any}
 use Rattle.std.proofs.lemmas.Bool.{and_parts}
@@ -29,6 +29,7 @@ use Rattle.views.proofs.Still.{length-still}
 use Rattle.array_kept.specs.Kept.{AreRebuildsRight, IsKept}
 use Rattle.array_kept.proofs.ReadyLaws.{kept-legal}
 use Rattle.kept_history.specs.Recorded.{IsHistoryKept}
+use Rattle.kept_history.proofs.Lists.{past-none}
 use Rattle.std.proofs.Common.{◌<◌, append-nil, subst, []}
 use Rattle.row_io.specs.Rows.{reading_of, is_missing}
 use Rattle.calls_kept.proofs.RebuildEnded.{role-lost}
@@ -36,7 +37,7 @@ use Rattle.kept_history.specs.Safe.{TakesNone}
 use Rattle.still_kept.specs.Still.{AreNoneMissing}
 use Rattle.kept_history.specs.Safe.{world_in, IsFilledRight}
 use Rattle.one_shape_history.proofs.Kept.{safe-alike, recorded-alike}
-use Rattle.history_calls.specs.Reliable.{IsReliable}
+use Rattle.history_calls.specs.Reliable.{IsReliable, IsNonePast}
 use Rattle.still_kept.specs.Still.{HasListStood, IsStill}
 
 -- ---- entries
@@ -93,6 +94,12 @@ module _ {tells : Type 0} {given : Given} {tape : List Operation} {scope : Scope
         ended = r.ended;
       }
 
+  -- past the list's end the history tells nothing
+  past : tells → IsNonePast world entries (list_length members.newest)
+  past t right x le =
+      let legal = (one_shape-legal world (opening_in world) entries (found-in world) (kept-legal was t (fills right))).0 in
+      past-none world entries legal x (let n = (recorded t).sized in omega (arith, le, n))
+
   rebuilds : IsFilledRight world entries → AreRebuildsRight world entries
   rebuilds (inl none) = inl (was.built (λ role. none-lost world role entries (none role)))
   rebuilds (inr fit) = inr fit
@@ -126,6 +133,7 @@ module _ {tells : Type 0} {given : Given} {tape : List Operation} {scope : Scope
     full = full;
     unclean = λ t dirty. ap (λ (b : Bool). b || is_unsettled entries) (was.recorded t).dirty ∙ was.unclean dirty;
     recorded = recorded;
+    past = past;
     listed = listed;
     safe = λ t right room alike. safe-alike world given members work entries (keep t right) (was.safe t (fills right) room alike);
   }

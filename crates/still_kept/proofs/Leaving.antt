@@ -6,7 +6,7 @@ use Rattle.md_base.specs.Shapes.{tolerance_of}
 use Rattle.bank.specs.declared.bank.Operation.{Operation}
 use Rattle.bank.specs.Given.{Given}
 use Rattle.superblocks.specs.declared.members.Members.{Members}
-use Rattle.superblocks.specs.Reading.{Scope, is_clean, shape_of}
+use Rattle.superblocks.specs.Reading.{Scope, is_clean, shape_of, list_length}
 use Rattle.row_io.specs.Rows.{present}
 use Rattle.flat_history.specs.declared.events.Entry.{Entry}
 use Rattle.flat_history.specs.Epochs.{HasRoomForEvents, OpensAlike}
@@ -45,6 +45,7 @@ use Rattle.kept_history.specs.Safe.{world_in, IsFilledRight}
 use Rattle.kept_history.specs.Told.{told_now}
 use Rattle.kept_history.proofs.Calls.{now-live}
 use Rattle.kept_history.proofs.Growing.{opening-grown, unsynced-grown}
+use Rattle.history_calls.specs.Reliable.{IsNonePast}
 use Rattle.history_calls.proofs.Quiet.{IsLeftBehind, fit-later}
 use Rattle.still_kept.specs.Still.{AreAtRest, HasListStood, IsStill}
 
@@ -117,7 +118,7 @@ none-taken tells given tape tape' scope first entries old new who end events IsT
 -- ---- the record
 
 pub leaves-stands : (tells : Type 0) (given : Given) (tape tape' : List Operation) (scope : Scope) (first : ℕ) (entries all : List Entry) (old new : Members) (work work' : Work) (left left' : ℕ)
-    → IsStill tells given tape scope first entries old work left → Grows tells tape tape' → AreAtRest given new → (shape_of new.newest).level ≡ (shape_of old.newest).level
+    → IsStill tells given tape scope first entries old work left → Grows tells tape tape' → AreAtRest given new → (shape_of new.newest).level ≡ (shape_of old.newest).level → list_length new.newest ≡ list_length old.newest
     → IfSome (told_left all) (λ n. n ≡ left') → IfSome work'.resync (λ mended. mended ≤ stripes_of new)
     → (tells → is_unsynced (world_in given tape scope first) all ≡ is_some work'.resync) → (DoWithout new → IsSome work'.resync → is_clean new.newest ≡ false)
     → (tells → DoWithout new → IsFilledRight (world_in given tape scope first) entries
@@ -125,7 +126,7 @@ pub leaves-stands : (tells : Type 0) (given : Given) (tape tape' : List Operatio
     → (tells → TakesNone (world_in given tape' scope first) all → AreNoneMissing new)
     → (tells → IsLeftBehind given tape scope first entries all new (is_carried work') false tape')
     → IsStill tells given tape' scope first all new work' left'
-leaves-stands tells given tape tape' scope first entries all old new work work' left left' was grows members level told progress pending dirty listed full leaves = record {
+leaves-stands tells given tape tape' scope first entries all old new work work' left left' was grows members level sized told progress pending dirty listed full leaves = record {
   slots = was.slots;
   members_are = members;
   sizes_are = was.sizes_are;
@@ -138,6 +139,7 @@ leaves-stands tells given tape tape' scope first entries all old new work work' 
   full = full;
   unclean = λ t. (leaves t).unclean;
   recorded = λ t. (leaves t).recorded;
+  past = λ t. (leaves t).past (list_length new.newest) (omega arith) (subst (λ (n : ℕ). IsNonePast (world_in given tape scope first) entries n) (sym sized) (was.past t));
   listed = λ t does fills.
       subst (λ (sound : Type 0). HasListStood sound work' new (present given tape') (now (opening_list (world_in given tape' scope first)) all)) (sym (fit-later (leaves t)))
       (subst (λ (l : List Sector). HasListStood (OpensFit (world_in given tape scope first)) work' new (present given tape') (now l all)) (sym (leaves t).opened)

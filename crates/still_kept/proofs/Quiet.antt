@@ -55,7 +55,7 @@ pub tail-stands : (tells : Type 0) (given : Given) (tape tape' : List Operation)
     → (tells → LeavesNumbers given tape scope first entries old new (is_carried work) (is_carried work') false who early tail tape' end)
     → IsStill tells given tape' scope first (entries ++ entries_of who end (early ++ tail)) new work' left'
 tail-stands tells given tape tape' scope first entries old new work work' left left' who end early IsTaken tail was live goes caller at_end grows quiet rest shape size before are missing clean carries pends progress ended reshaped told listed call =
-    leaves-stands tells given tape tape' scope first entries (entries ++ added) old new work work' left left' was grows rest (ap (λ (s : Shape). s.level) shape) told progress
+    leaves-stands tells given tape tape' scope first entries (entries ++ added) old new work work' left left' was grows rest (ap (λ (s : Shape). s.level) shape) sized told progress
     (λ t. unsynced-still (world_in given tape scope first) entries added ends ∙ was.pending t ∙ sym pends)
     (λ does pending. clean ∙ was.dirty (before does) (sym pends ∙ pending))
     (λ t does fills. subst (λ (l : ℕ → Sector). HasListStood (OpensFit (world_in given tape scope first)) work' new (present given tape') l) (sym same) (listed t does fills))

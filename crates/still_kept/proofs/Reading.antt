@@ -139,7 +139,7 @@ module _ (tells : Type 0) (given : Given) (tape tape' : List Operation) (scope :
   read-stands at bytes inside seen holds =
       stays-stands tells given tape tape' scope first entries old new work left left' who end roles spares before after (Read at (sectors_of bytes)) was
       (without-left given old was.members_are.placed was.members_are.unlost does) goes caller at_end named
-      (record { adds = refl; gives = refl; ends = refl; still = λ x values. refl; level = λ n. refl }) alike (λ told is. is)
+      (record { adds = refl; gives = refl; ends = refl; still = λ x values. refl; level = λ n. refl; other = refl }) alike (λ told is. is)
       (λ t all right gone level. legal t all right gone)
     where
       body : List Sector

@@ -36,7 +36,7 @@ use Rattle.still_kept.proofs.Leaving.{unsynced-later}
 
 -- a refusal is quiet
 pub quiet-refusal : (refusal : Refusal) → IsQuiet (Refused refusal)
-quiet-refusal refusal = record { adds = refl; gives = refl; ends = refl; still = λ x values. refl; level = λ n. refl }
+quiet-refusal refusal = record { adds = refl; gives = refl; ends = refl; still = λ x values. refl; level = λ n. refl; other = refl }
 
 -- Why a call is refused, by the members that it leaves: too many roles are missing, or a role is while a resync is pending; other refusals tell nothing that
 -- was entered.

@@ -133,6 +133,8 @@ module _ (tells : Type 0) (given : Given) (tape : List Operation) (scope : Scope
     full = λ t none. was.full t (λ role. none-before (loses (world_in given tape scope first) role) entries added (none role));
     unclean = λ t dirty. unclean t (was.unclean t dirty);
     recorded = λ t. (rested t).recorded;
+    past = λ t fills x high. values-more (opening_list (world_in given tape scope first)) entries (entries_of who end (event ∷ [])) x
+        ∙ rests.still x (values_of (opening_list (world_in given tape scope first)) entries x) ∙ was.past t ((rested t).fills fills) x high;
     listed = λ t does fills. subst (λ (l : ℕ → Sector). HasListStood (OpensFit (world_in given tape scope first)) work m (present given tape) l)
         (λ i x. sym (same x) i)
         (was.listed t does ((rested t).fills fills));

@@ -187,7 +187,7 @@ module _ (tells : Type 0) (given : Given) (tape tape' : List Operation) (scope :
   mended-stands below less some mends =
       early-stands tells given tape tape' scope first entries old new work (record work { resync = Some (mended + 1) }) left left' who end (losses_of roles spares) (IsAmong roles) (Step ResyncStripe left') was
       (without-left given old was.members_are.placed was.members_are.unlost does) goes caller at_end did.grows
-      (record { adds = refl; gives = refl; ends = not-zero left' some; still = λ x values. refl; level = λ n. refl }) did.moved (early-losses roles spares) (missing-since did.moved did.since) (did.dirty ∙ sym was-dirty)
+      (record { adds = refl; gives = refl; ends = not-zero left' some; still = λ x values. refl; level = λ n. refl; other = refl }) did.moved (early-losses roles spares) (missing-since did.moved did.since) (did.dirty ∙ sym was-dirty)
       refl (sym (ap (λ (o : Option ℕ). is_some o) waits)) (progress-same did.moved (Some (mended + 1)) (omega (arith, below))) (told-step entries who end roles spares ResyncStripe left')
       (λ t can fills. listed t can (stood t fills))
       (λ t. record {
@@ -269,7 +269,7 @@ resynced-stands tells given tape tape' scope first entries old new work left lef
     settled-stands tells given tape tape' scope first entries old new work left who end roles spares before after false was (without-left given old was.members_are.placed was.members_are.unlost does) goes caller at_end
     (λ synced. (let same = all-rows given old was.members_are work.resync all in omega (arith, same))) did
     (record work { resync = None }) left' (Step ResyncEnded left') done
-    (record { gives = refl; level = λ n. refl; length = λ n. refl; newest = λ x values has. has; same = λ x values. refl })
+    (record { gives = refl; level = λ n. refl; length = λ n. refl; newest = λ x values has. has; same = λ x values. refl; none = λ x. refl })
     (ends free) refl refl (λ is. absurd (cc)) tt (λ t. ended (is_unsynced (world_in given tape scope first) entries)) (told-step entries who end roles spares ResyncEnded left')
     (λ sound c list l. record {
       stands = l.stands;

@@ -129,7 +129,7 @@ module _ (tells : Type 0) (given : Given) (tape mid_tape tape' : List Operation)
 
   rest : AreAtRest given new
   rest =
-      let stays = stays-added did in
+      let stays = stays-added did was.members_are.still in
       record { placed = stays.placed; still = stays.still; unlost = stays.unlost; free = stays.free; spares = stays.spares }
 
   missing : AreLostOrMissing old new (IsAmong roles)
@@ -173,11 +173,11 @@ module _ (tells : Type 0) (given : Given) (tape mid_tape tape' : List Operation)
       → IsStill tells given tape' scope first (entries ++ entries_of who end (losses_of roles spares ++ event ∷ [])) new (with_carried sb.dev_number work) left'
   spared event quiet told legal =
       placed-stands tells given tape tape' scope first entries old new work (with_carried sb.dev_number work) left left' who end (losses_of roles spares) (IsAmong roles) event was live goes caller at_end grows quiet rest
-      (stays-added did).shape (stays-added did).size (does-added did) (early-losses roles spares) missing did.clean (carries-number sb.dev_number work) refl (progress work.resync was.progress) told listed call
+      (stays-added did was.members_are.still).shape (stays-added did was.members_are.still).size (does-added did) (early-losses roles spares) missing did.clean (carries-number sb.dev_number work) refl (progress work.resync was.progress) told listed call
     where
       progress : (o : Option ℕ) → IfSome o (λ mended. mended ≤ stripes_of old) → IfSome o (λ mended. mended ≤ stripes_of new)
       progress None is = tt
-      progress (Some mended) is = subst (λ (n : ℕ). mended ≤ n) (λ i. sym ((stays-added did).size) i / (sym ((stays-added did).shape) i).chunk) is
+      progress (Some mended) is = subst (λ (n : ℕ). mended ≤ n) (λ i. sym ((stays-added did was.members_are.still).size) i / (sym ((stays-added did was.members_are.still).shape) i).chunk) is
 
       call : tells → LeavesNumbers given tape scope first entries old new (is_carried work) (is_carried (with_carried sb.dev_number work)) false who (losses_of roles spares) (event ∷ []) tape' end
       call t = record {
@@ -188,10 +188,10 @@ module _ (tells : Type 0) (given : Given) (tape mid_tape tape' : List Operation)
 
   -- a new spare: any number of steps may be left then
   pub added-stands : IsStill tells given tape' scope first (entries ++ entries_of who end (losses_of roles spares ++ Added slot ∷ [])) new (with_carried sb.dev_number work) left'
-  added-stands = spared (Added slot) (record { adds = refl; gives = refl; ends = refl; still = λ x values. refl; level = λ n. refl }) (left-added left' entries who end slot (losses_of roles spares) (losses-are roles spares)) (λ t. tt)
+  added-stands = spared (Added slot) (record { adds = refl; gives = refl; ends = refl; still = λ x values. refl; level = λ n. refl; other = refl }) (left-added left' entries who end slot (losses_of roles spares) (losses-are roles spares)) (λ t. tt)
 
   -- one that was lost in this
   pub lost-stands : (losses_of roles spares ≡ [] → left' ≡ left)
       → IsStill tells given tape' scope first (entries ++ entries_of who end (losses_of roles spares ++ Refused (SlotFault slot) ∷ [])) new (with_carried sb.dev_number work) left'
-  lost-stands alike = spared (Refused (SlotFault slot)) (record { adds = refl; gives = refl; ends = refl; still = λ x values. refl; level = λ n. refl })
+  lost-stands alike = spared (Refused (SlotFault slot)) (record { adds = refl; gives = refl; ends = refl; still = λ x values. refl; level = λ n. refl; other = refl })
       (left-lost left left' entries who end (losses_of roles spares) (Refused (SlotFault slot) ∷ []) (losses-are roles spares) alike was.left_told (λ told is. is)) (λ t. tt)

@@ -64,6 +64,7 @@ use Rattle.kept_history.proofs.Entered.{AreAdding, values-more, length-adding}
 use Rattle.kept_history.proofs.Ledgers.{unsynced-still}
 use Rattle.kept_history.proofs.Lists.{newest-in}
 use Rattle.history_calls.specs.Reliable.{IsReliable, AreToldGone}
+use Rattle.history_calls.proofs.LastStep.{AreWithin, losses-within}
 use Rattle.history_calls.proofs.Behind.{AreFirst, IsAmong, first-of, early-losses, legal-losses, inner-of}
 use Rattle.history_calls.proofs.Adding.{unsettled-last}
 use Rattle.still_kept.specs.Still.{AreAtRest, relied_list, HasListStood, IsStill}
@@ -237,10 +238,12 @@ module _ (tells : Type 0) (given : Given) (tape tape' : List Operation) (scope :
     pub wrote-stands : IsStill tells given tape' scope first (entries ++ entries_of who end (losses_of roles spares ++ Wrote at (sectors_of from) ∷ [])) new work left'
     wrote-stands =
         changing-stands tells given tape tape' scope first entries old new work left left' who end (losses_of roles spares) (IsAmong roles) (Wrote at (sectors_of from)) was
-        (without-left given old was.members_are.placed was.members_are.unlost does) goes caller at_end did.grows (record { adds = refl; gives = refl; ends = refl; level = λ n. refl }) did.moved
+        (without-left given old was.members_are.placed was.members_are.unlost does) goes caller at_end did.grows (record { adds = refl; gives = refl; ends = refl; level = λ n. refl; other = refl }) did.moved
         (first-of (early-losses roles spares)) (missing-since did.moved did.since) (λ dirty. inr (unsettled-last who end (losses_of roles spares) (Wrote at (sectors_of from)) refl)) (λ can pending. done.dirty)
         (left-lost left left' entries who end (losses_of roles spares) (Wrote at (sectors_of from) ∷ []) (losses-are roles spares) alike was.left_told (λ told is. is)) listed
         (λ t. record {
+          within = losses-within (list_length old.newest) (losses_of roles spares) (Wrote at (sectors_of from) ∷ []) (losses-are roles spares)
+              (let n : length (sectors_of from) ≡ length from / 512 = length-sectors_of from in omega (arith, inside, n), tt);
           rise = did.rise t;
           keeps = λ told right all_gone fills more allowed room gone unclean unsettled safe.
               keeps t wrote list' written told right all_gone fills
@@ -260,7 +263,7 @@ module _ (tells : Type 0) (given : Given) (tape tape' : List Operation) (scope :
       → IsStill tells given tape' scope first (entries ++ entries_of who end (losses_of roles spares ++ Refused refusal ∷ [])) new work left'
   unwritten-stands refusal not_begun why dirty others =
       changing-stands tells given tape tape' scope first entries old new work left left' who end (losses_of roles spares) (IsAmong roles) (Refused refusal) was
-      (without-left given old was.members_are.placed was.members_are.unlost does) goes caller at_end did.grows (record { adds = refl; gives = refl; ends = refl; level = λ n. refl }) did.moved
+      (without-left given old was.members_are.placed was.members_are.unlost does) goes caller at_end did.grows (record { adds = refl; gives = refl; ends = refl; level = λ n. refl; other = refl }) did.moved
       (first-of (early-losses roles spares)) (missing-since did.moved did.since) (λ marked. elim dirty [
         | inl former ↦ inl former
         | inr is ↦ inr (unsettled-last who end (losses_of roles spares) (Refused refusal) is)
@@ -269,6 +272,7 @@ module _ (tells : Type 0) (given : Given) (tape tape' : List Operation) (scope :
       (λ t can fills. subst (λ (l : ℕ → Sector). HasListStood (OpensFit (world_in given tape scope first)) work new (present given tape') l) (λ i x. sym (same x) i)
       (stood-moved (OpensFit (world_in given tape scope first)) work given old new (present given tape) (present given tape') current did.moved was.members_are.placed (others t) (stood t fills)))
       (λ t. record {
+        within = losses-within (list_length old.newest) (losses_of roles spares) (Refused refusal ∷ []) (losses-are roles spares) (tt, tt);
         rise = did.rise t;
         keeps = λ told right all_gone fills more allowed room gone unclean unsettled safe.
             keeps t (losses_of roles spares ++ Refused refusal ∷ []) (list-with current at from) (list-with-is current at from) told right all_gone fills
@@ -296,12 +300,14 @@ module _ (tells : Type 0) (given : Given) (tape tape' : List Operation) (scope :
       → IsStill tells given tape' scope first (entries ++ entries_of who end ((losses_of roles spares ++ Torn at (sectors_of from) ∷ []) ++ Refused refusal ∷ [])) new work left'
   torn-stands refusal many =
       changing-stands tells given tape tape' scope first entries old new work left left' who end (losses_of roles spares ++ Torn at (sectors_of from) ∷ []) (IsAmong roles) (Refused refusal) was
-      (without-left given old was.members_are.placed was.members_are.unlost does) goes caller at_end did.grows (record { adds = refl; gives = refl; ends = refl; level = λ n. refl }) did.moved
+      (without-left given old was.members_are.placed was.members_are.unlost does) goes caller at_end did.grows (record { adds = refl; gives = refl; ends = refl; level = λ n. refl; other = refl }) did.moved
       (torn-first roles spares at (sectors_of from)) (missing-since did.moved did.since) (λ dirty. inr unsettled) (λ can. absurd (never-both new refusal can many))
       (subst (λ (l : List Event). IfSome (told_left (entries ++ entries_of who end l)) (λ n. n ≡ left')) again
       (left-lost left left' entries who end (losses_of roles spares) (Torn at (sectors_of from) ∷ Refused refusal ∷ []) (losses-are roles spares) alike was.left_told (λ told is. is)))
       (λ t can. absurd (never-both new refusal can many))
       (λ t. record {
+        within = subst (AreWithin (list_length old.newest)) again
+            (losses-within (list_length old.newest) (losses_of roles spares) (Torn at (sectors_of from) ∷ Refused refusal ∷ []) (losses-are roles spares) (tt, (tt, tt)));
         rise = did.rise t;
         keeps = λ told right all_gone fills more allowed room gone unclean unsettles_so safe.
             keeps t ((losses_of roles spares ++ Torn at (sectors_of from) ∷ []) ++ Refused refusal ∷ []) (list-with current at from) (list-with-is current at from) told right all_gone fills

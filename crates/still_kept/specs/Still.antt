@@ -27,7 +27,7 @@ use Rattle.views.specs.Status.{stripes_of}
 use Rattle.array_kept.specs.Kept.{AreSectorsWhole}
 use Rattle.kept_history.specs.Recorded.{IsHistoryKept}
 use Rattle.kept_history.specs.Safe.{world_in, TakesNone, IsFilledRight, IsSafeHistory}
-use Rattle.history_calls.specs.Reliable.{IsReliable, AreToldGone}
+use Rattle.history_calls.specs.Reliable.{IsReliable, AreToldGone, IsNonePast}
 
 -- The members of an array without an active reshape: each has its place, no slot that holds a role was lost, and each spare is free.
 pub record AreAtRest (given : Given) (members : Members) : Type 0 where
@@ -54,7 +54,7 @@ abbrev pub AreNoneMissing : Members → Type 0
 AreNoneMissing members = (role : ℕ) → role < role_count members.newest → is_missing (reading_of members) role ≡ false
 
 -- No reshape is active in the array, whether some were before or not; this is under way in it, and so many steps are left. What is missing was told so, and a
--- dirty mark, and a pending resync; where no role was told lost, each is whole; over a bank that tells its contents the history is legal and reaches to the tape's end, the list stands where what is filled
+-- dirty mark, and a pending resync; where no role was told lost, each is whole; over a bank that tells its contents the history is legal, reaches to the tape's end and tells nothing past the list's, the list stands where what is filled
 -- in is right, as long as the members suffice, and each mark so far is safe.
 pub record IsStill (tells : Type 0) (given : Given) (tape : List Operation) (scope : Scope) (first : ℕ) (entries : List Entry) (members : Members) (work : Work) (left : ℕ) : Type 0 where
   pub slots : given.slots ≤ 32
@@ -69,6 +69,7 @@ pub record IsStill (tells : Type 0) (given : Given) (tape : List Operation) (sco
   pub full : tells → TakesNone (world_in given tape scope first) entries → AreNoneMissing members
   pub unclean : tells → is_clean members.newest ≡ false → (is_unsynced (world_in given tape scope first) entries || is_unsettled entries) ≡ true
   pub recorded : tells → IsHistoryKept (IsReliable (world_in given tape scope first) entries) (world_in given tape scope first) (list_length members.newest) entries
+  pub past : tells → IsNonePast (world_in given tape scope first) entries (list_length members.newest)
   pub listed : tells → DoWithout members → IsFilledRight (world_in given tape scope first) entries
       → HasListStood (OpensFit (world_in given tape scope first)) work members (present given tape) (now (opening_list (world_in given tape scope first)) entries)
   pub safe : tells → IsFilledRight (world_in given tape scope first) entries → HasRoomForEvents (world_in given tape scope first) → OpensAlike (world_in given tape scope first)

@@ -1,6 +1,6 @@
-use Rattle.std.specs.Prelude.{⊤}
+use Rattle.std.specs.Prelude.{◌≡◌, true, ⊤}
 use Rattle.course_kept.proofs.Courses.{copies-go-on}
 use Rattle.course_kept.proofs.laws.a_copy_goes_on.Goals as goal
 
 pub returns : goal.returns
-returns c = copies-go-on ⊤
+returns c = λ among. copies-go-on ⊤ (λ shape. among shape ≡ true)

@@ -1,7 +1,6 @@
-use Rattle.std.specs.Prelude.{⊤}
+use Rattle.std.specs.Prelude.{◌≡◌, true, ⊤}
 use Rattle.course_kept.proofs.Writes.{writes-go-on}
 use Rattle.course_kept.proofs.laws.a_write_goes_on.Goals as goal
 
 pub returns : goal.returns
-returns c =
-    writes-go-on ⊤
+returns c = λ among. writes-go-on ⊤ (λ shape. among shape ≡ true)

@@ -13,6 +13,9 @@ use Rattle.moving.specs.Ready.{bytes_in}
 use Rattle.moving.proofs.Asking.{halted-moves, epoch-kept}
 use Rattle.moving.proofs.state.Moving.halt.Goals as goal
 
+pub returns-clause-entered : goal.returns-clause-entered
+returns-clause-entered g c = rw (← c.self.view_is) (record { end = c.ops-end.result; at_end = c.ops-end.ensures.count; is = c.enter.ensures.items })
+
 pub returns-clause-right : goal.returns-clause-right
 returns-clause-right g c =
     let a = c.self.inside in
