@@ -4,13 +4,12 @@ use Rattle.std.specs.Option.{option_map_or}
 use Rattle.std.proofs.lemmas.Bool.{cases_lt}
 use Rattle.std.proofs.lemmas.Nat.{mul-le}
 use Rattle.md_base.specs.Sectors.{Sector}
-use Rattle.md_base.specs.Shapes.{is_valid_shape, stripe_sectors}
+use Rattle.md_base.specs.Shapes.{is_valid_shape}
 use Rattle.md_base.specs.declared.places.Shape.{Shape}
 use Rattle.md_base.specs.declared.places.Span.{Span}
 use Rattle.bank.specs.Given.{Given}
 use Rattle.bank.specs.Tape.{Contents}
 use Rattle.layout.specs.Layout.{place}
-use Rattle.geometry.specs.Geometry.{ceiling}
 use Rattle.superblocks.specs.declared.members.Members.{Members}
 use Rattle.superblocks.specs.Reading.{final_shape, list_length, data_offset_of}
 use Rattle.row_io.specs.Rows.{reading_of, held_slot}
@@ -30,7 +29,8 @@ use Rattle.views.proofs.MendedParts.{stripe-within}
 use Rattle.region_writes.specs.Runs.{ListStandsIn, RowsStandIn}
 use Rattle.region_writes.proofs.Tails.{is_listed, listed-is, tailed-is, listed-or-tail, tail-before}
 use Rattle.region_mends.specs.declared.stripes.Stripe.{Stripe}
-use Rattle.region_mends.specs.Mends.{low_end, low_shape, low_stripes, mend_stripes, stripe_behind, relied_sector, IsMendRow, AreEndsStanding}
+use Rattle.region_mends.specs.Mends.{low_shape, low_stripes, mend_stripes, stripe_behind, relied_sector, IsMendRow, AreEndsStanding}
+use Rattle.region_mends.proofs.Alike.{low-stripes-alike}
 use Rattle.region_mends.proofs.StripeLaws.{is-next}
 use Rattle.region_mends.proofs.StripeRows.{of-stripe-or, next-valid, next-row, next-region, next-sector, next-mate, next-behind, next-past, next-ended, next-tail}
 
@@ -82,12 +82,6 @@ module _ (given : Given) (old new : Members) (moved : IsMoved given old new) (wa
 
   same-length : list_length new.newest ≡ list_length old.newest
   same-length = list-alike old.newest new.newest moved.reshape moved.shape moved.size
-
-  end-alike : low_end new.newest ≡ low_end old.newest
-  end-alike i = if moved.reshape.reshaping i then moved.reshape.position i else 0
-
-  stripes-alike : low_stripes new.newest ≡ low_stripes old.newest
-  stripes-alike i = ceiling (end-alike i) (stripe_sectors (same-shape 0 i))
 
   shown-before : (hidden : Option Span) (x : ℕ) → IsShown hidden new.newest x → IsShown hidden old.newest x
   shown-before hidden x shown = record { within = subst (λ (n : ℕ). x < n) same-length shown.within; outside = shown.outside }
@@ -217,7 +211,7 @@ module _ (given : Given) (old new : Members) (moved : IsMoved given old new) (wa
     ends-stay does list stands x slot new-past under held =
         let past : list_length old.newest ≤ x = subst (λ (n : ℕ). n ≤ x) same-length new-past in
         let small : (place (low_shape old.newest) x).row < low_stripes old.newest * (low_shape old.newest).chunk =
-        subst (λ (s : Shape). (place s x).row < low_stripes old.newest * s.chunk) (same-shape 0) (subst (λ (n : ℕ). (place (low_shape new.newest) x).row < n * (low_shape new.newest).chunk) stripes-alike under) in
+        subst (λ (s : Shape). (place s x).row < low_stripes old.newest * s.chunk) (same-shape 0) (subst (λ (n : ℕ). (place (low_shape new.newest) x).row < n * (low_shape new.newest).chunk) (low-stripes-alike old.newest new.newest moved.reshape moved.shape moved.size) under) in
         subst (λ (s : Shape). held_slot (reading_of new) (place s x).role (place s x).row ≡ Some slot → after slot (data_offset_of (reading_of new) slot + (place s x).row) ≡ list x) (sym (same-shape 0))
         (λ held. stays list x slot (low_shape old.newest)
         (λ at. (let same = next-ended old.newest was.fit mended lt x past small in (sym same, subst (λ (s : Shape). DoesWithout s new) (sym same) does))) held
