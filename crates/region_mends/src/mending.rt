@@ -5,9 +5,11 @@ ghost use Rattle.bank.specs.Given.{NeverFalls};
 ghost use Rattle.md_base.specs.Sectors.{Sector};
 ghost use Rattle.md_base.specs.declared.places.Shape.{Shape};
 ghost use Rattle.md_base.specs.declared.places.Span.{Span};
-ghost use Rattle.superblocks.specs.Reading.{is_clean, final_shape, role_count};
+ghost use Rattle.superblocks.specs.Reading.{is_clean, final_shape, role_count, role_state};
 ghost use Rattle.row_io.specs.Rows.{reading_of, present};
-ghost use Rattle.list_io.specs.Full.{AreWholeIn};
+ghost use Rattle.md_base.specs.declared.status.Role.TheVariants.{Recovering as IsRecovering};
+ghost use Rattle.list_io.specs.Full.{AreWholeIn, RowStands};
+ghost use Rattle.list_io.specs.Writing.{HasFull};
 ghost use Rattle.flat_history.specs.Sound.{OpensFit};
 ghost use Rattle.flat_history.specs.World.{World};
 ghost use Rattle.shape_views.specs.Regions.{AreShapesFit, DoWithout};
@@ -18,7 +20,7 @@ ghost use Rattle.shape_changes.specs.Safety.{HasRoomLeft, IsRisen};
 ghost use Rattle.views.specs.Placed.{IsPlaced};
 ghost use Rattle.views.specs.Rebuilding.{AreSparesFree};
 ghost use Rattle.views.specs.Moving.{Grows, IsMoved};
-ghost use Rattle.views.specs.Lacking.{HaveFailedSince, DoesWithout, AreOtherRowsKept};
+ghost use Rattle.views.specs.Lacking.{HaveFailedSince, DoesWithout, DataStandsAmong, AreOtherRowsKept};
 ghost use Rattle.region_writes.specs.Runs.{ListStandsIn, RowsStandIn};
 ghost use Rattle.region_mends.specs.Mends.{low_shape, mend_stripes, stripe_behind, relied_sector, IsMendRow, AreEndsStanding, lacking_or, mend_refusal, IsNotMended};
 
@@ -82,6 +84,15 @@ pub fn mend_list<B: Bank>(
         → AreTailsStanding members.old (present (B.given bank.old) (B.tape bank.old)) list → AreTailsStanding members.new (present (B.given bank.old) (B.tape bank.new)) list }
     ensures ends { DoesWithout (low_shape members.old.newest) members.new → B.tells → (list : ℕ → Sector)
         → AreEndsStanding members.old (present (B.given bank.old) (B.tape bank.old)) list → AreEndsStanding members.new (present (B.given bank.old) (B.tape bank.new)) list }
+    ensures stripe_mended { result.refusal ≡ None → B.tells → (list : ℕ → Sector) → DataStandsAmong (stripe_behind members.old.newest mended).shape (IsMendRow members.old.newest mended) members.old (present (B.given bank.old) (B.tape bank.old)) list
+        → (row : ℕ) → IsMendRow members.old.newest mended row → AreWholeIn (stripe_behind members.old.newest mended).shape list row → RowStands (reading_of members.new) (present (B.given bank.old) (B.tape bank.new)) (stripe_behind members.old.newest mended).shape list row }
+    ensures stripe_stands { DoesWithout (stripe_behind members.old.newest mended).shape members.new → B.tells → (list : ℕ → Sector) → DataStandsAmong (stripe_behind members.old.newest mended).shape (IsMendRow members.old.newest mended) members.old (present (B.given bank.old) (B.tape bank.old)) list
+        → DataStandsAmong (stripe_behind members.old.newest mended).shape (IsMendRow members.old.newest mended) members.new (present (B.given bank.old) (B.tape bank.new)) list }
+    ensures stripe_kept { DoesWithout (stripe_behind members.old.newest mended).shape members.new → B.tells → (list : ℕ → Sector) → DataStandsAmong (stripe_behind members.old.newest mended).shape (IsMendRow members.old.newest mended) members.old (present (B.given bank.old) (B.tape bank.old)) list
+        → (row : ℕ) → IsMendRow members.old.newest mended row → RowStands (reading_of members.old) (present (B.given bank.old) (B.tape bank.old)) (stripe_behind members.old.newest mended).shape list row → RowStands (reading_of members.new) (present (B.given bank.old) (B.tape bank.new)) (stripe_behind members.old.newest mended).shape list row }
+    ensures stripe_rebuilt { DoesWithout (stripe_behind members.old.newest mended).shape members.new → B.tells → (list : ℕ → Sector) → DataStandsAmong (stripe_behind members.old.newest mended).shape (IsMendRow members.old.newest mended) members.old (present (B.given bank.old) (B.tape bank.old)) list
+        → (role slot row : ℕ) → role < (stripe_behind members.old.newest mended).shape.disks → role_state (reading_of members.new) role ≡ IsRecovering slot → IsMendRow members.old.newest mended row
+        → HasFull (reading_of members.old) (present (B.given bank.old) (B.tape bank.old)) (stripe_behind members.old.newest mended).shape list row role slot → HasFull (reading_of members.new) (present (B.given bank.old) (B.tape bank.new)) (stripe_behind members.old.newest mended).shape list row role slot }
     ensures others { B.tells → AreOtherRowsKept (IsMendRow members.old.newest mended) (reading_of members.new) (present (B.given bank.old) (B.tape bank.old)) (present (B.given bank.old) (B.tape bank.new)) }
     ensures rise { IsRisen B.tells members.old members.new (B.tape bank.old) (B.tape bank.new) }
     ensures safe { B.tells → (world : World) → (told : Ledger) → HasRoomLeft members.old (B.tape bank.old) (B.tape bank.new)
@@ -91,6 +102,10 @@ pub fn mend_list<B: Bank>(
         → ((stripe_behind members.old.newest mended).shape ≡ final_shape members.old.newest → AreTailsStanding members.old (present (B.given bank.old) (B.tape bank.old)) list)
         → AreWritesAllowed members.old told.values list → (OpensFit world → IsTailZero members.old.newest list)
         → IsSafeOver world (B.given bank.old) told members.old (B.tape bank.old)
+        → KeepsSafe world (B.given bank.old) told members.new (B.tape bank.old) (B.tape bank.new) }
+    ensures stripe_safe { B.tells → (world : World) → (told : Ledger) → HasRoomLeft members.old (B.tape bank.old) (B.tape bank.new)
+        → AreGoneTold told members.new → told.unclean ≡ true → (list : ℕ → Sector) → DataStandsAmong (stripe_behind members.old.newest mended).shape (IsMendRow members.old.newest mended) members.old (present (B.given bank.old) (B.tape bank.old)) list
+        → AreWritesAllowed members.old told.values list → (OpensFit world → IsTailZero members.old.newest list) → IsSafeOver world (B.given bank.old) told members.old (B.tape bank.old)
         → KeepsSafe world (B.given bank.old) told members.new (B.tape bank.old) (B.tape bank.new) }
     ensures given { B.given bank.new ≡ B.given bank.old }
     ensures counts { NeverFalls (B.faults_of bank.old) (B.faults_of bank.new) }

@@ -3,9 +3,12 @@ use Rattle.std.specs.Prelude.{MatchOption, ⊤}
 use Rattle.md_base.specs.declared.answers.Refusal.{Refusal}
 use Rattle.md_base.specs.Sectors.{Sector}
 use Rattle.bank.specs.Tape.{Contents, IsIn}
+use Rattle.md_base.specs.declared.status.Role.TheVariants.{Recovering}
 use Rattle.superblocks.specs.declared.members.Members.{Members}
+use Rattle.superblocks.specs.Reading.{role_state}
 use Rattle.row_io.specs.Rows.{reading_of, present}
 use Rattle.list_io.specs.Full.{AreWholeIn, RowStands}
+use Rattle.list_io.specs.Writing.{HasFull}
 use Rattle.shape_views.specs.Regions.{DoWithout}
 use Rattle.shape_views.specs.Windows.{IsOfRegion}
 use Rattle.views.specs.Placed.{IsInForce}
@@ -38,6 +41,23 @@ Mends old new before after s = (list : ℕ → Sector) → DataStandsAmong s.sha
 
 mends-of : (a b : Stripe) → a ≡ b → (old new : Members) (before after : Contents) → Mends old new before after a → Mends old new before after b
 mends-of a b same old new before after = subst (λ (s : Stripe). Mends old new before after s) same
+
+-- those that stood stay so
+abbrev Stay : Members → Members → Contents → Contents → Stripe → Type 0
+Stay old new before after s = DoesWithout s.shape new → (list : ℕ → Sector) → DataStandsAmong s.shape (IsOfStripe s.shape s.at) old before list → (row : ℕ) → IsOfStripe s.shape s.at row
+    → RowStands (reading_of old) before s.shape list row → RowStands (reading_of new) after s.shape list row
+
+stay-of : (a b : Stripe) → a ≡ b → (old new : Members) (before after : Contents) → Stay old new before after a → Stay old new before after b
+stay-of a b same old new before after = subst (λ (s : Stripe). Stay old new before after s) same
+
+-- and so does what was rebuilt of them
+abbrev Rebuilt : Members → Members → Contents → Contents → Stripe → Type 0
+Rebuilt old new before after s = DoesWithout s.shape new → (list : ℕ → Sector) → DataStandsAmong s.shape (IsOfStripe s.shape s.at) old before list
+    → (role slot row : ℕ) → role < s.shape.disks → role_state (reading_of new) role ≡ Recovering slot → IsOfStripe s.shape s.at row
+    → HasFull (reading_of old) before s.shape list row role slot → HasFull (reading_of new) after s.shape list row role slot
+
+rebuilt-of : (a b : Stripe) → a ≡ b → (old new : Members) (before after : Contents) → Rebuilt old new before after a → Rebuilt old new before after b
+rebuilt-of a b same old new before after = subst (λ (s : Stripe). Rebuilt old new before after s) same
 
 -- ---- the call
 
@@ -167,3 +187,57 @@ returns-clause-safe g c = λ told world ledger room gone unclean hidden list sho
     (λ x x-in. subst (λ (v : Sector). IsIn (ledger.values x) v) (sym (listed.2 x x-in)) (allowed x x-in))
     (λ fit x tail. listed.3 x tail ∙ zeros fit x tail)
     safe
+
+pub returns-clause-stripe_stands : goal.returns-clause-stripe_stands
+returns-clause-stripe_stands g c = λ few told.
+    let m = c.args.members.now in
+    let new = c.mend-done.new.members in
+    let did = c.mend-done.ensures in
+    let given = g.B.Bank.given c.args.bank.now in
+    let before = present given (g.B.Bank.tape c.args.bank.now) in
+    let after = present given (g.B.Bank.tape c.mend-done.new.bank) in
+    let next = stripe_behind m.newest c.args.mended in
+    keeps-of c.stripe_behind-next.result next c.stripe_behind-next.ensures m new before after (λ does. did.stands does told) few
+
+pub returns-clause-stripe_mended : goal.returns-clause-stripe_mended
+returns-clause-stripe_mended g c = λ none told.
+    let m = c.args.members.now in
+    let new = c.mend-done.new.members in
+    let did = c.mend-done.ensures in
+    let given = g.B.Bank.given c.args.bank.now in
+    let before = present given (g.B.Bank.tape c.args.bank.now) in
+    let after = present given (g.B.Bank.tape c.mend-done.new.bank) in
+    let next = stripe_behind m.newest c.args.mended in
+    mends-of c.stripe_behind-next.result next c.stripe_behind-next.ensures m new before after (did.mended (none-found new c.mend-done.result.refusal (sym c.lacking_or-refusal.ensures ∙ none)) told)
+
+pub returns-clause-stripe_kept : goal.returns-clause-stripe_kept
+returns-clause-stripe_kept g c = λ few told.
+    let m = c.args.members.now in
+    let new = c.mend-done.new.members in
+    let did = c.mend-done.ensures in
+    let given = g.B.Bank.given c.args.bank.now in
+    let before = present given (g.B.Bank.tape c.args.bank.now) in
+    let after = present given (g.B.Bank.tape c.mend-done.new.bank) in
+    let next = stripe_behind m.newest c.args.mended in
+    stay-of c.stripe_behind-next.result next c.stripe_behind-next.ensures m new before after (λ does. did.kept does told) few
+
+pub returns-clause-stripe_rebuilt : goal.returns-clause-stripe_rebuilt
+returns-clause-stripe_rebuilt g c = λ few told.
+    let m = c.args.members.now in
+    let new = c.mend-done.new.members in
+    let did = c.mend-done.ensures in
+    let given = g.B.Bank.given c.args.bank.now in
+    let before = present given (g.B.Bank.tape c.args.bank.now) in
+    let after = present given (g.B.Bank.tape c.mend-done.new.bank) in
+    let next = stripe_behind m.newest c.args.mended in
+    rebuilt-of c.stripe_behind-next.result next c.stripe_behind-next.ensures m new before after (λ does. did.rebuilt does told) few
+
+pub returns-clause-stripe_safe : goal.returns-clause-stripe_safe
+returns-clause-stripe_safe g c = λ told world ledger room gone unclean list stands allowed zeros safe.
+    let m = c.args.members.now in
+    let given = g.B.Bank.given c.args.bank.now in
+    let before = present given (g.B.Bank.tape c.args.bank.now) in
+    c.mend-done.ensures.safe told world ledger room gone unclean list
+    (subst (λ (s : Stripe). DataStandsAmong s.shape (IsOfStripe s.shape s.at) m before list) (sym c.stripe_behind-next.ensures) stands)
+    (subst (λ (s : Stripe). IsOfRegion m s.shape (IsOfStripe s.shape s.at)) (sym c.stripe_behind-next.ensures) (λ x x-in at. next-region m.newest c.requires.placed.fit c.args.mended c.requires.pending x x-in at))
+    allowed zeros safe
