@@ -11,6 +11,7 @@ use Rattle.shape_views.specs.Regions.{DoWithout}
 use Rattle.views.specs.Placed.{IsInForce}
 use Rattle.views.specs.Lacking.{lacking, too_many, DoesWithout, LacksTooMany, AreTooMany, IsUnwritten}
 use Rattle.safe_updates.specs.First.{are_too_many, write_refusal}
+use Rattle.safe_updates.proofs.RefusingLaws.{write-cause}
 use Rattle.region_mends.specs.Mends.{lacking_or, mend_refusal, IsNotMended}
 
 is-above : (a b : ℕ) → nat_lt a b ≡ true → a < b
@@ -109,3 +110,12 @@ none-lacking m found is = by (are_too_many (shape_of m.newest) m) refl (are_too_
     by true one b two none = absurd (cc)
     by false one true two none = absurd (cc)
     by false one false two none = record { old = few-of (shape_of m.newest) m one; final = few-of (final_shape m.newest) m two }
+
+-- ---- before any device is touched
+
+pub told-before : (m : Members) (shape : Shape) → IsInForce m.newest shape → (told : Option Refusal) → told ≡ mend_refusal shape m → MatchOption told (DoWithout m) (IsNotMended shape m)
+told-before m shape force told is = subst (λ (o : Option Refusal). MatchOption o (DoWithout m) (IsNotMended shape m)) (sym is) (told-why m shape force (write_refusal shape false m) (cause (write_refusal shape false m) refl))
+  where
+    cause : (found : Option Refusal) → write_refusal shape false m ≡ found → MatchOption found ⊤ (IsUnwritten shape false m)
+    cause None is = tt
+    cause (Some refusal) is = write-cause shape false m refusal is

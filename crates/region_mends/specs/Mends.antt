@@ -13,7 +13,7 @@ use Rattle.superblocks.specs.Reading.{is_reshaping, shape_of, final_shape, list_
 use Rattle.row_io.specs.Rows.{reading_of, held_slot}
 use Rattle.flat_history.specs.Stands.{shape_for}
 use Rattle.shape_views.specs.Regions.{DoWithout}
-use Rattle.views.specs.Lacking.{IsOfStripe, too_many, AreTooMany, IsNotResynced}
+use Rattle.views.specs.Lacking.{DataStandsAmong, IsOfStripe, too_many, AreTooMany, IsNotResynced}
 use Rattle.safe_updates.specs.First.{are_too_many, write_refusal}
 use Rattle.region_mends.specs.declared.stripes.Stripe.{Stripe}
 
@@ -63,9 +63,16 @@ abbrev pub relied_sector : Sb → Option ℕ → ℕ
 relied_sector newest None = list_length newest
 relied_sector newest (Some mended) = first_sector (stripe_behind newest mended)
 
--- a row of the stripe behind so many
+-- the shape of the stripe behind so many, and a row of it
+abbrev pub mend_shape : Sb → ℕ → Shape
+mend_shape newest mended = (stripe_behind newest mended).shape
+
 abbrev pub IsMendRow : Sb → ℕ → ℕ → Type 0
-IsMendRow newest mended row = IsOfStripe (stripe_behind newest mended).shape (stripe_behind newest mended).at row
+IsMendRow newest mended row = IsOfStripe (mend_shape newest mended) (stripe_behind newest mended).at row
+
+-- the list stands in the data of its rows
+abbrev pub MendStands : Sb → ℕ → Members → Contents → (ℕ → Sector) → Type 0
+MendStands newest mended m c list = DataStandsAmong (mend_shape newest mended) (IsMendRow newest mended) m c list
 
 -- ---- behind the list's end
 

@@ -20,15 +20,15 @@ ghost use Rattle.shape_changes.specs.Safety.{HasRoomLeft, IsRisen};
 ghost use Rattle.views.specs.Placed.{IsPlaced};
 ghost use Rattle.views.specs.Rebuilding.{AreSparesFree};
 ghost use Rattle.views.specs.Moving.{Grows, IsMoved};
-ghost use Rattle.views.specs.Lacking.{HaveFailedSince, DoesWithout, DataStandsAmong, AreOtherRowsKept};
+ghost use Rattle.views.specs.Lacking.{HaveFailedSince, DoesWithout, AreOtherRowsKept};
 ghost use Rattle.region_writes.specs.Runs.{ListStandsIn, RowsStandIn};
-ghost use Rattle.region_mends.specs.Mends.{low_shape, mend_stripes, stripe_behind, relied_sector, IsMendRow, AreEndsStanding, lacking_or, mend_refusal, IsNotMended};
+ghost use Rattle.region_mends.specs.Mends.{low_shape, mend_stripes, relied_sector, mend_shape, IsMendRow, MendStands, AreEndsStanding, lacking_or, mend_refusal, IsNotMended};
 
 use crate::stripes::stripe_behind;
 use bank::Bank;
 use md_base::Refusal;
 use safe_rows::mending::{Mended, mend};
-use safe_updates::refusing::too_many;
+use safe_updates::refusing::{too_many, unwritten};
 use superblocks::Members;
 
 // The refusal where more roles of a shape in force are missing than it tolerates, of the old one first, or else the one that was found.
@@ -42,6 +42,19 @@ fn lacking_or(members: &Members, found: Option<Refusal>) -> Option<Refusal>
         return refusal;
     }
     found
+}
+
+/// Why the next stripe isn't mended, where a resync has mended so many, before any device is touched: more roles of a shape in force are
+/// missing than it tolerates, or else one that has data by the stripe's shape.
+pub fn unmended(members: &Members, mended: u64) -> Option<Refusal>
+    requires fit { AreShapesFit members.now.newest }
+    requires roles { length members.now.roles ≡ role_count members.now.newest }
+    requires pending { mended < mend_stripes members.now.newest }
+    ensures first { result ≡ mend_refusal (mend_shape members.now.newest mended) members.now }
+    ensures why { MatchOption result (DoWithout members.now) (IsNotMended (mend_shape members.now.newest mended) members.now) }
+{
+    let next = stripe_behind(members, mended);
+    lacking_or(members, unwritten(members, &next.shape, false))
 }
 
 /// Mends a stripe of the list, where a resync has mended so many before it: makes its parity fit its data, by the shape of its region,
@@ -64,13 +77,13 @@ pub fn mend_list<B: Bank>(
     requires buffer { 1048576 ≤ length buffer.old.items }
     ensures moved { IsMoved (B.given bank.old) members.old members.new }
     ensures failed { HaveFailedSince members.old members.new result.spares (B.faults_of bank.old) (B.faults_of bank.new) }
-    ensures refused { MatchOption result.refusal (DoWithout members.new) (IsNotMended (stripe_behind members.old.newest mended).shape members.new) }
-    ensures first { MatchOption result.refusal ⊤ (λ refusal. mend_refusal (stripe_behind members.old.newest mended).shape members.new ≡ Some refusal) }
+    ensures refused { MatchOption result.refusal (DoWithout members.new) (IsNotMended (mend_shape members.old.newest mended) members.new) }
+    ensures first { MatchOption result.refusal ⊤ (λ refusal. mend_refusal (mend_shape members.old.newest mended) members.new ≡ Some refusal) }
     ensures grows { Grows B.tells (B.tape bank.old) (B.tape bank.new) }
     ensures dirty { is_clean members.new.newest ≡ false }
     ensures mended { result.refusal ≡ None → B.tells → (among : Shape → Bool) → (hidden : Option Span) → (list : ℕ → Sector)
         → ((x : ℕ) → relied_sector members.old.newest (Some mended) ≤ x → x < relied_sector members.old.newest (Some (mended + 1)) → IsShown hidden members.old.newest x)
-        → ((row : ℕ) → IsMendRow members.old.newest mended row → AreWholeIn (stripe_behind members.old.newest mended).shape list row)
+        → ((row : ℕ) → IsMendRow members.old.newest mended row → AreWholeIn (mend_shape members.old.newest mended) list row)
         → ListStandsIn (λ s. among s ≡ true) hidden members.old (present (B.given bank.old) (B.tape bank.old)) list → AreEndsStanding members.old (present (B.given bank.old) (B.tape bank.old)) list
         → RowsStandIn (λ s. among s ≡ true) hidden (relied_sector members.old.newest (Some mended)) members.old (present (B.given bank.old) (B.tape bank.old)) list
         → RowsStandIn (λ s. among s ≡ true) hidden (relied_sector members.old.newest (Some (mended + 1))) members.new (present (B.given bank.old) (B.tape bank.new)) list }
@@ -84,27 +97,27 @@ pub fn mend_list<B: Bank>(
         → AreTailsStanding members.old (present (B.given bank.old) (B.tape bank.old)) list → AreTailsStanding members.new (present (B.given bank.old) (B.tape bank.new)) list }
     ensures ends { DoesWithout (low_shape members.old.newest) members.new → B.tells → (list : ℕ → Sector)
         → AreEndsStanding members.old (present (B.given bank.old) (B.tape bank.old)) list → AreEndsStanding members.new (present (B.given bank.old) (B.tape bank.new)) list }
-    ensures stripe_mended { result.refusal ≡ None → B.tells → (list : ℕ → Sector) → DataStandsAmong (stripe_behind members.old.newest mended).shape (IsMendRow members.old.newest mended) members.old (present (B.given bank.old) (B.tape bank.old)) list
-        → (row : ℕ) → IsMendRow members.old.newest mended row → AreWholeIn (stripe_behind members.old.newest mended).shape list row → RowStands (reading_of members.new) (present (B.given bank.old) (B.tape bank.new)) (stripe_behind members.old.newest mended).shape list row }
-    ensures stripe_stands { DoesWithout (stripe_behind members.old.newest mended).shape members.new → B.tells → (list : ℕ → Sector) → DataStandsAmong (stripe_behind members.old.newest mended).shape (IsMendRow members.old.newest mended) members.old (present (B.given bank.old) (B.tape bank.old)) list
-        → DataStandsAmong (stripe_behind members.old.newest mended).shape (IsMendRow members.old.newest mended) members.new (present (B.given bank.old) (B.tape bank.new)) list }
-    ensures stripe_kept { DoesWithout (stripe_behind members.old.newest mended).shape members.new → B.tells → (list : ℕ → Sector) → DataStandsAmong (stripe_behind members.old.newest mended).shape (IsMendRow members.old.newest mended) members.old (present (B.given bank.old) (B.tape bank.old)) list
-        → (row : ℕ) → IsMendRow members.old.newest mended row → RowStands (reading_of members.old) (present (B.given bank.old) (B.tape bank.old)) (stripe_behind members.old.newest mended).shape list row → RowStands (reading_of members.new) (present (B.given bank.old) (B.tape bank.new)) (stripe_behind members.old.newest mended).shape list row }
-    ensures stripe_rebuilt { DoesWithout (stripe_behind members.old.newest mended).shape members.new → B.tells → (list : ℕ → Sector) → DataStandsAmong (stripe_behind members.old.newest mended).shape (IsMendRow members.old.newest mended) members.old (present (B.given bank.old) (B.tape bank.old)) list
-        → (role slot row : ℕ) → role < (stripe_behind members.old.newest mended).shape.disks → role_state (reading_of members.new) role ≡ IsRecovering slot → IsMendRow members.old.newest mended row
-        → HasFull (reading_of members.old) (present (B.given bank.old) (B.tape bank.old)) (stripe_behind members.old.newest mended).shape list row role slot → HasFull (reading_of members.new) (present (B.given bank.old) (B.tape bank.new)) (stripe_behind members.old.newest mended).shape list row role slot }
+    ensures stripe_mended { result.refusal ≡ None → B.tells → (list : ℕ → Sector) → MendStands members.old.newest mended members.old (present (B.given bank.old) (B.tape bank.old)) list
+        → (row : ℕ) → IsMendRow members.old.newest mended row → AreWholeIn (mend_shape members.old.newest mended) list row → RowStands (reading_of members.new) (present (B.given bank.old) (B.tape bank.new)) (mend_shape members.old.newest mended) list row }
+    ensures stripe_stands { DoesWithout (mend_shape members.old.newest mended) members.new → B.tells → (list : ℕ → Sector) → MendStands members.old.newest mended members.old (present (B.given bank.old) (B.tape bank.old)) list
+        → MendStands members.old.newest mended members.new (present (B.given bank.old) (B.tape bank.new)) list }
+    ensures stripe_kept { DoesWithout (mend_shape members.old.newest mended) members.new → B.tells → (list : ℕ → Sector) → MendStands members.old.newest mended members.old (present (B.given bank.old) (B.tape bank.old)) list
+        → (row : ℕ) → IsMendRow members.old.newest mended row → RowStands (reading_of members.old) (present (B.given bank.old) (B.tape bank.old)) (mend_shape members.old.newest mended) list row → RowStands (reading_of members.new) (present (B.given bank.old) (B.tape bank.new)) (mend_shape members.old.newest mended) list row }
+    ensures stripe_rebuilt { DoesWithout (mend_shape members.old.newest mended) members.new → B.tells → (list : ℕ → Sector) → MendStands members.old.newest mended members.old (present (B.given bank.old) (B.tape bank.old)) list
+        → (role slot row : ℕ) → role < (mend_shape members.old.newest mended).disks → role_state (reading_of members.new) role ≡ IsRecovering slot → IsMendRow members.old.newest mended row
+        → HasFull (reading_of members.old) (present (B.given bank.old) (B.tape bank.old)) (mend_shape members.old.newest mended) list row role slot → HasFull (reading_of members.new) (present (B.given bank.old) (B.tape bank.new)) (mend_shape members.old.newest mended) list row role slot }
     ensures others { B.tells → AreOtherRowsKept (IsMendRow members.old.newest mended) (reading_of members.new) (present (B.given bank.old) (B.tape bank.old)) (present (B.given bank.old) (B.tape bank.new)) }
     ensures rise { IsRisen B.tells members.old members.new (B.tape bank.old) (B.tape bank.new) }
     ensures safe { B.tells → (world : World) → (told : Ledger) → HasRoomLeft members.old (B.tape bank.old) (B.tape bank.new)
         → AreGoneTold told members.new → told.unclean ≡ true → (hidden : Option Span) → (list : ℕ → Sector)
         → ((x : ℕ) → relied_sector members.old.newest (Some mended) ≤ x → x < relied_sector members.old.newest (Some (mended + 1)) → IsShown hidden members.old.newest x)
-        → ListStandsIn (λ s. s ≡ (stripe_behind members.old.newest mended).shape) hidden members.old (present (B.given bank.old) (B.tape bank.old)) list
-        → ((stripe_behind members.old.newest mended).shape ≡ final_shape members.old.newest → AreTailsStanding members.old (present (B.given bank.old) (B.tape bank.old)) list)
+        → ListStandsIn (λ s. s ≡ mend_shape members.old.newest mended) hidden members.old (present (B.given bank.old) (B.tape bank.old)) list
+        → (mend_shape members.old.newest mended ≡ final_shape members.old.newest → AreTailsStanding members.old (present (B.given bank.old) (B.tape bank.old)) list)
         → AreWritesAllowed members.old told.values list → (OpensFit world → IsTailZero members.old.newest list)
         → IsSafeOver world (B.given bank.old) told members.old (B.tape bank.old)
         → KeepsSafe world (B.given bank.old) told members.new (B.tape bank.old) (B.tape bank.new) }
     ensures stripe_safe { B.tells → (world : World) → (told : Ledger) → HasRoomLeft members.old (B.tape bank.old) (B.tape bank.new)
-        → AreGoneTold told members.new → told.unclean ≡ true → (list : ℕ → Sector) → DataStandsAmong (stripe_behind members.old.newest mended).shape (IsMendRow members.old.newest mended) members.old (present (B.given bank.old) (B.tape bank.old)) list
+        → AreGoneTold told members.new → told.unclean ≡ true → (list : ℕ → Sector) → MendStands members.old.newest mended members.old (present (B.given bank.old) (B.tape bank.old)) list
         → AreWritesAllowed members.old told.values list → (OpensFit world → IsTailZero members.old.newest list) → IsSafeOver world (B.given bank.old) told members.old (B.tape bank.old)
         → KeepsSafe world (B.given bank.old) told members.new (B.tape bank.old) (B.tape bank.new) }
     ensures given { B.given bank.new ≡ B.given bank.old }
