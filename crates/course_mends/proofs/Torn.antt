@@ -20,7 +20,7 @@ use Rattle.region_writes.proofs.Together.{rows-together, together-shape}
 use Rattle.region_mends.specs.declared.stripes.Stripe.{Stripe}
 use Rattle.region_mends.specs.Mends.{low_shape, low_stripes, IsMendRow}
 use Rattle.region_mends.proofs.Alike.{low-alike, low-stripes-alike, relied-alike}
-use Rattle.region_mends.proofs.Regions.{low-valid}
+use Rattle.region_writes.proofs.Sides.{low-valid}
 use Rattle.region_mends.proofs.StripeLaws.{behind-low}
 use Rattle.region_mends.proofs.StripeRows.{next-region}
 use Rattle.course_kept.proofs.Writes.{torn-writes-go-on}
