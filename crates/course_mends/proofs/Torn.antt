@@ -1,48 +1,23 @@
 -- A write that is cut leaves what stands by the shapes that place none of its sectors.
-use Rattle.std.proofs.Common.{◌≡◌, ℕ, ◌+◌, ◌*◌, ◌/◌, ◌<◌, ◌≤◌, Some, sym, ◌∙◌, ap, subst, arith}
-use Rattle.std.proofs.lemmas.Nat.{div_below}
+use Rattle.std.proofs.Common.{◌≡◌, ℕ, ◌+◌, ◌*◌, ◌<◌, ◌≤◌, Some, sym, ◌∙◌, ap, subst, arith}
 use Rattle.md_base.specs.declared.places.Shape.{Shape}
-use Rattle.sb1.specs.declared.sb.Sb.{Sb}
 use Rattle.layout.specs.Layout.{place}
-use Rattle.layout.proofs.Places.{chunk_some}
-use Rattle.geometry.proofs.Divisions.{quotient}
 use Rattle.superblocks.specs.Reading.{list_length, data_offset_of}
 use Rattle.row_io.specs.Rows.{reading_of, held_slot}
 use Rattle.row_io.proofs.Losses.{holder-of}
 use Rattle.list_io.specs.Full.{RowStands}
 use Rattle.flat_history.specs.Stands.{shape_for}
-use Rattle.shape_views.specs.Regions.{AreShapesFit, place_by}
-use Rattle.views.specs.Lacking.{IsOfStripe}
+use Rattle.shape_views.specs.Regions.{place_by}
 use Rattle.views.proofs.Fit.{for-alike, list-alike}
 use Rattle.views.proofs.HeldRows.{held-moved}
 use Rattle.window_steps.proofs.CopyLaws.{row-later}
+use Rattle.region_writes.proofs.LowRuns.{low-rows}
 use Rattle.region_writes.proofs.Together.{rows-together, together-shape}
-use Rattle.region_mends.specs.declared.stripes.Stripe.{Stripe}
-use Rattle.region_mends.specs.Mends.{low_shape, low_stripes, IsMendRow}
+use Rattle.region_mends.specs.Mends.{low_shape, low_stripes}
 use Rattle.region_mends.proofs.Alike.{low-alike, low-stripes-alike, relied-alike}
-use Rattle.region_writes.proofs.Sides.{low-valid}
-use Rattle.region_mends.proofs.StripeLaws.{behind-low}
-use Rattle.region_mends.proofs.StripeRows.{next-region}
 use Rattle.course_kept.proofs.Writes.{torn-writes-go-on}
 use Rattle.course_mends.specs.Mended.{MendedTornWritesGoOn}
 use Rattle.course_mends.proofs.Mended.{whole-on}
-
--- each sector of the list in a row of the stripes below the position is placed by their shape
-low-region : (newest : Sb) → AreShapesFit newest → (row y : ℕ) → row < low_stripes newest * (low_shape newest).chunk → y < list_length newest → (place_by newest y).row ≡ row → shape_for newest y ≡ low_shape newest
-low-region newest fit row y under y-in at =
-    let chunk : ℕ = (low_shape newest).chunk in
-    let some = chunk_some (low_shape newest) (low-valid newest fit) in
-    let k : ℕ = row / chunk in
-    let low : k < low_stripes newest = div_below row chunk (low_stripes newest) some under in
-    let near = quotient row chunk some in
-    let more = one-more k chunk in
-    let here : IsOfStripe (low_shape newest) k row = (near.0, let high = near.1 in omega (arith, high, more)) in
-    let mends : IsMendRow newest k (place_by newest y).row =
-    subst (λ (s : Stripe). IsOfStripe s.shape s.at (place_by newest y).row) (sym (behind-low newest k low)) (subst (λ (r : ℕ). IsOfStripe (low_shape newest) k r) (sym at) here) in
-    next-region newest fit k (omega (arith, low)) y y-in mends ∙ ap (λ (s : Stripe). s.shape) (behind-low newest k low)
-  where
-    one-more : (k s : ℕ) → (k + 1) * s ≡ k * s + s
-    one-more k s = omega arith
 
 pub mended-torn-writes-go-on : (sound : Type 0) (among : Shape → Type 0) → MendedTornWritesGoOn sound among
 mended-torn-writes-go-on sound among scope given old new resync course buffer c e list first to placed active moved course-is within beside kept was = record {
@@ -55,7 +30,7 @@ mended-torn-writes-go-on sound among scope given old new resync course buffer c 
       subst (λ (s : Shape). held_slot (reading_of new) (place s x).role (place s x).row ≡ Some slot → e slot (data_offset_of (reading_of new) slot + (place s x).row) ≡ list x) (sym low)
       (λ here.
       kept (place (low_shape old.newest) x).row
-      (λ touched. touched.3 (subst among (sym (low-region old.newest placed.fit (place (low_shape old.newest) x).row touched.0 under (let end = touched.2 in omega (arith, end, within)) touched.4)) own))
+      (λ touched. touched.3 (subst among (sym (low-rows old.newest placed.fit (place (low_shape old.newest) x).row touched.0 under (let end = touched.2 in omega (arith, end, within)) touched.4)) own))
       (place (low_shape old.newest) x).role slot (holder-of (reading_of new) (place (low_shape old.newest) x).role (place (low_shape old.newest) x).row slot here)
       ∙ ap (λ (n : ℕ). c slot (n + (place (low_shape old.newest) x).row)) (moved.offsets slot)
       ∙ was.ends some aside own x slot past under (held-moved moved (place (low_shape old.newest) x).role (place (low_shape old.newest) x).row slot here)) held;
