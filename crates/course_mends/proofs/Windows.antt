@@ -26,7 +26,7 @@ use Rattle.course_kept.specs.Course.{AnyShape, StandsInCourse}
 use Rattle.course_kept.specs.Laws.{entered, closed}
 use Rattle.course_kept.proofs.Courses.{copies-go-on, records-close}
 use Rattle.course_kept.proofs.Finishes.{rests-go-on, finishes-close}
-use Rattle.course_mends.specs.Mended.{IsMendSector, StandsMended, MendedCopiesGoOn, MendedRestsGoOn, MendedRecordsClose, MendedFinishesClose}
+use Rattle.course_mends.specs.Mended.{IsMendSector, StandsMended, ResyncsBegin, MendedCopiesGoOn, MendedRestsGoOn, MendedRecordsClose, MendedFinishesClose}
 use Rattle.course_mends.proofs.Mended.{none-pending, whole-on}
 use Rattle.course_mends.proofs.Ends.{none-ends, tails-are-ends}
 
@@ -35,6 +35,15 @@ none-relied : (newest : Sb) → AreShapesFit newest → (mended x : ℕ) → men
 none-relied newest fit mended x none below = absurd (
     let first : relied_sector newest (Some mended) ≡ 0 = ap (λ (n : ℕ). relied_sector newest (Some n)) none ∙ (relied-reaches newest fit).0 in
     omega (arith, below, first))
+
+-- so that is how a resync begins
+pub resyncs-begin : (sound : Type 0) (among : Shape → Type 0) → ResyncsBegin sound among
+resyncs-begin sound among m course buffer c list fit stands ends whole = record {
+  in_course = stands;
+  ends = λ some. ends;
+  whole = λ some. whole;
+  rows = λ so x below. absurd (none-relied m.newest fit 0 x refl below);
+}
 
 -- ---- copies
 

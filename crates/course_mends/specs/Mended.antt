@@ -62,6 +62,12 @@ FewerShapesStand sound = (among fewer : Shape → Bool) (resync : Option ℕ) (m
     → ((shape : Shape) → fewer shape ≡ true → among shape ≡ true)
     → StandsMended sound (λ shape. among shape ≡ true) resync m course buffer c list → StandsMended sound (λ shape. fewer shape ≡ true) resync m course buffer c list
 
+-- Before any stripe is mended no row is asked: so an opening finds the list.
+abbrev pub ResyncsBegin : (sound : Type 0) (among : Shape → Type 0) → Type 0
+ResyncsBegin sound among = (m : Members) (course : Course) (buffer : List ℕ) (c : Contents) (list : ℕ → Sector) → AreShapesFit m.newest
+    → StandsInCourse ⊥ among m course buffer c list → (IsAside course.window → among (low_shape m.newest) → AreEndsStanding m c list)
+    → (sound → (x : ℕ) → IsMendSector m.newest x → IsSector (list x)) → StandsMended sound among (Some 0) m course buffer c list
+
 -- What stands in the tail stands behind the list's end, but where a backward reshape is at its first position.
 abbrev pub TailsAreEnds : Type 0
 TailsAreEnds = (m : Members) (c : Contents) (list : ℕ → Sector) → AreShapesFit m.newest → is_reshaping m.newest ≡ true

@@ -2,7 +2,7 @@
 
 ghost use Rattle.std.specs.Prelude.{⊤};
 ghost use Rattle.course_kept.specs.Laws.{ByShapes};
-ghost use Rattle.course_mends.specs.Mended.{NoneIsPending, FewerShapesStand, TailsAreEnds, MendedCoursesMove, SparesLeaveMended, MendsGoOn, ResyncsEnd, MendedCopiesGoOn, MendedRestsGoOn, MendedRecordsClose, MendedFinishesClose, MendedWritesGoOn, MendedTornWritesGoOn};
+ghost use Rattle.course_mends.specs.Mended.{NoneIsPending, FewerShapesStand, ResyncsBegin, TailsAreEnds, MendedCoursesMove, SparesLeaveMended, MendsGoOn, ResyncsEnd, MendedCopiesGoOn, MendedRestsGoOn, MendedRecordsClose, MendedFinishesClose, MendedWritesGoOn, MendedTornWritesGoOn};
 
 /// Without a resync the rows of the whole list stand.
 pub fn none_is_pending()
@@ -12,6 +12,11 @@ pub fn none_is_pending()
 /// What stands by some shapes stands by fewer.
 pub fn fewer_shapes_stand()
     ensures { FewerShapesStand ⊤ }
+{}
+
+/// A resync begins.
+pub fn resyncs_begin()
+    ensures { ByShapes (ResyncsBegin ⊤) }
 {}
 
 /// The tail is what stands behind the list's end.
