@@ -2,35 +2,27 @@
 use Rattle.std.proofs.Common.{◌≡◌, ℕ, ◌+◌, ◌-◌, ◌/◌, nat_lt, if◌then◌else◌, Option, Some, None, ◌∙◌, ap}
 use Rattle.md_base.specs.Shapes.{stripe_sectors}
 use Rattle.sb1.specs.declared.sb.Sb.{Sb}
-use Rattle.geometry.specs.Geometry.{ceiling}
 use Rattle.superblocks.specs.Reading.{shape_of}
 use Rattle.flat_history.specs.Stands.{shape_for}
 use Rattle.views.specs.Placed.{HaveSameReshape}
 use Rattle.views.proofs.Fit.{for-alike, list-alike}
-use Rattle.region_mends.specs.Mends.{low_end, low_shape, high_shape, low_stripes, high_stripe, mend_stripes, stripe_behind, first_sector, relied_sector}
+use Rattle.region_mends.specs.Mends.{low_end, high_shape, high_stripe, mend_stripes, stripe_behind, first_sector, relied_sector}
+use Rattle.region_writes.proofs.LowRuns.{end-alike}
+pub use Rattle.region_writes.proofs.LowRuns.{low-alike, low-stripes-alike}
 use Rattle.region_mends.proofs.StripeLaws.{stripe-at}
 
 module _ (old new : Sb) (reshape : HaveSameReshape old new) (shape : shape_of new ≡ shape_of old) (size : new.size ≡ old.size) where
-  end-alike : low_end new ≡ low_end old
-  end-alike i = if reshape.reshaping i then reshape.position i else 0
-
-  pub low-alike : low_shape new ≡ low_shape old
-  low-alike = for-alike old new reshape shape size 0
-
   high-alike : high_shape new ≡ high_shape old
-  high-alike = for-alike old new reshape shape size (low_end new) ∙ ap (λ (x : ℕ). shape_for old x) end-alike
-
-  pub low-stripes-alike : low_stripes new ≡ low_stripes old
-  low-stripes-alike i = ceiling (end-alike i) (stripe_sectors (low-alike i))
+  high-alike = for-alike old new reshape shape size (low_end new) ∙ ap (λ (x : ℕ). shape_for old x) (end-alike old new reshape shape size)
 
   high-stripe-alike : high_stripe new ≡ high_stripe old
-  high-stripe-alike i = end-alike i / stripe_sectors (high-alike i)
+  high-stripe-alike i = end-alike old new reshape shape size i / stripe_sectors (high-alike i)
 
   pub mends-alike : mend_stripes new ≡ mend_stripes old
-  mends-alike i = low-stripes-alike i + (size i / (high-alike i).chunk - high-stripe-alike i)
+  mends-alike i = low-stripes-alike old new reshape shape size i + (size i / (high-alike i).chunk - high-stripe-alike i)
 
   pub behind-alike : (mended : ℕ) → stripe_behind new mended ≡ stripe_behind old mended
-  behind-alike mended i = if nat_lt mended (low-stripes-alike i) then stripe-at (low-alike i) mended else stripe-at (high-alike i) (high-stripe-alike i + (mended - low-stripes-alike i))
+  behind-alike mended i = if nat_lt mended (low-stripes-alike old new reshape shape size i) then stripe-at (low-alike old new reshape shape size i) mended else stripe-at (high-alike i) (high-stripe-alike i + (mended - low-stripes-alike old new reshape shape size i))
 
   pub relied-alike : (resync : Option ℕ) → relied_sector new resync ≡ relied_sector old resync
   relied-alike None = list-alike old new reshape shape size

@@ -24,7 +24,7 @@ use Rattle.grow_asked.specs.declared.window.Window.{Window}
 use Rattle.grow_asked.specs.declared.window.Window.TheVariants.{Closed, Entered, Unsure}
 use Rattle.region_mends.specs.Mends.{low_shape, high_shape, low_stripes, high_stripe, mend_stripes}
 use Rattle.region_mends.specs.Left.{mends_at, position_behind, MendsAreCounted, ResyncLeftStays, RecordsLeaveResync, MendingTakesOne, ResyncEndsLast}
-use Rattle.region_mends.proofs.Regions.{low-some, low-is}
+use Rattle.region_writes.proofs.Sides.{low-some, low-is}
 
 lt-is : (a b : ℕ) → a < b → nat_lt a b ≡ true
 lt-is a b lt = grind (arith, nat_tests, lt)

@@ -1,4 +1,3 @@
-pub mod Regions
 pub mod StripeLaws
 pub mod ReliedLaws
 pub mod Alike

@@ -22,7 +22,7 @@ use Rattle.region_rows.proofs.StretchLaws.{relied-below}
 use Rattle.region_mends.specs.declared.stripes.Stripe.{Stripe}
 use Rattle.region_mends.specs.Mends.{low_end, low_shape, high_shape, low_stripes, high_stripe, mend_stripes, stripe_behind, relied_sector}
 use Rattle.region_mends.specs.Laws.{ReliedGrows, ReliedReaches, ReliedIsWhole, StillMends}
-use Rattle.region_mends.proofs.Regions.{low-valid, high-valid, low-some, high-some, low-none, low-own, high-own, list-stripes, high-whole, high-few, low-ends, low-before}
+use Rattle.region_writes.proofs.Sides.{low-valid, high-valid, low-some, high-some, low-none, low-own, high-own, list-stripes, high-whole, high-few, low-ends, low-before}
 use Rattle.region_mends.proofs.StripeLaws.{stripe-at, behind-low, behind-high, relied-low, relied-high, relied-between, relied-low-fits, is-next}
 
 -- the shape of each stripe is one that places sectors

@@ -12,7 +12,7 @@ use Rattle.shape_views.specs.Regions.{AreShapesFit}
 use Rattle.region_mends.specs.declared.stripes.Stripe.{Stripe}
 use Rattle.region_mends.specs.Mends.{low_end, low_shape, high_shape, low_stripes, high_stripe, mend_stripes, stripe_behind, relied_sector}
 use Rattle.region_mends.specs.Laws.{IsMendedNext, MendsGoOn}
-use Rattle.region_mends.proofs.Regions.{low-valid, high-valid, low-force, high-force, low-fits, low-own, high-own, list-stripes, high-whole, high-few, low-ends, low-before, low-reach, low-few}
+use Rattle.region_writes.proofs.Sides.{low-valid, high-valid, low-force, high-force, low-fits, low-own, high-own, list-stripes, high-whole, high-few, low-ends, low-before, low-reach, low-few}
 
 lt-is : (a b : ℕ) → a < b → nat_lt a b ≡ true
 lt-is a b lt = grind (arith, nat_tests, lt)

@@ -22,7 +22,7 @@ use Rattle.region_writes.proofs.Together.{rows-together, together-shape}
 use Rattle.region_mends.specs.declared.stripes.Stripe.{Stripe}
 use Rattle.region_mends.specs.Mends.{low_end, low_shape, low_stripes, mend_stripes, stripe_behind, first_sector, relied_sector, IsMendRow}
 use Rattle.region_mends.specs.Laws.{IsMendedNext, MendsAreListed}
-use Rattle.region_mends.proofs.Regions.{low-valid, high-some, low-is, low-fits, low-ends, low-before}
+use Rattle.region_writes.proofs.Sides.{low-valid, high-some, low-is, low-fits, low-ends, low-before}
 use Rattle.region_mends.proofs.StripeLaws.{behind-low, behind-high, high-from, high-within, is-next}
 use Rattle.region_mends.proofs.ReliedLaws.{relied-within}
 

@@ -1,5 +1,5 @@
 -- What the list is behind a write of two runs, and by which list their rows may be written.
-use Rattle.std.proofs.Common.{◌≡◌, ◌⊎◌, inl, inr, ℕ, ◌+◌, ◌-◌, ◌/◌, ◌<◌, ◌≤◌, ◌==◌, Bool, true, false, if◌then◌else◌, List, [], length, slice_index, Contains, Option, Some, refl, sym, ◌∙◌, ap, subst, arith, eqb-true, eq-eqb}
+use Rattle.std.proofs.Common.{◌≡◌, ◌⊎◌, inl, inr, ℕ, ◌+◌, ◌-◌, ◌*◌, ◌/◌, ◌<◌, ◌≤◌, ◌==◌, Bool, true, false, if◌then◌else◌, List, [], length, slice_index, Contains, Option, Some, refl, sym, ◌∙◌, ap, subst, arith, eqb-true, eq-eqb}
 use Rattle.std.specs.Option.{option_map_or}
 use Rattle.std.proofs.lemmas.Bool.{cases_lt}
 use Rattle.std.proofs.lemmas.List.{get_or_default}
@@ -44,6 +44,8 @@ use Rattle.region_rows.specs.Stretches.{ListStandsIn, RowsStandIn}
 use Rattle.region_writes.specs.Runs.{IsRun, IsRelied, AreRuns, AreRowsOf, AreFull, StayRebuilt, MayBeHidden}
 use Rattle.region_writes.proofs.Together.{mates-together, together-shape, shown-mate}
 use Rattle.region_writes.proofs.RunLaws.{run-sector, run-region, run-mate, mate-shape}
+use Rattle.region_writes.specs.Ends.{low_shape, low_stripes, AreEndsStanding}
+use Rattle.region_writes.proofs.LowRuns.{low-run, low-stripes-alike}
 use Rattle.region_writes.proofs.Tails.{is_listed, listed-is, tailed-is, listed-or-tail, tail-run, tail-before}
 
 -- where a row stands among these
@@ -369,6 +371,35 @@ module _ (given : Given) (old mid new : Members) (one : IsMoved given old mid) (
         subst (λ (s : Shape). held_slot (reading_of new) (place s x).role (place s x).row ≡ Some slot → after slot (data_offset_of (reading_of new) slot + (place s x).row) ≡ list' x) (sym moved.reshape.final)
         (λ held. tail-stays list list' w x slot before-tail held
         (stands x slot before-tail (held-moved moved (place (final_shape old.newest) x).role (place (final_shape old.newest) x).row slot held))) held
+
+    -- and so does what is behind the list's end in the last stripe below the position
+    ends-stays : (list list' : ℕ → Sector) → IsWritten list list' first from → (x slot : ℕ) → list_length old.newest ≤ x
+        → (place (low_shape old.newest) x).row < low_stripes old.newest * (low_shape old.newest).chunk → Stays list list' x slot (low_shape old.newest)
+    ends-stays list list' w x slot past under = elim (contains_or_not rows (place (low_shape old.newest) x).row) [
+      | inl has ↦ subst (λ (s : Shape). Contains rows (place s x).row → Stays list list' x slot s)
+          (low-run old.newest was.fit low are.low (place (low_shape old.newest) x).row under (low-rows.touched.only (place (low_shape old.newest) x).row has))
+          (λ here held stood. sector-written given old mid new one two was low are.low before first from rows buffer low-rows low-read after low-full list list' w x slot here held stood) has
+      | inr not-low ↦ elim (contains_or_not far_rows (place (low_shape old.newest) x).row) [
+        | inl has ↦ subst (λ (s : Shape). Contains far_rows (place s x).row → Stays list list' x slot s)
+            (low-run old.newest was.fit high are.high (place (low_shape old.newest) x).row under (high-rows.touched.only (place (low_shape old.newest) x).row has))
+            (λ here held stood. sector-written given old mid new one two was high are.high before first from far_rows far_buffer high-rows high-read after high-full list list' w x slot here held stood) has
+        | inr not-high ↦ (λ held stood.
+            row-kept (place (low_shape old.newest) x).row (place (low_shape old.newest) x).role slot not-low not-high
+            (holder-of (reading_of new) (place (low_shape old.newest) x).role (place (low_shape old.newest) x).row slot held)
+            ∙ stood ∙ sym (w.other x (inr (let end = are.ends in let within = are.high.within in omega (arith, end, within, past)))))
+      ]
+    ]
+
+    pub ends-written : (list list' : ℕ → Sector) → IsWritten list list' first from → AreEndsStanding old before list → AreEndsStanding new after list'
+    ends-written list list' w stands x slot new-past new-under held =
+        let same = same-shape 0 in
+        let past : list_length old.newest ≤ x = subst (λ (n : ℕ). n ≤ x) (list-alike old.newest new.newest moved.reshape moved.shape moved.size) new-past in
+        let under : (place (low_shape old.newest) x).row < low_stripes old.newest * (low_shape old.newest).chunk =
+        subst (λ (s : Shape). (place s x).row < low_stripes old.newest * s.chunk) same
+        (subst (λ (n : ℕ). (place (low_shape new.newest) x).row < n * (low_shape new.newest).chunk) (low-stripes-alike old.newest new.newest moved.reshape moved.shape moved.size) new-under) in
+        subst (λ (s : Shape). held_slot (reading_of new) (place s x).role (place s x).row ≡ Some slot → after slot (data_offset_of (reading_of new) slot + (place s x).row) ≡ list' x) (sym same)
+        (λ held. ends-stays list list' w x slot past under held
+        (stands x slot past under (held-moved moved (place (low_shape old.newest) x).role (place (low_shape old.newest) x).row slot held))) held
 
     -- a row that isn't touched stands with its parity
     row-stays : (list list' : ℕ → Sector) → IsWritten list list' first from → (x : ℕ) → x < list_length old.newest → (Contains rows (place_by old.newest x).row → ⊥) → (Contains far_rows (place_by old.newest x).row → ⊥)

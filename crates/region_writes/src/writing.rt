@@ -27,6 +27,7 @@ ghost use Rattle.safe_updates.specs.First.{write_refusal};
 ghost use Rattle.safe_updates.specs.Unused.{IsUnusedKept};
 ghost use Rattle.region_rows.specs.Stretches.{RowsStandTo, IsShapeOf, ListStandsIn, RowsStandIn};
 ghost use Rattle.region_writes.specs.Runs.{IsRun, AreRowsOf, AreFull, StayRebuilt, IsListTouched, IsTornTouched, MayBeHidden, IsListTorn, IsListUnwritten, AreRunsTorn, AreRunsUnwritten};
+ghost use Rattle.region_writes.specs.Ends.{AreEndsStanding};
 
 use crate::runs::{Run, runs_of, too_many_runs, unwritten_runs};
 use bank::Bank;
@@ -288,6 +289,8 @@ pub fn put_list<B: Bank>(
         → ListStandsIn (λ s. among s ≡ true) hidden members.new (present (B.given bank.old) (B.tape bank.new)) list' }
     ensures tail { result.refusal ≡ None → B.tells → (list list' : ℕ → Sector) → IsWritten list list' first from.now
         → AreTailsStanding members.old (present (B.given bank.old) (B.tape bank.old)) list → AreTailsStanding members.new (present (B.given bank.old) (B.tape bank.new)) list' }
+    ensures ends { result.refusal ≡ None → B.tells → (list list' : ℕ → Sector) → IsWritten list list' first from.now
+        → AreEndsStanding members.old (present (B.given bank.old) (B.tape bank.old)) list → AreEndsStanding members.new (present (B.given bank.old) (B.tape bank.new)) list' }
     ensures others { B.tells → AreOtherRowsKept (IsListTouched members.old.newest first (first + length from.now / 512)) (reading_of members.new) (present (B.given bank.old) (B.tape bank.old)) (present (B.given bank.old) (B.tape bank.new)) }
     ensures unused { B.tells → IsUnusedKept members.old (disk (B.given bank.old).start (B.tape bank.old)) (disk (B.given bank.old).start (B.tape bank.new)) }
     ensures good { result.refusal ≡ None → B.tells → (among : Shape → Bool) → (hidden : Option Span) → (list list' : ℕ → Sector) → IsWritten list list' first from.now → AreBytes from.now

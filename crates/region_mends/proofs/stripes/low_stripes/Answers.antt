@@ -3,7 +3,7 @@ use Rattle.md_base.specs.Shapes.{stripe_sectors}
 use Rattle.md_base.specs.declared.places.Shape.{Shape}
 use Rattle.geometry.proofs.ClosedForms.{rounded_up_at, ceiling_below}
 use Rattle.region_mends.specs.Mends.{low_end, low_shape}
-use Rattle.region_mends.proofs.Regions.{low-valid-by, low-some, low-fits, list-few}
+use Rattle.region_writes.proofs.Sides.{low-valid-by, low-some, low-fits, list-few}
 use Rattle.region_mends.proofs.stripes.low_stripes.Goals as goal
 
 pub stripe_sectors-requires : goal.stripe_sectors-requires

@@ -4,7 +4,7 @@ use Rattle.md_base.specs.declared.places.Shape.{Shape}
 use Rattle.sb1.specs.declared.sb.Sb.{Sb}
 use Rattle.views.proofs.Fit.{fit-short}
 use Rattle.region_mends.specs.Mends.{high_shape, low_stripes}
-use Rattle.region_mends.proofs.Regions.{high-few}
+use Rattle.region_writes.proofs.Sides.{high-few}
 use Rattle.region_mends.proofs.stripes.mend_stripes.Goals as goal
 
 -- so many stripes of the shape

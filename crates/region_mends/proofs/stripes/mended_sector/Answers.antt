@@ -3,7 +3,7 @@ use Rattle.std.specs.Prelude.{IsTrue}
 use Rattle.md_base.specs.Shapes.{is_valid_shape, stripe_sectors}
 use Rattle.region_mends.specs.declared.stripes.Stripe.{Stripe}
 use Rattle.region_mends.specs.Mends.{relied_sector}
-use Rattle.region_mends.proofs.Regions.{list-few}
+use Rattle.region_writes.proofs.Sides.{list-few}
 use Rattle.region_mends.proofs.ReliedLaws.{behind-valid, relied-within}
 use Rattle.region_mends.proofs.stripes.mended_sector.Goals as goal
 

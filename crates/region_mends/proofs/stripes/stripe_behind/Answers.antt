@@ -3,7 +3,7 @@ use Rattle.std.proofs.Math.Nat.{div-le_self}
 use Rattle.md_base.specs.declared.places.Shape.{Shape}
 use Rattle.views.proofs.Fit.{fit-short}
 use Rattle.region_mends.specs.Mends.{high_shape, high_stripe}
-use Rattle.region_mends.proofs.Regions.{high-few}
+use Rattle.region_writes.proofs.Sides.{high-few}
 use Rattle.region_mends.proofs.StripeLaws.{stripe-at, behind-low, behind-high}
 use Rattle.region_mends.proofs.stripes.stripe_behind.Goals as goal
 

@@ -26,7 +26,7 @@ use Rattle.region_rows.proofs.StretchLaws.{list-short, data-few}
 use Rattle.region_rows.specs.Stretches.{IsShapeOf}
 use Rattle.region_writes.specs.Runs.{AreRowsOf, AreFull, StayRebuilt, IsListTouched, IsTornTouched}
 use Rattle.region_writes.proofs.RunLaws.{told-as, told-always, never-does, low-torn, torn-low, torn-high, high-sector, each-does, runs-apart, runs-torn, runs-unwritten, touched-low, touched-high, run-region}
-use Rattle.region_writes.proofs.RunLists.{list-in-one, rows-in-one, tails-in-one, others-kept, list-written, tails-written, rows-written, rebuilt-written, choose, chosen-allowed}
+use Rattle.region_writes.proofs.RunLists.{list-in-one, rows-in-one, tails-in-one, others-kept, list-written, tails-written, rows-written, rebuilt-written, choose, chosen-allowed, ends-written}
 use Rattle.region_writes.proofs.WriteLaws.{some-none, rows-in, runs-alike}
 use Rattle.safe_updates.specs.Unused.{IsUnusedKept}
 use Rattle.safe_updates.proofs.Unused.{unused-then}
@@ -78,6 +78,10 @@ returns-then-is_some-clause-put g c =
 
 pub returns-then-is_some-clause-tail : goal.returns-then-is_some-clause-tail
 returns-then-is_some-clause-tail g c =
+    λ none. absurd (some-none c.prepare_runs-begun.result.refusal (sym c.is_some.ensures ∙ c.if-is_some.true) none)
+
+pub returns-then-is_some-clause-ends : goal.returns-then-is_some-clause-ends
+returns-then-is_some-clause-ends g c =
     λ none. absurd (some-none c.prepare_runs-begun.result.refusal (sym c.is_some.ensures ∙ c.if-is_some.true) none)
 
 pub returns-then-is_some-clause-good : goal.returns-then-is_some-clause-good
@@ -488,6 +492,41 @@ returns-clause-tail g c =
     subst (λ (b : Given). AreFull p (present b tape2) cut.high.shape c.args.first c.args.from.now far_rows far_buffer) did.given
     (subst (λ (l : List ℕ). AreFull p (present given1 tape2) cut.high.shape c.args.first c.args.from.now l far_buffer) c.as_slice-2.ensures.value (did2.high ok told)) in
     tails-written given m n p did.moved two c.requires.placed (present given tape0) (present given tape1) (present given tape2) (did.others told) c.args.relied c.args.first c.args.from.now cut.low cut.high are
+    rows buffer far_rows far_buffer (did.low_rows none) (did.high_rows none) (did.low none told) (did.high none told) kept low_full high_full list list' w stands
+
+pub returns-clause-ends : goal.returns-clause-ends
+returns-clause-ends g c =
+    let m = c.args.members.now in
+    let n = c.prepare_runs-begun.new.members in
+    let given = g.B.Bank.given c.args.bank.now in
+    let given1 = g.B.Bank.given c.prepare_runs-begun.new.bank in
+    let did = c.prepare_runs-begun.ensures in
+    let tape0 = g.B.Bank.tape c.args.bank.now in
+    let tape1 = g.B.Bank.tape c.prepare_runs-begun.new.bank in
+    let cut = c.runs_of-cut.result in
+    let are = c.runs_of-cut.ensures in
+    let to = c.args.first + length c.args.from.now / 512 in
+    let none = none-of c.prepare_runs-begun.result.refusal (sym c.is_some.ensures ∙ c.if-is_some.false) in
+    let rows = c.prepare_runs-begun.new.rows.items in
+    let far_rows = c.prepare_runs-begun.new.far_rows.items in
+    let buffer = c.prepare_runs-begun.new.buffer.items in
+    let far_buffer = c.prepare_runs-begun.new.far_buffer.items in
+    let p = c.write_runs-done.new.members in
+    let did2 = c.write_runs-done.ensures in
+    let tape2 = g.B.Bank.tape c.write_runs-done.new.bank in
+    let two : IsMoved given n p = moved-from given given1 n n p did.given refl did2.moved in
+    λ ok told list list' w stands.
+    let kept : AreOtherRowsKept (λ row. Contains rows row ⊎ Contains far_rows row) (reading_of p) (present given tape1) (present given tape2) =
+    subst (λ (b : Given). AreOtherRowsKept (λ row. Contains rows row ⊎ Contains far_rows row) (reading_of p) (present b tape1) (present b tape2)) did.given
+    (subst (λ (l : List ℕ). AreOtherRowsKept (λ row. Contains rows row ⊎ Contains l row) (reading_of p) (present given1 tape1) (present given1 tape2)) c.as_slice-2.ensures.value
+    (subst (λ (l : List ℕ). AreOtherRowsKept (λ row. Contains l row ⊎ Contains c.as_slice-2.result.now row) (reading_of p) (present given1 tape1) (present given1 tape2)) c.as_slice.ensures.value (did2.others told))) in
+    let low_full : AreFull p (present given tape2) cut.low.shape c.args.first c.args.from.now rows buffer =
+    subst (λ (b : Given). AreFull p (present b tape2) cut.low.shape c.args.first c.args.from.now rows buffer) did.given
+    (subst (λ (l : List ℕ). AreFull p (present given1 tape2) cut.low.shape c.args.first c.args.from.now l buffer) c.as_slice.ensures.value (did2.low ok told)) in
+    let high_full : AreFull p (present given tape2) cut.high.shape c.args.first c.args.from.now far_rows far_buffer =
+    subst (λ (b : Given). AreFull p (present b tape2) cut.high.shape c.args.first c.args.from.now far_rows far_buffer) did.given
+    (subst (λ (l : List ℕ). AreFull p (present given1 tape2) cut.high.shape c.args.first c.args.from.now l far_buffer) c.as_slice-2.ensures.value (did2.high ok told)) in
+    ends-written given m n p did.moved two c.requires.placed (present given tape0) (present given tape1) (present given tape2) (did.others told) c.args.relied c.args.first c.args.from.now cut.low cut.high are
     rows buffer far_rows far_buffer (did.low_rows none) (did.high_rows none) (did.low none told) (did.high none told) kept low_full high_full list list' w stands
 
 pub returns-clause-rebuilt : goal.returns-clause-rebuilt

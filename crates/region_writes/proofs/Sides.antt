@@ -26,7 +26,7 @@ use Rattle.views.proofs.Fit.{force-multiple}
 use Rattle.views.proofs.Stripes.{stripes-whole}
 use Rattle.region_rows.proofs.StretchLaws.{list-short}
 use Rattle.region_writes.proofs.Together.{together-shape}
-use Rattle.region_mends.specs.Mends.{low_end, low_shape, high_shape, low_stripes, high_stripe}
+use Rattle.region_writes.specs.Ends.{low_end, low_shape, high_shape, low_stripes, high_stripe}
 
 -- ---- numbers
 

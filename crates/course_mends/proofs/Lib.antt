@@ -1,0 +1,5 @@
+pub mod Mended
+pub mod Ends
+pub mod Spares
+pub mod Windows
+pub mod Torn

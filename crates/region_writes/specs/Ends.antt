@@ -1,0 +1,42 @@
+-- The regions of the list on either side of the position, and what stands behind its end.
+use Rattle.std.specs.Prelude.{◌≡◌, ℕ, ◌+◌, ◌*◌, ◌/◌, ◌<◌, ◌≤◌, if◌then◌else◌, Some}
+use Rattle.md_base.specs.declared.places.Shape.{Shape}
+use Rattle.md_base.specs.Sectors.{Sector}
+use Rattle.md_base.specs.Shapes.{stripe_sectors}
+use Rattle.bank.specs.Tape.{Contents}
+use Rattle.sb1.specs.declared.sb.Sb.{Sb}
+use Rattle.layout.specs.Layout.{place}
+use Rattle.geometry.specs.Geometry.{ceiling}
+use Rattle.superblocks.specs.declared.members.Members.{Members}
+use Rattle.superblocks.specs.Reading.{is_reshaping, list_length, data_offset_of}
+use Rattle.row_io.specs.Rows.{reading_of, held_slot}
+use Rattle.flat_history.specs.Stands.{shape_for}
+
+-- ---- the regions
+
+-- the sectors of the list below this one are the region below the position; without a reshape there is none
+abbrev pub low_end : Sb → ℕ
+low_end newest = if is_reshaping newest then newest.reshape_position else 0
+
+-- the shape that places them, and that of the others
+abbrev pub low_shape : Sb → Shape
+low_shape newest = shape_for newest 0
+
+abbrev pub high_shape : Sb → Shape
+high_shape newest = shape_for newest (low_end newest)
+
+-- how many stripes they have, of which the last may go past the position, where the list ends there
+abbrev pub low_stripes : Sb → ℕ
+low_stripes newest = ceiling (low_end newest) (stripe_sectors (low_shape newest))
+
+-- the first stripe of the others
+abbrev pub high_stripe : Sb → ℕ
+high_stripe newest = low_end newest / stripe_sectors (high_shape newest)
+
+-- ---- behind the list's end
+
+-- Where the region below the position ends with the list, within a stripe, what slots hold of that stripe behind the end is the list's too.
+abbrev pub AreEndsStanding : Members → Contents → (ℕ → Sector) → Type 0
+AreEndsStanding m c list = (x slot : ℕ) → list_length m.newest ≤ x → (place (low_shape m.newest) x).row < low_stripes m.newest * (low_shape m.newest).chunk
+    → held_slot (reading_of m) (place (low_shape m.newest) x).role (place (low_shape m.newest) x).row ≡ Some slot
+    → c slot (data_offset_of (reading_of m) slot + (place (low_shape m.newest) x).row) ≡ list x
