@@ -1,5 +1,5 @@
 -- A slot is made a spare in a reshape, from what `add_member` says of it: what is kept, done or refused, and what the call leaves.
-use Rattle.std.proofs.Common.{◌≡◌, ◌≢◌, inl, inr, ℕ, ◌≤◌, ◌==◌, Bool, true, false, List, [], length, slice_set, get_or, Some, refl, sym, ◌∙◌, ap, subst, arith, append-nil}
+use Rattle.std.proofs.Common.{◌≡◌, ◌≢◌, inl, inr, ℕ, ◌*◌, ◌<◌, ◌≤◌, ◌==◌, Bool, true, false, List, [], length, slice_set, get_or, Some, refl, sym, ◌∙◌, ap, subst, arith, append-nil}
 use Rattle.std.proofs.lemmas.Bool.{cases_lt}
 use Rattle.std.proofs.lemmas.Bool.Decides.{nat_tests}
 use Rattle.std.proofs.lemmas.List.Elements.{All-nil}
@@ -14,11 +14,7 @@ use Rattle.superblocks.specs.declared.members.Members.{Members}
 use Rattle.superblocks.specs.Reading.{Scope}
 use Rattle.superblocks.specs.Held.{IsSecondHalf}
 use Rattle.flat_history.specs.declared.events.Entry.{Entry}
-use Rattle.flat_history.specs.Epochs.{HasRoomForEvents, OpensAlike}
-use Rattle.flat_history.specs.Sound.{OpensFit}
 use Rattle.shape_views.specs.Regions.{DoWithout, backup_of}
-use Rattle.shape_changes.specs.Safety.{HasLiveSlot}
-use Rattle.shape_changes.specs.Steady.{IsMoreTold, IsSafeOver}
 use Rattle.views.specs.declared.work.Work.{Work}
 use Rattle.views.specs.Flushing.{OnlyFlushesAdded}
 use Rattle.views.specs.Lacking.{AreLostSince}
@@ -34,13 +30,8 @@ use Rattle.array_kept.proofs.ReadyLaws.{list-same}
 use Rattle.calls_kept.proofs.AddLaws.{slot-free}
 use Rattle.calls_kept.proofs.AddedKept.{AddsSafe, with_carried, carries-number, carries-only}
 use Rattle.calls_kept.proofs.AddedLosses.{IsAddDone, spares-added}
-use Rattle.kept_history.specs.Safe.{world_in, IsFilledRight}
-use Rattle.kept_history.specs.Told.{told_now}
-use Rattle.kept_history.proofs.Seen.{now-more}
 use Rattle.grow_asked.specs.declared.window.PhasesLeft.{PhasesLeft}
 use Rattle.course_kept.specs.declared.course.Course.{Course}
-use Rattle.moving_kept.specs.Moving.{IsMoving}
-use Rattle.moving_kept.proofs.Quiet.{safe-now}
 use Rattle.moving_kept.proofs.AddedSpare.{IsSpareMade}
 use Rattle.moving_kept.proofs.Steps.{missing-since}
 use Rattle.running_words.specs.Parts.{RunningParts}
@@ -56,54 +47,30 @@ number-known l number = elim (cases_lt number (length l)) [
   | inr past ↦ get_or_past (slice_set l number true) number true (let long = length-set l number true in omega (arith, past, long))
 ]
 
--- an array that keeps its record keeps it where more numbers are known
-more-numbers : {tells : Type 0} {given : Given} {tape : List Operation} {scope : Scope} {first : ℕ} {entries : List Entry} {members : Members} {carried : ℕ → Bool} {course : Course} {buffer : List ℕ} {left : ℕ}
-    (more : ℕ → Bool) → ((number : ℕ) → carried number ≡ true → more number ≡ true)
-    → IsMoving tells given tape scope first entries members carried course buffer left → HasLiveSlot members → IsMoving tells given tape scope first entries members more course buffer left
-more-numbers {tells = tells} {given = given} {tape = tape} {scope = scope} {first = first} {entries = entries} {members = members} {carried = carried} more carries was live = record {
-  slots = was.slots;
-  members_are = was.members_are;
-  course_is = was.course_is;
-  sizes_are = was.sizes_are;
-  left_told = was.left_told;
-  levelled = was.levelled;
-  gone = was.gone;
-  unclean = was.unclean;
-  recorded = was.recorded;
-  stored = was.stored;
-  listed = was.listed;
-  safe = λ t fills room alike. let s = was.safe t fills room alike in record { past = s.past; sound = s.sound; now = inl (now t fills room alike); counted = s.counted };
-  last_step = was.last_step;
-}
-  where
-    told : IsMoreTold (told_now (world_in given tape scope first) carried true entries) (told_now (world_in given tape scope first) more true entries)
-    told = record { size = refl; values = λ x lt v may. may; gone = λ role is. is; unclean = λ is. is; reshaping = λ is. is; carried = carries }
+-- ---- room for more entries
 
-    now : tells → IsFilledRight (world_in given tape scope first) entries → HasRoomForEvents (world_in given tape scope first) → OpensAlike (world_in given tape scope first)
-        → IsSafeOver (world_in given tape scope first) given (told_now (world_in given tape scope first) more true entries) members tape
-    now t fills room alike = now-more (OpensFit (world_in given tape scope first)) scope given (told_now (world_in given tape scope first) carried true entries) (told_now (world_in given tape scope first) more true entries)
-        members (disk given.start tape) told (safe-now was live t fills room alike)
-
-pub with-number : {tells : Type 0} {given : Given} {tape : List Operation} {scope : Scope} {first : ℕ} {entries : List Entry} {members : Members} {work : Work} {course : Course} {ahead : PhasesLeft}
-    {window : List ℕ} {faults : ℕ → ℕ} {steps room rows buffer far_rows far_buffer : ℕ} (number : ℕ)
-    → HasLiveSlot members → IsReady tells given tape scope first entries members work course ahead window faults steps room rows buffer far_rows far_buffer
-    → IsReady tells given tape scope first entries members (with_carried number work) course ahead window faults steps room rows buffer far_rows far_buffer
-with-number {work = work} number live was = record {
-  kept = more-numbers (is_carried (with_carried number work)) (carries-number number work) was.kept live;
-  synced = was.synced;
-  sized = was.sized;
-  unlimited = was.unlimited;
-  full = was.full;
-  settled = was.settled;
-  planned = was.planned;
-  wide = was.wide;
-  failed = was.failed;
-  room_left = was.room_left;
-  rows_fit = was.rows_fit;
-  buffer_fits = was.buffer_fits;
-  far_rows_fit = was.far_rows_fit;
-  far_buffer_fits = was.far_buffer_fits;
-}
+pub with-room : {tells : Type 0} {given : Given} {tape : List Operation} {scope : Scope} {first : ℕ} {entries entries' : List Entry} {members : Members} {work : Work} {course : Course} {ahead : PhasesLeft}
+    {window : List ℕ} {faults : ℕ → ℕ} {steps room room' rows buffer far_rows far_buffer : ℕ} → entries' ≡ entries → 50 * steps < room'
+    → IsReady tells given tape scope first entries members work course ahead window faults steps room rows buffer far_rows far_buffer
+    → IsReady tells given tape scope first entries' members work course ahead window faults steps room' rows buffer far_rows far_buffer
+with-room {tells = tells} {given = given} {tape = tape} {scope = scope} {first = first} {members = members} {work = work} {course = course} {ahead = ahead} {window = window} {faults = faults} {steps = steps} {room' = room'}
+    {rows = rows} {buffer = buffer} {far_rows = far_rows} {far_buffer = far_buffer} same left was =
+    subst (λ (l : List Entry). IsReady tells given tape scope first l members work course ahead window faults steps room' rows buffer far_rows far_buffer) (sym same) (record {
+      kept = was.kept;
+      synced = was.synced;
+      sized = was.sized;
+      unlimited = was.unlimited;
+      full = was.full;
+      settled = was.settled;
+      planned = was.planned;
+      wide = was.wide;
+      failed = was.failed;
+      room_left = left;
+      rows_fit = was.rows_fit;
+      buffer_fits = was.buffer_fits;
+      far_rows_fit = was.far_rows_fit;
+      far_buffer_fits = was.far_buffer_fits;
+    })
 
 -- ---- what an update that makes a slot a spare leaves
 
@@ -150,18 +117,19 @@ module _ {tells : Type 0} {given : Given} {tape mid tape' : List Operation} {slo
 -- ---- what the call leaves
 
 -- nothing is done
-pub still-called : {B : Type 0} {tells : Type 0} {given : Given} {tape : List Operation} {faults : ℕ → ℕ} {slot : ℕ} (array : RunningParts B)
-    → IsEndOf tells array.parts.first array.parts.entries tape → IsAddCalled tells given tape tape faults faults slot array array
-still-called {faults = faults} array ended = record {
-  grows = grows-none (λ t. refl);
-  ended = ended;
-  held = λ role s held. held;
-  spares = λ s is. inl is;
-  losses = record { more = []; grown = sym (append-nil array.parts.entries); failed = All-nil (λ e. IsLossBy (Held array.parts.members) faults faults e.event) };
-  never_falls = λ s. omega arith;
-  work = record { resync = refl; rebuilt = refl; carried = λ number is. is; one = λ number is. inl is };
-  same = record { array = record { uuid = refl; given = refl; first = refl; backup = refl; shape = refl; size = refl; list = λ t. refl }; final = refl; backward = refl; ahead = refl };
-}
+pub still-called : {B : Type 0} {tells : Type 0} {given : Given} {tape : List Operation} {faults : ℕ → ℕ} {slot : ℕ} {old new : RunningParts B} → new.parts.entries ≡ old.parts.entries
+    → new ≡ record old { parts = record old.parts { entries = new.parts.entries } } → IsEndOf tells old.parts.first old.parts.entries tape → IsAddCalled tells given tape tape faults faults slot old new
+still-called {tells = tells} {given = given} {tape = tape} {faults = faults} {slot = slot} {old = old} items same ended =
+    subst (λ n. IsAddCalled tells given tape tape faults faults slot old n) (sym (same ∙ ap (λ (l : List Entry). record old { parts = record old.parts { entries = l } }) items)) (record {
+      grows = grows-none (λ t. refl);
+      ended = ended;
+      held = λ role s held. held;
+      spares = λ s is. inl is;
+      losses = record { more = []; grown = sym (append-nil old.parts.entries); failed = All-nil (λ e. IsLossBy (Held old.parts.members) faults faults e.event) };
+      never_falls = λ s. omega arith;
+      work = record { resync = refl; rebuilt = refl; carried = λ number is. is; one = λ number is. inl is };
+      same = record { array = record { uuid = refl; given = refl; first = refl; backup = refl; shape = refl; size = refl; list = λ t. refl }; final = refl; backward = refl; ahead = refl };
+    })
 
 -- no slot is made one
 pub none-added : {B : Type 0} {tells : Type 0} {given : Given} {tape tape' : List Operation} {before after : ℕ → ℕ} {slot : ℕ} {old new : RunningParts B}

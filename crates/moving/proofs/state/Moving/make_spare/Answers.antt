@@ -31,9 +31,9 @@ use Rattle.moving_kept.specs.Moving.{IsMoving}
 use Rattle.moving_kept.proofs.AddedSpare.{looked-moves, added-moves, added-lost-moves}
 use Rattle.running_words.specs.Parts.{left_in}
 use Rattle.moving_laws.specs.Ready.{bytes_in}
-use Rattle.moving_laws.proofs.AddLaws.{with-number, apart-from, looked-grows, spare-made, none-added, add-called}
+use Rattle.moving_laws.proofs.AddLaws.{apart-from, looked-grows, spare-made, still-called, none-added, add-called}
 use Rattle.moving_laws.proofs.Called.{not_254, called, alone-lossless}
-use Rattle.moving_laws.proofs.Kept.{ready, shapes-same, shapes-moved, left-moved, alone-keeps, behind-keeps, behind-whole, live-of}
+use Rattle.moving_laws.proofs.Kept.{ready, ready-with, shapes-same, shapes-moved, left-moved, alone-keeps, behind-keeps, behind-whole, live-of}
 use Rattle.moving.proofs.state.Moving.make_spare.Goals as goal
 
 pub look_at-requires-clause-slot : goal.look_at-requires-clause-slot
@@ -45,6 +45,9 @@ pub look_at-requires-clause-room : goal.look_at-requires-clause-room
 look_at-requires-clause-room g c =
     let addable = subst (λ p. (refusal : Refusal) → IsUnaddable (g.B.Bank.given p.parts.bank) p.parts.backup c.args.slot p.parts.members refusal → ⊥) (sym c.self.view_is) c.requires.addable in
     slot-room (g.B.Bank.given c.self.inside.bank) (Some c.self.inside.backup) c.args.slot c.self.inside.members c.self.invariant.kept.members_are.placed addable
+
+pub returns-in-Err-clause-called : goal.returns-in-Err-clause-called
+returns-in-Err-clause-called g c = rw (← c.self.view_is) (still-called c.make_room.ensures.items refl (λ t. (c.self.invariant.kept.recorded t).ended))
 
 -- ---- where it fails at the first look
 
@@ -234,12 +237,12 @@ invariant_of-self-then-contains g c =
     (subst (λ (b : Given). AddsSafe g.B.Bank.tells b slot sb a.members m mid tape') look.given e.safe) since in
     let given_is = e.given ∙ look.given in
     let events = losses_of roles spares ++ Refused (SlotFault slot) ∷ [] in
-    ready (entries_of c.args.who end events) (with-number c.args.number (live-of was.kept (slot-does given (Some a.backup) slot a.members here.placed addable)) was) (grows-then (looked-grows look.tape) did.grows) (shapes-moved given (with_spare slot sb a.members) m did.moved)
+    ready-with (entries_of c.args.who end events) was (grows-then (looked-grows look.tape) did.grows) (shapes-moved given (with_spare slot sb a.members) m did.moved)
     (subst (λ (n : ℕ). IsMoving g.B.Bank.tells given tape' scope a.epoch.first (a.epoch.entries.items ++ entries_of c.args.who end events) m (is_carried work) a.course (bytes_in a.course.window a.window.items) n)
     (sym (left-moved given (with_spare slot sb a.members) m a.course a.ahead did.moved))
     (added-lost-moves g.B.Bank.tells given tape mid tape' scope a.epoch.first a.epoch.entries.items a.members m (is_carried a.work) (is_carried work) a.course (bytes_in a.course.window a.window.items)
     (left_in a.members a.course a.ahead) c.args.who end slot sb roles spares was.kept (begins-going a.epoch.entries.items c.args.who number) (not_254 c.args.who.caller c.requires.caller) c.ops-end-2.ensures.count made))
-    refl did.counts (behind-keeps c.args.who end roles spares (Refused (SlotFault slot)) (λ n. refl) refl)
+    refl refl did.counts (behind-keeps c.args.who end roles spares (Refused (SlotFault slot)) (λ n. refl) refl)
     (behind-whole tape' scope a.epoch.first a.epoch.entries.items c.args.who end roles spares (Refused (SlotFault slot)) did.moved made.since) given_is (scope-same given (Some a.backup) given_is c.enter_behind.ensures.uuid c.enter_behind.ensures.given) c.enter_behind.ensures.first c.make_room.ensures.items c.enter_behind.ensures.items
     (omega (arith, c.enter_behind.ensures.room, c.in-Ok.ensures.ok))
 
@@ -363,12 +366,12 @@ invariant_of-self-2 g c =
     (subst (λ (b : Given). AddsSafe g.B.Bank.tells b slot sb a.members m mid tape') look.given e.safe) since in
     let given_is = e.given ∙ look.given in
     let events = losses_of roles spares ++ Added slot ∷ [] in
-    ready (entries_of c.args.who end events) (with-number c.args.number (live-of was.kept (slot-does given (Some a.backup) slot a.members here.placed addable)) was) (grows-then (looked-grows look.tape) did.grows) (shapes-moved given (with_spare slot sb a.members) m did.moved)
+    ready-with (entries_of c.args.who end events) was (grows-then (looked-grows look.tape) did.grows) (shapes-moved given (with_spare slot sb a.members) m did.moved)
     (subst (λ (n : ℕ). IsMoving g.B.Bank.tells given tape' scope a.epoch.first (a.epoch.entries.items ++ entries_of c.args.who end events) m (is_carried work) a.course (bytes_in a.course.window a.window.items) n)
     (sym (left-moved given (with_spare slot sb a.members) m a.course a.ahead did.moved))
     (added-moves g.B.Bank.tells given tape mid tape' scope a.epoch.first a.epoch.entries.items a.members m (is_carried a.work) (is_carried work) a.course (bytes_in a.course.window a.window.items)
     (left_in a.members a.course a.ahead) c.args.who end slot sb roles spares was.kept (begins-going a.epoch.entries.items c.args.who number) (not_254 c.args.who.caller c.requires.caller) c.ops-end-2.ensures.count made))
-    refl did.counts (behind-keeps c.args.who end roles spares (Added slot) (λ n. refl) refl)
+    refl refl did.counts (behind-keeps c.args.who end roles spares (Added slot) (λ n. refl) refl)
     (behind-whole tape' scope a.epoch.first a.epoch.entries.items c.args.who end roles spares (Added slot) did.moved made.since) given_is (scope-same given (Some a.backup) given_is c.enter_behind-2.ensures.uuid c.enter_behind-2.ensures.given) c.enter_behind-2.ensures.first c.make_room.ensures.items c.enter_behind-2.ensures.items
     (omega (arith, c.enter_behind-2.ensures.room, c.in-Ok.ensures.ok))
 
@@ -379,6 +382,11 @@ returns-clause-answered g c =
     added_reply (list_length c.args.self.now.parts.members.newest) c.args.who c.args.self.now.parts.entries c.enter_behind-2.new.epoch.entries.items c.ops-end-2.result c.args.slot roles spares
     (c.enter_behind-2.ensures.items ∙ ap (λ (l : List Entry). l ++ entries_of c.args.who c.ops-end-2.result (losses_of roles spares ++ Added c.args.slot ∷ [])) (c.make_room.ensures.items ∙ ap (λ p. p.parts.entries) c.self.view_is))
     c.requires.next
+
+pub returns-clause-caused : goal.returns-clause-caused
+returns-clause-caused g c =
+    let addable = subst (λ p. (refusal : Refusal) → IsUnaddable (g.B.Bank.given p.parts.bank) p.parts.backup c.args.slot p.parts.members refusal → ⊥) (sym c.self.view_is) c.requires.addable in
+    rw (← c.self.view_is) (addable, c.add_member-lost.ensures.spare (sym c.contains.ensures ∙ c.if-contains.false))
 
 pub returns-clause-stored : goal.returns-clause-stored
 returns-clause-stored g c =
