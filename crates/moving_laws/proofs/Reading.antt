@@ -1,13 +1,12 @@
 -- A read of the list of an array in a reshape, from what `fetch_beside` leaves: it is done, or refused behind what it lost.
-use Rattle.std.proofs.Common.{◌≡◌, ◌⊎◌, inl, inr, ℕ, ◌+◌, ◌-◌, ◌*◌, ◌/◌, ◌<◌, ◌≤◌, ◌==◌, nat_le, Bool, true, false, if◌then◌else◌, Option, Some, None, List, [], ◌∷◌, ◌++◌, length, take, refl, sym, ◌∙◌, ap, subst, arith, append_assoc, append-nil}
+use Rattle.std.proofs.Common.{◌≡◌, ◌⊎◌, inl, inr, ℕ, ◌+◌, ◌-◌, ◌*◌, ◌/◌, ◌<◌, ◌≤◌, ◌==◌, Bool, true, false, Option, Some, None, List, [], ◌∷◌, ◌++◌, length, take, refl, sym, ◌∙◌, ap, subst, arith, append_assoc, append-nil}
 use Rattle.std.specs.Prelude.{IsFalse, IfSome, fold, min, slice_index_or, ⊤}
 use Rattle.std.specs.Option.{option_map_or}
 use Rattle.std.specs.List.{list_any}
 use Rattle.std.proofs.lemmas.Bool.{cases_lt}
-use Rattle.std.proofs.lemmas.Bool.Decides.{nat_tests}
 use Rattle.std.proofs.lemmas.List.Sums.{fold-append}
 use Rattle.md_base.specs.Sectors.{Sector, sectors_of}
-use Rattle.md_base.specs.Shapes.{tolerance, tolerance_of, stripe_sectors}
+use Rattle.md_base.specs.Shapes.{tolerance, tolerance_of}
 use Rattle.md_base.specs.declared.answers.Refusal.{Refusal}
 use Rattle.md_base.specs.declared.answers.Refusal.TheVariants.{PastEnd}
 use Rattle.md_base.specs.declared.answers.Who.{Who}
@@ -39,7 +38,6 @@ use Rattle.flat_history.proofs.SoundLaws.{fit-before}
 use Rattle.shape_views.specs.Regions.{AreShapesFit, place_by}
 use Rattle.shape_views.specs.Views.{Ledger}
 use Rattle.shape_views.specs.Windows.{IsShown}
-use Rattle.shape_views.proofs.Alike.{row-below}
 use Rattle.shape_changes.specs.Marking.{AreOthersPresent}
 use Rattle.shape_changes.specs.Safety.{HasRoomLeft, IsRisen, HasLiveSlot}
 use Rattle.shape_changes.specs.Steady.{IsSafeOver, KeepsSafe, AreGoneTold, IsUncleanTold}
@@ -56,7 +54,7 @@ use Rattle.call_entries.proofs.LosingLaws.{entries-both}
 use Rattle.array_kept.specs.Calls.{IsRefusedFor, IsReplied}
 use Rattle.array_kept.proofs.NowLaws.{sectors_of-at}
 use Rattle.array_kept.proofs.ReplyLaws.{IsOfMissing, unread-of, refused_reply, read_kind}
-use Rattle.region_rows.specs.Stretches.{relied_rows, ListStandsIn, RowsStandIn, IsListUnread}
+use Rattle.region_rows.specs.Stretches.{ListStandsIn, RowsStandIn, IsListUnread}
 use Rattle.region_writes.proofs.Together.{shape-force}
 use Rattle.window_rows.specs.Copies.{HasWindow, IsRoomFor}
 use Rattle.window_calls.specs.Fetching.{IsShapeBeside, IsUnreadBeside}
