@@ -15,6 +15,7 @@ mod examining;
 mod failing;
 mod finishing;
 mod moves;
+mod parting;
 mod reading;
 mod recording;
 mod settling;
@@ -56,7 +57,7 @@ impl<B: Bank> Model for Moving<B> {
     ghost use Rattle.std.specs.Prelude.{vec_capacity, length, Some};
     ghost use Rattle.array_kept.specs.Kept.{scope_in};
     ghost use Rattle.running_words.specs.Parts.{RunningParts};
-    ghost use Rattle.moving.specs.Ready.{IsReady};
+    ghost use Rattle.moving_laws.specs.Ready.{IsReady};
 
     ghost Value = { RunningParts B };
 

@@ -64,7 +64,7 @@ use Rattle.found_members.proofs.Held.{found-numbers, found-is-held}
 use Rattle.found_members.proofs.Read.{found-read}
 use Rattle.reshape_openings.specs.Finding.{window_for, IsFoundIn}
 use Rattle.reshape_openings.specs.Recovering.{AreRecovering}
-use Rattle.moving_opens.specs.Opening.{scope_of, IsOpenedMoving, opening_entries, AreAmong, found_course, IsReshapeFit, IsCleanAndFit, OpeningsMove, OpeningsStand, SoundReshapesFit}
+use Rattle.moving_opens.specs.Opening.{scope_of, IsOpenedMoving, opening_entries, AreAmong, found_course, IsReshapeFit, IsCleanAndFit, FoundWindowsOpen, OpeningsMove, OpeningsStand, SoundReshapesFit}
 use Rattle.moving_opens.proofs.Listed.{found-list, list-in, tails-stand, row-stands, found-stands}
 use Rattle.moving_opens.proofs.Losses.{all-found, events-are, all-absent, all-gone, no-resync, same-level, no-left, same-length, same-values}
 use Rattle.moving_opens.proofs.Members.{fit-here, placed-here, backed-here, moved-here, reshaping-here}
@@ -116,22 +116,22 @@ module _ {tells : Type 0} {bank : Given} {tape : List Operation} {given backup :
   entries = opening_entries (length tape) (members_without lost former)
 
   fit : AreShapesFit former.newest
-  fit = fit-here bank given backup former opened.elected opened.aside opened.active opened.backed
+  fit = fit-here bank given backup former opened.members_are.elected opened.members_are.aside opened.members_are.active opened.members_are.backed
 
   placed : IsPlaced bank former
-  placed = placed-here bank given backup former opened.elected opened.aside opened.active opened.backed
+  placed = placed-here bank given backup former opened.members_are.elected opened.members_are.aside opened.members_are.active opened.members_are.backed
 
   backed : ArePlaced (scope_of bank given backup former) bank former
-  backed = backed-here bank given backup former opened.elected opened.aside opened.active opened.backed
+  backed = backed-here bank given backup former opened.members_are.elected opened.members_are.aside opened.members_are.active opened.members_are.backed
 
   moved : IsMoved bank former (members_without lost former)
-  moved = moved-here bank given backup former opened.elected opened.aside opened.active opened.backed lost recovering
+  moved = moved-here bank given backup former opened.members_are.elected opened.members_are.aside opened.members_are.active opened.members_are.backed lost recovering
 
   read : IsReadOf (scope_of bank given backup former) former (reading_in bank.slots former)
-  read = found-read bank given former opened.elected placed scope refl
+  read = found-read bank given former opened.members_are.elected placed scope refl
 
   does : DoWithout former
-  does = elected-does (sizes bank).sectors (take bank.slots former.own) former.lost former opened.elected.elected
+  does = elected-does (sizes bank).sectors (take bank.slots former.own) former.lost former opened.members_are.elected.elected
 
   -- a role that isn't whole without the recovering slots wasn't whole with them
   was-missing : (role : ℕ) → is_missing (reading_of m) role ≡ true → is_whole (role_state (reading_of former) role) ≡ false
@@ -155,7 +155,7 @@ module _ {tells : Type 0} {bank : Given} {tape : List Operation} {given backup :
 
   module _ (t : tells) where
     stored : AreStored bank (scope_of bank given backup former) former (present bank tape) (disk bank.start tape)
-    stored = opened.stored t
+    stored = opened.members_are.stored t
 
     reading-is : reading_at world (length tape) ≡ Some r
     unfolding reading_at
@@ -206,7 +206,7 @@ module _ {tells : Type 0} {bank : Given} {tape : List Operation} {given backup :
 
     -- it is a given slot
     backup-given : has_slot given backup ≡ true
-    backup-given = first (has_slot given backup) (nat_le (8 + reach_of former.newest) (scope.sizes.sectors backup)) (roomy (is_reshaping former.newest) (has_slot given backup && nat_le (8 + reach_of former.newest) (scope.sizes.sectors backup)) opened.active opened.backed)
+    backup-given = first (has_slot given backup) (nat_le (8 + reach_of former.newest) (scope.sizes.sectors backup)) (roomy (is_reshaping former.newest) (has_slot given backup && nat_le (8 + reach_of former.newest) (scope.sizes.sectors backup)) opened.members_are.active opened.members_are.backed)
 
     header-is : (header : Sector) → IsIn (disk bank.start tape backup 0) header → header ≡ header_in scope c
     header-is header may = only header (c backup 0) (subst (λ (l : List Sector). IsIn l header) (stored.flushed backup 0 backup-given) may)
@@ -247,23 +247,23 @@ module _ {tells : Type 0} {bank : Given} {tape : List Operation} {given backup :
     -- ---- the list
 
     abbrev list : ℕ → Sector
-    list = found-list bank scope refl former backed opened.active does c read stored.says
+    list = found-list bank scope refl former backed opened.members_are.active does c read stored.says
 
     list-now : (x : ℕ) → x < list_length former.newest → list x ≡ slice_index_or (opening_list world) x []
-    list-now x lt = list-in bank scope refl former backed opened.active does c read stored.says x lt ∙ ap (λ (l : List Sector). slice_index_or l x []) (sym opening-is)
+    list-now x lt = list-in bank scope refl former backed opened.members_are.active does c read stored.says x lt ∙ ap (λ (l : List Sector). slice_index_or l x []) (sym opening-is)
 
     module _ (reshape : IsReshapeFit (scope_of bank given backup former) (present bank tape) (reading_in bank.slots former)) where
       tails : AreTailsStanding former c list
-      tails = tails-stand bank scope refl former backed opened.active does c read stored.says reshape.tail
+      tails = tails-stand bank scope refl former backed opened.members_are.active does c read stored.says reshape.tail
 
       rows : IsCleanAndFit world former → RowsStand (open_by scope former.newest (header_in scope c)) former c list
       rows so x shown =
-          row-stands bank scope refl former backed opened.active does c read stored.says (λ slot k within. sectors-whole bank tape (length tape) slot k (opened.whole t) within) placed
+          row-stands bank scope refl former backed opened.members_are.active does c read stored.says (λ slot k within. sectors-whole bank tape (length tape) slot k (opened.members_are.whole t) within) placed
           ((sound-is so.fit).rows so.clean) reshape.tail x shown
 
       stands-former : StandsInCourse (IsCleanAndFit world former) AnyShape former (found_course window) buffer c list
       stands-former =
-          found-stands bank scope refl former backed opened.active does c read stored.says (IsCleanAndFit world former) placed buffer window (λ span next. window-inside former.newest fit span next)
+          found-stands bank scope refl former backed opened.members_are.active does c read stored.says (IsCleanAndFit world former) placed buffer window (λ span next. window-inside former.newest fit span next)
           window-now (opened.sectors t) tails rows
 
       stands-here : StandsInCourse (IsCleanAndFit world former) AnyShape m (found_course window) buffer c list
@@ -306,10 +306,10 @@ module _ {tells : Type 0} {bank : Given} {tape : List Operation} {given backup :
           since = record {
             gone = lost;
             since = refl;
-            held = found-is-held bank former.newest.set_uuid given (Some backup) former c d opened.elected stored (subst (λ (o : Option Reading). IfSome o (λ q. AreLikeNewest scope q.newest c)) reading-is alike);
+            held = found-is-held bank former.newest.set_uuid given (Some backup) former c d opened.members_are.elected stored (subst (λ (o : Option Reading). IfSome o (λ q. AreLikeNewest scope q.newest c)) reading-is alike);
           };
           right = seen-right;
-          numbers = found-carried scope carried former d among (found-numbers bank former.newest.set_uuid given (Some backup) former c d opened.elected stored);
+          numbers = found-carried scope carried former d among (found-numbers bank former.newest.set_uuid given (Some backup) former c d opened.members_are.elected stored);
         })
 
         counted : HasLiveSlot m → IsCounted world m
@@ -322,8 +322,8 @@ module _ {tells : Type 0} {bank : Given} {tape : List Operation} {given backup :
 
 pub openings-move : (tells : Type 0) → OpeningsMove tells
 openings-move tells bank tape given backup lost first left former window buffer carried opened recovering clean among first_is reshape = record {
-  slots = opened.elected.few;
-  members_are = reshaping-here bank given backup former opened.elected opened.aside opened.active opened.backed lost recovering;
+  slots = opened.members_are.elected.few;
+  members_are = reshaping-here bank given backup former opened.members_are.elected opened.members_are.aside opened.members_are.active opened.members_are.backed lost recovering;
   course_is = record { window = opened.window_is; through = λ some. absurd (omega (arith, some)); few = omega arith };
   sizes_are = refl;
   left_told = subst (λ (o : Option ℕ). IfSome o (λ k. k ≡ left)) (sym (no-left opener first (reading_of (members_without lost former)) (role_count former.newest))) tt;
@@ -362,6 +362,22 @@ openings-move tells bank tape given backup lost first left former window buffer 
       };
     }
 
+-- ---- what is found
+
+pub found-windows-open : (tells : Type 0) → FoundWindowsOpen tells
+found-windows-open tells bank tape given backup members window buffer are is found sectors = record {
+  members_are = are;
+  window_is = is;
+  found = λ t. found t (scope_of bank given backup members) (record {
+    uuid = refl;
+    backup_is = refl;
+    given = first (has_slot given backup) (nat_le (8 + reach_of members.newest) ((scope_of bank given backup members).sizes.sectors backup))
+        (roomy (is_reshaping members.newest) (has_slot given backup && nat_le (8 + reach_of members.newest) ((scope_of bank given backup members).sizes.sectors backup)) are.active are.backed);
+    sizes_are = refl;
+  });
+  sectors = sectors;
+}
+
 -- ---- a dirty one
 
 pub openings-stand : (tells : Type 0) → OpeningsStand tells
@@ -372,5 +388,5 @@ openings-stand tells bank tape given backup lost former window buffer carried op
 
 pub sound-reshapes-fit : (tells : Type 0) → SoundReshapesFit tells
 sound-reshapes-fit tells bank tape given backup former window buffer opened t fits =
-    let sound = found-sound bank tape (scope_of bank given backup former) (reading_in bank.slots former) (opened.stored t).says fits in
-    record { sections = sound.sections opened.active; tail = sound.tail opened.active }
+    let sound = found-sound bank tape (scope_of bank given backup former) (reading_in bank.slots former) (opened.members_are.stored t).says fits in
+    record { sections = sound.sections opened.members_are.active; tail = sound.tail opened.members_are.active }

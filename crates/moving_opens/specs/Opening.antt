@@ -27,7 +27,7 @@ use Rattle.course_kept.specs.Course.{IsWindowOf}
 use Rattle.course_kept.specs.declared.course.Course.{Course}
 use Rattle.moving_kept.specs.Moving.{HasListInCourse, IsMoving}
 use Rattle.found_members.specs.Found.{AreElected, AreStored}
-use Rattle.reshape_openings.specs.Finding.{window_for, IsFoundIn}
+use Rattle.reshape_openings.specs.Finding.{IsLookedFor, window_for, bytes_for, IsFoundIn}
 use Rattle.reshape_openings.specs.Recovering.{AreRecovering}
 
 -- these slots of the bank, looked at for the array that was elected
@@ -35,18 +35,28 @@ abbrev pub scope_of : Given → ℕ → ℕ → Members → Scope
 scope_of bank given backup members = scope_in bank members.newest.set_uuid given (Some backup)
 
 -- The members are elected, a reshape is active, and the backup that it needs is there and holds no superblock of the array. Over a bank that tells its contents
--- they are read from what the given slots hold, and a stop leaves just that; the window is the one that the backup's header tells, and these bytes are its
--- section's.
-pub record IsOpenedMoving (tells : Type 0) (bank : Given) (tape : List Operation) (given backup : ℕ) (members : Members) (window : Window) (buffer : List ℕ) : Type 0 where
+-- they are read from what the given slots hold, and a stop leaves just that.
+pub record AreOpenedMoving (tells : Type 0) (bank : Given) (tape : List Operation) (given backup : ℕ) (members : Members) : Type 0 where
   pub elected : AreElected bank given members
   pub aside : own_in members.own backup ≡ None
   pub active : is_reshaping members.newest ≡ true
   pub backed : backup_absent (scope_of bank given backup members) members.newest ≡ None
-  pub window_is : IsWindowOf members.newest window
   pub stored : tells → AreStored bank (scope_of bank given backup members) members (present bank tape) (disk bank.start tape)
   pub whole : tells → HasWholeSectors bank tape
+
+-- So it is, and the window is the one that the backup's header tells, and these bytes are its section's.
+pub record IsOpenedMoving (tells : Type 0) (bank : Given) (tape : List Operation) (given backup : ℕ) (members : Members) (window : Window) (buffer : List ℕ) : Type 0 where
+  pub members_are : AreOpenedMoving tells bank tape given backup members
+  pub window_is : IsWindowOf members.newest window
   pub found : tells → window ≡ window_for (open_by (scope_of bank given backup members) members.newest (header_in (scope_of bank given backup members) (present bank tape)))
   pub sectors : tells → IsFoundIn (present bank tape backup) window buffer
+
+-- `find_window` finds it so.
+abbrev pub FoundWindowsOpen : (tells : Type 0) → Type 0
+FoundWindowsOpen tells = (bank : Given) (tape : List Operation) (given backup : ℕ) (members : Members) (window : Window) (buffer : List ℕ) → AreOpenedMoving tells bank tape given backup members
+    → IsWindowOf members.newest window
+    → (tells → (scope : Scope) → IsLookedFor bank members.newest backup scope → window ≡ window_for (open_by scope members.newest (header_in scope (present bank tape))))
+    → (tells → IsFoundIn (present bank tape backup) window (bytes_for window buffer)) → IsOpenedMoving tells bank tape given backup members window (bytes_for window buffer)
 
 -- the first entries of such an array: a loss for each role of either shape that isn't whole
 abbrev pub opening_entries : ℕ → Members → List Entry

@@ -2,7 +2,12 @@
 #![tactic(auto)]
 
 ghost use Rattle.std.specs.Prelude.{⊤};
-ghost use Rattle.moving_opens.specs.Opening.{OpeningsMove, OpeningsStand, SoundReshapesFit};
+ghost use Rattle.moving_opens.specs.Opening.{FoundWindowsOpen, OpeningsMove, OpeningsStand, SoundReshapesFit};
+
+/// What `find_window` answers of members that were opened is what an opening finds.
+pub fn found_windows_open()
+    ensures { FoundWindowsOpen ⊤ }
+{}
 
 /// What an opening finds of a clean array in a reshape that fits is what such an array keeps from call to call.
 pub fn openings_move()

@@ -1,4 +1,5 @@
-//! Tests of `moving_state`: the steps of a reshape, what is left of it at each, and what is refused; and of `region_mends`: the stripes of a resync. All against tables worked out by hand.
+//! Tests of `moving_state`: the steps of a reshape, what is left of it at each, and what is refused; of `region_mends`: the stripes of a
+//! resync; against tables worked out by hand; and of `reshape_openings`: the window of a stored reshape.
 #![tactic(auto)]
 
 #[cfg(test)]
@@ -7,5 +8,7 @@ mod courses;
 mod members;
 #[cfg(test)]
 mod mends;
+#[cfg(test)]
+mod openings;
 #[cfg(test)]
 mod rows;

@@ -1,6 +1,9 @@
 //! The stripes of a resync over both regions, worked out by hand from the shapes.
 
 use crate::members::{Made, are_fit, members_of};
+use grow_asked::Window;
+use moving_state::reshape::next_window_of;
+use region_mends::counting::{mends_at, resync_left};
 use region_mends::stripes::{mend_stripes, next_mend, relied_sector};
 use std::test::Fail;
 
@@ -44,11 +47,38 @@ fn stripes_of_a_resync(rt: HostRuntime) -> Result<(), Fail> {
         assert!(rt; mend_stripes(&members) == *stripes);
         assert!(rt; *mended <= mend_stripes(&members));
         assert!(rt; relied_sector(&members, Some(*mended)) == *relied);
+        assert!(rt; mends_at(&members, members.newest.reshape_position) == *stripes);
+        assert!(rt;
+            resync_left(&members, &Window::Closed, Some(*mended)) == *stripes - *mended + 1
+        );
         let next = match next_mend(&members, *mended) {
             Some(next) => Some((next.shape.disks, next.at)),
             None => None,
         };
         assert!(rt; next == *wanted);
+    }
+    Ok(())
+}
+
+// The resync behind a window that is entered is counted for the position behind it.
+#[test]
+fn steps_behind_a_window(rt: HostRuntime) -> Result<(), Fail> {
+    let members = members_of(rt.alloc(), (5, 128, (5, 1), 0, 0))?;
+    assert!(rt; are_fit(&members));
+    match next_window_of(&members) {
+        None => assert!(rt; false),
+        Some(span) => {
+            let entered = Window::Entered {
+                span,
+                copied: 1,
+                sectioned: true,
+            };
+            assert!(rt; span.hi == 96);
+            assert!(rt; mends_at(&members, span.hi) == 15);
+            assert!(rt; resync_left(&members, &entered, Some(0)) == 16);
+            assert!(rt; resync_left(&members, &Window::Closed, Some(0)) == 17);
+            assert!(rt; resync_left(&members, &entered, None) == 0);
+        }
     }
     Ok(())
 }

@@ -5,3 +5,4 @@ pub mod Alike
 pub mod RefusalLaws
 pub mod StripeRows
 pub mod MendedLists
+pub mod LeftLaws

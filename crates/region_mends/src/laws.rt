@@ -1,5 +1,6 @@
 //! How a resync goes through the list. Each function's contract is the law.
 
+ghost use Rattle.region_mends.specs.Left.{MendsAreCounted, ResyncLeftStays, RecordsLeaveResync, MendingTakesOne, ResyncEndsLast};
 ghost use Rattle.region_mends.specs.Laws.{MendsGoOn, ReliedGrows, ReliedReaches, ReliedIsWhole, MendsAreListed, StillMends};
 
 /// The next stripe begins where parity is relied on so far, and with it that is so to its end.
@@ -30,4 +31,29 @@ pub fn mends_are_listed()
 /// Without a reshape the stripes are those of the array.
 pub fn still_mends()
     ensures { StillMends }
+{}
+
+/// In a reshape they are counted by its two shapes and the position.
+pub fn mends_are_counted()
+    ensures { MendsAreCounted }
+{}
+
+/// Members that lost slots have as many steps left.
+pub fn resync_left_stays()
+    ensures { ResyncLeftStays }
+{}
+
+/// A window that is recorded leaves as many.
+pub fn records_leave_resync()
+    ensures { RecordsLeaveResync }
+{}
+
+/// A stripe that is mended takes one.
+pub fn mending_takes_one()
+    ensures { MendingTakesOne }
+{}
+
+/// The end is the last.
+pub fn resync_ends_last()
+    ensures { ResyncEndsLast }
 {}

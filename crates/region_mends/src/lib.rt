@@ -1,6 +1,7 @@
 //! The resync of an array in a reshape, stripe by stripe over both regions.
 #![tactic(auto)]
 
+pub mod counting;
 pub mod laws;
 pub mod mending;
 pub mod stripes;

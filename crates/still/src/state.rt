@@ -16,6 +16,7 @@ mod ending;
 mod examining;
 mod failing;
 mod mending;
+mod parting;
 mod reading;
 mod rebuilding;
 mod settling;

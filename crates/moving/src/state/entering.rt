@@ -29,7 +29,7 @@ ghost use Rattle.grow_asked.specs.declared.window.Window.TheVariants.{Closed as 
 ghost use Rattle.course_kept.specs.Course.{HasWindowIn, IsStored};
 ghost use Rattle.kept_history.specs.Recorded.{IsCallGoing};
 ghost use Rattle.moving_kept.specs.Moving.{AreReshaping};
-ghost use Rattle.moving.specs.Entering.{is_read, is_tried, window_behind, IsNotEntered};
+ghost use Rattle.moving_laws.specs.Entering.{is_read, is_tried, window_behind, IsNotEntered};
 ghost use Rattle.running_words.specs.Parts.{left_in};
 ghost use Rattle.running_words.specs.Calls.{IsCalled, IsStepTaken, IsEnterDue, IsEnterCaused, IsNextOpen, IsNextUnsure};
 

@@ -27,7 +27,7 @@ ghost use Rattle.kept_history.specs.Recorded.{IsCallGoing};
 ghost use Rattle.course_kept.specs.Laws.{closed};
 ghost use Rattle.running_words.specs.Parts.{left_in};
 ghost use Rattle.running_words.specs.Calls.{IsCalled, IsStepTaken};
-ghost use Rattle.moving.specs.Writing.{IsWindowOpen, steps_in};
+ghost use Rattle.moving_laws.specs.Writing.{IsWindowOpen, steps_in};
 
 use crate::state::moves::check_going;
 use crate::state::{Moving, steps_left};

@@ -9,7 +9,7 @@ ghost use Rattle.moving_state.specs.Due.{due_of};
 ghost use Rattle.moving_state.specs.declared.stepping.Due.TheVariants.{Finish as EndsReshape};
 ghost use Rattle.running_words.specs.Parts.{left_in};
 ghost use Rattle.running_words.specs.Calls.{IsCalled, IsStepTaken, IsNextUnsure};
-ghost use Rattle.moving.specs.Steps.{kind_of, IsStepCaused};
+ghost use Rattle.moving_laws.specs.Steps.{kind_of, IsStepCaused};
 
 use crate::state::Moving;
 use bank::Bank;

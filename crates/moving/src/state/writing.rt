@@ -15,7 +15,7 @@ ghost use Rattle.course_kept.specs.Laws.{closed};
 ghost use Rattle.moving_state.specs.Due.{unsure_in};
 ghost use Rattle.running_words.specs.Parts.{left_in};
 ghost use Rattle.running_words.specs.Calls.{IsCalled, IsStepTaken};
-ghost use Rattle.moving.specs.Writing.{IsWindowOpen, TouchesWindow, IsWriteLacked, IsPutEntered, IsWriteEntered, IsWriteAnswered};
+ghost use Rattle.moving_laws.specs.Writing.{IsWindowOpen, TouchesWindow, IsWriteLacked, IsPutEntered, IsWriteEntered, IsWriteAnswered};
 
 use crate::state::Moving;
 use crate::state::moves::check_going;

@@ -20,10 +20,10 @@ use Rattle.calls_kept.proofs.AddLaws.{slot-there, unadded_reply}
 use Rattle.kept_history.proofs.Records.{begins-going}
 use Rattle.moving_kept.proofs.AddedSpare.{unadded-moves}
 use Rattle.running_words.specs.Parts.{left_in}
-use Rattle.moving.specs.Ready.{bytes_in}
-use Rattle.moving.proofs.AddLaws.{with-room, still-called, none-added}
-use Rattle.moving.proofs.Called.{not_254, called, alone-lossless}
-use Rattle.moving.proofs.Kept.{ready, shapes-same, alone-keeps}
+use Rattle.moving_laws.specs.Ready.{bytes_in}
+use Rattle.moving_laws.proofs.AddLaws.{with-room, still-called, none-added}
+use Rattle.moving_laws.proofs.Called.{not_254, called, alone-lossless}
+use Rattle.moving_laws.proofs.Kept.{ready, shapes-same, alone-keeps}
 use Rattle.moving.proofs.state.Moving.add.Goals as goal
 
 -- a refusal before the slot is touched

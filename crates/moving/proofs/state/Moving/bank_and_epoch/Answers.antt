@@ -1,5 +1,5 @@
 use Rattle.std.proofs.Common.{Some}
-use Rattle.moving.proofs.Asking.{epoch-kept}
+use Rattle.moving_laws.proofs.Asking.{epoch-kept}
 use Rattle.moving.proofs.state.Moving.bank_and_epoch.Goals as goal
 
 pub returns-clause-right : goal.returns-clause-right

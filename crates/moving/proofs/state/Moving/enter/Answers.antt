@@ -22,12 +22,12 @@ use Rattle.moving_kept.proofs.Resting.{resting-moves}
 use Rattle.moving_kept.proofs.Steps.{missing-since}
 use Rattle.running_words.specs.Calls.{IsEnterDue}
 use Rattle.running_words.specs.Parts.{left_in}
-use Rattle.moving.specs.Ready.{bytes_in}
-use Rattle.moving.proofs.Settled.{risen-told}
-use Rattle.moving.proofs.Called.{not_254, called, alone-lossless}
-use Rattle.moving.proofs.Kept.{ready, shapes-same, shapes-moved, alone-keeps, behind-keeps, behind-whole, with-buffer, written-whole}
-use Rattle.moving.proofs.EnterLaws.{backup-for}
-use Rattle.moving.proofs.Entered.{course_in, IsNextTried, when-some, when-none, enter-refused, enter-left, enter-done}
+use Rattle.moving_laws.specs.Ready.{bytes_in}
+use Rattle.moving_laws.proofs.Settled.{risen-told}
+use Rattle.moving_laws.proofs.Called.{not_254, called, alone-lossless}
+use Rattle.moving_laws.proofs.Kept.{ready, shapes-same, shapes-moved, alone-keeps, behind-keeps, behind-whole, with-buffer, written-whole}
+use Rattle.moving_laws.proofs.EnterLaws.{backup-for}
+use Rattle.moving_laws.proofs.Entered.{course_in, IsNextTried, when-some, when-none, enter-refused, enter-left, enter-done}
 use Rattle.moving.proofs.state.Moving.enter.Goals as goal
 
 -- ---- the members lack too many

@@ -1,5 +1,5 @@
 use Rattle.std.specs.Prelude.{Some}
-use Rattle.moving.proofs.Examined.{ready-still}
+use Rattle.moving_laws.proofs.Examined.{ready-still}
 use Rattle.moving.proofs.state.Moving.examine.Goals as goal
 
 pub invariant_of-self : goal.invariant_of-self

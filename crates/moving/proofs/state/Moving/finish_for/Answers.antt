@@ -14,10 +14,10 @@ use Rattle.kept_history.specs.Recorded.{IsCallGoing}
 use Rattle.moving_kept.proofs.Refusals.{quiet-refusal}
 use Rattle.moving_kept.proofs.Resting.{resting-moves}
 use Rattle.running_words.specs.Parts.{left_in}
-use Rattle.moving.specs.Ready.{bytes_in}
-use Rattle.moving.proofs.Called.{not_254, called, alone-lossless}
-use Rattle.moving.proofs.Kept.{ready, shapes-same, alone-keeps}
-use Rattle.moving.proofs.WriteLaws.{first-right, wider-refused, finish-caused}
+use Rattle.moving_laws.specs.Ready.{bytes_in}
+use Rattle.moving_laws.proofs.Called.{not_254, called, alone-lossless}
+use Rattle.moving_laws.proofs.Kept.{ready, shapes-same, alone-keeps}
+use Rattle.moving_laws.proofs.WriteLaws.{first-right, wider-refused, finish-caused}
 use Rattle.moving.proofs.state.Moving.finish_for.Goals as goal
 
 -- ---- refused before the window is finished

@@ -25,13 +25,13 @@ use Rattle.moving_kept.proofs.Refusals.{quiet-refusal, refused-right}
 use Rattle.moving_kept.proofs.Resting.{resting-moves}
 use Rattle.moving_kept.proofs.Steps.{missing-since}
 use Rattle.running_words.specs.Parts.{left_in}
-use Rattle.moving.specs.Ready.{bytes_in}
-use Rattle.moving.specs.Writing.{IsWindowOpen}
-use Rattle.moving.proofs.Called.{not_254, called, alone-lossless}
-use Rattle.moving.proofs.Kept.{ready, shapes-same, shapes-moved, alone-keeps, behind-keeps, behind-whole, with-buffer}
-use Rattle.moving.proofs.RecordLaws.{moved-if, moved-none, shapes-past}
-use Rattle.moving.proofs.Settled.{many-of}
-use Rattle.moving.proofs.WriteLaws.{finished-missing, open-is, finish-left, finish-done, finish-refused}
+use Rattle.moving_laws.specs.Ready.{bytes_in}
+use Rattle.moving_laws.specs.Writing.{IsWindowOpen}
+use Rattle.moving_laws.proofs.Called.{not_254, called, alone-lossless}
+use Rattle.moving_laws.proofs.Kept.{ready, shapes-same, shapes-moved, alone-keeps, behind-keeps, behind-whole, with-buffer}
+use Rattle.moving_laws.proofs.RecordLaws.{moved-if, moved-none, shapes-past}
+use Rattle.moving_laws.proofs.Settled.{many-of}
+use Rattle.moving_laws.proofs.WriteLaws.{finished-missing, open-is, finish-left, finish-done, finish-refused}
 use Rattle.moving.proofs.state.Moving.finish_window.Goals as goal
 
 -- ---- the members lack too many

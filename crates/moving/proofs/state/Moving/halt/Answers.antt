@@ -9,8 +9,8 @@ use Rattle.array_kept.specs.Kept.{scope_in}
 use Rattle.array_kept.proofs.ReadyLaws.{scope-same}
 use Rattle.moving_kept.specs.Moving.{IsMoving}
 use Rattle.running_words.specs.Parts.{left_in}
-use Rattle.moving.specs.Ready.{bytes_in}
-use Rattle.moving.proofs.Asking.{halted-moves, epoch-kept}
+use Rattle.moving_laws.specs.Ready.{bytes_in}
+use Rattle.moving_laws.proofs.Asking.{halted-moves, epoch-kept}
 use Rattle.moving.proofs.state.Moving.halt.Goals as goal
 
 pub returns-clause-entered : goal.returns-clause-entered

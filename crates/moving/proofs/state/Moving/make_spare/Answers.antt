@@ -30,10 +30,10 @@ use Rattle.kept_history.proofs.Records.{begins-going}
 use Rattle.moving_kept.specs.Moving.{IsMoving}
 use Rattle.moving_kept.proofs.AddedSpare.{looked-moves, added-moves, added-lost-moves}
 use Rattle.running_words.specs.Parts.{left_in}
-use Rattle.moving.specs.Ready.{bytes_in}
-use Rattle.moving.proofs.AddLaws.{apart-from, looked-grows, spare-made, still-called, none-added, add-called}
-use Rattle.moving.proofs.Called.{not_254, called, alone-lossless}
-use Rattle.moving.proofs.Kept.{ready, ready-with, shapes-same, shapes-moved, left-moved, alone-keeps, behind-keeps, behind-whole, live-of}
+use Rattle.moving_laws.specs.Ready.{bytes_in}
+use Rattle.moving_laws.proofs.AddLaws.{apart-from, looked-grows, spare-made, still-called, none-added, add-called}
+use Rattle.moving_laws.proofs.Called.{not_254, called, alone-lossless}
+use Rattle.moving_laws.proofs.Kept.{ready, ready-with, shapes-same, shapes-moved, left-moved, alone-keeps, behind-keeps, behind-whole, live-of}
 use Rattle.moving.proofs.state.Moving.make_spare.Goals as goal
 
 pub look_at-requires-clause-slot : goal.look_at-requires-clause-slot

@@ -41,12 +41,12 @@ use Rattle.moving_kept.proofs.Refusals.{quiet-refusal}
 use Rattle.moving_kept.proofs.Resting.{resting-moves}
 use Rattle.moving_kept.proofs.Steps.{missing-since}
 use Rattle.running_words.specs.Parts.{left_in}
-use Rattle.moving.specs.Ready.{bytes_in}
+use Rattle.moving_laws.specs.Ready.{bytes_in}
 use Rattle.running_words.specs.Calls.{moving_world}
-use Rattle.moving.proofs.Kept.{ready, with-buffer, shapes-same, shapes-moved, left-moved, alone-keeps, behind-keeps, behind-whole, written-whole}
-use Rattle.moving.proofs.Called.{not_254, alone-lossless, called}
-use Rattle.moving.proofs.Settled.{risen-told}
-use Rattle.moving.proofs.Reading.{IsFetched, read-live, read-some, none-read, read-quiet, no-sectors, room-taken, first-right, first-reply, unread-moves, read-moves, holds-read, beside-unread, unread-missing, read-does, asked-is, hidden-fits, holds-sliced}
+use Rattle.moving_laws.proofs.Kept.{ready, with-buffer, shapes-same, shapes-moved, left-moved, alone-keeps, behind-keeps, behind-whole, written-whole}
+use Rattle.moving_laws.proofs.Called.{not_254, alone-lossless, called}
+use Rattle.moving_laws.proofs.Settled.{risen-told}
+use Rattle.moving_laws.proofs.Reading.{IsFetched, read-live, read-some, none-read, read-quiet, no-sectors, room-taken, first-right, first-reply, unread-moves, read-moves, holds-read, beside-unread, unread-missing, read-does, asked-is, hidden-fits, holds-sliced}
 use Rattle.moving.proofs.state.Moving.read.Goals as goal
 
 -- ---- the shape has at most so many roles

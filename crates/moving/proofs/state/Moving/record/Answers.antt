@@ -23,11 +23,11 @@ use Rattle.moving_kept.proofs.Resting.{resting-moves}
 use Rattle.moving_kept.proofs.Steps.{missing-since}
 use Rattle.running_words.specs.Calls.{IsRecordDue}
 use Rattle.running_words.specs.Parts.{left_in}
-use Rattle.moving.specs.Ready.{bytes_in}
-use Rattle.moving.proofs.Called.{not_254, called, alone-lossless}
-use Rattle.moving.proofs.Kept.{ready, shapes-same, shapes-moved, alone-keeps, behind-keeps, behind-whole, live-of}
-use Rattle.moving.proofs.Settled.{many-of}
-use Rattle.moving.proofs.RecordLaws.{window-next, same-span, all_copied, moved-if, moved-none, safe-none-of, shapes-past, since-past, record-refused, record-done}
+use Rattle.moving_laws.specs.Ready.{bytes_in}
+use Rattle.moving_laws.proofs.Called.{not_254, called, alone-lossless}
+use Rattle.moving_laws.proofs.Kept.{ready, shapes-same, shapes-moved, alone-keeps, behind-keeps, behind-whole, live-of}
+use Rattle.moving_laws.proofs.Settled.{many-of}
+use Rattle.moving_laws.proofs.RecordLaws.{window-next, same-span, all_copied, moved-if, moved-none, safe-none-of, shapes-past, since-past, record-refused, record-done}
 use Rattle.moving.proofs.state.Moving.record.Goals as goal
 
 -- ---- refused before anything is done

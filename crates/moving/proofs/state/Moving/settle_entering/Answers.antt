@@ -18,10 +18,10 @@ use Rattle.moving_kept.proofs.Refusals.{quiet-refusal, refused-right}
 use Rattle.moving_kept.proofs.Resting.{resting-moves}
 use Rattle.moving_kept.proofs.Steps.{missing-since}
 use Rattle.running_words.specs.Parts.{left_in}
-use Rattle.moving.specs.Ready.{bytes_in}
-use Rattle.moving.proofs.Kept.{ready, shapes-same, shapes-moved, left-moved, alone-keeps, behind-keeps, behind-whole, live-of}
-use Rattle.moving.proofs.Called.{not_254, alone-lossless}
-use Rattle.moving.proofs.Settled.{settling-long, settling-free, settles-so, risen-told, many-of}
+use Rattle.moving_laws.specs.Ready.{bytes_in}
+use Rattle.moving_laws.proofs.Kept.{ready, shapes-same, shapes-moved, left-moved, alone-keeps, behind-keeps, behind-whole, live-of}
+use Rattle.moving_laws.proofs.Called.{not_254, alone-lossless}
+use Rattle.moving_laws.proofs.Settled.{settling-long, settling-free, settles-so, risen-told, many-of}
 use Rattle.moving.proofs.state.Moving.settle_entering.Goals as goal
 
 pub overflow_cast-count : goal.overflow_cast-count

@@ -9,8 +9,8 @@ use Rattle.views.proofs.MovedLaws.{grows-none}
 use Rattle.array_kept.proofs.LossLaws.{ended-behind}
 use Rattle.array_kept.proofs.ReadyLaws.{scope-same}
 use Rattle.running_words.specs.Parts.{left_in}
-use Rattle.moving.proofs.Kept.{ready, roomier, shapes-same, alone-keeps}
-use Rattle.moving.proofs.Asking.{status-same, shown-moves}
+use Rattle.moving_laws.proofs.Kept.{ready, roomier, shapes-same, alone-keeps}
+use Rattle.moving_laws.proofs.Asking.{status-same, shown-moves}
 use Rattle.moving.proofs.state.Moving.status.Goals as goal
 
 pub invariant_of-self : goal.invariant_of-self

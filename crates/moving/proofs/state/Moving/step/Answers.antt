@@ -3,7 +3,7 @@ use Rattle.md_base.specs.declared.places.Span.{Span}
 use Rattle.course_kept.specs.Laws.{unsure}
 use Rattle.moving_state.specs.Due.{IsDue}
 use Rattle.running_words.specs.Calls.{IsEnterDue}
-use Rattle.moving.proofs.DueSteps.{enter-due}
+use Rattle.moving_laws.proofs.DueSteps.{enter-due}
 use Rattle.moving.proofs.state.Moving.step.Goals as goal
 
 pub enter-requires-clause-due : goal.enter-requires-clause-due

@@ -26,11 +26,11 @@ use Rattle.moving_kept.proofs.Steps.{missing-since}
 use Rattle.moving_state.proofs.ReshapeLaws.{through-of}
 use Rattle.running_words.specs.Calls.{IsZeroDue}
 use Rattle.running_words.specs.Parts.{left_in}
-use Rattle.moving.specs.Ready.{bytes_in}
-use Rattle.moving.proofs.Called.{not_254, called, alone-lossless}
-use Rattle.moving.proofs.Kept.{ready, shapes-same, shapes-moved, alone-keeps, behind-keeps, behind-whole, with-buffer, live-of}
-use Rattle.moving.proofs.Settled.{many-of}
-use Rattle.moving.proofs.ZeroLaws.{closed-at, zero-step, rows-zeroed, zero-refused, zero-done}
+use Rattle.moving_laws.specs.Ready.{bytes_in}
+use Rattle.moving_laws.proofs.Called.{not_254, called, alone-lossless}
+use Rattle.moving_laws.proofs.Kept.{ready, shapes-same, shapes-moved, alone-keeps, behind-keeps, behind-whole, with-buffer, live-of}
+use Rattle.moving_laws.proofs.Settled.{many-of}
+use Rattle.moving_laws.proofs.ZeroLaws.{closed-at, zero-step, rows-zeroed, zero-refused, zero-done}
 use Rattle.moving.proofs.state.Moving.zero.Goals as goal
 
 -- ---- refused before anything is done

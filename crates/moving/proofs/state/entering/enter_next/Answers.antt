@@ -29,8 +29,8 @@ use Rattle.grow_asked.specs.declared.window.Window.TheVariants.{Closed, Entered,
 use Rattle.course_kept.specs.Course.{HasWindowIn, IsStored}
 use Rattle.moving_kept.proofs.BackupKept.{stored-kept}
 use Rattle.moving_kept.proofs.MembersMove.{reshaping-moved}
-use Rattle.moving.specs.Entering.{window_behind}
-use Rattle.moving.proofs.EnterLaws.{IsWindowCall, read-moved, read-failed, read-grows, read-rise, read-clean, read-kept, read-safe, refused-behind, refused-later, window-of, behind-has, stored-behind}
+use Rattle.moving_laws.specs.Entering.{window_behind}
+use Rattle.moving_laws.proofs.EnterLaws.{IsWindowCall, read-moved, read-failed, read-grows, read-rise, read-clean, read-kept, read-safe, refused-behind, refused-later, window-of, behind-has, stored-behind}
 use Rattle.moving.proofs.state.entering.enter_next.Given.{Over}
 use Rattle.moving.proofs.state.entering.enter_next.Goals.{After-window_behind}
 use Rattle.moving.proofs.state.entering.enter_next.Goals as goal

@@ -7,7 +7,7 @@ use Rattle.row_io.specs.Rows.{reading_of, present}
 use Rattle.shape_views.proofs.Stands.{span-order}
 use Rattle.views.specs.Lacking.{AreOtherRowsKept}
 use Rattle.window_calls.specs.Finishing.{IsOfRest, AreStripesCopied}
-use Rattle.moving.proofs.WriteLaws.{finished-since}
+use Rattle.moving_laws.proofs.WriteLaws.{finished-since}
 use Rattle.moving.proofs.state.finishing.finish_rest.Goals as goal
 
 pub overflow_cast-count : goal.overflow_cast-count

@@ -1,5 +1,5 @@
 use Rattle.std.proofs.Common.{◌≤◌, length, subst, ℕ}
-use Rattle.moving.proofs.Copied.{going-few}
+use Rattle.moving_laws.proofs.Copied.{going-few}
 use Rattle.moving.proofs.state.moves.check_going.Goals as goal
 
 pub returns : goal.returns

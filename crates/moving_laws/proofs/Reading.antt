@@ -84,8 +84,9 @@ use Rattle.moving_kept.proofs.Quiet.{safe-now, listed-later}
 use Rattle.moving_kept.proofs.Refusals.{quiet-refusal, lacking-right}
 use Rattle.moving_kept.proofs.Staying.{course-moved, stays-moves}
 use Rattle.moving_kept.proofs.Steps.{AreMissingSince, missing-moved}
+use Rattle.moving_kept.proofs.Writing.{unrelied-short}
 use Rattle.moving_state.proofs.ReshapeLaws.{window-reach}
-use Rattle.moving.specs.Ready.{bytes_in}
+use Rattle.moving_laws.specs.Ready.{bytes_in}
 
 -- ---- where nobody was lost
 
@@ -134,20 +135,6 @@ module _ (entries : List Entry) (who : Who) (end roles spares : ℕ) where
       (values-losses who end (losses_of roles spares) [] (losses-are roles spares) x (values_of list entries x)))
 
 -- ---- why it is refused
-
--- where the row of a sector of the list isn't relied on, not all are
-unrelied-short : (newest : Sb) → AreShapesFit newest → (relied x : ℕ) → x < list_length newest → relied_rows newest relied (shape_for newest x) ≤ (place_by newest x).row → relied < list_length newest
-unrelied-short newest fit relied x lt far = elim (cases_lt relied (list_length newest)) [
-  | inl less ↦ less
-  | inr all ↦ absurd (
-      let whole : relied_rows newest relied (shape_for newest x) ≡ newest.size =
-      ap (λ (b : Bool). if b then newest.size else relied / stripe_sectors (shape_for newest x) * (shape_for newest x).chunk) (le-is (list_length newest) relied all) in
-      let below = row-below newest fit x lt in
-      omega (arith, whole, below, far))
-]
-  where
-    le-is : (a b : ℕ) → a ≤ b → nat_le a b ≡ true
-    le-is a b le = grind (arith, nat_tests, le)
 
 -- where all rows are relied on, more roles of the shape of a sector are missing than that tolerates
 lacked-of : (m : Members) → AreShapesFit m.newest → (relied from to : ℕ) (refusal : Refusal) → list_length m.newest ≤ relied → to ≤ list_length m.newest → IsListUnread relied from to m refusal

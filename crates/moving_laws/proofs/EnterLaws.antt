@@ -64,7 +64,7 @@ use Rattle.grow_asked.specs.declared.window.Window.TheVariants.{Closed, Entered,
 use Rattle.course_kept.specs.Course.{HasWindowIn, IsStored}
 use Rattle.moving_state.proofs.ReshapeLaws.{window-reach}
 use Rattle.moving_kept.specs.Moving.{AreReshaping}
-use Rattle.moving.specs.Entering.{is_read, is_tried, window_left, window_behind, IsNotEntered}
+use Rattle.moving_laws.specs.Entering.{is_read, is_tried, window_left, window_behind, IsNotEntered}
 
 -- ---- the backup
 

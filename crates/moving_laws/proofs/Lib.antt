@@ -6,11 +6,11 @@ pub mod TakenOut
 pub mod ZeroLaws
 pub mod Copied
 pub mod RecordLaws
+pub mod AddLaws
+pub mod Examined
 pub mod WriteLaws
 pub mod WriteReplies
 pub mod EnterLaws
 pub mod Entered
 pub mod Reading
-pub mod AddLaws
-pub mod Examined
 pub mod DueSteps

@@ -31,8 +31,8 @@ use Rattle.array_kept.proofs.NowLaws.{visible-is, length-more, limit-more}
 use Rattle.array_kept.proofs.ReplyLaws.{IsOfMissing, none_before, too-many-of, write_kind}
 use Rattle.grow_asked.specs.declared.window.Window.{Window}
 use Rattle.kept_history.specs.Recorded.{entry_of}
-use Rattle.moving.specs.Writing.{IsWriteLacked, IsFinishedFirst, IsWriteEntered, IsRepliedBehind, IsWriteAnswered}
-use Rattle.moving.proofs.WriteLaws.{torn-missing}
+use Rattle.moving_laws.specs.Writing.{IsWriteLacked, IsFinishedFirst, IsWriteEntered, IsRepliedBehind, IsWriteAnswered}
+use Rattle.moving_laws.proofs.WriteLaws.{torn-missing}
 
 -- ---- the entries of a call before its reply
 

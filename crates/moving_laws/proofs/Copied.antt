@@ -48,9 +48,9 @@ use Rattle.moving_kept.specs.Moving.{IsMoving}
 use Rattle.moving_kept.proofs.Staying.{refused-moves}
 use Rattle.moving_kept.proofs.Steps.{AreMissingSince, able-kept, plain-of, copied-moves}
 use Rattle.running_words.specs.Parts.{RunningParts, left_in}
-use Rattle.moving.specs.Ready.{bytes_in}
+use Rattle.moving_laws.specs.Ready.{bytes_in}
 use Rattle.running_words.specs.Calls.{IsCopyDue}
-use Rattle.moving.proofs.Kept.{left-moved}
+use Rattle.moving_laws.proofs.Kept.{left-moved}
 
 -- ---- the number of a call that goes on
 

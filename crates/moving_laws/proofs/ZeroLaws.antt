@@ -44,9 +44,9 @@ use Rattle.moving_kept.proofs.MoreSteps.{zeroed-moves}
 use Rattle.moving_kept.proofs.Staying.{refused-moves}
 use Rattle.moving_kept.proofs.Steps.{AreMissingSince, missing-since}
 use Rattle.running_words.specs.Parts.{left_in}
-use Rattle.moving.proofs.Called.{not_254}
-use Rattle.moving.proofs.Kept.{left-moved}
-use Rattle.moving.proofs.Settled.{risen-told}
+use Rattle.moving_laws.proofs.Called.{not_254}
+use Rattle.moving_laws.proofs.Kept.{left-moved}
+use Rattle.moving_laws.proofs.Settled.{risen-told}
 
 -- ---- the course
 

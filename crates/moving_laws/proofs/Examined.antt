@@ -10,7 +10,7 @@ use Rattle.array_kept.specs.Kept.{scope_in}
 use Rattle.grow_asked.specs.declared.window.PhasesLeft.{PhasesLeft}
 use Rattle.course_kept.specs.declared.course.Course.{Course}
 use Rattle.moving_kept.specs.Moving.{IsMoving}
-use Rattle.moving.specs.Ready.{IsReady}
+use Rattle.moving_laws.specs.Ready.{IsReady}
 
 -- nothing was written
 moving-still : {tells : Type 0} {given : Given} {tape tape' : List Operation} {scope : Scope} {first : ℕ} {entries : List Entry} {members : Members} {carried : ℕ → Bool} {course : Course} {buffer : List ℕ} {left : ℕ}

@@ -51,7 +51,7 @@ use Rattle.course_kept.specs.declared.course.Course.{Course}
 use Rattle.moving_kept.specs.Moving.{IsMoving}
 use Rattle.moving_kept.proofs.Steps.{AreMissingSince, missing-moved}
 use Rattle.running_words.specs.Parts.{left_in}
-use Rattle.moving.specs.Ready.{bytes_in, IsReady}
+use Rattle.moving_laws.specs.Ready.{bytes_in, IsReady}
 
 -- ---- superblocks of the same reshape
 

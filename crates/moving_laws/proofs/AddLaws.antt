@@ -37,7 +37,7 @@ use Rattle.moving_kept.proofs.Steps.{missing-since}
 use Rattle.running_words.specs.Parts.{RunningParts}
 use Rattle.running_words.specs.Calls.{IsCalled}
 use Rattle.running_words.specs.Adding.{IsAddCalled}
-use Rattle.moving.specs.Ready.{IsReady}
+use Rattle.moving_laws.specs.Ready.{IsReady}
 
 -- ---- the numbers that superblocks may bear
 

@@ -31,6 +31,7 @@ use Rattle.flat_history.specs.Stands.{covers, shape_for}
 use Rattle.flat_history.specs.World.{opening_list}
 use Rattle.shape_views.specs.Regions.{AreShapesFit, DoWithout}
 use Rattle.shape_views.specs.Windows.{moved_past}
+use Rattle.shape_changes.specs.Safety.{HasLiveSlot}
 use Rattle.views.specs.declared.work.Work.{Work}
 use Rattle.views.specs.Lacking.{DoesWithout, HaveRolesFailed, AreLostSince, HaveFailedSince, AreTooMany}
 use Rattle.shape_changes.specs.Safety.{HasLiveSlot}
@@ -66,11 +67,11 @@ use Rattle.moving_kept.proofs.Steps.{AreMissingSince, missing-since, missing-mov
 use Rattle.moving_kept.proofs.Writing.{ArePut, AreWritten, AreUnwritten, unrelied-short, written-moves, unwritten-moves}
 use Rattle.running_words.specs.Calls.{IsCalled, IsStepTaken}
 use Rattle.running_words.specs.Parts.{RunningParts, left_in}
-use Rattle.moving.specs.Ready.{bytes_in, IsReady}
-use Rattle.moving.specs.Writing.{IsWindowOpen, steps_in, TouchesWindow, IsWriteLacked, IsPutEntered, IsWriteEntered}
-use Rattle.moving.proofs.Called.{not_254}
-use Rattle.moving.proofs.Kept.{IsLengthKept, behind-keeps, behind-whole, takes-lost, left-moved}
-use Rattle.moving.proofs.RecordLaws.{past-of, since-past, record-some, closed-bare, moved-none, moved-if}
+use Rattle.moving_laws.specs.Ready.{bytes_in, IsReady}
+use Rattle.moving_laws.specs.Writing.{IsWindowOpen, steps_in, TouchesWindow, IsWriteLacked, IsPutEntered, IsWriteEntered}
+use Rattle.moving_laws.proofs.Called.{not_254}
+use Rattle.moving_laws.proofs.Kept.{IsLengthKept, behind-keeps, behind-whole, takes-lost, left-moved}
+use Rattle.moving_laws.proofs.RecordLaws.{past-of, since-past, record-some, closed-bare, moved-none, moved-if}
 
 -- ---- the window
 
