@@ -4,6 +4,8 @@ use Rattle.std.specs.Prelude.{IsFalse, IfSome, fold, min, slice_index_or, ⊤}
 use Rattle.std.specs.Option.{option_map_or}
 use Rattle.std.specs.List.{list_any}
 use Rattle.std.proofs.lemmas.Bool.{cases_lt}
+use Rattle.std.proofs.lemmas.Bool.Decides.{nat_tests}
+use Rattle.std.proofs.lemmas.List.{length-take-le}
 use Rattle.std.proofs.lemmas.List.Sums.{fold-append}
 use Rattle.md_base.specs.Sectors.{Sector, sectors_of}
 use Rattle.md_base.specs.Shapes.{tolerance, tolerance_of}
@@ -157,6 +159,10 @@ pub read-live : {tells : Type 0} {given : Given} {tape : List Operation} {scope 
 read-live {given = given} {m = m} relied from to was none some =
     shape-left given m was.members_are.placed was.members_are.unlost (shape_for m.newest from) (shape-force m.newest from) (read-does m relied from to none from (omega arith) some)
 
+-- where some are asked for
+pub read-some : (count at : ℕ) → (count ≡ 0 → ⊥) → at < at + count
+read-some count at some = omega (arith, some)
+
 -- beside a window the cause is one of the list too
 pub beside-unread : (hidden : Option Span) (relied from to : ℕ) (m : Members) (refusal : Refusal) → IsUnreadBeside hidden relied from to m refusal → IsListUnread relied from to m refusal
 beside-unread hidden relied from to m refusal why = (why.0, why.1, why.2, why.4)
@@ -187,6 +193,9 @@ pub record IsFetched (tells : Type 0) (given : Given) (tape tape' : List Operati
   pub others : tells → AreOthersPresent (present given tape) (present given tape')
   pub safe : tells → (world : World) → (told : Ledger) → HasRoomLeft old tape tape' → AreGoneTold told new → IsUncleanTold told old → IsSafeOver world given told old tape → KeepsSafe world given told new tape tape'
 
+pub read-quiet : (at : ℕ) (body : List Sector) → IsQuiet (Read at body)
+read-quiet at body = record { adds = refl; gives = refl; ends = refl; still = λ x values. refl; level = λ n. refl; other = refl }
+
 module _ {tells : Type 0} {given : Given} {tape : List Operation} {scope : Scope} {first : ℕ} {entries : List Entry} {old : Members} {carried : ℕ → Bool} {course : Course} {buffer : List ℕ} {left : ℕ}
     (was : IsMoving tells given tape scope first entries old carried course buffer left) (unlimited : limit_of entries ≡ None) where
   -- all of the list is visible
@@ -204,6 +213,15 @@ module _ {tells : Type 0} {given : Given} {tape : List Operation} {scope : Scope
       let lacked = lacked-of old was.members_are.placed.fit (list_length old.newest) at to refusal (omega arith) why.0 why.1 in
       lacking-right (world_in given tape scope first) entries given old was.members_are.placed (was.gone t right) (was.levelled t right)
       (shape_for old.newest lacked.0) refusal (shape-force old.newest lacked.0) lacked.1
+
+  -- ---- one of no sector
+
+  pub none-read : (at : ℕ) (body : List Sector) → length body ≡ 0 → at ≤ list_length old.newest → tells → IsReliable (world_in given tape scope first) entries
+      → IsReadOver (opening_list (world_in given tape scope first)) entries at body
+  none-read at body none within t right = record {
+    within = let all_seen = seen t in omega (arith, all_seen, none, within);
+    holds = λ i lt. absurd (omega (arith, lt, none));
+  }
 
   module _ {tape' : List Operation} {new : Members} (live : HasLiveSlot old) (who : Who) (end roles spares : ℕ) (goes : IsCallGoing entries who) (caller : IsFalse (who.caller == 254)) (at_end : tells → end ≡ length tape')
       (grows : Grows tells tape tape') (did : IsFetched tells given tape tape' old new roles) where
@@ -237,7 +255,7 @@ module _ {tells : Type 0} {given : Given} {tape : List Operation} {scope : Scope
       all = entries ++ entries_of who end (losses_of roles spares ++ Read at (sectors_of bytes) ∷ [])
 
       quiet : IsQuiet (Read at (sectors_of bytes))
-      quiet = record { adds = refl; gives = refl; ends = refl; still = λ x values. refl; level = λ n. refl; other = refl }
+      quiet = read-quiet at (sectors_of bytes)
 
       opened : tells → opening_list (world_in given tape' scope first) ≡ opening_list (world_in given tape scope first)
       opened t =
@@ -353,6 +371,19 @@ module _ {tells : Type 0} {given : Given} {tape : List Operation} {scope : Scope
 -- so many sectors are asked for as the buffer has
 pub asked-is : (bytes slice into : List ℕ) → length bytes ≡ length into → slice ≡ bytes → length slice / 512 ≡ length into / 512
 asked-is bytes slice into len same = ap (λ (l : List ℕ). length l / 512) same ∙ ap (λ (n : ℕ). n / 512) len
+
+-- no sector is in so few bytes
+pub no-sectors : (bytes : List ℕ) → length bytes / 512 ≡ 0 → sectors_of bytes ≡ []
+no-sectors bytes none = of (sectors_of bytes) (length-sectors_of bytes ∙ none)
+  where
+    of : (l : List Sector) → length l ≡ 0 → l ≡ []
+    of [] is = refl
+    of (x ∷ l) is = absurd (omega (arith, is))
+
+-- what is hidden has room in so much of the buffer
+pub room-taken : (hidden : Option Span) (wide : ℕ) (bytes : List ℕ) → wide ≤ length bytes → IfSome hidden (λ span. wide ≡ 512 * (span.hi - span.lo)) → IfSome hidden (λ span. IsRoomFor span (take wide bytes))
+room-taken None wide bytes within long = tt
+room-taken (Some span) wide bytes within long = length-take-le wide bytes within ∙ long
 
 -- the buffer has room for what is hidden
 pub hidden-fits : (newest : Sb) → AreShapesFit newest → (window : Window) → IsWindowOf newest window → (most : ℕ) → 512 * reach_of newest ≤ most → IfSome (hidden_in window) (λ span. 512 * (span.hi - span.lo) ≤ most)

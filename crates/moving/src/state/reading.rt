@@ -42,14 +42,13 @@ fn bytes_of(hidden: Option<Span>, most: usize) -> usize
 }
 
 impl<B: Bank> Moving<B> {
-    /// Fills `into`, of one or more whole sectors, with those of the list from `at` on: those of a window whose section is stored from its buffer, and
+    /// Fills `into`, of whole sectors, with those of the list from `at` on: those of a window whose section is stored from its buffer, and
     /// each other by the shape of its region; what a missing member held is filled in from the others. Refusals: `PastEnd`, and
     /// `TooManyMissing` where more roles are missing than a shape tolerates that places one of them.
     pub fn read(&mut self, who: Who, at: u64, into: &mut [u8]) -> Result<(), Fault>
         requires next { who.number ≡ next_number who.caller self.old.parts.entries }
         requires caller { who.caller ≢ 254 }
         requires whole { IsWhole into.old }
-        requires some { 0 < length into.old / 512 }
         requires short { at + length into.old / 512 < 2 ^ 63 }
         ensures answered { IsAnswered (list_length self.old.parts.members.newest) (AsksRead at (length into.old / 512)) who self.old.parts.entries self.new.parts.entries (Read at (sectors_of into.new)) result }
         ensures holds { OnOk result (B.tells → IsReliable (moving_world (B.given self.new.parts.bank) (B.tape self.new.parts.bank) self.new) self.new.parts.entries
@@ -80,6 +79,12 @@ impl<B: Bank> Moving<B> {
             let end = self.bank.ops();
             enter(&mut self.epoch, who, end, Event::Refused { refusal });
             return Err(Fault::Refused(refusal));
+        }
+        if asked == 0 {
+            let body = Sectors::from_bytes(bytes);
+            let end = self.bank.ops();
+            enter(&mut self.epoch, who, end, Event::Read { at, body });
+            return Ok(());
         }
         let count = self.members.roles.len() as u32;
         let before = vacant_roles(&self.members, count);

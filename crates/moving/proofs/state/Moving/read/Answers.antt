@@ -46,7 +46,7 @@ use Rattle.running_words.specs.Calls.{moving_world}
 use Rattle.moving_laws.proofs.Kept.{ready, with-buffer, shapes-same, shapes-moved, left-moved, alone-keeps, behind-keeps, behind-whole, written-whole}
 use Rattle.moving_laws.proofs.Called.{not_254, alone-lossless, called}
 use Rattle.moving_laws.proofs.Settled.{risen-told}
-use Rattle.moving_laws.proofs.Reading.{IsFetched, read-live, first-right, first-reply, unread-moves, read-moves, holds-read, beside-unread, unread-missing, read-does, asked-is, hidden-fits, holds-sliced}
+use Rattle.moving_laws.proofs.Reading.{IsFetched, read-live, read-some, none-read, read-quiet, no-sectors, room-taken, first-right, first-reply, unread-moves, read-moves, holds-read, beside-unread, unread-missing, read-does, asked-is, hidden-fits, holds-sliced}
 use Rattle.moving.proofs.state.Moving.read.Goals as goal
 
 -- ---- the shape has at most so many roles
@@ -141,6 +141,79 @@ returns-in-Some-clause-called g c =
       };
     })
 
+-- ---- none are asked for
+
+pub invariant_of-self-then-asked-eq0 : goal.invariant_of-self-then-asked-eq0
+invariant_of-self-then-asked-eq0 g c =
+    let was = c.self.invariant in
+    let a = c.self.inside in
+    let given = g.B.Bank.given a.bank in
+    let scope = scope_in given a.epoch.uuid a.epoch.given (Some a.backup) in
+    let number : c.args.who.number ≡ next_number c.args.who.caller a.epoch.entries.items = c.requires.next ∙ ap (λ p. next_number c.args.who.caller p.parts.entries) (sym c.self.view_is) in
+    let tape = g.B.Bank.tape a.bank in
+    let end = c.ops-end-then-asked-eq0.result in
+    let body = c.from_bytes-body.result in
+    let count = length c.args.into.now / 512 in
+    let zero = c.if-asked-eq0.true in
+    let none : length body ≡ 0 = ap (λ (l : List Sector). length l) (c.from_bytes-body.ensures ∙ no-sectors c.in-Ok.bytes.items (ap (λ (n : ℕ). n / 512) c.in-Ok.ensures.len ∙ zero)) in
+    let within : c.args.at ≤ list_length a.members.newest = let below = c.in_default.ensures.why.0 in let sectors = c.list_sectors-sectors.ensures.length in omega (arith, below, sectors) in
+    let kept = resting-moves g.B.Bank.tells given tape scope a.epoch.first a.epoch.entries.items a.members (is_carried a.work) a.course (bytes_in a.course.window a.window.items) (left_in a.members a.course a.ahead)
+    c.args.who end (Read c.args.at body) was.kept (begins-going a.epoch.entries.items c.args.who number) (not_254 c.args.who.caller c.requires.caller) c.ops-end-then-asked-eq0.ensures.count (read-quiet c.args.at body) (λ told is. is)
+    (none-read was.kept was.unlimited c.args.at body none within) in
+    ready (entries_of c.args.who end (Read c.args.at body ∷ [])) was (grows-none (λ t. refl)) (shapes-same a.members.newest) kept
+    refl (λ slot. omega arith) (alone-keeps c.args.who end (Read c.args.at body) (λ n. refl) refl) (λ none whole. whole) refl (scope-same given (Some a.backup) refl c.enter-then-asked-eq0.ensures.uuid c.enter-then-asked-eq0.ensures.given)
+    c.enter-then-asked-eq0.ensures.first c.make_room.ensures.items c.enter-then-asked-eq0.ensures.items
+    (omega (arith, c.enter-then-asked-eq0.ensures.room, c.in-Ok-make_room.ensures.ok))
+
+pub returns-then-asked-eq0-clause-answered : goal.returns-then-asked-eq0-clause-answered
+returns-then-asked-eq0-clause-answered g c =
+    let a = c.self.inside in
+    let number : c.args.who.number ≡ next_number c.args.who.caller a.epoch.entries.items = c.requires.next ∙ ap (λ p. next_number c.args.who.caller p.parts.entries) (sym c.self.view_is) in
+    let end = c.ops-end-then-asked-eq0.result in
+    let body = c.from_bytes-body.result in
+    let count = length c.args.into.now / 512 in
+    let zero = c.if-asked-eq0.true in
+    let same : body ≡ sectors_of c.args.into.now =
+    c.from_bytes-body.ensures ∙ no-sectors c.in-Ok.bytes.items (ap (λ (n : ℕ). n / 512) c.in-Ok.ensures.len ∙ zero) ∙ sym (no-sectors c.args.into.now zero) in
+    rw (← c.self.view_is) (replied (list_length a.members.newest) (AsksRead c.args.at count) c.args.who a.epoch.entries.items c.enter-then-asked-eq0.new.epoch.entries.items end [] (Read c.args.at (sectors_of c.args.into.now))
+    (c.enter-then-asked-eq0.ensures.items ∙ ap (λ (l : List Entry). l ++ entries_of c.args.who end (Read c.args.at body ∷ [])) c.make_room.ensures.items
+    ∙ ap (λ (b : List Sector). a.epoch.entries.items ++ entries_of c.args.who end (Read c.args.at b ∷ [])) same)
+    number (λ call. (refl, length-sectors_of c.args.into.now)) (inside-losses c.args.who end [] tt) (torn-losses (AsksRead c.args.at count) c.args.who end [] tt))
+
+pub returns-then-asked-eq0-clause-called : goal.returns-then-asked-eq0-clause-called
+returns-then-asked-eq0-clause-called g c =
+    let was = c.self.invariant in
+    let a = c.self.inside in
+    let given = g.B.Bank.given a.bank in
+    let scope = scope_in given a.epoch.uuid a.epoch.given (Some a.backup) in
+    let end = c.ops-end-then-asked-eq0.result in
+    let event = Read c.args.at c.from_bytes-body.result in
+    rw (← c.self.view_is) (record {
+      grows = grows-none (λ t. refl);
+      ended = ended-behind (g.B.Bank.tape a.bank) c.enter-then-asked-eq0.new.epoch.first c.make_room.new.self.items c.args.who end [] event c.enter-then-asked-eq0.ensures.items c.ops-end-then-asked-eq0.ensures.count;
+      held = λ role slot held. held;
+      spares = λ slot spare. spare;
+      losses = alone-lossless a.members (g.B.Bank.faults_of a.bank) (g.B.Bank.faults_of a.bank) a.epoch.entries.items c.make_room.new.self.items c.enter-then-asked-eq0.new.epoch.entries.items c.args.who end event tt
+          c.make_room.ensures.items c.enter-then-asked-eq0.ensures.items;
+      never_falls = λ slot. omega arith;
+      work = refl;
+      same = record {
+        array = record {
+          uuid = c.enter-then-asked-eq0.ensures.uuid;
+          given = c.enter-then-asked-eq0.ensures.given;
+          first = c.enter-then-asked-eq0.ensures.first;
+          backup = refl;
+          shape = refl;
+          size = refl;
+          list = list-same given scope a.epoch.first refl (scope-same given (Some a.backup) refl c.enter-then-asked-eq0.ensures.uuid c.enter-then-asked-eq0.ensures.given) c.enter-then-asked-eq0.ensures.first
+              (grows-none (λ t. refl)) (λ t. (was.kept.recorded t).begun);
+        };
+        final = refl;
+        backward = refl;
+        ahead = refl;
+      };
+    })
+
 -- ---- memory is short
 
 pub returns-in-Err-make_room-clause-called : goal.returns-in-Err-make_room-clause-called
@@ -165,6 +238,13 @@ bytes_of-wide-requires g c =
     let long = c.len.ensures in
     subst (λ (o : Option Span). IfSome o (λ span. 512 * (span.hi - span.lo) ≤ c.len.result)) (sym c.hidden_span-hidden.ensures)
     (hidden-fits a.members.newest was.kept.members_are.placed.fit a.course.window was.kept.course_is.window c.len.result (let wide = was.wide in omega (arith, wide, long)))
+
+pub fetch_beside-fetched-requires-clause-buffer : goal.fetch_beside-fetched-requires-clause-buffer
+fetch_beside-fetched-requires-clause-buffer g c =
+    let within = c.bytes_of-wide.ensures.within in
+    let len = c.len.ensures in
+    let long = ap (λ (l : List ℕ). length l) c.as_slice.ensures.value in
+    room-taken c.hidden_span-hidden.result c.bytes_of-wide.result c.as_slice.result.now (omega (arith, within, len, long)) c.bytes_of-wide.ensures.long
 
 -- ---- refused since members are missing
 
@@ -211,7 +291,7 @@ invariant_of-self-in-Some-refusal g c =
     with-buffer (let len = (with_items a.buffer c.fetch_beside-fetched.new.scratch).ok.0 in let ok = a.buffer.ok.0 in let fits = was.buffer_fits in omega (arith, len, ok, fits))
     (ready (entries_of c.args.who end (losses_of roles spares ++ Refused refusal ∷ [])) was did.grows (shapes-moved given a.members m did.moved)
     (subst (λ (left : ℕ). IsMoving g.B.Bank.tells given tape' scope a.epoch.first (a.epoch.entries.items ++ entries_of c.args.who end (losses_of roles spares ++ Refused refusal ∷ [])) m (is_carried a.work) a.course (bytes_in a.course.window a.window.items) left)
-    (sym (left-moved given a.members m a.course a.ahead did.moved)) (unread-moves was.kept was.unlimited (read-live size c.args.at (c.args.at + count) was.kept c.in_default.ensures.why.1 (let some = c.requires.some in omega (arith, some))) c.args.who end roles spares (begins-going a.epoch.entries.items c.args.who number) (not_254 c.args.who.caller c.requires.caller) c.ops-end-2.ensures.count did.grows named c.args.at (c.args.at + count) refusal within why))
+    (sym (left-moved given a.members m a.course a.ahead did.moved)) (unread-moves was.kept was.unlimited (read-live size c.args.at (c.args.at + count) was.kept c.in_default.ensures.why.1 (read-some count c.args.at c.if-asked-eq0.false)) c.args.who end roles spares (begins-going a.epoch.entries.items c.args.who number) (not_254 c.args.who.caller c.requires.caller) c.ops-end-2.ensures.count did.grows named c.args.at (c.args.at + count) refusal within why))
     refl did.counts (behind-keeps c.args.who end roles spares (Refused refusal) (λ n. refl) refl)
     (behind-whole tape' scope a.epoch.first a.epoch.entries.items c.args.who end roles spares (Refused refusal) did.moved (missing-since roles did.moved since.vacant)) did.given (scope-same given (Some a.backup) did.given c.enter_behind.ensures.uuid c.enter_behind.ensures.given) c.enter_behind.ensures.first c.make_room.ensures.items
     c.enter_behind.ensures.items
@@ -370,10 +450,10 @@ invariant_of-self-2 g c =
     with-buffer (let len = (with_items a.buffer c.fetch_beside-fetched.new.scratch).ok.0 in let ok = a.buffer.ok.0 in let fits = was.buffer_fits in omega (arith, len, ok, fits))
     (ready (entries_of c.args.who end (losses_of roles spares ++ Read c.args.at (sectors_of bytes) ∷ [])) was did.grows (shapes-moved given a.members m did.moved)
     (subst (λ (left : ℕ). IsMoving g.B.Bank.tells given tape' scope a.epoch.first (a.epoch.entries.items ++ entries_of c.args.who end (losses_of roles spares ++ Read c.args.at (sectors_of bytes) ∷ [])) m (is_carried a.work) a.course (bytes_in a.course.window a.window.items) left)
-    (sym (left-moved given a.members m a.course a.ahead did.moved)) (read-moves was.kept was.unlimited (read-live size c.args.at (c.args.at + count) was.kept c.in_default.ensures.why.1 (let some = c.requires.some in omega (arith, some))) c.args.who end roles spares (begins-going a.epoch.entries.items c.args.who number) (not_254 c.args.who.caller c.requires.caller) c.ops-end-2.ensures.count did.grows named c.args.at bytes does within holds))
+    (sym (left-moved given a.members m a.course a.ahead did.moved)) (read-moves was.kept was.unlimited (read-live size c.args.at (c.args.at + count) was.kept c.in_default.ensures.why.1 (read-some count c.args.at c.if-asked-eq0.false)) c.args.who end roles spares (begins-going a.epoch.entries.items c.args.who number) (not_254 c.args.who.caller c.requires.caller) c.ops-end-2.ensures.count did.grows named c.args.at bytes does within holds))
     refl did.counts (behind-keeps c.args.who end roles spares (Read c.args.at (sectors_of bytes)) (λ n. refl) refl)
     (behind-whole tape' scope a.epoch.first a.epoch.entries.items c.args.who end roles spares (Read c.args.at (sectors_of bytes)) did.moved (missing-since roles did.moved since.vacant)) did.given (scope-same given (Some a.backup) did.given c.enter_behind-2.ensures.uuid c.enter_behind-2.ensures.given) c.enter_behind-2.ensures.first c.make_room.ensures.items
-    (c.enter_behind-2.ensures.items ∙ ap (λ (b : List Sector). c.make_room.new.self.items ++ entries_of c.args.who end (losses_of roles spares ++ Read c.args.at b ∷ [])) (c.from_bytes-body.ensures ∙ ap sectors_of whole))
+    (c.enter_behind-2.ensures.items ∙ ap (λ (b : List Sector). c.make_room.new.self.items ++ entries_of c.args.who end (losses_of roles spares ++ Read c.args.at b ∷ [])) (c.from_bytes-body-2.ensures ∙ ap sectors_of whole))
     (omega (arith, c.enter_behind-2.ensures.room, c.in-Ok-make_room.ensures.ok)))
 
 pub returns-clause-answered : goal.returns-clause-answered
@@ -402,8 +482,8 @@ returns-clause-answered g c =
     let full : length (sectors_of into) ≡ length c.args.into.now / 512 = length-sectors_of into ∙ ap (λ (n : ℕ). n / 512) c.copy_from_slice.auto.self in
     rw (← c.self.view_is) (replied size (AsksRead c.args.at count) c.args.who a.epoch.entries.items c.enter_behind-2.new.epoch.entries.items
     end (losses_of roles spares) (Read c.args.at (sectors_of into))
-    (c.enter_behind-2.ensures.items ∙ ap (λ (l : List Entry). l ++ entries_of c.args.who end (losses_of roles spares ++ Read c.args.at c.from_bytes-body.result ∷ [])) c.make_room.ensures.items
-    ∙ ap (λ (b : List Sector). a.epoch.entries.items ++ entries_of c.args.who end (losses_of roles spares ++ Read c.args.at b ∷ [])) (c.from_bytes-body.ensures ∙ ap (λ (l : List ℕ). sectors_of l) (sym copied)))
+    (c.enter_behind-2.ensures.items ∙ ap (λ (l : List Entry). l ++ entries_of c.args.who end (losses_of roles spares ++ Read c.args.at c.from_bytes-body-2.result ∷ [])) c.make_room.ensures.items
+    ∙ ap (λ (b : List Sector). a.epoch.entries.items ++ entries_of c.args.who end (losses_of roles spares ++ Read c.args.at b ∷ [])) (c.from_bytes-body-2.ensures ∙ ap (λ (l : List ℕ). sectors_of l) (sym copied)))
     number (λ call. (refl, full)) (inside-losses c.args.who end (losses_of roles spares) (losses-are roles spares)) (torn-losses (AsksRead c.args.at count) c.args.who end (losses_of roles spares) (losses-are roles spares)))
 
 pub returns-clause-holds : goal.returns-clause-holds
@@ -449,12 +529,12 @@ returns-clause-holds g c = λ t right i lt.
     let holds = holds-sliced g.B.Bank.tells a.members m (present given tape) a.course.window a.window.items (take c.bytes_of-wide.result c.as_slice.result.now) c.bytes_of-wide.result c.hidden_span-hidden.result c.list_sectors-sectors.result c.args.at bytes asked same
     c.hidden_span-hidden.ensures c.list_sectors-sectors.ensures.length (ap (λ (l : List ℕ). take c.bytes_of-wide.result l) c.as_slice.ensures.value) c.bytes_of-wide.ensures.long (did.holds c.in_default-refusal.is) in
     let copied : c.copy_from_slice.new.self ≡ bytes = c.copy_from_slice.ensures.after ∙ c.as_slice-2.ensures.value ∙ whole in
-    let body : c.from_bytes-body.result ≡ sectors_of bytes = c.from_bytes-body.ensures ∙ ap sectors_of whole in
+    let body : c.from_bytes-body-2.result ≡ sectors_of bytes = c.from_bytes-body-2.ensures ∙ ap sectors_of whole in
     let items : c.enter_behind-2.new.epoch.entries.items ≡ a.epoch.entries.items ++ entries_of c.args.who end (losses_of roles spares ++ Read c.args.at (sectors_of bytes) ∷ []) =
-    c.enter_behind-2.ensures.items ∙ ap (λ (l : List Entry). l ++ entries_of c.args.who end (losses_of roles spares ++ Read c.args.at c.from_bytes-body.result ∷ [])) c.make_room.ensures.items
+    c.enter_behind-2.ensures.items ∙ ap (λ (l : List Entry). l ++ entries_of c.args.who end (losses_of roles spares ++ Read c.args.at c.from_bytes-body-2.result ∷ [])) c.make_room.ensures.items
     ∙ ap (λ (b : List Sector). a.epoch.entries.items ++ entries_of c.args.who end (losses_of roles spares ++ Read c.args.at b ∷ [])) body in
     ap (λ (l : List ℕ). take 512 (drop (512 * i) l)) copied ∙ sym (row-sector bytes i)
-    ∙ holds-read was.kept was.unlimited (read-live size c.args.at (c.args.at + count) was.kept c.in_default.ensures.why.1 (let some = c.requires.some in omega (arith, some))) c.args.who end roles spares (begins-going a.epoch.entries.items c.args.who number) (not_254 c.args.who.caller c.requires.caller) c.ops-end-2.ensures.count did.grows named c.args.at bytes does within holds t
+    ∙ holds-read was.kept was.unlimited (read-live size c.args.at (c.args.at + count) was.kept c.in_default.ensures.why.1 (read-some count c.args.at c.if-asked-eq0.false)) c.args.who end roles spares (begins-going a.epoch.entries.items c.args.who number) (not_254 c.args.who.caller c.requires.caller) c.ops-end-2.ensures.count did.grows named c.args.at bytes does within holds t
     (subst (λ (w : World). IsReliable w (a.epoch.entries.items ++ entries_of c.args.who end (losses_of roles spares ++ Read c.args.at (sectors_of bytes) ∷ [])))
     (λ k. world_in (did.given k) tape' (scope-same given (Some a.backup) did.given c.enter_behind-2.ensures.uuid c.enter_behind-2.ensures.given k) (c.enter_behind-2.ensures.first k))
     (subst (λ (l : List Entry). IsReliable (world_in (g.B.Bank.given c.fetch_beside-fetched.new.bank) tape' (scope_in (g.B.Bank.given c.fetch_beside-fetched.new.bank) c.enter_behind-2.new.epoch.uuid c.enter_behind-2.new.epoch.given (Some a.backup)) c.enter_behind-2.new.epoch.first) l) items right)) i (subst (λ (l : List ℕ). i < length l / 512) copied lt)
@@ -488,6 +568,6 @@ returns-clause-called g c =
     let since : AreLostSince a.members m roles spares before after = lost-since given a.members m c.len-count.result c.vacant_roles-before.result roles spares before after was.kept.members_are.placed did.moved did.failed
     (c.len-count.ensures ∙ was.kept.members_are.backed.roles) c.vacant_roles-before.ensures c.newly_vacant-roles.ensures in
     rw (← c.self.view_is) (called did.grows did.moved
-    (ended-behind tape' c.enter_behind-2.new.epoch.first c.make_room.new.self.items c.args.who end (losses_of roles spares) (Read c.args.at c.from_bytes-body.result) c.enter_behind-2.ensures.items c.ops-end-2.ensures.count)
-    (losses-behind a.members m before after a.epoch.entries.items c.make_room.new.self.items c.enter_behind-2.new.epoch.entries.items c.args.who end roles spares (Read c.args.at c.from_bytes-body.result) since tt c.make_room.ensures.items c.enter_behind-2.ensures.items)
+    (ended-behind tape' c.enter_behind-2.new.epoch.first c.make_room.new.self.items c.args.who end (losses_of roles spares) (Read c.args.at c.from_bytes-body-2.result) c.enter_behind-2.ensures.items c.ops-end-2.ensures.count)
+    (losses-behind a.members m before after a.epoch.entries.items c.make_room.new.self.items c.enter_behind-2.new.epoch.entries.items c.args.who end roles spares (Read c.args.at c.from_bytes-body-2.result) since tt c.make_room.ensures.items c.enter_behind-2.ensures.items)
     did.counts (record { uuid = c.enter_behind-2.ensures.uuid; given = c.enter_behind-2.ensures.given; first = c.enter_behind-2.ensures.first; backup = refl; work = refl; ahead = refl }) (λ t. (was.kept.recorded t).begun))
