@@ -1,5 +1,5 @@
 -- What the calls of an array in a reshape tell of it, and what none of them changes.
-use Rattle.std.specs.Prelude.{◌≡◌, ◌≢◌, ℕ, ◌<◌, ◌≤◌, Bool, false, List, [], ◌∷◌, length, drop, Option, Some, None, Result, Ok, Err}
+use Rattle.std.specs.Prelude.{◌≡◌, ℕ, ◌<◌, ◌≤◌, Bool, List, length, Option, Some, None, Result, Ok, Err}
 use Rattle.md_base.specs.declared.answers.Fault.{Fault}
 use Rattle.md_base.specs.declared.answers.Fault.TheVariants.{Refused as IsRefusedWith, NoMemory}
 use Rattle.md_base.specs.declared.answers.Who.{Who}
@@ -8,10 +8,7 @@ use Rattle.md_base.specs.declared.status.Status.{Status}
 use Rattle.geometry.specs.Geometry.{stripes, zeroed_stripes}
 use Rattle.bank.specs.Given.{Given, NeverFalls}
 use Rattle.bank.specs.declared.bank.Operation.{Operation}
-use Rattle.bank.specs.Tape.{disk}
-use Rattle.superblocks.specs.declared.members.Members.{Members}
-use Rattle.superblocks.specs.Reading.{is_backward, is_clean, shape_of, final_shape, list_length, next_window, role_state, holder}
-use Rattle.row_io.specs.Rows.{reading_of, present}
+use Rattle.superblocks.specs.Reading.{is_backward, is_clean, shape_of, final_shape, list_length, next_window}
 use Rattle.flat_history.specs.declared.events.Entry.{Entry}
 use Rattle.flat_history.specs.declared.events.Epoch.{Epoch}
 use Rattle.flat_history.specs.declared.events.Event.TheVariants.{Step, Refused}
@@ -19,7 +16,6 @@ use Rattle.flat_history.specs.declared.events.StepKind.{StepKind}
 use Rattle.flat_history.specs.CrashSafe.{IsCrashSafe}
 use Rattle.flat_history.specs.Epochs.{world_of}
 use Rattle.flat_history.specs.Legal.{IsLegal}
-use Rattle.flat_history.specs.OneShape.{is_lost}
 use Rattle.flat_history.specs.Reshaped.{IsReshaped}
 use Rattle.flat_history.specs.Sound.{OpensFit, StaysSound}
 use Rattle.flat_history.specs.World.{World}
@@ -27,7 +23,7 @@ use Rattle.views.specs.Placed.{AreStillHeld}
 use Rattle.views.specs.Moving.{Grows}
 use Rattle.array_kept.specs.Calls.{world_for, IsBehind, AreSparesFewer, AreLossesOf, IsEndOf, IsSameArray}
 use Rattle.course_kept.specs.Laws.{entered, closed}
-use Rattle.running_words.specs.Parts.{RunningParts, left_in, still_left}
+use Rattle.running_words.specs.Parts.{RunningParts, left_in}
 
 -- this status tells the array as it is
 pub record IsStatusFor {B : Type 0} (array : RunningParts B) (status : Status) : Type 0 where
@@ -40,20 +36,6 @@ pub record IsStatusFor {B : Type 0} (array : RunningParts B) (status : Status) :
   pub clean : status.clean ≡ is_clean array.parts.members.newest
   pub events : status.events ≡ array.parts.members.newest.events
   pub left : status.left ≡ left_in array.parts.members array.course array.ahead
-  pub roles : status.roles ≡ array.parts.members.roles
-  pub spares : status.spares ≡ array.parts.members.spares
-
--- this status tells an array without a reshape as it is
-pub record IsStillStatus {B : Type 0} (array : RunningParts B) (status : Status) : Type 0 where
-  pub shape : status.shape ≡ shape_of array.parts.members.newest
-  pub target : status.target ≡ None
-  pub position : status.position ≡ 0
-  pub size : status.size ≡ array.parts.members.newest.size
-  pub length : status.length ≡ list_length array.parts.members.newest
-  pub visible : status.visible ≡ list_length array.parts.members.newest
-  pub clean : status.clean ≡ is_clean array.parts.members.newest
-  pub events : status.events ≡ array.parts.members.newest.events
-  pub left : status.left ≡ still_left array.parts.work array.parts.members array.ahead
   pub roles : status.roles ≡ array.parts.members.roles
   pub spares : status.spares ≡ array.parts.members.spares
 
@@ -79,11 +61,6 @@ pub record IsCalled {B : Type 0} (tells : Type 0) (given : Given) (tape tape' : 
   pub never_falls : NeverFalls before after
   pub work : new.parts.work ≡ old.parts.work
   pub same : IsSameReshape tells old new (moving_world given tape old) (moving_world given tape' new)
-
--- What a stop leaves of the slots that held a role that these new entries don't tell lost: all is as it is, and nothing else, but for the superblocks.
-abbrev pub AreLeftSettled : Members → List Entry → List Entry → Given → List Operation → Type 0
-AreLeftSettled members old new given tape = (role slot k : ℕ) → holder (role_state (reading_of members) role) ≡ Some slot → is_lost (drop (length old) new) role ≡ false → k ≢ 8
-    → disk given.start tape slot k ≡ present given tape slot k ∷ []
 
 -- The epoch that is handed out lies within the tape, is legal, safe at each of its marks, stays sound, and where it opened sound its reshapes end right.
 pub record IsEpochKept (given : Given) (tape : List Operation) (backup : Option ℕ) (epoch : Epoch) : Type 0 where

@@ -28,7 +28,8 @@ use Rattle.still_kept.specs.Still.{IsStill}
 use Rattle.still_kept.proofs.Refusals.{too-many-refused, refused-right}
 use Rattle.still_kept.proofs.Resting.{resting-stands}
 use Rattle.running_words.specs.Parts.{RunningParts}
-use Rattle.running_words.specs.Calls.{IsStillStatus, IsEpochKept}
+use Rattle.running_words.specs.Calls.{IsEpochKept}
+use Rattle.running_words.specs.Still.{IsStillStatus}
 use Rattle.running_words.proofs.Called.{not_254}
 
 -- two statuses that tell the same array are the same

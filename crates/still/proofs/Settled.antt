@@ -29,7 +29,7 @@ use Rattle.array_kept.specs.Calls.{IsSettling}
 use Rattle.kept_history.specs.Recorded.{IsCallGoing}
 use Rattle.still_kept.specs.Still.{IsStill}
 use Rattle.still_kept.proofs.Flushing.{IsFlushedStill, IsSettledStill, all-mended, flushed-stands, stopped-stands}
-use Rattle.running_words.specs.Calls.{AreLeftSettled}
+use Rattle.running_words.specs.Still.{AreLeftSettled}
 use Rattle.running_words.proofs.Lengths.{IsLengthKept, alone-keeps}
 
 -- a flush and a stop leave the length of the list

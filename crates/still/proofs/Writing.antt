@@ -141,9 +141,9 @@ failed-stands {tells = tells} {given = given} {tape = tape} {tape' = tape'} {sco
     dirty (inr found) = inl (was.dirty does (pending-of old work.resync (at + length from / 512) (subst (λ (n : ℕ). at + length from / 512 ≤ n) (list-still old.newest was.members_are.still) within) (sym asked ∙ found.2)))
 
     by : (b : Bool) → begun ≡ b → IsStill tells given tape' scope first (entries ++ entries_of who end (failure_events roles spares b at (sectors_of from) refusal)) new work left'
-    by true is = torn-stands tells given tape tape' scope first entries old new work left left' who end roles spares before after at from begun was does goes caller at_end alike seen did refusal
+    by true is = torn-stands tells given tape tape' scope first entries old new work left left' who end roles spares before after at from begun was does goes caller at_end alike within seen did refusal
         (inl (subst (λ (s : Shape). LacksTooMany s new refusal) in_new (lacks is)))
-    by false is = unwritten-stands tells given tape tape' scope first entries old new work left left' who end roles spares before after at from begun was does goes caller at_end alike seen did refusal is
+    by false is = unwritten-stands tells given tape tape' scope first entries old new work left left' who end roles spares before after at from begun was does goes caller at_end alike within seen did refusal is
         (unwritten-still given new (rest-moved given old new did.moved was.members_are) work.resync (at + length from / 512) refusal
         (subst (λ (n : ℕ). at + length from / 512 ≤ n) (sym (list-alike old.newest new.newest did.moved.reshape did.moved.shape did.moved.size)) within) why-new)
         (dirty why) (others is)

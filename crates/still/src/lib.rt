@@ -3,4 +3,4 @@
 
 mod state;
 
-pub use state::Still;
+pub use state::{Opened, Still};

@@ -10,6 +10,7 @@ ghost use Rattle.grow_asked.specs.Left.{phases_of};
 ghost use Rattle.running_words.specs.Parts.{still_left};
 
 mod adding;
+mod adopting;
 mod asking;
 mod ending;
 mod examining;
@@ -21,6 +22,7 @@ mod settling;
 mod steps;
 mod writing;
 
+pub use adopting::Opened;
 use array_state::asking::steps_left;
 use bank::Bank;
 use flat_history::Epoch;

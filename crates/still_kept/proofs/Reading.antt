@@ -130,11 +130,11 @@ module _ (tells : Type 0) (given : Given) (tape tape' : List Operation) (scope :
 
   -- ---- one that is done
 
-  pub read-stands : (at : ℕ) (bytes : List ℕ) → (tells → at + length bytes / 512 ≤ visible_at (world_in given tape scope first) entries)
+  pub read-stands : (at : ℕ) (bytes : List ℕ) → at + length bytes / 512 ≤ list_length old.newest → (tells → at + length bytes / 512 ≤ visible_at (world_in given tape scope first) entries)
       → (tells → (list : ℕ → Sector) → ListStands old (present given tape) list → AreWhole new ⊎ RowsStandBelow (mended_rows work.resync old) old (present given tape) list
       → (i : ℕ) → i < length bytes / 512 → sector_of bytes i ≡ list (at + i))
       → IsStill tells given tape' scope first (entries ++ entries_of who end (losses_of roles spares ++ Read at (sectors_of bytes) ∷ [])) new work left'
-  read-stands at bytes seen holds =
+  read-stands at bytes inside seen holds =
       stays-stands tells given tape tape' scope first entries old new work left left' who end roles spares before after (Read at (sectors_of bytes)) was
       (without-left given old was.members_are.placed was.members_are.unlost does) goes caller at_end named
       (record { adds = refl; gives = refl; ends = refl; still = λ x values. refl; level = λ n. refl }) alike (λ told is. is)

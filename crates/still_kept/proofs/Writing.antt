@@ -134,7 +134,7 @@ torn-first roles spares at body = record {
 module _ (tells : Type 0) (given : Given) (tape tape' : List Operation) (scope : Scope) (first : ℕ) (entries : List Entry) (old new : Members) (work : Work) (left left' : ℕ)
     (who : Who) (end roles spares : ℕ) (before after : ℕ → ℕ) (at : ℕ) (from : List ℕ) (begun : Bool)
     (was : IsStill tells given tape scope first entries old work left) (does : DoWithout old) (goes : IsCallGoing entries who) (caller : IsFalse (who.caller == 254)) (at_end : tells → end ≡ length tape')
-    (alike : losses_of roles spares ≡ [] → left' ≡ left)
+    (alike : losses_of roles spares ≡ [] → left' ≡ left) (inside : at + length from / 512 ≤ list_length old.newest)
     (seen : tells → at + length from / 512 ≤ visible_at (world_in given tape scope first) entries)
     (did : IsPutStill tells given tape tape' old new roles spares before after (mended_rows work.resync old) at from begun) where
   abbrev world : World

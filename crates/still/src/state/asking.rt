@@ -1,12 +1,13 @@
 //! What an array without an active reshape tells of itself.
 
-ghost use Rattle.std.specs.Prelude.{◌≡◌, ◌≢◌, ◌<◌, ◌≤◌, [], ◌∷◌, length, IfOk, IfErr, IfSome};
+ghost use Rattle.std.specs.Prelude.{◌≡◌, ◌≢◌, ◌^◌, ◌<◌, ◌≤◌, [], ◌∷◌, length, IfOk, IfErr, IfSome};
 ghost use Rattle.superblocks.specs.Reading.{shape_of, list_length};
 ghost use Rattle.flat_history.specs.Flat.{next_number};
 ghost use Rattle.flat_history.specs.declared.events.Event.TheVariants.{Shown};
 ghost use Rattle.views.specs.Status.{stripes_of, rebuilt_of};
 ghost use Rattle.array_kept.specs.Calls.{IsEntered, IsEndOf};
-ghost use Rattle.running_words.specs.Calls.{moving_world, IsStillStatus, IsSameReshape};
+ghost use Rattle.running_words.specs.Calls.{moving_world, IsSameReshape};
+ghost use Rattle.running_words.specs.Still.{IsStillStatus};
 
 use crate::state::Still;
 use array_state::asking::{copy_roles, copy_slots, visible};
@@ -21,7 +22,8 @@ use superblocks::says::is_clean;
 impl<B: Bank> Still<B> {
     /// How many sectors the list has.
     pub fn length(&self) -> u64
-        ensures { result ≡ list_length self.now.parts.members.newest }
+        ensures length { result ≡ list_length self.now.parts.members.newest }
+        ensures few { list_length self.now.parts.members.newest < 2 ^ 63 }
     {
         visible(&self.members)
     }

@@ -18,7 +18,8 @@ ghost use Rattle.array_kept.specs.Calls.{IsEntered, IsBehind, IsUnsettled, IsFau
 ghost use Rattle.kept_history.specs.Safe.{IsFilledRight};
 ghost use Rattle.history_calls.specs.Reliable.{IsReliable};
 ghost use Rattle.still_kept.specs.Still.{HasListStood};
-ghost use Rattle.running_words.specs.Calls.{moving_world, IsCalled, IsEpochKept, AreLeftSettled};
+ghost use Rattle.running_words.specs.Calls.{moving_world, IsCalled, IsEpochKept};
+ghost use Rattle.running_words.specs.Still.{AreLeftSettled};
 
 use crate::state::Still;
 use bank::Bank;

@@ -306,7 +306,7 @@ invariant_of-self-2 g c =
     (ready (entries_of c.args.who end (losses_of roles spares ++ Read c.args.at (sectors_of bytes) ∷ [])) was (rows-moved given a.members m did.moved)
     (read-stands g.B.Bank.tells given tape tape' scope a.epoch.first a.epoch.entries.items a.members m a.work (still_left a.work a.members a.ahead) (still_left a.work m a.ahead) c.args.who end roles spares before after
     was.kept does (begins-going a.epoch.entries.items c.args.who number) (not_254 c.args.who.caller c.requires.caller) c.ops-end-2.ensures.count named (left-alike a.work a.ahead roles spares before after did.moved since)
-    c.args.at bytes (λ t. let all = seen was.kept was.unlimited t in omega (arith, all, within))
+    c.args.at bytes within (λ t. let all = seen was.kept was.unlimited t in omega (arith, all, within))
     (fetched-holds given tape a.members m a.work.resync c.shape_in-shape.result c.args.at (length c.as_mut_slice.result.now / 512) c.mended_rows-mended.result bytes c.shape_in-shape.ensures c.mended_rows-mended.ensures.rows same
     (did.holds c.in_default-refusal.is)))
     did.counts (behind-keeps c.args.who end roles spares (Read c.args.at (sectors_of bytes) ∷ []) (alone-keeps c.args.who end (Read c.args.at (sectors_of bytes)) (λ n. refl) refl))

@@ -271,7 +271,7 @@ invariant_of-self-2 g c =
     with-buffers (let fits = was.rows_fit in let more = did.rows in omega (arith, fits, more)) (rw did.buffer was.buffer_fits)
     (ready (entries_of c.args.who end (losses_of roles spares ++ Wrote c.args.at body ∷ [])) was (rows-moved given a.members m did.moved)
     (wrote-stands g.B.Bank.tells given tape tape' scope a.epoch.first a.epoch.entries.items a.members m a.work (still_left a.work a.members a.ahead) (still_left a.work m a.ahead) c.args.who end roles spares before after c.args.at from c.put-done.result.begun
-    was.kept does (begins-going a.epoch.entries.items c.args.who number) (not_254 c.args.who.caller c.requires.caller) c.ops-end-2.ensures.count (left-alike a.work a.ahead roles spares before after did.moved since)
+    was.kept does (begins-going a.epoch.entries.items c.args.who number) (not_254 c.args.who.caller c.requires.caller) c.ops-end-2.ensures.count (left-alike a.work a.ahead roles spares before after did.moved since) c.in_default.ensures.why.0
     (λ t. let all = seen was.kept was.unlimited t in let within = c.in_default.ensures.why.0 in omega (arith, all, within)) put written c.requires.whole bytes)
     did.counts (behind-keeps c.args.who end roles spares (Wrote c.args.at body ∷ []) (alone-keeps c.args.who end (Wrote c.args.at body) (λ n. refl) refl))
     did.given (scope-same given a.backup did.given c.enter_behind.ensures.uuid c.enter_behind.ensures.given) c.enter_behind.ensures.first c.make_room.ensures.items

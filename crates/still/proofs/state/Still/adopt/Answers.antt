@@ -1,0 +1,40 @@
+use Rattle.std.proofs.Common.{◌≡◌, ◌∙◌, ◌++◌, ℕ, ◌<◌, false, List, refl, sym, ap, subst, arith}
+use Rattle.md_base.specs.declared.places.Shape.{Shape}
+use Rattle.md_base.specs.Shapes.{has_slot}
+use Rattle.superblocks.specs.Reading.{Scope}
+use Rattle.row_io.specs.Rows.{reading_of}
+use Rattle.flat_history.specs.declared.events.Entry.{Entry}
+use Rattle.flat_history.specs.Plain.{entries_of}
+use Rattle.array_kept.specs.Kept.{scope_in}
+use Rattle.array_kept.specs.Adopting.{opener, absent_losses, found_losses, IsAdoptable}
+use Rattle.array_kept.proofs.ReadyLaws.{scope-same}
+use Rattle.calls_kept.proofs.AdoptingLaws.{ready_adopted}
+use Rattle.views.proofs.Fit.{valid, roles-still}
+use Rattle.still.proofs.Adopting.{begins-ready}
+use Rattle.still.proofs.state.Still.adopt.Goals as goal
+
+pub invariant_of-result : goal.invariant_of-result
+invariant_of-result g c =
+    let m = c.args.opened.members in
+    let given = g.B.Bank.given c.args.bank in
+    let tape = g.B.Bank.tape c.args.bank in
+    let room = c.in-Ok.ensures in
+    let far = c.in-Ok-room_for.ensures in
+    let did = c.enter_all_absent.ensures in
+    let epoch = c.enter_all_absent.new.epoch in
+    let adoptable : IsAdoptable g.B.Bank.tells given tape (scope_in given epoch.uuid epoch.given c.args.opened.backup) m =
+    subst (λ (s : Scope). IsAdoptable g.B.Bank.tells given tape s m) (sym (scope-same given c.args.opened.backup refl did.same.uuid did.same.given)) c.requires.adoptable in
+    let entries : epoch.entries.items ≡ entries_of opener epoch.first (found_losses (reading_of m)) =
+    did.items ∙ ap (λ (l : List Entry). l ++ entries_of opener c.ops-first.result (absent_losses (reading_of m) c.shape_in-disks.result.disks)) room.empty
+    ∙ ap (λ (s : Shape). entries_of opener c.ops-first.result (absent_losses (reading_of m) s.disks)) c.shape_in-disks.ensures ∙ ap (λ (n : ℕ). entries_of opener n (found_losses (reading_of m))) (sym did.same.first) in
+    rw c.found_work-work.ensures.work (begins-ready (ready_adopted adoptable c.ops-first.ensures.whole c.found_work-work.ensures.slots (subst (λ (slots : ℕ). (slot : ℕ) → slot < given.slots → has_slot slots slot ≡ false → 0 < g.B.Bank.faults_of c.args.bank slot) (sym did.same.given) c.requires.failed)
+    entries (λ t. did.same.first ∙ c.ops-first.ensures.count t) did.room room.rows (omega (arith, room.buffer))) far.rows (omega (arith, far.buffer)))
+
+pub found_work-work-requires-clause-small : goal.found_work-work-requires-clause-small
+found_work-work-requires-clause-small g c = λ role slot is. (c.requires.adoptable.placed.holders role slot is).small
+
+pub found_work-work-requires-clause-shape : goal.found_work-work-requires-clause-shape
+found_work-work-requires-clause-shape g c = valid (g.B.Bank.given c.args.bank) c.args.opened.members c.requires.adoptable.placed
+
+pub found_work-work-requires-clause-roles : goal.found_work-work-requires-clause-roles
+found_work-work-requires-clause-roles g c = roles-still (g.B.Bank.given c.args.bank) c.args.opened.members c.requires.adoptable.placed c.requires.adoptable.still

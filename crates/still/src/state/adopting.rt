@@ -1,0 +1,86 @@
+//! An array that is taken over from its superblocks.
+
+ghost use Rattle.std.specs.Prelude.{◌≡◌, ◌<◌, ℕ, [], false, IfOk, IfErr};
+ghost use Rattle.md_base.specs.Shapes.{has_slot};
+ghost use Rattle.array_kept.specs.Kept.{scope_in};
+ghost use Rattle.array_kept.specs.Adopting.{IsAdoptable, IsAdopted};
+ghost use Rattle.grow_asked.specs.Left.{phases_of};
+
+use crate::state::Still;
+use array_state::absent::enter_all_absent;
+use array_state::room::{Room, room_for};
+use array_state::work::found_work;
+use bank::Bank;
+use flat_history::Epoch;
+use grow_asked::PhasesLeft;
+use md_base::NoMemory;
+use safe_updates::roles::shape_in;
+use std::alloc::Global;
+use superblocks::Members;
+
+/// What an opening found: the backup slot, the members, and a bit for each slot that was looked at.
+#[derive(Drop)]
+pub struct Opened {
+    pub backup: Option<u32>,
+    pub members: Members,
+    pub given: u32,
+}
+
+impl<B: Bank> Still<B> {
+    /// Takes an array over whose superblocks were found in the slots of the bank; its first entries tell the roles that aren't
+    /// whole, and it has no plan. It makes no device call. Refused only for want of memory, with the bank handed back.
+    pub fn adopt(alloc: Global, bank: B, opened: Opened) -> Result<Still<B>, (B, NoMemory)>
+        requires adoptable { IsAdoptable B.tells (B.given bank) (B.tape bank) (scope_in (B.given bank) opened.members.newest.set_uuid opened.given opened.backup) opened.members }
+        requires failed { (slot : ℕ) → slot < (B.given bank).slots → has_slot opened.given slot ≡ false → 0 < B.faults_of bank slot }
+        ensures adopted { IfOk result (λ made. IsAdopted B.tells bank (B.tape bank) opened.given opened.backup opened.members made.parts) }
+        ensures planless { IfOk result (λ made. phases_of made.ahead ≡ []) }
+        ensures handed_back { IfErr result (λ e. e.0 ≡ bank) }
+    {
+        let room = match room_for(alloc) {
+            Ok(room) => room,
+            Err(none) => return Err((bank, none)),
+        };
+        let far = match room_for(alloc) {
+            Ok(far) => far,
+            Err(none) => return Err((bank, none)),
+        };
+        let Room {
+            entries: _,
+            rows: far_rows,
+            buffer: far_buffer,
+        } = far;
+        let first = bank.ops();
+        let Opened {
+            backup,
+            members,
+            given,
+        } = opened;
+        let mut epoch = Epoch {
+            uuid: members.newest.set_uuid,
+            given,
+            first,
+            last: first,
+            entries: room.entries,
+        };
+        let disks = shape_in(&members).disks;
+        enter_all_absent(&mut epoch, &members, first, disks);
+        let work = found_work(&members);
+        Ok(Still {
+            alloc,
+            bank,
+            epoch,
+            backup,
+            members,
+            work,
+            ahead: PhasesLeft {
+                next: None,
+                last: None,
+            },
+            steps: 0,
+            rows: room.rows,
+            buffer: room.buffer,
+            far_rows,
+            far_buffer,
+        })
+    }
+}
