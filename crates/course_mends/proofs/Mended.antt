@@ -27,7 +27,6 @@ use Rattle.views.proofs.LackingWrites.{others-same}
 use Rattle.window_steps.specs.Zeroing.{IsThrough}
 use Rattle.window_steps.proofs.CopyLaws.{row-later}
 use Rattle.region_rows.specs.Stretches.{RowsStandIn}
-
 use Rattle.region_mends.specs.Mends.{low_shape, low_stripes, mend_stripes, stripe_behind, relied_sector, IsMendRow, AreEndsStanding}
 use Rattle.region_mends.proofs.Alike.{low-alike, low-stripes-alike, relied-alike}
 use Rattle.region_mends.proofs.ReliedLaws.{to-all}

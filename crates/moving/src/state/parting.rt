@@ -16,13 +16,21 @@ impl<B: Bank> Moving<B> {
             p.epoch.first p.epoch.entries.items p.members p.work result.1 p.ahead result.2.items (B.faults_of p.bank) p.steps p.epoch.entries.room
             (vec_capacity p.rows) (length p.buffer.items) (vec_capacity p.far_rows) (length p.far_buffer.items) }
         ensures same { let p = result.0 in self ≡ record {
-            parts = record {
-              bank = p.bank; uuid = p.epoch.uuid; given = p.epoch.given; first = p.epoch.first; last = p.epoch.last;
-              entries = p.epoch.entries.items; backup = p.backup; members = p.members; work = p.work; steps = p.steps;
-            };
-            course = result.1;
-            ahead = p.ahead;
-          } }
+          parts = record {
+            bank = p.bank;
+            uuid = p.epoch.uuid;
+            given = p.epoch.given;
+            first = p.epoch.first;
+            last = p.epoch.last;
+            entries = p.epoch.entries.items;
+            backup = p.backup;
+            members = p.members;
+            work = p.work;
+            steps = p.steps;
+          };
+          course = result.1;
+          ahead = p.ahead;
+        } }
     {
         let Moving {
             alloc,
@@ -64,13 +72,21 @@ impl<B: Bank> Moving<B> {
             pieces.epoch.first pieces.epoch.entries.items pieces.members pieces.work course pieces.ahead window.items (B.faults_of pieces.bank) pieces.steps pieces.epoch.entries.room
             (vec_capacity pieces.rows) (length pieces.buffer.items) (vec_capacity pieces.far_rows) (length pieces.far_buffer.items) }
         ensures same { result ≡ record {
-            parts = record {
-              bank = pieces.bank; uuid = pieces.epoch.uuid; given = pieces.epoch.given; first = pieces.epoch.first; last = pieces.epoch.last;
-              entries = pieces.epoch.entries.items; backup = pieces.backup; members = pieces.members; work = pieces.work; steps = pieces.steps;
-            };
-            course = course;
-            ahead = pieces.ahead;
-          } }
+          parts = record {
+            bank = pieces.bank;
+            uuid = pieces.epoch.uuid;
+            given = pieces.epoch.given;
+            first = pieces.epoch.first;
+            last = pieces.epoch.last;
+            entries = pieces.epoch.entries.items;
+            backup = pieces.backup;
+            members = pieces.members;
+            work = pieces.work;
+            steps = pieces.steps;
+          };
+          course = course;
+          ahead = pieces.ahead;
+        } }
     {
         let Pieces {
             alloc,

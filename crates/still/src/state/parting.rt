@@ -16,13 +16,21 @@ impl<B: Bank> Still<B> {
             result.epoch.first result.epoch.entries.items result.members result.work result.ahead (B.faults_of result.bank) result.steps result.epoch.entries.room
             (vec_capacity result.rows) (length result.buffer.items) (vec_capacity result.far_rows) (length result.far_buffer.items) }
         ensures same { self ≡ record {
-            parts = record {
-              bank = result.bank; uuid = result.epoch.uuid; given = result.epoch.given; first = result.epoch.first; last = result.epoch.last;
-              entries = result.epoch.entries.items; backup = result.backup; members = result.members; work = result.work; steps = result.steps;
-            };
-            course = closed 0;
-            ahead = result.ahead;
-          } }
+          parts = record {
+            bank = result.bank;
+            uuid = result.epoch.uuid;
+            given = result.epoch.given;
+            first = result.epoch.first;
+            last = result.epoch.last;
+            entries = result.epoch.entries.items;
+            backup = result.backup;
+            members = result.members;
+            work = result.work;
+            steps = result.steps;
+          };
+          course = closed 0;
+          ahead = result.ahead;
+        } }
     {
         let Still {
             alloc,
@@ -60,13 +68,21 @@ impl<B: Bank> Still<B> {
             pieces.epoch.first pieces.epoch.entries.items pieces.members pieces.work pieces.ahead (B.faults_of pieces.bank) pieces.steps pieces.epoch.entries.room
             (vec_capacity pieces.rows) (length pieces.buffer.items) (vec_capacity pieces.far_rows) (length pieces.far_buffer.items) }
         ensures same { result ≡ record {
-            parts = record {
-              bank = pieces.bank; uuid = pieces.epoch.uuid; given = pieces.epoch.given; first = pieces.epoch.first; last = pieces.epoch.last;
-              entries = pieces.epoch.entries.items; backup = pieces.backup; members = pieces.members; work = pieces.work; steps = pieces.steps;
-            };
-            course = closed 0;
-            ahead = pieces.ahead;
-          } }
+          parts = record {
+            bank = pieces.bank;
+            uuid = pieces.epoch.uuid;
+            given = pieces.epoch.given;
+            first = pieces.epoch.first;
+            last = pieces.epoch.last;
+            entries = pieces.epoch.entries.items;
+            backup = pieces.backup;
+            members = pieces.members;
+            work = pieces.work;
+            steps = pieces.steps;
+          };
+          course = closed 0;
+          ahead = pieces.ahead;
+        } }
     {
         let Pieces {
             alloc,
