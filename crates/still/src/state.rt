@@ -57,7 +57,7 @@ impl<B: Bank> Model for Still<B> {
     ghost use Rattle.array_kept.specs.Kept.{scope_in};
     ghost use Rattle.course_kept.specs.Laws.{closed};
     ghost use Rattle.running_words.specs.Parts.{RunningParts};
-    ghost use Rattle.still.specs.Ready.{IsReady};
+    ghost use Rattle.still_laws.specs.Ready.{IsReady};
 
     ghost Value = { RunningParts B };
 

@@ -15,7 +15,7 @@ ghost use Rattle.views.specs.Numbers.{free_number};
 ghost use Rattle.views.specs.Placed.{AreStillHeld};
 ghost use Rattle.views.specs.Rebuilding.{Held};
 ghost use Rattle.array_kept.specs.Calls.{IsUnaddable, IsAddedFor, IsAddedAs, IsWorkAdded, IsAnswered, OnNoMemory};
-ghost use Rattle.still.specs.Steps.{IsStepped};
+ghost use Rattle.still_laws.specs.Steps.{IsStepped};
 
 use crate::state::Still;
 use array_state::adding::{spare_for, unaddable};

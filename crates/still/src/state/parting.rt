@@ -3,7 +3,7 @@
 ghost use Rattle.std.specs.Prelude.{◌≡◌, length, vec_capacity};
 ghost use Rattle.array_kept.specs.Kept.{scope_in};
 ghost use Rattle.course_kept.specs.Laws.{closed};
-ghost use Rattle.still.specs.Ready.{IsReady};
+ghost use Rattle.still_laws.specs.Ready.{IsReady};
 
 use super::Still;
 use bank::Bank;

@@ -19,7 +19,7 @@ ghost use Rattle.array_kept.specs.Calls.{AreSparesFewer, IsHeldOrGiven, AreHeldO
 ghost use Rattle.kept_history.specs.Recorded.{IsCallGoing};
 ghost use Rattle.running_words.specs.Parts.{still_left};
 ghost use Rattle.running_words.specs.Calls.{moving_world};
-ghost use Rattle.still.specs.Steps.{IsStepped, MayLeaveNone, IsCallUnbroken};
+ghost use Rattle.still_laws.specs.Steps.{IsStepped, MayLeaveNone, IsCallUnbroken};
 
 use crate::state::steps::check_going;
 use crate::state::{Still, all_left};

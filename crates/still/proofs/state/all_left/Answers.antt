@@ -1,5 +1,5 @@
 use Rattle.std.proofs.Common.{arith}
-use Rattle.still.proofs.Left.{left-few}
+use Rattle.still_laws.proofs.Left.{left-few}
 use Rattle.still.proofs.state.all_left.Goals as goal
 
 pub overflow_add-result : goal.overflow_add-result

@@ -18,9 +18,9 @@ use Rattle.calls_kept.proofs.AddLaws.{slot-there, unadded_reply}
 use Rattle.kept_history.proofs.Records.{begins-going}
 use Rattle.running_words.proofs.Called.{alone-lossless}
 use Rattle.running_words.proofs.Lengths.{alone-keeps}
-use Rattle.still.proofs.Kept.{ready, rows-same}
-use Rattle.still.proofs.StepLaws.{shapes-same, stepped, refused-going}
-use Rattle.still.proofs.AddLaws.{unaddable-refused}
+use Rattle.still_laws.proofs.Kept.{ready, rows-same}
+use Rattle.still_laws.proofs.StepLaws.{shapes-same, stepped, refused-going}
+use Rattle.still_laws.proofs.AddLaws.{unaddable-refused}
 use Rattle.still.proofs.state.Still.add.Goals as goal
 
 -- a refusal before the slot is touched

@@ -10,7 +10,7 @@ use Rattle.array_kept.specs.Adopting.{opener, absent_losses, found_losses, IsAdo
 use Rattle.array_kept.proofs.ReadyLaws.{scope-same}
 use Rattle.calls_kept.proofs.AdoptingLaws.{ready_adopted}
 use Rattle.views.proofs.Fit.{valid, roles-still}
-use Rattle.still.proofs.Adopting.{begins-ready}
+use Rattle.still_laws.proofs.Adopting.{begins-ready}
 use Rattle.still.proofs.state.Still.adopt.Goals as goal
 
 pub invariant_of-result : goal.invariant_of-result

@@ -6,10 +6,10 @@ use Rattle.array_kept.proofs.LossLaws.{ended-behind}
 use Rattle.array_kept.proofs.ReadyLaws.{scope-same}
 use Rattle.kept_history.specs.Recorded.{IsCallGoing}
 use Rattle.running_words.proofs.Called.{alone-lossless}
-use Rattle.still.specs.Steps.{MayLeaveNone, IsStepsReplyNow}
-use Rattle.still.proofs.Kept.{ready, rows-same}
-use Rattle.still.proofs.StepLaws.{shapes-same, stepped}
-use Rattle.still.proofs.AnswerLaws.{answer-stands, reply-keeps, reply-lossless}
+use Rattle.still_laws.specs.Steps.{MayLeaveNone, IsStepsReplyNow}
+use Rattle.still_laws.proofs.Kept.{ready, rows-same}
+use Rattle.still_laws.proofs.StepLaws.{shapes-same, stepped}
+use Rattle.still_laws.proofs.AnswerLaws.{answer-stands, reply-keeps, reply-lossless}
 use Rattle.still.proofs.state.Still.answer.Goals as goal
 
 pub invariant_of-self : goal.invariant_of-self

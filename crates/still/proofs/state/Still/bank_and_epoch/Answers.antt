@@ -1,4 +1,4 @@
-use Rattle.still.proofs.Asking.{epoch-kept}
+use Rattle.still_laws.proofs.Asking.{epoch-kept}
 use Rattle.still.proofs.state.Still.bank_and_epoch.Goals as goal
 
 pub returns-clause-right : goal.returns-clause-right

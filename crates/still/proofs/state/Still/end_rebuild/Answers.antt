@@ -33,13 +33,13 @@ use Rattle.calls_kept.proofs.RebuildLaws.{losses-open, losses-end}
 use Rattle.kept_history.specs.Safe.{world_in}
 use Rattle.still_kept.proofs.Ending.{IsMadeWhole}
 use Rattle.running_words.specs.Calls.{moving_world}
-use Rattle.still.specs.Steps.{MayLeaveNone, IsCallUnbroken}
+use Rattle.still_laws.specs.Steps.{MayLeaveNone, IsCallUnbroken}
 use Rattle.running_words.proofs.Called.{risen-told}
 use Rattle.running_words.proofs.Lengths.{behind-keeps}
-use Rattle.still.proofs.Kept.{ready, rows-moved}
-use Rattle.still.proofs.Going.{still-going}
-use Rattle.still.proofs.StepLaws.{shapes-moved, planned-same, stepped, fewer-more, losses-keep}
-use Rattle.still.proofs.RebuildLaws.{alone, both, among-vacant, whole-held, whole-less, whole-done, end-lost}
+use Rattle.still_laws.proofs.Kept.{ready, rows-moved}
+use Rattle.still_laws.proofs.Going.{still-going}
+use Rattle.still_laws.proofs.StepLaws.{shapes-moved, planned-same, stepped, fewer-more, losses-keep}
+use Rattle.still_laws.proofs.RebuildLaws.{alone, both, among-vacant, whole-held, whole-less, whole-done, end-lost}
 use Rattle.still.proofs.state.Still.end_rebuild.Goals as goal
 
 -- ---- refused before anything is done

@@ -16,13 +16,13 @@ use Rattle.array_kept.proofs.ReplyLaws.{too-many-of, refused-for}
 use Rattle.array_kept.proofs.StepsLeft.{left-ended, steps-fewer, steps-kept}
 use Rattle.kept_history.specs.Recorded.{IsCallGoing}
 use Rattle.still_kept.proofs.Flushing.{IsFlushedStill, IsSettledStill}
-use Rattle.still.specs.Steps.{MayLeaveNone}
+use Rattle.still_laws.specs.Steps.{MayLeaveNone}
 use Rattle.running_words.proofs.Called.{risen-told}
 use Rattle.running_words.proofs.Lengths.{alone-keeps, behind-keeps}
-use Rattle.still.proofs.Kept.{ready, rows-moved}
-use Rattle.still.proofs.Going.{step-going}
-use Rattle.still.proofs.StepLaws.{refused-of, shapes-moved, planned-same, stepped, fewer-more, kept-more}
-use Rattle.still.proofs.MendLaws.{resync-done, resync-refused}
+use Rattle.still_laws.proofs.Kept.{ready, rows-moved}
+use Rattle.still_laws.proofs.Going.{step-going}
+use Rattle.still_laws.proofs.StepLaws.{refused-of, shapes-moved, planned-same, stepped, fewer-more, kept-more}
+use Rattle.still_laws.proofs.MendLaws.{resync-done, resync-refused}
 use Rattle.still.proofs.state.Still.end_resync.Goals as goal
 
 -- ---- refused before anything is done

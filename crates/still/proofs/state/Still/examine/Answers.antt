@@ -1,4 +1,4 @@
-use Rattle.still.proofs.AddLaws.{ready-same}
+use Rattle.still_laws.proofs.AddLaws.{ready-same}
 use Rattle.still.proofs.state.Still.examine.Goals as goal
 
 pub invariant_of-self : goal.invariant_of-self

@@ -23,8 +23,8 @@ use Rattle.running_words.specs.Parts.{still_left}
 use Rattle.running_words.proofs.Called.{not_254, called, alone-lossless, risen-told}
 use Rattle.running_words.proofs.Lengths.{alone-keeps, behind-keeps}
 use Rattle.running_words.proofs.TakenOut.{behind-loss, moved-all, since-out, missing-out}
-use Rattle.still.proofs.Asking.{refused-alone}
-use Rattle.still.proofs.Kept.{ready, rows-same, rows-moved}
+use Rattle.still_laws.proofs.Asking.{refused-alone}
+use Rattle.still_laws.proofs.Kept.{ready, rows-same, rows-moved}
 use Rattle.still.proofs.state.Still.fail.Goals as goal
 
 -- ---- what it asks of the functions that it calls

@@ -31,10 +31,10 @@ use Rattle.still_kept.proofs.Rebuilding.{IsFillingStill}
 use Rattle.running_words.specs.Parts.{still_left}
 use Rattle.running_words.proofs.Called.{risen-told}
 use Rattle.running_words.proofs.Lengths.{alone-keeps, behind-keeps}
-use Rattle.still.proofs.Kept.{ready, rows-moved, with-buffers}
-use Rattle.still.proofs.Going.{still-going, step-going}
-use Rattle.still.proofs.StepLaws.{refused-of, shapes-moved, planned-same, stepped, fewer-more, kept-more, losses-keep}
-use Rattle.still.proofs.RebuildLaws.{alone, recovering-held, among-vacant, fill-done, fill-gone, fill-refused}
+use Rattle.still_laws.proofs.Kept.{ready, rows-moved, with-buffers}
+use Rattle.still_laws.proofs.Going.{still-going, step-going}
+use Rattle.still_laws.proofs.StepLaws.{refused-of, shapes-moved, planned-same, stepped, fewer-more, kept-more, losses-keep}
+use Rattle.still_laws.proofs.RebuildLaws.{alone, recovering-held, among-vacant, fill-done, fill-gone, fill-refused}
 use Rattle.still.proofs.state.Still.fill_stripe.Goals as goal
 
 -- ---- refused before anything is done

@@ -9,7 +9,7 @@ use Rattle.array_kept.specs.Kept.{scope_in}
 use Rattle.array_kept.proofs.ReadyLaws.{scope-same}
 use Rattle.still_kept.specs.Still.{IsStill}
 use Rattle.running_words.specs.Parts.{still_left}
-use Rattle.still.proofs.Asking.{halted-stands, epoch-kept}
+use Rattle.still_laws.proofs.Asking.{halted-stands, epoch-kept}
 use Rattle.still.proofs.state.Still.halt.Goals as goal
 
 pub returns-clause-right : goal.returns-clause-right

@@ -30,10 +30,10 @@ use Rattle.still_kept.specs.Still.{IsStill}
 use Rattle.running_words.specs.Parts.{still_left}
 use Rattle.running_words.proofs.Called.{alone-lossless}
 use Rattle.running_words.proofs.Lengths.{alone-keeps, behind-keeps}
-use Rattle.still.proofs.Kept.{ready, rows-same, rows-moved}
-use Rattle.still.proofs.StepLaws.{shapes-same, shapes-moved, stepped}
-use Rattle.still.proofs.AddLaws.{looked-refused}
-use Rattle.still.proofs.AddLaws as law
+use Rattle.still_laws.proofs.Kept.{ready, rows-same, rows-moved}
+use Rattle.still_laws.proofs.StepLaws.{shapes-same, shapes-moved, stepped}
+use Rattle.still_laws.proofs.AddLaws.{looked-refused}
+use Rattle.still_laws.proofs.AddLaws as law
 use Rattle.still.proofs.state.Still.make_spare.Goals as goal
 
 pub look_at-requires-clause-slot : goal.look_at-requires-clause-slot

@@ -21,10 +21,10 @@ use Rattle.kept_history.specs.Recorded.{IsCallGoing}
 use Rattle.still_kept.proofs.Resync.{IsMendingStill}
 use Rattle.running_words.proofs.Called.{risen-told}
 use Rattle.running_words.proofs.Lengths.{alone-keeps, behind-keeps}
-use Rattle.still.proofs.Kept.{ready, rows-moved, with-buffers}
-use Rattle.still.proofs.Going.{step-going}
-use Rattle.still.proofs.StepLaws.{refused-of, shapes-moved, planned-same, stepped, fewer-more, kept-more}
-use Rattle.still.proofs.MendLaws.{mend-done, mend-refused}
+use Rattle.still_laws.proofs.Kept.{ready, rows-moved, with-buffers}
+use Rattle.still_laws.proofs.Going.{step-going}
+use Rattle.still_laws.proofs.StepLaws.{refused-of, shapes-moved, planned-same, stepped, fewer-more, kept-more}
+use Rattle.still_laws.proofs.MendLaws.{mend-done, mend-refused}
 use Rattle.still.proofs.state.Still.mend_stripe.Goals as goal
 
 -- ---- refused before anything is done

@@ -45,10 +45,10 @@ use Rattle.running_words.specs.Parts.{still_left}
 use Rattle.running_words.specs.Calls.{moving_world}
 use Rattle.running_words.proofs.Called.{not_254, called, alone-lossless, risen-told}
 use Rattle.running_words.proofs.Lengths.{alone-keeps, behind-keeps}
-use Rattle.still.proofs.Asking.{refused-alone}
-use Rattle.still.proofs.Kept.{ready, rows-same, rows-moved, with-buffers}
-use Rattle.still.proofs.Left.{left-alike}
-use Rattle.still.proofs.Reading.{seen, unread-still, refused-first, fetched-holds, read-holds}
+use Rattle.still_laws.proofs.Asking.{refused-alone}
+use Rattle.still_laws.proofs.Kept.{ready, rows-same, rows-moved, with-buffers}
+use Rattle.still_laws.proofs.Left.{left-alike}
+use Rattle.still_laws.proofs.Reading.{seen, unread-still, refused-first, fetched-holds, read-holds}
 use Rattle.still.proofs.state.Still.read.Goals as goal
 
 -- bytes that were written whole

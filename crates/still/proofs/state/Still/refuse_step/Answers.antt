@@ -9,9 +9,9 @@ use Rattle.array_kept.proofs.ReadyLaws.{scope-same}
 use Rattle.kept_history.specs.Recorded.{IsCallGoing}
 use Rattle.running_words.proofs.Called.{alone-lossless}
 use Rattle.running_words.proofs.Lengths.{alone-keeps}
-use Rattle.still.proofs.Kept.{ready, rows-same}
-use Rattle.still.proofs.Going.{still-going}
-use Rattle.still.proofs.StepLaws.{shapes-same, stepped, step-refused, refused-going}
+use Rattle.still_laws.proofs.Kept.{ready, rows-same}
+use Rattle.still_laws.proofs.Going.{still-going}
+use Rattle.still_laws.proofs.StepLaws.{shapes-same, stepped, step-refused, refused-going}
 use Rattle.still.proofs.state.Still.refuse_step.Goals as goal
 
 pub invariant_of-self : goal.invariant_of-self

@@ -15,10 +15,10 @@ use Rattle.still_kept.proofs.Flushing.{IsFlushedStill, all-mended, unflushed-sta
 use Rattle.running_words.specs.Parts.{still_left}
 use Rattle.running_words.proofs.Called.{not_254, called, alone-lossless, risen-told, many-of}
 use Rattle.running_words.proofs.Lengths.{alone-keeps, behind-keeps}
-use Rattle.still.proofs.Asking.{many-alone}
-use Rattle.still.proofs.Kept.{ready, rows-same, rows-moved}
-use Rattle.still.proofs.Left.{left-alike}
-use Rattle.still.proofs.Settled.{settled-stands, left-settled, settling-keeps}
+use Rattle.still_laws.proofs.Asking.{many-alone}
+use Rattle.still_laws.proofs.Kept.{ready, rows-same, rows-moved}
+use Rattle.still_laws.proofs.Left.{left-alike}
+use Rattle.still_laws.proofs.Settled.{settled-stands, left-settled, settling-keeps}
 use Rattle.still.proofs.state.Still.settle_entering.Goals as goal
 
 pub overflow_cast-count : goal.overflow_cast-count

@@ -9,8 +9,8 @@ use Rattle.array_kept.proofs.LossLaws.{ended-behind}
 use Rattle.array_kept.proofs.ReadyLaws.{scope-same}
 use Rattle.running_words.specs.Parts.{still_left}
 use Rattle.running_words.proofs.Lengths.{alone-keeps}
-use Rattle.still.proofs.Kept.{ready, rows-same}
-use Rattle.still.proofs.Asking.{status-same, shown-stands}
+use Rattle.still_laws.proofs.Kept.{ready, rows-same}
+use Rattle.still_laws.proofs.Asking.{status-same, shown-stands}
 use Rattle.still.proofs.state.Still.status.Goals as goal
 
 pub invariant_of-self-2 : goal.invariant_of-self-2

@@ -28,13 +28,13 @@ use Rattle.kept_history.specs.Recorded.{IsCallGoing}
 use Rattle.still_kept.specs.Still.{IsStill}
 use Rattle.still_kept.proofs.Rebuilding.{IsTaken}
 use Rattle.running_words.specs.Parts.{still_left}
-use Rattle.still.specs.Steps.{MayLeaveNone}
+use Rattle.still_laws.specs.Steps.{MayLeaveNone}
 use Rattle.running_words.proofs.Called.{risen-told}
 use Rattle.running_words.proofs.Lengths.{alone-keeps, behind-keeps}
-use Rattle.still.proofs.Kept.{ready, rows-moved}
-use Rattle.still.proofs.Going.{step-going}
-use Rattle.still.proofs.StepLaws.{shapes-moved, planned-same, stepped, stepped-more, fewer-more}
-use Rattle.still.proofs.RebuildLaws.{taken-less, take-done}
+use Rattle.still_laws.proofs.Kept.{ready, rows-moved}
+use Rattle.still_laws.proofs.Going.{step-going}
+use Rattle.still_laws.proofs.StepLaws.{shapes-moved, planned-same, stepped, stepped-more, fewer-more}
+use Rattle.still_laws.proofs.RebuildLaws.{taken-less, take-done}
 use Rattle.still.proofs.state.Still.take_role.Goals as goal
 
 -- ---- refused before anything is done

@@ -32,11 +32,11 @@ use Rattle.still_kept.proofs.Writing.{wrote-stands}
 use Rattle.running_words.specs.Parts.{still_left}
 use Rattle.running_words.proofs.Called.{not_254, called, alone-lossless}
 use Rattle.running_words.proofs.Lengths.{alone-keeps, behind-keeps, failure-keeps}
-use Rattle.still.proofs.Asking.{refused-alone}
-use Rattle.still.proofs.Kept.{ready, rows-same, rows-moved, with-buffers}
-use Rattle.still.proofs.Left.{left-alike}
-use Rattle.still.proofs.Reading.{seen, unwritten-still, refused-first}
-use Rattle.still.proofs.Writing.{put-still, written-still, failed-stands}
+use Rattle.still_laws.proofs.Asking.{refused-alone}
+use Rattle.still_laws.proofs.Kept.{ready, rows-same, rows-moved, with-buffers}
+use Rattle.still_laws.proofs.Left.{left-alike}
+use Rattle.still_laws.proofs.Reading.{seen, unwritten-still, refused-first}
+use Rattle.still_laws.proofs.Writing.{put-still, written-still, failed-stands}
 use Rattle.still.proofs.state.Still.write.Goals as goal
 
 -- ---- refused before any row is read

@@ -38,7 +38,7 @@ use Rattle.still_kept.proofs.Stood.{within-count}
 use Rattle.running_words.specs.Parts.{RunningParts, still_left}
 use Rattle.running_words.proofs.Called.{not_254}
 use Rattle.running_words.proofs.Lengths.{IsLengthKept, behind-keeps}
-use Rattle.still.specs.Steps.{IsStepped}
+use Rattle.still_laws.specs.Steps.{IsStepped}
 
 pub refused-of : (Why : Refusal → Type 0) (o : Option Refusal) (refusal : Refusal) → o ≡ Some refusal → MatchOption o ⊤ Why → Why refusal
 refused-of Why o refusal is why = subst (λ (o : Option Refusal). MatchOption o ⊤ Why) is why

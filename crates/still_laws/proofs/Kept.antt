@@ -18,7 +18,7 @@ use Rattle.grow_asked.specs.Left.{phases_of}
 use Rattle.still_kept.specs.Still.{IsStill}
 use Rattle.running_words.specs.Parts.{still_left}
 use Rattle.running_words.proofs.Lengths.{IsLengthKept}
-use Rattle.still.specs.Ready.{IsReady}
+use Rattle.still_laws.specs.Ready.{IsReady}
 
 -- as many rows of the same shape, and as long a list
 pub record AreRowsSame (old new : Sb) : Type 0 where

@@ -58,9 +58,9 @@ use Rattle.still_kept.proofs.Rebuilding.{IsTaken, IsFillingStill, taken-stands, 
 use Rattle.still_kept.proofs.Resync.{not-zero}
 use Rattle.running_words.specs.Parts.{still_left}
 use Rattle.running_words.proofs.Called.{not_254}
-use Rattle.still.proofs.Left.{left-alike}
-use Rattle.still.proofs.MendLaws.{leaves-none}
-use Rattle.still.proofs.StepLaws.{shapes-moved, planned-same, left-falls}
+use Rattle.still_laws.proofs.Left.{left-alike}
+use Rattle.still_laws.proofs.MendLaws.{leaves-none}
+use Rattle.still_laws.proofs.StepLaws.{shapes-moved, planned-same, left-falls}
 
 -- ---- steps are left, or no plan is open
 

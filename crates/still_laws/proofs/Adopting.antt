@@ -14,7 +14,7 @@ use Rattle.grow_asked.specs.declared.window.PhasesLeft.{PhasesLeft}
 use Rattle.still_kept.specs.Still.{IsStill}
 use Rattle.still_kept.proofs.KeptStands.{kept-stands}
 use Rattle.running_words.specs.Parts.{still_left}
-use Rattle.still.specs.Ready.{IsReady}
+use Rattle.still_laws.specs.Ready.{IsReady}
 
 abbrev pub planless : PhasesLeft
 planless = record { next = None; last = None }

@@ -45,8 +45,8 @@ use Rattle.still_kept.proofs.Sparing.{added-stands, lost-stands}
 use Rattle.still_kept.proofs.Staying.{IsNamedStill, refused-stands}
 use Rattle.running_words.specs.Parts.{still_left}
 use Rattle.running_words.proofs.Called.{not_254}
-use Rattle.still.specs.Ready.{IsReady}
-use Rattle.still.proofs.StepLaws.{shapes-moved, planned-same}
+use Rattle.still_laws.specs.Ready.{IsReady}
+use Rattle.still_laws.proofs.StepLaws.{shapes-moved, planned-same}
 
 -- ---- why it isn't, before it is touched
 

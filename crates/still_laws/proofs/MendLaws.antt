@@ -32,8 +32,8 @@ use Rattle.still_kept.proofs.Flushing.{IsFlushedStill, IsSettledStill, unflushed
 use Rattle.still_kept.proofs.Resync.{IsMendingStill, mended-stands, unmended-stands, resynced-stands}
 use Rattle.running_words.specs.Parts.{still_left}
 use Rattle.running_words.proofs.Called.{not_254}
-use Rattle.still.proofs.Left.{left-alike}
-use Rattle.still.proofs.StepLaws.{shapes-moved, planned-same, left-falls}
+use Rattle.still_laws.proofs.Left.{left-alike}
+use Rattle.still_laws.proofs.StepLaws.{shapes-moved, planned-same, left-falls}
 
 -- a pending resync has a step left
 some-left : (n recovery waiting more left : ℕ) → left ≡ (n + 1 + recovery + waiting) + more → left ≢ 0

@@ -47,7 +47,7 @@ use Rattle.still_kept.proofs.Leaving.{rest-moved}
 use Rattle.still_kept.proofs.Stood.{mended-moved, mended-multiple}
 use Rattle.still_kept.proofs.Writing.{IsPutStill, IsWrittenStill, unwritten-stands, torn-stands}
 use Rattle.running_words.proofs.Called.{risen-told}
-use Rattle.still.proofs.Reading.{unwritten-still}
+use Rattle.still_laws.proofs.Reading.{unwritten-still}
 
 -- ---- rows whose parity is to be relied on
 

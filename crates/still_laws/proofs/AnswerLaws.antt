@@ -32,9 +32,9 @@ use Rattle.still_kept.proofs.Resync.{not-zero}
 use Rattle.running_words.specs.Parts.{still_left}
 use Rattle.running_words.proofs.Called.{not_254}
 use Rattle.running_words.proofs.Lengths.{IsLengthKept, alone-keeps}
-use Rattle.still.specs.Steps.{IsEndedRight, IsStepsReplyNow}
-use Rattle.still.proofs.MendLaws.{leaves-none}
-use Rattle.still.proofs.StepLaws.{step-refused, refused-going}
+use Rattle.still_laws.specs.Steps.{IsEndedRight, IsStepsReplyNow}
+use Rattle.still_laws.proofs.MendLaws.{leaves-none}
+use Rattle.still_laws.proofs.StepLaws.{step-refused, refused-going}
 
 ends-reply : (entries : List Entry) (done left : ℕ) (ended : Option Refusal) → (left ≢ 0) ⊎ (open_plans entries ≡ []) → EndsNothing entries (Stepped done left ended)
 ends-reply entries done left ended (inl some) = inl (not-zero left some)
