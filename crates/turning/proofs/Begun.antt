@@ -1,0 +1,351 @@
+-- What the begin of a reshape leaves, from what `begin` of `reshape_ends` says of it: the array keeps its record in the reshape.
+use Rattle.std.proofs.Common.{◌≡◌, ◌≢◌, ◌⊎◌, inr, ℕ, ◌+◌, ◌-◌, ◌*◌, ◌<◌, ◌≤◌, ◌&&◌, ◌||◌, nat_le, nat_lt, min, Bool, true, false, not, cond, Option, Some, None, List, [], ◌∷◌, ◌++◌, length, refl, sym, ◌∙◌, ap, subst, arith, append-nil}
+use Rattle.std.specs.Prelude.{if◌then◌else◌, IfSome, is_some}
+use Rattle.std.specs.List.{list_any, All}
+use Rattle.std.proofs.lemmas.Bool.Decides.{nat_tests}
+use Rattle.std.proofs.lemmas.List.Elements.{All-nil, All-cons}
+use Rattle.std.proofs.lemmas.List.Folds.{list_any-append}
+use Rattle.md_base.specs.Shapes.{has_slot, data_disks}
+use Rattle.md_base.specs.declared.answers.Refusal.{Refusal}
+use Rattle.md_base.specs.declared.answers.Refusal.TheVariants.{BackupAbsent}
+use Rattle.md_base.specs.declared.answers.Who.{Who}
+use Rattle.md_base.specs.declared.places.Shape.{Shape}
+use Rattle.md_base.specs.declared.wishes.Phase.{Phase}
+use Rattle.md_base.specs.declared.wishes.Phase.TheVariants.{Reshape}
+use Rattle.bank.specs.declared.bank.Operation.{Operation}
+use Rattle.bank.specs.Given.{Given, NeverFalls}
+use Rattle.bank.specs.Tape.{disk}
+use Rattle.sb1.specs.declared.sb.Sb.{Sb}
+use Rattle.geometry.specs.Geometry.{AreInForce, list_end}
+use Rattle.grow_plan.specs.Plans.{AreSound, phase_window, phases_steps}
+use Rattle.superblocks.specs.declared.members.Members.{Members}
+use Rattle.superblocks.specs.Reading.{Scope, is_reshaping, is_backward, shape_of, final_shape, list_length}
+use Rattle.superblocks.proofs.ValidFields.{few-roles}
+use Rattle.row_io.specs.Rows.{reading_of, present, is_missing}
+use Rattle.flat_history.specs.declared.events.Entry.{Entry}
+use Rattle.flat_history.specs.declared.events.Event.{Event}
+use Rattle.flat_history.specs.declared.events.Event.TheVariants.{Step, Resized}
+use Rattle.flat_history.specs.declared.events.StepKind.TheVariants.{Begun}
+use Rattle.flat_history.specs.Flat.{length_of}
+use Rattle.flat_history.specs.Legal.{told_left}
+use Rattle.flat_history.specs.Losses.{is_resync_end, loses}
+use Rattle.flat_history.specs.OneShape.{is_lost}
+use Rattle.flat_history.specs.Plain.{entries_of}
+use Rattle.flat_history.specs.Sound.{OpensFit}
+use Rattle.flat_history.specs.Stands.{reach_of}
+use Rattle.flat_history.specs.World.{World}
+use Rattle.shape_views.specs.Regions.{ArePlaced}
+use Rattle.shape_views.specs.Views.{Ledger}
+use Rattle.shape_views.proofs.Stands.{final-still}
+use Rattle.shape_changes.specs.Changing.{IsSafeChange}
+use Rattle.shape_changes.specs.Safety.{HasLiveSlot, HasRoomLeft, IsRisen}
+use Rattle.shape_changes.specs.Steady.{IsSafeOver, AreGoneTold}
+use Rattle.shape_ends.specs.Ends.{IsCleared, IsToldWith}
+use Rattle.reshape_updates.specs.Beginning.{HasBegun, goes_back, with_reshape, beginning}
+use Rattle.reshape_updates.proofs.BegunNewest.{has-begun}
+use Rattle.reshape_ends.specs.Begun.{IsBackupOf, IsBegunBehind, begun_plan}
+use Rattle.views.specs.declared.work.Work.{Work}
+use Rattle.views.specs.Lacking.{AreLostSince, HaveFailedSince}
+use Rattle.views.specs.Moving.{Grows, IsMoved}
+use Rattle.views.specs.Numbers.{is_carried}
+use Rattle.views.specs.Placed.{is_vacant, AreWhole}
+use Rattle.views.specs.Rebuilding.{AreSparesFree, Held}
+use Rattle.views.specs.Status.{left_of, resync_left}
+use Rattle.views.proofs.MarkLaws.{few-planned}
+use Rattle.views.proofs.Still.{placed-two, backup-still}
+use Rattle.call_entries.specs.Losing.{losses_of}
+use Rattle.call_entries.proofs.CallLaws.{losses-are, all-losses, ends-losses}
+use Rattle.call_entries.proofs.PlainLaws.{one}
+use Rattle.array_kept.specs.Calls.{AreLossesOf, IsLossBy}
+use Rattle.array_kept.specs.Kept.{scope_in}
+use Rattle.array_kept.proofs.NowLaws.{length-more, limit-more}
+use Rattle.grow_asked.specs.declared.window.PhasesLeft.{PhasesLeft}
+use Rattle.grow_asked.specs.declared.window.Window.TheVariants.{Closed}
+use Rattle.grow_asked.specs.Left.{IsAtStartOf, IsReshapeUnderWay, phases_of, reshape_left, steps_from}
+use Rattle.grow_asked.proofs.LeftLaws.{beginning as beginning-left}
+use Rattle.kept_history.specs.Recorded.{IsOpenBehind, IsLengthKept as IsResizeKept}
+use Rattle.kept_history.specs.Safe.{world_in, TakesNone}
+use Rattle.kept_history.proofs.Entered.{lost-taken}
+use Rattle.kept_history.proofs.Ledgers.{unsynced-still}
+use Rattle.kept_history.proofs.Tests.{neither}
+use Rattle.history_calls.proofs.Behind.{IsAmong, early-losses}
+use Rattle.course_kept.specs.Laws.{closed}
+use Rattle.moving_kept.specs.Moving.{IsMoving}
+use Rattle.moving_kept.proofs.BegunCall.{IsBegunBy}
+use Rattle.moving_kept.proofs.BegunMembers.{array-begins}
+use Rattle.still_kept.proofs.Bridges.{stands-kept}
+use Rattle.still_kept.proofs.Leaving.{unsynced-later}
+use Rattle.running_words.specs.Parts.{left_in, still_left}
+use Rattle.running_words.proofs.Called.{not_254}
+use Rattle.running_words.proofs.Lengths.{IsLengthKept, behind-keeps}
+use Rattle.still_laws.specs.Ready.{IsReady as IsReadyStill}
+use Rattle.moving_laws.specs.Ready.{IsReady as IsReadyMoving}
+use Rattle.turning.specs.Begun.{is_resize, IsUnturned, IsBackupAt, CanBegin}
+use Rattle.turning.proofs.Planned.{none-recovering, begin-live, lost-missing}
+
+-- ---- what is asked
+
+-- no resync is pending where nothing is left to do
+pub none-pending : (m : Members) (resync : Option ℕ) (a b : ℕ) → resync_left resync m + a + b ≡ 0 → resync ≡ None
+none-pending m None a b none = refl
+none-pending m (Some mended) a b none = absurd (omega (arith, none))
+
+-- the next phase fits the shape before it, and the phases behind it can follow
+pub next-sound : (now : Shape) (size : ℕ) (all behind : List Phase) (to : Shape) → AreSound now size all → all ≡ Reshape to ∷ behind → AreInForce now to size × (to.level ≡ now.level) × AreSound to size behind
+next-sound now size all behind to sound is = subst (λ (l : List Phase). AreSound now size l) is sound
+
+-- the slot that is asked for is the array's backup
+pub backup-here : (given : Given) (slots : ℕ) (members : Members) (to : Shape) (found : Option ℕ) (backup : ℕ) → (slot : ℕ) × (found ≡ Some slot) × IsBackupAt given slots members to slot → found ≡ Some backup
+    → IsBackupAt given slots members to backup
+backup-here given slots members to found backup asked is =
+    let both : ◌≡◌ {A = Option ℕ} (Some asked.0) (Some backup) = sym asked.1 ∙ is in
+    let one : asked.0 ≡ backup = cc in
+    subst (λ (s : ℕ). IsBackupAt given slots members to s) one asked.2
+
+-- a call that has changed no length leaves nothing open
+lengths-kept : (world : World) (call : List Entry) → list_any (λ e. is_resize e.event) call ≡ false → All (λ e. IsResizeKept world e.end e.event) call
+lengths-kept world [] none = All-nil (λ e. IsResizeKept world e.end e.event)
+lengths-kept world (x ∷ call) none =
+    let parts = neither (is_resize x.event) (list_any (λ e. is_resize e.event) call) none in
+    All-cons (λ e. IsResizeKept world e.end e.event) x call (kept x.event parts.0) (lengths-kept world call parts.1)
+  where
+    kept : (event : Event) → is_resize event ≡ false → IsResizeKept world x.end event
+    kept (Resized n) is = absurd (cc)
+    kept event is = tt
+
+pub unturned-open : (world : World) (entries : List Entry) (who : Who) (turned : IsUnturned entries who) → IsOpenBehind world turned.goes.call
+unturned-open world entries who turned = record { kept = lengths-kept world turned.goes.call turned.lengths; steps = turned.steps }
+
+room-there : (still there fits : Bool) → there ≡ true → fits ≡ true → ◌≡◌ {A = Option Refusal} (if still || (there && fits) then None else Some BackupAbsent) None
+room-there true there fits here enough = refl
+room-there false true true here enough = refl
+room-there false false fits here enough = absurd (cc)
+room-there false true false here enough = absurd (cc)
+
+is-below : (a b : ℕ) → a < b → nat_lt a b ≡ true
+is-below a b lt = grind (arith, nat_tests, lt)
+
+is-within : (a b : ℕ) → a ≤ b → nat_le a b ≡ true
+is-within a b le = grind (arith, nat_tests, le)
+
+fits-there : (want most : ℕ) (b : Bool) → b ≡ true → want ≤ most → nat_le want (cond b most 0) ≡ true
+fits-there want most true here enough = is-within want most enough
+fits-there want most false here enough = absurd (cc)
+
+-- ---- a superblock with a reshape that has just begun
+
+-- the sectors of each window
+begun-reach : (former newest : Sb) (to : Shape) → HasBegun former to newest → reach_of newest ≡ phase_window (shape_of former) former.size (Reshape to)
+begun-reach former newest to has = λ i. phase_window (has.old i) (has.size i) (Reshape (has.new i))
+
+least : (a b : ℕ) → nat_lt b a ≡ false → min a b ≡ min a a
+least a b is = grind (arith, nat_tests, is)
+
+-- a reshape to no fewer data disks leaves the length of the list
+pub begun-long : (former newest : Sb) (to : Shape) → HasBegun former to newest → is_reshaping former ≡ false → goes_back (shape_of former) to ≡ false → list_length newest ≡ list_length former
+begun-long former newest to has still forward =
+    (λ i. min (data_disks (has.old i)) (data_disks (has.new i)) * has.size i)
+    ∙ ap (λ (n : ℕ). n * former.size) (least (data_disks (shape_of former)) (data_disks to) forward)
+    ∙ ap (λ (s : Shape). min (data_disks (shape_of former)) (data_disks s) * former.size) (sym (final-still former still))
+
+pub begun-start : (former newest : Sb) (to : Shape) → HasBegun former to newest → IsAtStartOf former to newest
+begun-start former newest to has = record {
+  active = has.active;
+  shape = has.old;
+  final = has.new;
+  backward = has.backward;
+  size = has.size;
+  position = has.start ∙ (λ i. cond (is_backward newest) (list_end (has.old i) (has.new i) (has.size i)) 0);
+}
+
+-- its reshape is under way
+pub begun-under : (former newest : Sb) (to : Shape) → HasBegun former to newest → AreInForce (shape_of former) to former.size → (is_reshaping newest ≡ true → newest.reshape_position ≤ list_length newest)
+    → IsReshapeUnderWay newest
+begun-under former newest to has forced within = record {
+  active = has.active;
+  in_force = subst (λ (s : Shape). AreInForce s (final_shape newest) newest.size) (sym has.old)
+      (subst (λ (s : Shape). AreInForce (shape_of former) s newest.size) (sym has.new) (subst (λ (n : ℕ). AreInForce (shape_of former) to n) (sym has.size) forced));
+  within = within has.active;
+}
+
+-- its steps are those that were left, but one
+pub begun-left : (old new : Members) (work : Work) (ahead behind : PhasesLeft) (to : Shape) → HasBegun old.newest to new.newest → is_reshaping old.newest ≡ false → left_of work old ≡ 0
+    → phases_of ahead ≡ Reshape to ∷ phases_of behind → left_in new (closed 0) behind + 1 ≡ still_left work old ahead
+begun-left old new work ahead behind to has still idle next =
+    beginning-left old.newest new.newest to (phases_of behind) still (begun-start old.newest new.newest to has)
+    ∙ ap (λ (b : Bool). cond b (reshape_left old.newest Closed 0) 0 + phases_steps (final_shape old.newest) old.newest.size (Reshape to ∷ phases_of behind)) still
+    ∙ (λ i. 0 + phases_steps (final-still old.newest still i) old.newest.size (sym next i))
+    ∙ ap (λ (n : ℕ). n + phases_steps (shape_of old.newest) old.newest.size (phases_of ahead)) (sym idle)
+
+-- and these are some: its end is among them
+begun-some : (new : Members) (behind : PhasesLeft) → is_reshaping new.newest ≡ true → left_in new (closed 0) behind ≢ 0
+begun-some new behind active none = absurd (
+    let is : left_in new (closed 0) behind ≡ (steps_from new.newest new.newest.reshape_position - 0) + phases_steps (final_shape new.newest) new.newest.size (phases_of behind) =
+    ap (λ (b : Bool). cond b (reshape_left new.newest Closed 0) 0 + phases_steps (final_shape new.newest) new.newest.size (phases_of behind)) active in
+    omega (arith, is, none)
+    )
+
+-- the steps as they are counted
+pub begun-counted : (new : Members) (behind : PhasesLeft) (to : Shape) (moved planned left : ℕ) → is_reshaping new.newest ≡ true → final_shape new.newest ≡ to → moved ≡ reshape_left new.newest Closed 0
+    → planned ≡ phases_steps to new.newest.size (phases_of behind) → left ≡ moved + planned → left ≡ left_in new (closed 0) behind
+begun-counted new behind to moved planned left active final moved_is planned_is is =
+    is ∙ (λ i. moved_is i + planned_is i) ∙ (λ i. reshape_left new.newest Closed 0 + phases_steps (sym final i) new.newest.size (phases_of behind))
+    ∙ ap (λ (b : Bool). cond b (reshape_left new.newest Closed 0) 0 + phases_steps (final_shape new.newest) new.newest.size (phases_of behind)) (sym active)
+
+-- ---- what is entered
+
+begun-keeps : (who : Who) (end left roles spares : ℕ) → IsLengthKept (entries_of who end (Step Begun left ∷ losses_of roles spares))
+begun-keeps who end left roles spares =
+    let kept = subst (λ (l : List Event). IsLengthKept (entries_of who end l)) (append-nil (losses_of roles spares)) (behind-keeps who end roles spares [] (record { long = λ n. refl; free = refl })) in
+    record { long = λ n. kept.long n; free = kept.free }
+
+-- each loss has its cause: the slot held the role by the plan, and has failed
+pub begun-losses : (plan new : Members) (before after : ℕ → ℕ) (entries mid later : List Entry) (who : Who) (end left roles spares : ℕ) → AreLostSince plan new roles spares before after → mid ≡ entries
+    → later ≡ mid ++ entries_of who end (Step Begun left ∷ losses_of roles spares) → AreLossesOf plan before after entries later
+begun-losses plan new before after entries mid later who end left roles spares since mid_is is = record {
+  more = entries_of who end (Step Begun left ∷ losses_of roles spares);
+  grown = is ∙ ap (λ (l : List Entry). l ++ entries_of who end (Step Begun left ∷ losses_of roles spares)) mid_is;
+  failed = All-cons (λ e. IsLossBy (Held plan) before after e.event) (one who end (Step Begun left)) (entries_of who end (losses_of roles spares)) tt
+      (subst (λ (l : List Event). All (λ e. IsLossBy (Held plan) before after e.event) (entries_of who end l)) (append-nil (losses_of roles spares))
+      (all-losses (λ event. IsLossBy (Held plan) before after event) who end roles spares [] since.held since.failed (All-nil (λ e. IsLossBy (Held plan) before after e.event))));
+}
+
+-- ---- the array in its reshape
+
+-- What `begin` leaves where it isn't refused.
+pub record IsUpdated (tells : Type 0) (given : Given) (tape tape' : List Operation) (backup : ℕ) (uuid : List ℕ) (to : Shape) (old new : Members) (spares : ℕ) (before after : ℕ → ℕ) : Type 0 where
+  pub begun : IsBegunBehind tells given backup uuid to old new tape tape'
+  pub newest : HasBegun old.newest to new.newest
+  pub moved : IsMoved given (begun_plan old to) new
+  pub failed : HaveFailedSince (begun_plan old to) new spares before after
+  pub free : AreSparesFree given new
+  pub plain : tells → (scope : Scope) → scope.backup ≡ Some backup → scope.uuid ≡ uuid → IsCleared scope (disk given.start tape')
+  pub others : tells → (s k : ℕ) → k ≢ 8 → (s ≢ backup) ⊎ (k ≢ 0) → present given tape' s k ≡ present given tape s k
+  pub grows : Grows tells tape tape'
+  pub rise : IsRisen tells old new tape tape'
+  pub safe : tells → (world : World) → (told more : Ledger) → HasRoomLeft old tape tape' → HasLiveSlot old → IsBackupOf world.scope old to backup uuid → ArePlaced world.scope given old
+      → IsToldWith told more (begun_plan old to) → AreGoneTold told old → AreGoneTold more new → ((number : ℕ) → told.carried number ≡ true → more.carried number ≡ true)
+      → IsSafeOver world given told old tape → IsSafeChange (OpensFit world) world.scope given told more new tape tape'
+  pub counts : NeverFalls before after
+
+module _ {tells : Type 0} {given : Given} {tape tape' : List Operation} {first : ℕ} {entries : List Entry} {old new : Members} {work : Work} {before after : ℕ → ℕ} {steps room rows buffer far_rows far_buffer : ℕ}
+    (uuid : List ℕ) (slots backup : ℕ) (ahead behind : PhasesLeft) (to : Shape) (who : Who) (end roles spares : ℕ)
+    (was : IsReadyStill tells given tape (scope_in given uuid slots (Some backup)) first entries old work ahead before steps room rows buffer far_rows far_buffer)
+    (turned : IsUnturned entries who) (caller : who.caller ≢ 254) (idle : left_of work old ≡ 0) (next : phases_of ahead ≡ Reshape to ∷ phases_of behind) (forward : goes_back (shape_of old.newest) to ≡ false)
+    (at : IsBackupAt given slots old to backup) (can : CanBegin old to) (did : IsUpdated tells given tape tape' backup uuid to old new spares before after) (at_end : tells → end ≡ length tape')
+    (long : length old.own ≡ 32) (sixteen : length uuid ≡ 16) (lost : (role : ℕ) → has_slot roles role ≡ (nat_lt role (length new.roles) && is_vacant (reading_of new) role)) where
+  abbrev scope : Scope
+  scope = scope_in given uuid slots (Some backup)
+
+  abbrev left : ℕ
+  left = left_in new (closed 0) behind
+
+  abbrev added : List Entry
+  added = entries_of who end (Step Begun (left_in new (closed 0) behind) ∷ losses_of roles spares)
+
+  still : is_reshaping old.newest ≡ false
+  still = was.kept.members_are.still
+
+  sound : AreSound (shape_of old.newest) old.newest.size (Reshape to ∷ phases_of behind)
+  sound = subst (λ (l : List Phase). AreSound (shape_of old.newest) old.newest.size l) next was.planned
+
+  synced : work.resync ≡ None
+  synced = none-pending old work.resync _ _ idle
+
+  backed : IsBackupOf (scope_in given uuid slots (Some backup)) old to backup uuid
+  backed = record {
+    backup = refl;
+    array = refl;
+    apart = at.apart;
+    room = room-there (not (is_reshaping (with_reshape to old.newest))) (has_slot slots backup) (nat_le (8 + reach_of (with_reshape to old.newest)) (if nat_lt backup given.slots then given.sectors backup else 0))
+        at.sound
+        (fits-there (8 + reach_of (with_reshape to old.newest)) (given.sectors backup) (nat_lt backup given.slots) (is-below backup given.slots at.known)
+        (let reach = begun-reach old.newest (with_reshape to old.newest) to (has-begun old.newest to still sound.0 sound.1) in let enough = at.room in omega (arith, reach, enough)));
+  }
+
+  placed : ArePlaced (scope_in given uuid slots (Some backup)) given old
+  placed = placed-two (scope_in given uuid slots (Some backup)) given old was.kept.members_are.placed (backup-still (scope_in given uuid slots (Some backup)) old.newest still)
+      (λ role slot held there. at.own role (held ∙ sym there))
+
+  begun-by : IsBegunBy tells given tape tape' (scope_in given uuid slots (Some backup)) backup uuid to old new roles
+  begun-by = record {
+    in_force = sound.0;
+    level = sound.1;
+    live = begin-live given old to was.kept.members_are.placed was.kept.members_are.unlost was.kept.members_are.free still sound.0 sound.1 can;
+    sixteen = sixteen;
+    backed = backed;
+    placed = placed;
+    begun = did.begun;
+    newest = did.newest;
+    moved = did.moved;
+    rise = did.rise;
+    since = λ role lt miss.
+        inr (lost-missing given old to was.kept.members_are.placed was.kept.members_are.unlost was.kept.members_are.free still sound.0 sound.1 can new roles spares before after did.moved did.failed lost role lt miss);
+    safe = did.safe;
+  }
+
+  one-fewer : left_in new (closed 0) behind + 1 ≡ still_left work old ahead
+  one-fewer = begun-left old new work ahead behind to did.newest still idle next
+
+  keeps : IsMoving tells given tape' (scope_in given uuid slots (Some backup)) first (entries ++ entries_of who end (Step Begun (left_in new (closed 0) behind) ∷ losses_of roles spares)) new (is_carried work) (closed 0) []
+      (left_in new (closed 0) behind)
+  keeps =
+      array-begins tells given tape tape' scope first entries backup uuid to old new (is_carried work) (is_carried work) roles (stands-kept tells given tape scope first entries old work (still_left work old ahead) was.kept synced)
+      begun-by (none-recovering given old was.kept.members_are.placed can.0) was.kept.members_are.free long did.free (did.moved.spares (few-planned old (beginning old to) old.lost)) [] left who end spares forward turned.goes
+      (not_254 who.caller caller) at_end did.grows (subst (λ (n : ℕ). IfSome (told_left entries) (λ m. m ≡ n)) (sym one-fewer) was.kept.left_told) (begun-some new behind did.newest.active) (λ number is. is)
+      (λ t. did.plain t scope refl refl) did.others (λ t. unturned-open (world_in given tape' scope first) entries who turned)
+
+  -- where no entry takes a role's holder, none is missing
+  begun-whole : tells → TakesNone (world_in given tape' (scope_in given uuid slots (Some backup)) first) (entries ++ entries_of who end (Step Begun (left_in new (closed 0) behind) ∷ losses_of roles spares)) → AreWhole new
+  begun-whole t none role lt = by (is_missing (reading_of new) role) refl
+    where
+      later : World
+      later = world_in given tape' (scope_in given uuid slots (Some backup)) first
+
+      none-here : list_any (loses later role) (entries_of who end (Step Begun (left_in new (closed 0) behind) ∷ losses_of roles spares)) ≡ false
+      none-here = (neither (list_any (loses later role) entries) (list_any (loses later role) added) (sym (list_any-append (loses later role) entries added) ∙ none role)).1
+
+      told-lost : IsAmong roles role → is_lost (entries_of who end (Step Begun (left_in new (closed 0) behind) ∷ losses_of roles spares)) role ≡ true
+      told-lost has = subst (λ (l : List Event). is_lost (entries_of who end l) role ≡ true) (append-nil (losses_of roles spares))
+          ((early-losses roles spares).lost who end [] role (let few = few-roles new.newest did.moved.placed.fit.valid in omega (arith, lt, few)) has)
+
+      by : (b : Bool) → is_missing (reading_of new) role ≡ b → b ≡ false
+      by false is = refl
+      by true is = absurd (
+          let has = lost-missing given old to was.kept.members_are.placed was.kept.members_are.unlost was.kept.members_are.free still sound.0 sound.1 can new roles spares before after did.moved did.failed lost role lt is in
+          let both : true ≡ false = sym (lost-taken later role added (told-lost has)) ∙ none-here in cc)
+
+  -- it tells of no end of a resync
+  none-ends : list_any (λ e. is_resync_end e.event) (entries_of who end (Step Begun (left_in new (closed 0) behind) ∷ losses_of roles spares)) ≡ false
+  none-ends = subst (λ (l : List Event). list_any (λ e. is_resync_end e.event) (entries_of who end l) ≡ false) (append-nil (losses_of roles spares))
+      (ends-losses who end (losses_of roles spares) [] (losses-are roles spares))
+
+  -- So the array is ready in its reshape.
+  pub begun-ready : {given' : Given} {scope' : Scope} {first' : ℕ} {mid entries' : List Entry} {steps' room' : ℕ} (window : List ℕ) → 512 * phase_window (shape_of old.newest) old.newest.size (Reshape to) ≤ length window
+      → given' ≡ given → scope' ≡ scope_in given uuid slots (Some backup) → first' ≡ first → mid ≡ entries → entries' ≡ mid ++ entries_of who end (Step Begun (left_in new (closed 0) behind) ∷ losses_of roles spares)
+      → 50 * steps' < room' → IsReadyMoving tells given' tape' scope' first' entries' new work (closed 0) behind window after steps' room' rows buffer far_rows far_buffer
+  begun-ready {given' = given'} {scope' = scope'} {first' = first'} {mid = mid} {entries' = entries'} {steps' = steps'} {room' = room'} window wide same_given scope_is first_is mid_is is room_left =
+      subst (λ (l : List Entry). IsReadyMoving tells given' tape' scope' first' l new work (closed 0) behind window after steps' room' rows buffer far_rows far_buffer) (sym (is ∙ ap (λ (l : List Entry). l ++ added) mid_is))
+      (subst (λ (n : ℕ). IsReadyMoving tells given' tape' scope' n (entries ++ added) new work (closed 0) behind window after steps' room' rows buffer far_rows far_buffer) (sym first_is)
+      (subst (λ (s : Scope). IsReadyMoving tells given' tape' s first (entries ++ added) new work (closed 0) behind window after steps' room' rows buffer far_rows far_buffer) (sym scope_is)
+      (subst (λ (g : Given). IsReadyMoving tells g tape' scope first (entries ++ added) new work (closed 0) behind window after steps' room' rows buffer far_rows far_buffer) (sym same_given)
+      (record {
+        kept = keeps;
+        synced = synced;
+        sized = subst (λ (n : ℕ). length_of n (entries ++ added) ≡ n) (sym (begun-long old.newest new.newest to did.newest still forward))
+            (length-more (list_length old.newest) entries added was.sized ((begun-keeps who end left roles spares).long (list_length old.newest)));
+        unlimited = limit-more entries added was.unlimited (begun-keeps who end left roles spares).free;
+        full = begun-whole;
+        settled = λ t.
+            unsynced-later given scope first (entries ++ added) did.grows (λ u. (was.kept.recorded u).begun) t ∙ unsynced-still (world_in given tape scope first) entries added none-ends
+            ∙ was.kept.pending t ∙ ap (λ (o : Option ℕ). is_some o) synced;
+        planned = subst (λ (n : ℕ). AreSound (final_shape new.newest) n (phases_of behind)) (sym did.newest.size)
+            (subst (λ (s : Shape). AreSound s old.newest.size (phases_of behind)) (sym did.newest.new) sound.2);
+        wide = let reach = begun-reach old.newest new.newest to did.newest in omega (arith, wide, reach);
+        failed = λ slot lt out. let had = was.failed slot lt out in let more = did.counts slot in omega (arith, had, more);
+        room_left = room_left;
+        rows_fit = was.rows_fit;
+        buffer_fits = was.buffer_fits;
+        far_rows_fit = was.far_rows_fit;
+        far_buffer_fits = was.far_buffer_fits;
+      }))))

@@ -1,0 +1,114 @@
+-- An array without a reshape whose backup failed as one was to begin goes on as it was: nothing but the backup's header was tried.
+use Rattle.std.proofs.Common.{◌≡◌, ◌≢◌, ◌⊎◌, inl, inr, ℕ, ◌+◌, Option, Some, List, [], ◌∷◌, ◌++◌, length, refl, sym, ◌∙◌, subst, arith}
+use Rattle.md_base.specs.Sectors.{Sector}
+use Rattle.md_base.specs.declared.answers.Refusal.{Refusal}
+use Rattle.md_base.specs.declared.answers.Refusal.TheVariants.{BackupFault, PastEnd, TooManyMissing, NotResynced}
+use Rattle.md_base.specs.declared.answers.Who.{Who}
+use Rattle.md_base.specs.declared.places.Shape.{Shape}
+use Rattle.bank.specs.declared.bank.Operation.{Operation}
+use Rattle.bank.specs.Given.{Given}
+use Rattle.bank.specs.Tape.{Contents}
+use Rattle.superblocks.specs.declared.members.Members.{Members}
+use Rattle.superblocks.specs.Reading.{Scope, role_state, holder, data_offset_of}
+use Rattle.row_io.specs.Rows.{reading_of, present}
+use Rattle.row_io.proofs.Losses.{holder-of}
+use Rattle.flat_history.specs.declared.events.Entry.{Entry}
+use Rattle.flat_history.specs.declared.events.Event.TheVariants.{Refused}
+use Rattle.flat_history.specs.Flat.{now}
+use Rattle.flat_history.specs.Plain.{entries_of}
+use Rattle.flat_history.specs.Sound.{OpensFit}
+use Rattle.flat_history.specs.World.{World, opening_list}
+use Rattle.shape_views.specs.Views.{Ledger}
+use Rattle.shape_changes.specs.Safety.{HasLiveSlot, IsRisen}
+use Rattle.shape_changes.specs.Steady.{IsSafeOver, KeepsSafe}
+use Rattle.shape_ends.specs.Plans.{HasNoneRecovering}
+use Rattle.views.specs.declared.work.Work.{Work}
+use Rattle.views.specs.Moving.{Grows}
+use Rattle.views.proofs.MovedLaws.{moved-same}
+use Rattle.array_kept.proofs.KeptLaws.{left-lost}
+use Rattle.kept_history.specs.Recorded.{IsCallGoing}
+use Rattle.kept_history.specs.Safe.{world_in}
+use Rattle.history_calls.proofs.Behind.{AreEarly}
+use Rattle.still_kept.specs.Still.{HasListStood, IsStill}
+use Rattle.still_kept.proofs.Quiet.{early-stands}
+use Rattle.still_kept.proofs.Refusals.{quiet-refusal, IsRefusedStill, refused-right}
+use Rattle.still_kept.proofs.Resting.{resting-stands}
+use Rattle.running_words.proofs.Called.{not_254, risen-told}
+use Rattle.turning.specs.Begun.{IsUnbegun, IsPlain}
+
+-- ---- refusals
+
+-- a plain refusal is right by any history
+pub plain-refused : (resync : Option ℕ) (m : Members) (refusal : Refusal) → IsPlain refusal → IsRefusedStill resync m refusal
+plain-refused resync m (PastEnd visible) plain = absurd plain
+plain-refused resync m (TooManyMissing count most) plain = absurd plain
+plain-refused resync m (NotResynced role) plain = absurd plain
+plain-refused resync m refusal plain = tt
+
+pub unbegun-plain : (m : Members) (to : Shape) (refusal : Refusal) → IsUnbegun m to refusal → IsPlain refusal
+unbegun-plain m to refusal (inl (role, first, is)) = subst IsPlain (sym is) tt
+unbegun-plain m to refusal (inr (whole, few, is)) = subst IsPlain (sym is) tt
+
+-- ---- nothing was done
+
+pub plain-stands : {tells : Type 0} {given : Given} {tape : List Operation} {scope : Scope} {first : ℕ} {entries : List Entry} {m : Members} {work : Work} {left : ℕ} (who : Who) (end : ℕ) (refusal : Refusal)
+    → IsStill tells given tape scope first entries m work left → IsCallGoing entries who → who.caller ≢ 254 → (tells → end ≡ length tape) → IsPlain refusal
+    → IsStill tells given tape scope first (entries ++ entries_of who end (Refused refusal ∷ [])) m work left
+plain-stands {tells = tells} {given = given} {tape = tape} {scope = scope} {first = first} {entries = entries} {m = m} {work = work} {left = left} who end refusal was goes caller at_end plain =
+    resting-stands tells given tape scope first entries m work left left who end (Refused refusal) was goes (not_254 who.caller caller) at_end
+    (record { adds = refl; gives = refl; still = λ x values. refl; level = λ n. refl }) (inl refl)
+    (left-lost left left entries who end [] (Refused refusal ∷ []) tt (λ none. refl) was.left_told (λ told is. is))
+    (λ t right. refused-right (world_in given tape scope first) entries given m was.members_are.placed work.resync (was.gone t right) (was.levelled t right) (was.pending t) refusal (plain-refused work.resync m refusal plain))
+
+-- ---- the list
+
+-- the list stands where what the holders of roles have is as it was
+stood-still : (sound : Type 0) (work : Work) (m : Members) (c e : Contents) (list : ℕ → Sector) → HasNoneRecovering m
+    → ((role slot row : ℕ) → holder (role_state (reading_of m) role) ≡ Some slot → e slot (data_offset_of (reading_of m) slot + row) ≡ c slot (data_offset_of (reading_of m) slot + row))
+    → HasListStood sound work m c list → HasListStood sound work m e list
+stood-still sound work m c e list none same l = record {
+  stands = λ row lt role slot below kind held. same role slot row (holder-of (reading_of m) role row slot held) ∙ l.stands row lt role slot below kind held;
+  whole = l.whole;
+  rows = λ so row low lt. let stands = l.rows so row low lt in record {
+    whole = stands.whole;
+    sectors = λ role slot below kind held. same role slot row (holder-of (reading_of m) role row slot held) ∙ stands.sectors role slot below kind held;
+    parity = λ role slot below parity held. same role slot row (holder-of (reading_of m) role row slot held) ∙ stands.parity role slot below parity held;
+  };
+  rebuilt = λ so role slot row lt is. absurd (none role slot is);
+}
+
+-- no losses stand before it
+none-early : AreEarly [] (λ role. ⊥)
+none-early = record {
+  adds = λ who end tail adds. adds;
+  gives = λ who end tail gives. gives;
+  lost = λ who end tail role lt has. absurd has;
+  ends = λ tail ends. ends;
+  level = λ who end tail n. refl;
+  values = λ who end tail x values. refl;
+}
+
+-- ---- the array
+
+pub fault-stands : {tells : Type 0} {given : Given} {tape tape' : List Operation} {scope : Scope} {first : ℕ} {entries : List Entry} {m : Members} {work : Work} {left : ℕ} (who : Who) (end backup : ℕ) (uuid : List ℕ)
+    → IsStill tells given tape scope first entries m work left → HasNoneRecovering m → HasLiveSlot m → IsCallGoing entries who → who.caller ≢ 254 → (tells → end ≡ length tape') → Grows tells tape tape' → IsRisen tells m m tape tape'
+    → scope.backup ≡ Some backup → scope.uuid ≡ uuid
+    → (tells → (s k : ℕ) → k ≢ 8 → (s ≢ backup) ⊎ (k ≢ 0) → present given tape' s k ≡ present given tape s k)
+    → (tells → (world : World) → (told : Ledger) → HasLiveSlot m → world.scope.backup ≡ Some backup → world.scope.uuid ≡ uuid → IsSafeOver world given told m tape → KeepsSafe world given told m tape tape')
+    → IsStill tells given tape' scope first (entries ++ entries_of who end (Refused BackupFault ∷ [])) m work left
+fault-stands {tells = tells} {given = given} {tape = tape} {tape' = tape'} {scope = scope} {first = first} {entries = entries} {m = m} {work = work} {left = left} who end backup uuid was none live goes caller at_end grows rise there array others safe =
+    early-stands tells given tape tape' scope first entries m m work work left left who end [] (λ role. ⊥) (Refused BackupFault) was live goes (not_254 who.caller caller) at_end grows (quiet-refusal BackupFault)
+    (moved-same given given m m refl refl was.members_are.placed was.members_are.unlost) none-early (λ role lt miss. inl (lt, miss)) refl refl refl was.progress
+    (left-lost left left entries who end [] (Refused BackupFault ∷ []) tt (λ nothing. refl) was.left_told (λ told is. is))
+    (λ t does fills. stood-still (OpensFit (world_in given tape scope first)) work m (present given tape) (present given tape') (now (opening_list (world_in given tape scope first)) entries) none (rows t) (was.listed t does fills))
+    (λ t. record {
+      rise = risen-told rise t;
+      keeps = λ told fills more room gone unclean over. safe t (world_in given tape scope first) told live there array over;
+      legal = λ all fills gone level. (tt, tt, tt);
+    })
+  where
+    rows : tells → (role slot row : ℕ) → holder (role_state (reading_of m) role) ≡ Some slot
+        → present given tape' slot (data_offset_of (reading_of m) slot + row) ≡ present given tape slot (data_offset_of (reading_of m) slot + row)
+    rows t role slot row held =
+        let far = was.members_are.placed.behind role slot held in
+        others t slot (data_offset_of (reading_of m) slot + row) (λ is. absurd (omega (arith, far, is))) (inr (λ is. absurd (omega (arith, far, is))))

@@ -1,0 +1,257 @@
+use Rattle.std.proofs.Common.{◌≡◌, inl, inr, ℕ, ◌+◌, ◌-◌, ◌*◌, ◌≤◌, ◌&&◌, nat_lt, false, Option, Some, List, [], ◌∷◌, ◌++◌, length, vec_capacity, refl, sym, ◌∙◌, ap, subst, arith}
+use Rattle.std.specs.Prelude.{IfSome}
+use Rattle.md_base.specs.declared.answers.Refusal.{Refusal}
+use Rattle.md_base.specs.declared.answers.Refusal.TheVariants.{BackupFault}
+use Rattle.md_base.specs.declared.wishes.Phase.TheVariants.{Reshape}
+use Rattle.bank.specs.Given.{IsFaulted}
+use Rattle.layout.proofs.Limits.{limited}
+use Rattle.grow_plan.specs.Plans.{AreSound, phase_window}
+use Rattle.superblocks.specs.declared.members.Members.{Members}
+use Rattle.superblocks.specs.Reading.{shape_of}
+use Rattle.superblocks.proofs.ValidFields.{few-roles}
+use Rattle.row_io.specs.Rows.{reading_of}
+use Rattle.flat_history.specs.declared.events.Entry.{Entry}
+use Rattle.flat_history.specs.declared.events.Event.TheVariants.{Step, Refused}
+use Rattle.flat_history.specs.declared.events.StepKind.TheVariants.{Begun}
+use Rattle.flat_history.specs.Plain.{entries_of}
+use Rattle.flat_history.specs.Transfers.{last_end_from}
+use Rattle.shape_changes.specs.Safety.{IsRisen}
+use Rattle.shape_changes.specs.Steady.{KeepsSafe}
+use Rattle.reshape_updates.specs.Beginning.{goes_back}
+use Rattle.reshape_ends.specs.Begun.{begun_plan}
+use Rattle.views.specs.Placed.{is_vacant}
+use Rattle.views.specs.Status.{left_of}
+use Rattle.call_entries.specs.Losing.{losses_of}
+use Rattle.call_entries.proofs.PlainLaws.{last_end-call}
+use Rattle.array_kept.specs.Kept.{scope_in}
+use Rattle.array_kept.proofs.LossLaws.{ended-behind}
+use Rattle.array_kept.proofs.ReadyLaws.{scope-same}
+use Rattle.grow_asked.specs.Left.{phases_of}
+use Rattle.course_kept.specs.Laws.{closed}
+use Rattle.running_words.specs.Parts.{left_in}
+use Rattle.running_words.proofs.Lengths.{alone-keeps}
+use Rattle.still_laws.specs.Ready.{IsReady}
+use Rattle.still_laws.proofs.Kept.{ready, rows-same}
+use Rattle.turning.specs.Begun.{IsUnturned, IsBackupAt}
+use Rattle.turning.proofs.Begun.{IsUpdated, next-sound, backup-here, begun-under, begun-counted, begun-left, begun-start, begun-long, begun-losses, begun-ready}
+use Rattle.turning.proofs.GivenBack.{fault-stands}
+use Rattle.turning.proofs.Planned.{none-recovering, begin-live, lost-since}
+use Rattle.turning.proofs.beginning.begin_reshape.Goals as goal
+
+-- ---- why it doesn't begin
+
+pub unbegun-requires-clause-few : goal.unbegun-requires-clause-few
+unbegun-requires-clause-few g c =
+    let members_are = c.take_apart-pieces.ensures.ready.kept.members_are in
+    let few = few-roles c.take_apart-pieces.result.members.newest members_are.placed.fit.valid in
+    let count = members_are.placed.roles in
+    omega (arith, few, count)
+
+pub unbegun-requires-clause-disks : goal.unbegun-requires-clause-disks
+unbegun-requires-clause-disks g c =
+    let p = c.take_apart-pieces.result in
+    let next = subst (λ s. phases_of s.ahead ≡ Reshape c.args.to ∷ phases_of c.args.behind) c.take_apart-pieces.ensures.same c.requires.next in
+    let sound = next-sound (shape_of p.members.newest) p.members.newest.size (phases_of p.ahead) (phases_of c.args.behind) c.args.to c.take_apart-pieces.ensures.ready.planned next in
+    (limited c.args.to sound.0.new_valid).most
+
+pub returns-in-Some-clause-caused : goal.returns-in-Some-clause-caused
+returns-in-Some-clause-caused g c = rw (c.take_apart-pieces.ensures.same) (inl (c.in-Some.ensures, c.give_back.ensures.bank))
+
+-- ---- the backup failed
+
+pub of_pieces-requires : goal.of_pieces-requires
+of_pieces-requires g c =
+    let p = c.take_apart-pieces.result in
+    let same = c.take_apart-pieces.ensures.same in
+    let was = c.take_apart-pieces.ensures.ready in
+    let are = was.kept.members_are in
+    let given = g.B.Bank.given p.bank in
+    let tape = g.B.Bank.tape p.bank in
+    let bank = c.begin-begun.new.bank in
+    let epoch = c.enter.new.epoch in
+    let did = c.begin-begun.ensures in
+    let refusal = c.in-Some-refusal.refusal in
+    let is = c.in-Some-refusal.is in
+    let backup = c.in-Some-backup.backup in
+    let end = c.ops-end.result in
+    let none = did.refused refusal is in
+    let fault = (did.answer refusal is).0 in
+    let can = c.in_default.ensures in
+    let turned : IsUnturned p.epoch.entries.items c.args.who = subst (λ s. IsUnturned s.parts.entries c.args.who) same c.requires.open in
+    let some : 1 ≤ p.steps = subst (λ s. 1 ≤ s.parts.steps) same c.requires.room in
+    let next = subst (λ s. phases_of s.ahead ≡ Reshape c.args.to ∷ phases_of c.args.behind) same c.requires.next in
+    let sound = next-sound (shape_of p.members.newest) p.members.newest.size (phases_of p.ahead) (phases_of c.args.behind) c.args.to was.planned next in
+    let kept = fault-stands c.args.who end backup p.epoch.uuid was.kept (none-recovering given p.members are.placed can.0)
+    (begin-live given p.members c.args.to are.placed are.unlost are.free are.still sound.0 sound.1 can) turned.goes c.requires.caller c.ops-end.ensures.count did.grows
+    (subst (λ (k : Members). IsRisen g.B.Bank.tells p.members k tape (g.B.Bank.tape bank)) none.members did.rise) c.in-Some-backup.is refl did.others
+    (λ t world told live there array over. subst (λ (k : Members). KeepsSafe world given told k tape (g.B.Bank.tape bank)) none.members (did.kept refusal is t world told live there array over)) in
+    record {
+      ready = subst
+          (λ (k : Members). IsReady g.B.Bank.tells (g.B.Bank.given bank) (g.B.Bank.tape bank) (scope_in (g.B.Bank.given bank) epoch.uuid epoch.given p.backup) epoch.first epoch.entries.items k p.work p.ahead
+          (g.B.Bank.faults_of bank) (p.steps - 1) epoch.entries.room (vec_capacity p.rows) (length p.buffer.items) (vec_capacity p.far_rows) (length p.far_buffer.items)) (sym none.members)
+          (ready (entries_of c.args.who end (Refused BackupFault ∷ [])) was (rows-same p.members.newest) kept did.counts (alone-keeps c.args.who end (Refused BackupFault) (λ n. refl) refl)
+          did.given (scope-same given p.backup did.given c.enter.ensures.uuid c.enter.ensures.given) c.enter.ensures.first refl
+          (c.enter.ensures.items ∙ ap (λ (r : Refusal). p.epoch.entries.items ++ entries_of c.args.who end (Refused r ∷ [])) fault)
+          (let had = was.room_left in let room = c.enter.ensures.room in omega (arith, had, room, some)));
+    }
+
+pub returns-in-Some-refusal-clause-refused : goal.returns-in-Some-refusal-clause-refused
+returns-in-Some-refusal-clause-refused g c =
+    let p = c.take_apart-pieces.result in
+    let end = c.ops-end.result in
+    let refusal = c.in-Some-refusal.refusal in
+    let some : 1 ≤ p.steps = subst (λ s. 1 ≤ s.parts.steps) c.take_apart-pieces.ensures.same c.requires.room in
+    rw (c.of_pieces.ensures.same) (rw (c.take_apart-pieces.ensures.same) (record {
+      end = end;
+      entered = c.enter.ensures.items;
+      ended = ended-behind (g.B.Bank.tape c.begin-begun.new.bank) c.enter.new.epoch.first p.epoch.entries.items c.args.who end [] (Refused refusal) c.enter.ensures.items c.ops-end.ensures.count;
+      members = (c.begin-begun.ensures.refused refusal c.in-Some-refusal.is).members;
+      course = refl;
+      ahead = refl;
+      steps = omega (arith, some);
+      same = record { uuid = c.enter.ensures.uuid; given = c.enter.ensures.given; first = c.enter.ensures.first; backup = refl; work = refl };
+    }))
+
+pub returns-in-Some-refusal-clause-caused : goal.returns-in-Some-refusal-clause-caused
+returns-in-Some-refusal-clause-caused g c =
+    let p = c.take_apart-pieces.result in
+    let refusal = c.in-Some-refusal.refusal in
+    let is = c.in-Some-refusal.is in
+    rw (c.of_pieces.ensures.same) (rw (c.take_apart-pieces.ensures.same) (inr (
+      c.in_default.ensures,
+      (c.begin-begun.ensures.answer refusal is).0,
+      subst (λ (o : Option ℕ). IfSome o (λ slot. IsFaulted slot (g.B.Bank.faults_of p.bank) (g.B.Bank.faults_of c.begin-begun.new.bank))) (sym c.in-Some-backup.is) (c.begin-begun.ensures.refused refusal is).failed,
+    )))
+
+pub returns-in-Some-refusal-clause-never_falls : goal.returns-in-Some-refusal-clause-never_falls
+returns-in-Some-refusal-clause-never_falls g c = rw (c.of_pieces.ensures.same) (rw (c.take_apart-pieces.ensures.same) c.begin-begun.ensures.counts)
+
+-- ---- the steps that are left
+
+pub reshape_left-moved-requires-clause-reshape : goal.reshape_left-moved-requires-clause-reshape
+reshape_left-moved-requires-clause-reshape g c =
+    let p = c.take_apart-pieces.result in
+    let none = c.in_default-refusal.is in
+    let next = subst (λ s. phases_of s.ahead ≡ Reshape c.args.to ∷ phases_of c.args.behind) c.take_apart-pieces.ensures.same c.requires.next in
+    let sound = next-sound (shape_of p.members.newest) p.members.newest.size (phases_of p.ahead) (phases_of c.args.behind) c.args.to c.take_apart-pieces.ensures.ready.planned next in
+    begun-under p.members.newest c.begin-begun.new.members.newest c.args.to (c.begin-begun.ensures.newest none) sound.0 (c.begin-begun.ensures.moved none).placed.fit.position
+
+pub planned_left-requires : goal.planned_left-requires
+planned_left-requires g c =
+    let p = c.take_apart-pieces.result in
+    let none = c.in_default-refusal.is in
+    let next = subst (λ s. phases_of s.ahead ≡ Reshape c.args.to ∷ phases_of c.args.behind) c.take_apart-pieces.ensures.same c.requires.next in
+    let sound = next-sound (shape_of p.members.newest) p.members.newest.size (phases_of p.ahead) (phases_of c.args.behind) c.args.to c.take_apart-pieces.ensures.ready.planned next in
+    subst (λ (n : ℕ). AreSound c.args.to n (phases_of c.args.behind)) (sym (c.begin-begun.ensures.newest none).size) sound.2
+
+pub overflow_cast-count : goal.overflow_cast-count
+overflow_cast-count g c =
+    let placed = (c.begin-begun.ensures.moved c.in_default-refusal.is).placed in
+    let few = few-roles c.begin-begun.new.members.newest placed.fit.valid in
+    let count = placed.roles in
+    let long = c.len-count.ensures in
+    omega (arith, few, count, long)
+
+pub vacant_roles-roles-requires-clause-few : goal.vacant_roles-roles-requires-clause-few
+vacant_roles-roles-requires-clause-few g c =
+    let placed = (c.begin-begun.ensures.moved c.in_default-refusal.is).placed in
+    let few = few-roles c.begin-begun.new.members.newest placed.fit.valid in
+    let count = placed.roles in
+    let long = c.len-count.ensures in
+    omega (arith, few, count, long)
+
+-- ---- it has begun
+
+pub of_pieces-requires-2-clause-ready : goal.of_pieces-requires-2-clause-ready
+of_pieces-requires-2-clause-ready g c =
+    let p = c.take_apart-pieces.result in
+    let same = c.take_apart-pieces.ensures.same in
+    let given = g.B.Bank.given p.bank in
+    let new = c.begin-begun.new.members in
+    let did = c.begin-begun.ensures in
+    let none = c.in_default-refusal.is in
+    let backup = c.in-Some-backup.backup in
+    let who = c.args.who in
+    let to = c.args.to in
+    let behind = c.args.behind in
+    let end = c.ops-end.result in
+    let roles = c.vacant_roles-roles.result in
+    let spares = c.begin-begun.result.spares in
+    let was = subst
+    (λ (o : Option ℕ). IsReady g.B.Bank.tells given (g.B.Bank.tape p.bank) (scope_in given p.epoch.uuid p.epoch.given o) p.epoch.first p.epoch.entries.items p.members p.work p.ahead
+    (g.B.Bank.faults_of p.bank) p.steps p.epoch.entries.room (vec_capacity p.rows) (length p.buffer.items) (vec_capacity p.far_rows) (length p.far_buffer.items)) c.in-Some-backup.is c.take_apart-pieces.ensures.ready in
+    let turned : IsUnturned p.epoch.entries.items who = subst (λ s. IsUnturned s.parts.entries who) same c.requires.open in
+    let some : 1 ≤ p.steps = subst (λ s. 1 ≤ s.parts.steps) same c.requires.room in
+    let idle = subst (λ s. left_of s.parts.work s.parts.members ≡ 0) same c.requires.done in
+    let next = subst (λ s. phases_of s.ahead ≡ Reshape to ∷ phases_of behind) same c.requires.next in
+    let forward = subst (λ s. goes_back (shape_of s.parts.members.newest) to ≡ false) same c.requires.forward in
+    let backed = subst (λ s. (slot : ℕ) × (s.parts.backup ≡ Some slot) × IsBackupAt (g.B.Bank.given s.parts.bank) s.parts.given s.parts.members to slot) same c.requires.backed in
+    let wide = subst (λ s. 512 * phase_window (shape_of s.parts.members.newest) s.parts.members.newest.size (Reshape to) ≤ length c.args.window.items) same c.requires.wide in
+    let update : IsUpdated g.B.Bank.tells given (g.B.Bank.tape p.bank) (g.B.Bank.tape c.begin-begun.new.bank) backup p.epoch.uuid to p.members new spares (g.B.Bank.faults_of p.bank) (g.B.Bank.faults_of c.begin-begun.new.bank) = record {
+      begun = did.begun none;
+      newest = did.newest none;
+      moved = did.moved none;
+      failed = did.failed none;
+      free = did.free;
+      plain = did.plain none;
+      others = did.others;
+      grows = did.grows;
+      rise = did.rise;
+      safe = did.safe none;
+      counts = did.counts;
+    } in
+    let left_is = begun-counted new behind to c.reshape_left-moved.result c.planned_left.result (c.reshape_left-moved.result + c.planned_left.result) (did.newest none).active (did.newest none).new
+    c.reshape_left-moved.ensures.value c.planned_left.ensures.value refl in
+    begun-ready p.epoch.uuid p.epoch.given backup p.ahead behind to who end roles spares was turned c.requires.caller idle next forward
+    (backup-here given p.epoch.given p.members to p.backup backup backed c.in-Some-backup.is) c.in_default.ensures update c.ops-end.ensures.count c.check_counts.ensures.own c.check_uuid.ensures
+    (λ role. c.vacant_roles-roles.ensures role ∙ ap (λ (n : ℕ). nat_lt role n && is_vacant (reading_of new) role) c.len-count.ensures)
+    c.args.window.items wide did.given
+    (scope-same given p.backup did.given c.enter_begun.ensures.uuid c.enter_begun.ensures.given ∙ ap (λ (o : Option ℕ). scope_in given p.epoch.uuid p.epoch.given o) c.in-Some-backup.is) c.enter_begun.ensures.first refl
+    (c.enter_begun.ensures.items ∙ ap (λ (n : ℕ). p.epoch.entries.items ++ entries_of who end (Step Begun n ∷ losses_of roles spares)) left_is)
+    (let had = was.room_left in let room = c.enter_begun.ensures.room in omega (arith, had, room, some))
+
+pub returns-clause-begun : goal.returns-clause-begun
+returns-clause-begun g c =
+    let p = c.take_apart-pieces.result in
+    let same = c.take_apart-pieces.ensures.same in
+    let was = c.take_apart-pieces.ensures.ready in
+    let are = was.kept.members_are in
+    let given = g.B.Bank.given p.bank in
+    let new = c.begin-begun.new.members in
+    let did = c.begin-begun.ensures in
+    let none = c.in_default-refusal.is in
+    let who = c.args.who in
+    let to = c.args.to in
+    let behind = c.args.behind in
+    let end = c.ops-end.result in
+    let roles = c.vacant_roles-roles.result in
+    let spares = c.begin-begun.result.spares in
+    let some : 1 ≤ p.steps = subst (λ s. 1 ≤ s.parts.steps) same c.requires.room in
+    let idle = subst (λ s. left_of s.parts.work s.parts.members ≡ 0) same c.requires.done in
+    let next = subst (λ s. phases_of s.ahead ≡ Reshape to ∷ phases_of behind) same c.requires.next in
+    let forward = subst (λ s. goes_back (shape_of s.parts.members.newest) to ≡ false) same c.requires.forward in
+    let sound = next-sound (shape_of p.members.newest) p.members.newest.size (phases_of p.ahead) (phases_of behind) to was.planned next in
+    let left_is = begun-counted new behind to c.reshape_left-moved.result c.planned_left.result (c.reshape_left-moved.result + c.planned_left.result) (did.newest none).active (did.newest none).new
+    c.reshape_left-moved.ensures.value c.planned_left.ensures.value refl in
+    let items = c.enter_begun.ensures.items ∙ ap (λ (n : ℕ). p.epoch.entries.items ++ entries_of who end (Step Begun n ∷ losses_of roles spares)) left_is in
+    let since = lost-since given p.members to are.placed are.unlost are.free are.still sound.0 sound.1 c.in_default.ensures new roles spares (g.B.Bank.faults_of p.bank) (g.B.Bank.faults_of c.begin-begun.new.bank)
+    (did.moved none) (did.failed none) (λ role. c.vacant_roles-roles.ensures role ∙ ap (λ (n : ℕ). nat_lt role n && is_vacant (reading_of new) role) c.len-count.ensures) in
+    rw (c.of_pieces-2.ensures.same) (rw (c.take_apart-pieces.ensures.same) (record {
+      could = c.in_default.ensures;
+      entered = record { roles = roles; spares = spares; end = end; is = items };
+      ended = λ t. ap (λ (l : List Entry). last_end_from c.enter_begun.new.epoch.first l) items
+          ∙ last_end-call c.enter_begun.new.epoch.first p.epoch.entries.items who end (Step Begun (left_in new (closed 0) behind)) (losses_of roles spares) ∙ c.ops-end.ensures.count t;
+      grows = did.grows;
+      left = begun-left p.members new p.work p.ahead behind to (did.newest none) are.still idle next;
+      start = begun-start p.members.newest new.newest to (did.newest none);
+      long = begun-long p.members.newest new.newest to (did.newest none) are.still forward;
+      held = (did.moved none).held;
+      spares = (did.moved none).fewer;
+      losses = begun-losses (begun_plan p.members to) new (g.B.Bank.faults_of p.bank) (g.B.Bank.faults_of c.begin-begun.new.bank) p.epoch.entries.items p.epoch.entries.items c.enter_begun.new.epoch.entries.items who end
+          (left_in new (closed 0) behind) roles spares since refl items;
+      never_falls = did.counts;
+      course = refl;
+      ahead = refl;
+      steps = omega (arith, some);
+      same = record { uuid = c.enter_begun.ensures.uuid; given = c.enter_begun.ensures.given; first = c.enter_begun.ensures.first; backup = refl; work = refl };
+    }))

@@ -1,0 +1,21 @@
+use Rattle.std.proofs.Common.{[], ◌∷◌, refl, arith}
+use Rattle.flat_history.specs.declared.events.Event.TheVariants.{Refused}
+use Rattle.flat_history.specs.Plain.{entries_of}
+use Rattle.array_kept.proofs.ReadyLaws.{scope-same}
+use Rattle.running_words.proofs.Lengths.{alone-keeps}
+use Rattle.still_laws.proofs.Kept.{ready, rows-same}
+use Rattle.turning.proofs.GivenBack.{plain-stands}
+use Rattle.turning.proofs.beginning.give_back.Goals as goal
+
+pub of_pieces-requires : goal.of_pieces-requires
+of_pieces-requires g c =
+    let was = c.requires.ready in
+    let a = c.args.pieces in
+    let given = g.B.Bank.given a.bank in
+    let end = c.ops-end.result in
+    record {
+      ready = ready (entries_of c.args.who end (Refused c.args.refusal ∷ [])) was (rows-same a.members.newest)
+          (plain-stands c.args.who end c.args.refusal was.kept c.requires.open c.requires.caller c.ops-end.ensures.count c.requires.why)
+          (λ slot. omega arith) (alone-keeps c.args.who end (Refused c.args.refusal) (λ n. refl) refl) refl (scope-same given a.backup refl c.enter.ensures.uuid c.enter.ensures.given) c.enter.ensures.first refl c.enter.ensures.items
+          (let had = was.room_left in let room = c.enter.ensures.room in let some = c.requires.room in omega (arith, had, room, some));
+    }

@@ -1,0 +1,127 @@
+-- A reshape begins in an array that had none: what is asked of it, and what it leaves.
+use Rattle.std.specs.Prelude.{◌≡◌, ◌⊎◌, ℕ, ◌+◌, ◌-◌, ◌<◌, ◌≤◌, ◌++◌, Bool, true, false, List, [], ◌∷◌, Some, IfSome, ⊤}
+use Rattle.std.specs.List.{list_any}
+use Rattle.md_base.specs.declared.answers.Refusal.{Refusal}
+use Rattle.md_base.specs.declared.answers.Refusal.TheVariants.{PastEnd, TooManyMissing, NotResynced, Degraded, NeedSpares, BackupFault}
+use Rattle.md_base.specs.declared.answers.Who.{Who}
+use Rattle.md_base.specs.declared.places.Shape.{Shape}
+use Rattle.md_base.specs.declared.wishes.Phase.TheVariants.{Reshape}
+use Rattle.md_base.specs.Shapes.{has_slot}
+use Rattle.bank.specs.declared.bank.Operation.{Operation}
+use Rattle.bank.specs.Given.{Given, IsFaulted, NeverFalls}
+use Rattle.grow_plan.specs.Plans.{phase_window}
+use Rattle.superblocks.specs.declared.members.Members.{Members}
+use Rattle.superblocks.specs.Reading.{shape_of, role_state, holder, list_length}
+use Rattle.superblocks.specs.Reads.{has_spare}
+use Rattle.row_io.specs.Rows.{reading_of}
+use Rattle.flat_history.specs.declared.events.Entry.{Entry}
+use Rattle.flat_history.specs.declared.events.Event.{Event}
+use Rattle.flat_history.specs.declared.events.Event.TheVariants.{Step, Refused, Resized}
+use Rattle.flat_history.specs.declared.events.StepKind.TheVariants.{Begun}
+use Rattle.flat_history.specs.Plain.{entries_of}
+use Rattle.flat_history.specs.Reshaped.{is_done}
+use Rattle.call_entries.specs.Losing.{losses_of}
+use Rattle.views.specs.Placed.{AreStillHeld}
+use Rattle.views.specs.Moving.{Grows}
+use Rattle.views.specs.Status.{spare_count}
+use Rattle.array_kept.specs.Calls.{AreSparesFewer, AreLossesOf, IsEndOf}
+use Rattle.reshape_ends.specs.Begun.{begun_plan}
+use Rattle.grow_asked.specs.declared.window.PhasesLeft.{PhasesLeft}
+use Rattle.grow_asked.specs.Left.{IsAtStartOf}
+use Rattle.grow_asked.specs.Asked.{lowest_missing}
+use Rattle.kept_history.specs.Recorded.{IsCallGoing}
+use Rattle.course_kept.specs.Laws.{closed}
+use Rattle.still_kept.specs.Still.{AreNoneMissing}
+use Rattle.running_words.specs.Parts.{RunningParts, left_in, still_left}
+
+-- ---- what is asked
+
+-- the event changes the length of the list
+abbrev pub is_resize : Event → Bool
+is_resize (Resized n) = true
+is_resize event = false
+
+-- A call goes on that has changed no length so far, and told of steps that are left wherever it told of steps.
+pub record IsUnturned (entries : List Entry) (who : Who) : Type 0 where
+  pub goes : IsCallGoing entries who
+  pub lengths : list_any (λ e. is_resize e.event) goes.call ≡ false
+  pub steps : list_any (λ e. is_done e.event) goes.call ≡ false
+
+-- The slot can be the backup of a reshape to this shape: it was found sound, holds no role and is no spare, and has room for the header and the sectors of each window.
+pub record IsBackupAt (given : Given) (slots : ℕ) (members : Members) (to : Shape) (slot : ℕ) : Type 0 where
+  pub known : slot < given.slots
+  pub sound : has_slot slots slot ≡ true
+  pub apart : has_spare members.spares slot ≡ false
+  pub own : (role : ℕ) → holder (role_state (reading_of members) role) ≡ Some slot → ⊥
+  pub room : 8 + phase_window (shape_of members.newest) members.newest.size (Reshape to) ≤ given.sectors slot
+
+-- ---- why it doesn't begin
+
+-- no role is missing, and there are spares for the new roles
+abbrev pub CanBegin : Members → Shape → Type 0
+CanBegin members to = AreNoneMissing members × (to.disks ≤ (shape_of members.newest).disks + spare_count members)
+
+-- a role is missing, of which the lowest is told, or there are too few spares
+abbrev pub IsUnbegun : Members → Shape → Refusal → Type 0
+IsUnbegun members to refusal = ((role : ℕ) × (lowest_missing members ≡ Some role) × (refusal ≡ Degraded role))
+    ⊎ (AreNoneMissing members × ((shape_of members.newest).disks + spare_count members < to.disks)
+    × (refusal ≡ NeedSpares (spare_count members) (to.disks - (shape_of members.newest).disks)))
+
+-- the refusal says nothing of what was entered before it
+abbrev pub IsPlain : Refusal → Type 0
+IsPlain (PastEnd visible) = ⊥
+IsPlain (TooManyMissing count most) = ⊥
+IsPlain (NotResynced role) = ⊥
+IsPlain refusal = ⊤
+
+-- ---- what it leaves
+
+-- the same array, from the same mark on
+pub record IsSameArray {B : Type 0} (old new : RunningParts B) : Type 0 where
+  pub uuid : new.parts.uuid ≡ old.parts.uuid
+  pub given : new.parts.given ≡ old.parts.given
+  pub first : new.parts.first ≡ old.parts.first
+  pub backup : new.parts.backup ≡ old.parts.backup
+  pub work : new.parts.work ≡ old.parts.work
+
+-- a call entered that the reshape began, with so many steps left, and behind it what its update lost
+pub record IsBegunWith (who : Who) (old new : List Entry) (left : ℕ) : Type 0 where
+  pub roles : ℕ
+  pub spares : ℕ
+  pub end : ℕ
+  pub is : new ≡ old ++ entries_of who end (Step Begun left ∷ losses_of roles spares)
+
+-- The reshape to this shape has begun: no role was missing, and the lowest spares have the new roles, but those slots that were lost in it; the list is as it was, and these phases
+-- are ahead.
+pub record IsReshapeBegun {B : Type 0} (tells : Type 0) (tape tape' : List Operation) (before after : ℕ → ℕ) (who : Who) (to : Shape) (behind : PhasesLeft) (old new : RunningParts B) : Type 0 where
+  pub could : CanBegin old.parts.members to
+  pub entered : IsBegunWith who old.parts.entries new.parts.entries (left_in new.parts.members new.course new.ahead)
+  pub ended : IsEndOf tells new.parts.first new.parts.entries tape'
+  pub grows : Grows tells tape tape'
+  pub left : left_in new.parts.members new.course new.ahead + 1 ≡ still_left old.parts.work old.parts.members old.ahead
+  pub start : IsAtStartOf old.parts.members.newest to new.parts.members.newest
+  pub long : list_length new.parts.members.newest ≡ list_length old.parts.members.newest
+  pub held : AreStillHeld (begun_plan old.parts.members to) new.parts.members
+  pub spares : AreSparesFewer (begun_plan old.parts.members to) new.parts.members
+  pub losses : AreLossesOf (begun_plan old.parts.members to) before after old.parts.entries new.parts.entries
+  pub never_falls : NeverFalls before after
+  pub course : new.course ≡ closed 0
+  pub ahead : new.ahead ≡ behind
+  pub steps : new.parts.steps + 1 ≡ old.parts.steps
+  pub same : IsSameArray old new
+
+-- The array is as it was, and this refusal is entered.
+pub record IsGivenBack {B : Type 0} (tells : Type 0) (tape' : List Operation) (who : Who) (refusal : Refusal) (old new : RunningParts B) : Type 0 where
+  pub end : ℕ
+  pub entered : new.parts.entries ≡ old.parts.entries ++ entries_of who end (Refused refusal ∷ [])
+  pub ended : IsEndOf tells new.parts.first new.parts.entries tape'
+  pub members : new.parts.members ≡ old.parts.members
+  pub course : new.course ≡ closed 0
+  pub ahead : new.ahead ≡ old.ahead
+  pub steps : new.parts.steps + 1 ≡ old.parts.steps
+  pub same : IsSameArray old new
+
+-- why it was refused: before anything was done, or because the backup failed
+abbrev pub IsBeginRefused : {B : Type 0} → (ℕ → ℕ) → (ℕ → ℕ) → Shape → Refusal → RunningParts B → RunningParts B → Type 0
+IsBeginRefused before after to refusal old new = (IsUnbegun old.parts.members to refusal × (new.parts.bank ≡ old.parts.bank))
+    ⊎ (CanBegin old.parts.members to × (refusal ≡ BackupFault) × IfSome old.parts.backup (λ slot. IsFaulted slot before after))

@@ -1,0 +1,174 @@
+//! A reshape begins in an array that had none.
+
+ghost use Rattle.std.specs.Prelude.{◌≡◌, ◌≢◌, ◌⊎◌, ◌+◌, ◌*◌, ◌<◌, ◌≤◌, ◌++◌, ◌∷◌, [], ℕ, false, length, vec_capacity, Some, IfOk, IfErr};
+ghost use Rattle.md_base.specs.declared.wishes.Phase.TheVariants.{Reshape};
+ghost use Rattle.bank.specs.Given.{NeverFalls};
+ghost use Rattle.grow_plan.specs.Plans.{phase_window};
+ghost use Rattle.superblocks.specs.Reading.{shape_of};
+ghost use Rattle.flat_history.specs.declared.events.Event.TheVariants.{Step};
+ghost use Rattle.flat_history.specs.declared.events.StepKind.TheVariants.{Begun};
+ghost use Rattle.flat_history.specs.Plain.{entries_of};
+ghost use Rattle.views.specs.Moving.{Grows};
+ghost use Rattle.views.specs.Status.{left_of};
+ghost use Rattle.call_entries.specs.Losing.{losses_of};
+ghost use Rattle.array_kept.specs.Kept.{scope_in};
+ghost use Rattle.reshape_updates.specs.Beginning.{goes_back};
+ghost use Rattle.grow_asked.specs.Left.{phases_of};
+ghost use Rattle.kept_history.specs.Recorded.{IsCallGoing};
+ghost use Rattle.course_kept.specs.Laws.{closed};
+ghost use Rattle.running_words.specs.Parts.{RunningParts};
+ghost use Rattle.still_laws.specs.Ready.{IsReady};
+ghost use Rattle.turning.specs.Begun.{IsUnturned, IsBackupAt, IsPlain, IsReshapeBegun, IsGivenBack, IsBeginRefused};
+
+use crate::refusing::unbegun;
+use bank::Bank;
+use call_entries::calls::{enter, enter_lost};
+use course_kept::Course;
+use flat_history::{Entries, Epoch, Event, StepKind};
+use grow_asked::{PhasesLeft, Window, planned_left, reshape_left};
+use md_base::{Refusal, Shape, Who};
+use moving::Moving;
+use pieces::Pieces;
+use reshape_ends::begin;
+use safe_updates::roles::vacant_roles;
+use still::Still;
+use superblocks::Members;
+
+// The number of a call that goes on is at most the number of entries.
+fn check_going(entries: &Entries, who: Who)
+    requires { IsCallGoing entries.now.items who }
+    ensures { who.number ≤ length entries.now.items }
+{
+    let _ = entries.next_number(who.caller);
+}
+
+// A superblock is kept of each of 32 slots.
+fn check_counts(members: &Members)
+    ensures own { length members.now.own ≡ 32 }
+{
+    let _ = members.own.get(0);
+}
+
+// A uuid has 16 bytes.
+fn check_uuid(uuid: &[u8; 16])
+    ensures { length uuid.now ≡ 16 }
+{
+    let _ = uuid.len();
+}
+
+// Enters that a reshape began, and then what its update lost.
+fn enter_begun(epoch: &mut Epoch, who: Who, end: u64, left: u64, roles: u32, spares: u32)
+    requires room { 49 ≤ epoch.old.entries.room }
+    requires number { who.number ≤ length epoch.old.entries.items }
+    ensures items { epoch.new.entries.items ≡ epoch.old.entries.items ++ entries_of who end (Step Begun left ∷ losses_of roles spares) }
+    ensures room { epoch.old.entries.room ≤ epoch.new.entries.room + 49 }
+    ensures uuid { epoch.new.uuid ≡ epoch.old.uuid }
+    ensures given { epoch.new.given ≡ epoch.old.given }
+    ensures first { epoch.new.first ≡ epoch.old.first }
+{
+    let kind = StepKind::Begun;
+    enter(epoch, who, end, Event::Step { kind, left });
+    enter_lost(epoch, who, end, roles, spares);
+}
+
+// The array goes on as it was, and the step is refused.
+fn give_back<B: Bank>(pieces: Pieces<B>, who: Who, refusal: Refusal) -> Still<B>
+    requires ready { IsReady B.tells (B.given pieces.bank) (B.tape pieces.bank) (scope_in (B.given pieces.bank) pieces.epoch.uuid pieces.epoch.given pieces.backup)
+        pieces.epoch.first pieces.epoch.entries.items pieces.members pieces.work pieces.ahead (B.faults_of pieces.bank) pieces.steps pieces.epoch.entries.room
+        (vec_capacity pieces.rows) (length pieces.buffer.items) (vec_capacity pieces.far_rows) (length pieces.far_buffer.items) }
+    requires open { IsCallGoing pieces.epoch.entries.items who }
+    requires caller { who.caller ≢ 254 }
+    requires room { 1 ≤ pieces.steps }
+    requires why { IsPlain refusal }
+    ensures back { let old : RunningParts B = record {
+      parts = record {
+        bank = pieces.bank;
+        uuid = pieces.epoch.uuid;
+        given = pieces.epoch.given;
+        first = pieces.epoch.first;
+        last = pieces.epoch.last;
+        entries = pieces.epoch.entries.items;
+        backup = pieces.backup;
+        members = pieces.members;
+        work = pieces.work;
+        steps = pieces.steps;
+      };
+      course = closed 0;
+      ahead = pieces.ahead;
+    } in IsGivenBack B.tells (B.tape pieces.bank) who refusal old result }
+    ensures bank { result.parts.bank ≡ pieces.bank }
+{
+    let mut pieces = pieces;
+    pieces.steps -= 1;
+    check_going(&pieces.epoch.entries, who);
+    let end = pieces.bank.ops();
+    enter(&mut pieces.epoch, who, end, Event::Refused { refusal });
+    Still::of_pieces(pieces)
+}
+
+/// The next phase of a plan begins, a reshape to this shape, where nothing else is left to do: the backup's header is cleared, and
+/// the superblocks record the reshape, by which the lowest spares get the new roles. The phases behind it are ahead then, and the
+/// buffer is that of its windows. It takes no memory.
+///
+/// Refused, the array goes on as it was, and the buffer is given back: `Degraded` where a role is missing, and `NeedSpares`
+/// where there are fewer spares than new roles, with nothing done; and `BackupFault` where the backup failed.
+pub fn begin_reshape<B: Bank>(
+    still: Still<B>,
+    who: Who,
+    to: Shape,
+    behind: PhasesLeft,
+    window: Vec<u8>,
+) -> Result<Moving<B>, (Still<B>, Vec<u8>, Refusal)>
+    requires open { IsUnturned still.parts.entries who }
+    requires caller { who.caller ≢ 254 }
+    requires room { 1 ≤ still.parts.steps }
+    requires done { left_of still.parts.work still.parts.members ≡ 0 }
+    requires next { phases_of still.ahead ≡ Reshape to ∷ phases_of behind }
+    requires forward { goes_back (shape_of still.parts.members.newest) to ≡ false }
+    requires backed { (slot : ℕ) × (still.parts.backup ≡ Some slot) × IsBackupAt (B.given still.parts.bank) still.parts.given still.parts.members to slot }
+    requires wide { 512 * phase_window (shape_of still.parts.members.newest) still.parts.members.newest.size (Reshape to) ≤ length window.items }
+    ensures begun { IfOk result (λ r. IsReshapeBegun B.tells (B.tape still.parts.bank) (B.tape r.parts.bank) (B.faults_of still.parts.bank) (B.faults_of r.parts.bank) who to behind still r) }
+    ensures given { IfOk result (λ r. B.given r.parts.bank ≡ B.given still.parts.bank) }
+    ensures refused { IfErr result (λ e. IsGivenBack B.tells (B.tape e.0.parts.bank) who e.2 still e.0) }
+    ensures caused { IfErr result (λ e. IsBeginRefused (B.faults_of still.parts.bank) (B.faults_of e.0.parts.bank) to e.2 still e.0) }
+    ensures grows { IfErr result (λ e. Grows B.tells (B.tape still.parts.bank) (B.tape e.0.parts.bank)) }
+    ensures never_falls { IfErr result (λ e. NeverFalls (B.faults_of still.parts.bank) (B.faults_of e.0.parts.bank)) }
+    ensures left_given { IfErr result (λ e. B.given e.0.parts.bank ≡ B.given still.parts.bank) }
+    ensures window { IfErr result (λ e. e.1 ≡ window) }
+{
+    let mut pieces = still.take_apart();
+    if let Some(refusal) = unbegun(&pieces.members, &to) {
+        return Err((give_back(pieces, who, refusal), window, refusal));
+    }
+    pieces.steps -= 1;
+    check_going(&pieces.epoch.entries, who);
+    check_counts(&pieces.members);
+    check_uuid(&pieces.epoch.uuid);
+    let Some(backup) = pieces.backup else {
+        unreachable!()
+    };
+    let begun = begin(
+        &mut pieces.members,
+        &mut pieces.bank,
+        backup,
+        &pieces.epoch.uuid,
+        &to,
+    );
+    let end = pieces.bank.ops();
+    if let Some(refusal) = begun.refusal {
+        enter(&mut pieces.epoch, who, end, Event::Refused { refusal });
+        return Err((Still::of_pieces(pieces), window, refusal));
+    }
+    let window_now = Window::Closed;
+    let moved = reshape_left(&pieces.members, &window_now, 0);
+    let left = moved + planned_left(&to, pieces.members.newest.size, &behind);
+    let count = pieces.members.roles.len() as u32;
+    let roles = vacant_roles(&pieces.members, count);
+    enter_begun(&mut pieces.epoch, who, end, left, roles, begun.spares);
+    pieces.ahead = behind;
+    let course = Course {
+        window: window_now,
+        zeroed: 0,
+    };
+    Ok(Moving::of_pieces(pieces, backup, course, window))
+}
