@@ -69,7 +69,7 @@ use Rattle.moving_kept.proofs.Refusals.{quiet-refusal, refused-right}
 use Rattle.moving_kept.proofs.Steps.{AreMissingSince, missing-moved, quiet-step, step-is, told-behind, told-step}
 use Rattle.running_words.specs.Parts.{left_in}
 use Rattle.moving_laws.specs.Ready.{bytes_in}
-use Rattle.moving_laws.proofs.Called.{not_254}
+use Rattle.running_words.proofs.Called.{not_254}
 use Rattle.moving_laws.proofs.Kept.{left-moved, behind-whole, takes-before}
 use Rattle.moving_laws.proofs.RecordLaws.{closed-bare}
 

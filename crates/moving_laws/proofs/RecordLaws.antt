@@ -51,7 +51,7 @@ use Rattle.moving_kept.proofs.MoreSteps.{recorded-moves}
 use Rattle.moving_kept.proofs.Staying.{refused-moves}
 use Rattle.moving_kept.proofs.Steps.{AreMissingSince, missing-since}
 use Rattle.running_words.specs.Parts.{left_in}
-use Rattle.moving_laws.proofs.Called.{not_254}
+use Rattle.running_words.proofs.Called.{not_254}
 use Rattle.moving_laws.proofs.Kept.{AreSameShapes, left-moved}
 use Rattle.moving_laws.proofs.Settled.{risen-told}
 

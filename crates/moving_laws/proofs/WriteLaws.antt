@@ -69,7 +69,7 @@ use Rattle.running_words.specs.Calls.{IsCalled, IsStepTaken}
 use Rattle.running_words.specs.Parts.{RunningParts, left_in}
 use Rattle.moving_laws.specs.Ready.{bytes_in, IsReady}
 use Rattle.moving_laws.specs.Writing.{IsWindowOpen, steps_in, TouchesWindow, IsWriteLacked, IsPutEntered, IsWriteEntered}
-use Rattle.moving_laws.proofs.Called.{not_254}
+use Rattle.running_words.proofs.Called.{not_254}
 use Rattle.moving_laws.proofs.Kept.{IsLengthKept, behind-keeps, behind-whole, takes-lost, left-moved}
 use Rattle.moving_laws.proofs.RecordLaws.{past-of, since-past, record-some, closed-bare, moved-none, moved-if}
 

@@ -24,7 +24,7 @@ use Rattle.running_words.specs.Calls.{IsEnterDue}
 use Rattle.running_words.specs.Parts.{left_in}
 use Rattle.moving_laws.specs.Ready.{bytes_in}
 use Rattle.moving_laws.proofs.Settled.{risen-told}
-use Rattle.moving_laws.proofs.Called.{not_254, called, alone-lossless}
+use Rattle.running_words.proofs.Called.{not_254, called, alone-lossless}
 use Rattle.moving_laws.proofs.Kept.{ready, shapes-same, shapes-moved, alone-keeps, behind-keeps, behind-whole, with-buffer, written-whole}
 use Rattle.moving_laws.proofs.EnterLaws.{backup-for}
 use Rattle.moving_laws.proofs.Entered.{course_in, IsNextTried, when-some, when-none, enter-refused, enter-left, enter-done}

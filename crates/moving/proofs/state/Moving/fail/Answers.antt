@@ -28,7 +28,7 @@ use Rattle.moving_kept.proofs.Refusals.{quiet-refusal}
 use Rattle.moving_kept.proofs.Resting.{resting-moves}
 use Rattle.running_words.specs.Parts.{left_in}
 use Rattle.moving_laws.specs.Ready.{bytes_in}
-use Rattle.moving_laws.proofs.Called.{not_254, called, alone-lossless}
+use Rattle.running_words.proofs.Called.{not_254, called, alone-lossless}
 use Rattle.moving_laws.proofs.Kept.{ready, shapes-same, shapes-moved, left-moved, alone-keeps, behind-keeps, takes-lost, lost-here}
 use Rattle.moving_laws.proofs.TakenOut.{moved-all, since-out, taken-out}
 use Rattle.moving.proofs.state.Moving.fail.Goals as goal

@@ -15,7 +15,7 @@ use Rattle.moving_kept.proofs.Refusals.{quiet-refusal}
 use Rattle.moving_kept.proofs.Resting.{resting-moves}
 use Rattle.running_words.specs.Parts.{left_in}
 use Rattle.moving_laws.specs.Ready.{bytes_in}
-use Rattle.moving_laws.proofs.Called.{not_254, called, alone-lossless}
+use Rattle.running_words.proofs.Called.{not_254, called, alone-lossless}
 use Rattle.moving_laws.proofs.Kept.{ready, shapes-same, alone-keeps}
 use Rattle.moving_laws.proofs.WriteLaws.{first-right, wider-refused, finish-caused}
 use Rattle.moving.proofs.state.Moving.finish_for.Goals as goal

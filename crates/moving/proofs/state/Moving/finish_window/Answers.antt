@@ -27,7 +27,7 @@ use Rattle.moving_kept.proofs.Steps.{missing-since}
 use Rattle.running_words.specs.Parts.{left_in}
 use Rattle.moving_laws.specs.Ready.{bytes_in}
 use Rattle.moving_laws.specs.Writing.{IsWindowOpen}
-use Rattle.moving_laws.proofs.Called.{not_254, called, alone-lossless}
+use Rattle.running_words.proofs.Called.{not_254, called, alone-lossless}
 use Rattle.moving_laws.proofs.Kept.{ready, shapes-same, shapes-moved, alone-keeps, behind-keeps, behind-whole, with-buffer}
 use Rattle.moving_laws.proofs.RecordLaws.{moved-if, moved-none, shapes-past}
 use Rattle.moving_laws.proofs.Settled.{many-of}

@@ -32,7 +32,7 @@ use Rattle.moving_kept.proofs.AddedSpare.{looked-moves, added-moves, added-lost-
 use Rattle.running_words.specs.Parts.{left_in}
 use Rattle.moving_laws.specs.Ready.{bytes_in}
 use Rattle.moving_laws.proofs.AddLaws.{apart-from, looked-grows, spare-made, still-called, none-added, add-called}
-use Rattle.moving_laws.proofs.Called.{not_254, called, alone-lossless}
+use Rattle.running_words.proofs.Called.{not_254, called, alone-lossless}
 use Rattle.moving_laws.proofs.Kept.{ready, ready-with, shapes-same, shapes-moved, left-moved, alone-keeps, behind-keeps, behind-whole, live-of}
 use Rattle.moving.proofs.state.Moving.make_spare.Goals as goal
 

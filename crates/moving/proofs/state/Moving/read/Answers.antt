@@ -44,7 +44,7 @@ use Rattle.running_words.specs.Parts.{left_in}
 use Rattle.moving_laws.specs.Ready.{bytes_in}
 use Rattle.running_words.specs.Calls.{moving_world}
 use Rattle.moving_laws.proofs.Kept.{ready, with-buffer, shapes-same, shapes-moved, left-moved, alone-keeps, behind-keeps, behind-whole, written-whole}
-use Rattle.moving_laws.proofs.Called.{not_254, alone-lossless, called}
+use Rattle.running_words.proofs.Called.{not_254, alone-lossless, called}
 use Rattle.moving_laws.proofs.Settled.{risen-told}
 use Rattle.moving_laws.proofs.Reading.{IsFetched, read-live, read-some, none-read, read-quiet, no-sectors, room-taken, first-right, first-reply, unread-moves, read-moves, holds-read, beside-unread, unread-missing, read-does, asked-is, hidden-fits, holds-sliced}
 use Rattle.moving.proofs.state.Moving.read.Goals as goal

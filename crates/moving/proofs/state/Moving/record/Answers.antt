@@ -24,7 +24,7 @@ use Rattle.moving_kept.proofs.Steps.{missing-since}
 use Rattle.running_words.specs.Calls.{IsRecordDue}
 use Rattle.running_words.specs.Parts.{left_in}
 use Rattle.moving_laws.specs.Ready.{bytes_in}
-use Rattle.moving_laws.proofs.Called.{not_254, called, alone-lossless}
+use Rattle.running_words.proofs.Called.{not_254, called, alone-lossless}
 use Rattle.moving_laws.proofs.Kept.{ready, shapes-same, shapes-moved, alone-keeps, behind-keeps, behind-whole, live-of}
 use Rattle.moving_laws.proofs.Settled.{many-of}
 use Rattle.moving_laws.proofs.RecordLaws.{window-next, same-span, all_copied, moved-if, moved-none, safe-none-of, shapes-past, since-past, record-refused, record-done}

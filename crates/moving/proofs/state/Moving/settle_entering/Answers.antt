@@ -20,7 +20,7 @@ use Rattle.moving_kept.proofs.Steps.{missing-since}
 use Rattle.running_words.specs.Parts.{left_in}
 use Rattle.moving_laws.specs.Ready.{bytes_in}
 use Rattle.moving_laws.proofs.Kept.{ready, shapes-same, shapes-moved, left-moved, alone-keeps, behind-keeps, behind-whole, live-of}
-use Rattle.moving_laws.proofs.Called.{not_254, alone-lossless}
+use Rattle.running_words.proofs.Called.{not_254, alone-lossless}
 use Rattle.moving_laws.proofs.Settled.{settling-long, settling-free, settles-so, risen-told, many-of}
 use Rattle.moving.proofs.state.Moving.settle_entering.Goals as goal
 

@@ -27,7 +27,7 @@ use Rattle.moving_state.proofs.ReshapeLaws.{through-of}
 use Rattle.running_words.specs.Calls.{IsZeroDue}
 use Rattle.running_words.specs.Parts.{left_in}
 use Rattle.moving_laws.specs.Ready.{bytes_in}
-use Rattle.moving_laws.proofs.Called.{not_254, called, alone-lossless}
+use Rattle.running_words.proofs.Called.{not_254, called, alone-lossless}
 use Rattle.moving_laws.proofs.Kept.{ready, shapes-same, shapes-moved, alone-keeps, behind-keeps, behind-whole, with-buffer, live-of}
 use Rattle.moving_laws.proofs.Settled.{many-of}
 use Rattle.moving_laws.proofs.ZeroLaws.{closed-at, zero-step, rows-zeroed, zero-refused, zero-done}
