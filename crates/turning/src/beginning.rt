@@ -12,22 +12,23 @@ ghost use Rattle.views.specs.Moving.{Grows};
 ghost use Rattle.views.specs.Status.{left_of};
 ghost use Rattle.call_entries.specs.Losing.{losses_of};
 ghost use Rattle.array_kept.specs.Kept.{scope_in};
-ghost use Rattle.reshape_updates.specs.Beginning.{goes_back};
 ghost use Rattle.grow_asked.specs.Left.{phases_of};
 ghost use Rattle.kept_history.specs.Recorded.{IsCallGoing};
 ghost use Rattle.course_kept.specs.Laws.{closed};
 ghost use Rattle.running_words.specs.Parts.{RunningParts};
 ghost use Rattle.still.specs.Ready.{IsReady};
-ghost use Rattle.turning.specs.Begun.{IsUnturned, IsBackupAt, IsPlain, IsReshapeBegun, IsGivenBack, IsBeginRefused};
+ghost use Rattle.turning.specs.Begun.{begun_length, IsUnturned, IsBackupAt, IsPlain, IsReshapeBegun, IsGivenBack, IsBeginRefused};
 
 use crate::refusing::unbegun;
 use bank::Bank;
 use call_entries::calls::{enter, enter_lost};
 use course_kept::Course;
 use flat_history::{Entries, Epoch, Event, StepKind};
+use grow_asked::shapes::is_backward;
 use grow_asked::{PhasesLeft, Window, planned_left, reshape_left};
 use md_base::{Refusal, Shape, Who};
 use moving::Moving;
+use moving_state::reshape::list_sectors;
 use pieces::Pieces;
 use reshape_ends::begin;
 use safe_updates::roles::vacant_roles;
@@ -56,18 +57,44 @@ fn check_uuid(uuid: &[u8; 16])
     let _ = uuid.len();
 }
 
-// Enters that a reshape began, and then what its update lost.
-fn enter_begun(epoch: &mut Epoch, who: Who, end: u64, left: u64, roles: u32, spares: u32)
-    requires room { 49 ≤ epoch.old.entries.room }
+// Enters the new length, where the list gets shorter.
+fn enter_length(epoch: &mut Epoch, who: Who, end: u64, back: bool, size: u64)
+    requires room { 1 ≤ epoch.old.entries.room }
     requires number { who.number ≤ length epoch.old.entries.items }
-    ensures items { epoch.new.entries.items ≡ epoch.old.entries.items ++ entries_of who end (Step Begun left ∷ losses_of roles spares) }
-    ensures room { epoch.old.entries.room ≤ epoch.new.entries.room + 49 }
+    ensures items { epoch.new.entries.items ≡ epoch.old.entries.items ++ entries_of who end (begun_length back size) }
+    ensures room { epoch.old.entries.room ≤ epoch.new.entries.room + 1 }
+    ensures uuid { epoch.new.uuid ≡ epoch.old.uuid }
+    ensures given { epoch.new.given ≡ epoch.old.given }
+    ensures first { epoch.new.first ≡ epoch.old.first }
+{
+    if !back {
+        return;
+    }
+    enter(epoch, who, end, Event::Resized { length: size });
+}
+
+// Enters that a reshape began, the new length, where the list gets shorter, and then what its update lost.
+fn enter_begun(
+    epoch: &mut Epoch,
+    who: Who,
+    end: u64,
+    left: u64,
+    back: bool,
+    size: u64,
+    roles: u32,
+    spares: u32,
+)
+    requires room { 50 ≤ epoch.old.entries.room }
+    requires number { who.number ≤ length epoch.old.entries.items }
+    ensures items { epoch.new.entries.items ≡ epoch.old.entries.items ++ entries_of who end (Step Begun left ∷ begun_length back size ++ losses_of roles spares) }
+    ensures room { epoch.old.entries.room ≤ epoch.new.entries.room + 50 }
     ensures uuid { epoch.new.uuid ≡ epoch.old.uuid }
     ensures given { epoch.new.given ≡ epoch.old.given }
     ensures first { epoch.new.first ≡ epoch.old.first }
 {
     let kind = StepKind::Begun;
     enter(epoch, who, end, Event::Step { kind, left });
+    enter_length(epoch, who, end, back, size);
     enter_lost(epoch, who, end, roles, spares);
 }
 
@@ -107,8 +134,8 @@ fn give_back<B: Bank>(pieces: Pieces<B>, who: Who, refusal: Refusal) -> Still<B>
 }
 
 /// The next phase of a plan begins, a reshape to this shape, where nothing else is left to do: the backup's header is cleared, and
-/// the superblocks record the reshape, by which the lowest spares get the new roles. The phases behind it are ahead then, and the
-/// buffer is that of its windows. It takes no memory.
+/// the superblocks record the reshape, by which the lowest spares get the new roles. To fewer data disks the list gets shorter then. The
+/// phases behind it are ahead, and the buffer is that of its windows. It takes no memory.
 ///
 /// Refused, the array goes on as it was, and the buffer is given back: `Degraded` where a role is missing, and `NeedSpares`
 /// where there are fewer spares than new roles, with nothing done; and `BackupFault` where the backup failed.
@@ -124,7 +151,6 @@ pub fn begin_reshape<B: Bank>(
     requires room { 1 ≤ still.parts.steps }
     requires done { left_of still.parts.work still.parts.members ≡ 0 }
     requires next { phases_of still.ahead ≡ Reshape to ∷ phases_of behind }
-    requires forward { goes_back (shape_of still.parts.members.newest) to ≡ false }
     requires backed { (slot : ℕ) × (still.parts.backup ≡ Some slot) × IsBackupAt (B.given still.parts.bank) still.parts.given still.parts.members to slot }
     requires wide { 512 * phase_window (shape_of still.parts.members.newest) still.parts.members.newest.size (Reshape to) ≤ length window.items }
     ensures begun { IfOk result (λ r. IsReshapeBegun B.tells (B.tape still.parts.bank) (B.tape r.parts.bank) (B.faults_of still.parts.bank) (B.faults_of r.parts.bank) who to behind still r) }
@@ -164,7 +190,18 @@ pub fn begin_reshape<B: Bank>(
     let left = moved + planned_left(&to, pieces.members.newest.size, &behind);
     let count = pieces.members.roles.len() as u32;
     let roles = vacant_roles(&pieces.members, count);
-    enter_begun(&mut pieces.epoch, who, end, left, roles, begun.spares);
+    let back = is_backward(&pieces.members.newest);
+    let size = list_sectors(&pieces.members);
+    enter_begun(
+        &mut pieces.epoch,
+        who,
+        end,
+        left,
+        back,
+        size,
+        roles,
+        begun.spares,
+    );
     pieces.ahead = behind;
     let course = Course {
         window: window_now,
