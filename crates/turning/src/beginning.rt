@@ -3,8 +3,8 @@
 ghost use Rattle.std.specs.Prelude.{◌≡◌, ◌≢◌, ◌⊎◌, ◌+◌, ◌*◌, ◌<◌, ◌≤◌, ◌++◌, ◌∷◌, [], ℕ, false, length, vec_capacity, Some, IfOk, IfErr};
 ghost use Rattle.md_base.specs.declared.wishes.Phase.TheVariants.{Reshape};
 ghost use Rattle.bank.specs.Given.{NeverFalls};
-ghost use Rattle.grow_plan.specs.Plans.{phase_window};
-ghost use Rattle.superblocks.specs.Reading.{shape_of};
+ghost use Rattle.grow_plan.specs.Plans.{phase_window, AreSound};
+ghost use Rattle.superblocks.specs.Reading.{shape_of, final_shape};
 ghost use Rattle.flat_history.specs.declared.events.Event.TheVariants.{Step};
 ghost use Rattle.flat_history.specs.declared.events.StepKind.TheVariants.{Begun};
 ghost use Rattle.flat_history.specs.Plain.{entries_of};
@@ -12,10 +12,10 @@ ghost use Rattle.views.specs.Moving.{Grows};
 ghost use Rattle.views.specs.Status.{left_of};
 ghost use Rattle.call_entries.specs.Losing.{losses_of};
 ghost use Rattle.array_kept.specs.Kept.{scope_in};
-ghost use Rattle.grow_asked.specs.Left.{phases_of};
+ghost use Rattle.grow_asked.specs.Left.{phases_of, IsReshapeUnderWay};
 ghost use Rattle.kept_history.specs.Recorded.{IsCallGoing};
 ghost use Rattle.course_kept.specs.Laws.{closed};
-ghost use Rattle.running_words.specs.Parts.{RunningParts};
+ghost use Rattle.running_words.specs.Parts.{RunningParts, left_in};
 ghost use Rattle.still.specs.Ready.{IsReady};
 ghost use Rattle.turning.specs.Begun.{begun_length, IsUnturned, IsBackupAt, IsPlain, IsReshapeBegun, IsGivenBack, IsBeginRefused};
 
@@ -43,18 +43,24 @@ fn check_going(entries: &Entries, who: Who)
     let _ = entries.next_number(who.caller);
 }
 
-// A superblock is kept of each of 32 slots.
-fn check_counts(members: &Members)
+// A superblock is kept of each of 32 slots, and a uuid has 16 bytes.
+fn check_sizes(members: &Members, uuid: &[u8; 16])
     ensures own { length members.now.own ≡ 32 }
+    ensures uuid { length uuid.now ≡ 16 }
 {
     let _ = members.own.get(0);
+    let _ = uuid.len();
 }
 
-// A uuid has 16 bytes.
-fn check_uuid(uuid: &[u8; 16])
-    ensures { length uuid.now ≡ 16 }
+// The steps that are left of a reshape to this shape that has just begun, and of the phases behind it.
+fn begun_left(members: &Members, to: &Shape, behind: &PhasesLeft) -> u64
+    requires reshape { IsReshapeUnderWay members.now.newest }
+    requires to { final_shape members.now.newest ≡ to.now }
+    requires sound { AreSound to.now members.now.newest.size (phases_of behind.now) }
+    ensures { result ≡ left_in members.now (closed 0) behind.now }
 {
-    let _ = uuid.len();
+    let moved = reshape_left(members, &Window::Closed, 0);
+    moved + planned_left(to, members.newest.size, behind)
 }
 
 // Enters the new length, where the list gets shorter.
@@ -168,8 +174,7 @@ pub fn begin_reshape<B: Bank>(
     }
     pieces.steps -= 1;
     check_going(&pieces.epoch.entries, who);
-    check_counts(&pieces.members);
-    check_uuid(&pieces.epoch.uuid);
+    check_sizes(&pieces.members, &pieces.epoch.uuid);
     let Some(backup) = pieces.backup else {
         unreachable!()
     };
@@ -185,9 +190,7 @@ pub fn begin_reshape<B: Bank>(
         enter(&mut pieces.epoch, who, end, Event::Refused { refusal });
         return Err((Still::of_pieces(pieces), window, refusal));
     }
-    let window_now = Window::Closed;
-    let moved = reshape_left(&pieces.members, &window_now, 0);
-    let left = moved + planned_left(&to, pieces.members.newest.size, &behind);
+    let left = begun_left(&pieces.members, &to, &behind);
     let count = pieces.members.roles.len() as u32;
     let roles = vacant_roles(&pieces.members, count);
     let back = is_backward(&pieces.members.newest);
@@ -204,7 +207,7 @@ pub fn begin_reshape<B: Bank>(
     );
     pieces.ahead = behind;
     let course = Course {
-        window: window_now,
+        window: Window::Closed,
         zeroed: 0,
     };
     Ok(Moving::of_pieces(pieces, backup, course, window))

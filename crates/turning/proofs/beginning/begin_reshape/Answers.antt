@@ -1,4 +1,4 @@
-use Rattle.std.proofs.Common.{◌≡◌, inl, inr, ℕ, ◌+◌, ◌-◌, ◌*◌, ◌≤◌, ◌&&◌, nat_lt, Option, Some, List, [], ◌∷◌, ◌++◌, length, vec_capacity, refl, sym, ◌∙◌, ap, subst, arith}
+use Rattle.std.proofs.Common.{◌≡◌, inl, inr, ℕ, ◌-◌, ◌*◌, ◌≤◌, ◌&&◌, nat_lt, Option, Some, List, [], ◌∷◌, ◌++◌, length, vec_capacity, refl, sym, ◌∙◌, ap, subst, arith}
 use Rattle.std.specs.Prelude.{IfSome}
 use Rattle.md_base.specs.declared.answers.Refusal.{Refusal}
 use Rattle.md_base.specs.declared.answers.Refusal.TheVariants.{BackupFault}
@@ -35,7 +35,7 @@ use Rattle.running_words.proofs.Lengths.{alone-keeps}
 use Rattle.still.specs.Ready.{IsReady}
 use Rattle.still.proofs.Kept.{ready, rows-same}
 use Rattle.turning.specs.Begun.{begun_length, IsUnturned, IsBackupAt}
-use Rattle.turning.proofs.Begun.{IsUpdated, next-sound, backup-here, begun-under, begun-counted, begun-left, begun-start, begun-losses, begun-ready}
+use Rattle.turning.proofs.Begun.{IsUpdated, next-sound, backup-here, begun-under, begun-left, begun-start, begun-losses, begun-ready}
 use Rattle.turning.proofs.GivenBack.{fault-stands}
 use Rattle.turning.proofs.Planned.{none-recovering, begin-live, lost-since}
 use Rattle.turning.proofs.beginning.begin_reshape.Goals as goal
@@ -133,16 +133,19 @@ returns-in-Some-refusal-clause-never_falls g c = rw (c.of_pieces.ensures.same) (
 
 -- ---- the steps that are left
 
-pub reshape_left-moved-requires-clause-reshape : goal.reshape_left-moved-requires-clause-reshape
-reshape_left-moved-requires-clause-reshape g c =
+pub begun_left-left-requires-clause-reshape : goal.begun_left-left-requires-clause-reshape
+begun_left-left-requires-clause-reshape g c =
     let p = c.take_apart-pieces.result in
     let none = c.in_default-refusal.is in
     let next = subst (λ s. phases_of s.ahead ≡ Reshape c.args.to ∷ phases_of c.args.behind) c.take_apart-pieces.ensures.same c.requires.next in
     let sound = next-sound (shape_of p.members.newest) p.members.newest.size (phases_of p.ahead) (phases_of c.args.behind) c.args.to c.take_apart-pieces.ensures.ready.planned next in
     begun-under p.members.newest c.begin-begun.new.members.newest c.args.to (c.begin-begun.ensures.newest none) sound.0 (c.begin-begun.ensures.moved none).placed.fit.position
 
-pub planned_left-requires : goal.planned_left-requires
-planned_left-requires g c =
+pub begun_left-left-requires-clause-to : goal.begun_left-left-requires-clause-to
+begun_left-left-requires-clause-to g c = (c.begin-begun.ensures.newest c.in_default-refusal.is).new
+
+pub begun_left-left-requires-clause-sound : goal.begun_left-left-requires-clause-sound
+begun_left-left-requires-clause-sound g c =
     let p = c.take_apart-pieces.result in
     let none = c.in_default-refusal.is in
     let next = subst (λ s. phases_of s.ahead ≡ Reshape c.args.to ∷ phases_of c.args.behind) c.take_apart-pieces.ensures.same c.requires.next in
@@ -207,12 +210,11 @@ of_pieces-requires-2-clause-ready g c =
       safe = did.safe none;
       counts = did.counts;
     } in
-    let left_is = begun-counted new behind to c.reshape_left-moved.result c.planned_left.result (c.reshape_left-moved.result + c.planned_left.result) (did.newest none).active (did.newest none).new
-    c.reshape_left-moved.ensures.value c.planned_left.ensures.value refl in
+    let left_is : c.begun_left-left.result ≡ left_in new (closed 0) behind = c.begun_left-left.ensures in
     let back_is : c.is_backward-back.result ≡ goes_back (shape_of p.members.newest) to = c.is_backward-back.ensures ∙ (did.newest none).backward in
     let size_is : c.list_sectors-size.result ≡ list_length new.newest = c.list_sectors-size.ensures.length in
     begun-ready p.epoch.uuid p.epoch.given backup p.ahead behind to who end roles spares was turned c.requires.caller idle next (goes_back (shape_of p.members.newest) to) refl
-    (backup-here given p.epoch.given p.members to p.backup backup backed c.in-Some-backup.is) c.in_default.ensures update c.ops-end.ensures.count c.check_counts.ensures.own c.check_uuid.ensures
+    (backup-here given p.epoch.given p.members to p.backup backup backed c.in-Some-backup.is) c.in_default.ensures update c.ops-end.ensures.count c.check_sizes.ensures.own c.check_sizes.ensures.uuid
     (λ role. c.vacant_roles-roles.ensures role ∙ ap (λ (n : ℕ). nat_lt role n && is_vacant (reading_of new) role) c.len-count.ensures)
     c.args.window.items wide did.given
     (scope-same given p.backup did.given c.enter_begun.ensures.uuid c.enter_begun.ensures.given ∙ ap (λ (o : Option ℕ). scope_in given p.epoch.uuid p.epoch.given o) c.in-Some-backup.is) c.enter_begun.ensures.first refl
@@ -239,8 +241,7 @@ returns-clause-begun g c =
     let idle = subst (λ s. left_of s.parts.work s.parts.members ≡ 0) same c.requires.done in
     let next = subst (λ s. phases_of s.ahead ≡ Reshape to ∷ phases_of behind) same c.requires.next in
     let sound = next-sound (shape_of p.members.newest) p.members.newest.size (phases_of p.ahead) (phases_of behind) to was.planned next in
-    let left_is = begun-counted new behind to c.reshape_left-moved.result c.planned_left.result (c.reshape_left-moved.result + c.planned_left.result) (did.newest none).active (did.newest none).new
-    c.reshape_left-moved.ensures.value c.planned_left.ensures.value refl in
+    let left_is : c.begun_left-left.result ≡ left_in new (closed 0) behind = c.begun_left-left.ensures in
     let back_is : c.is_backward-back.result ≡ goes_back (shape_of p.members.newest) to = c.is_backward-back.ensures ∙ (did.newest none).backward in
     let size_is : c.list_sectors-size.result ≡ list_length new.newest = c.list_sectors-size.ensures.length in
     let items = c.enter_begun.ensures.items ∙ (λ i. p.epoch.entries.items ++ entries_of who end (Step Begun (left_is i) ∷ begun_length (back_is i) (size_is i) ++ losses_of roles spares)) in
