@@ -1,10 +1,11 @@
 -- What the begin of a reshape leaves, from what `begin` of `reshape_ends` says of it: the array keeps its record in the reshape.
 use Rattle.std.proofs.Common.{◌≡◌, ◌≢◌, ◌⊎◌, inr, ℕ, ◌+◌, ◌-◌, ◌*◌, ◌<◌, ◌≤◌, ◌&&◌, ◌||◌, nat_le, nat_lt, min, Bool, true, false, not, cond, Option, Some, None, List, [], ◌∷◌, ◌++◌, length, refl, sym, ◌∙◌, ap, subst, arith, append-nil}
-use Rattle.std.specs.Prelude.{if◌then◌else◌, IfSome, is_some}
+use Rattle.std.specs.Prelude.{if◌then◌else◌, IfSome, is_some, fold}
 use Rattle.std.specs.List.{list_any, All}
 use Rattle.std.proofs.lemmas.Bool.Decides.{nat_tests}
 use Rattle.std.proofs.lemmas.List.Elements.{All-nil, All-cons}
 use Rattle.std.proofs.lemmas.List.Folds.{list_any-append}
+use Rattle.std.proofs.lemmas.List.Sums.{fold-append}
 use Rattle.md_base.specs.Shapes.{has_slot, data_disks}
 use Rattle.md_base.specs.declared.answers.Refusal.{Refusal}
 use Rattle.md_base.specs.declared.answers.Refusal.TheVariants.{BackupAbsent}
@@ -26,7 +27,7 @@ use Rattle.flat_history.specs.declared.events.Entry.{Entry}
 use Rattle.flat_history.specs.declared.events.Event.{Event}
 use Rattle.flat_history.specs.declared.events.Event.TheVariants.{Step, Resized}
 use Rattle.flat_history.specs.declared.events.StepKind.TheVariants.{Begun}
-use Rattle.flat_history.specs.Flat.{length_of}
+use Rattle.flat_history.specs.Flat.{length_of, length_after, limit_after}
 use Rattle.flat_history.specs.Legal.{told_left}
 use Rattle.flat_history.specs.Losses.{is_resync_end, loses}
 use Rattle.flat_history.specs.OneShape.{is_lost}
@@ -73,6 +74,7 @@ use Rattle.course_kept.specs.Laws.{closed}
 use Rattle.moving_kept.specs.Moving.{IsMoving}
 use Rattle.moving_kept.proofs.BegunCall.{IsBegunBy}
 use Rattle.moving_kept.proofs.BegunMembers.{array-begins}
+use Rattle.moving_kept.proofs.Shortened.{array-shortens}
 use Rattle.still_kept.proofs.Bridges.{stands-kept}
 use Rattle.still_kept.proofs.Leaving.{unsynced-later}
 use Rattle.running_words.specs.Parts.{left_in, still_left}
@@ -80,7 +82,7 @@ use Rattle.running_words.proofs.Called.{not_254}
 use Rattle.running_words.proofs.Lengths.{IsLengthKept, behind-keeps}
 use Rattle.still_laws.specs.Ready.{IsReady as IsReadyStill}
 use Rattle.moving_laws.specs.Ready.{IsReady as IsReadyMoving}
-use Rattle.turning.specs.Begun.{is_resize, IsUnturned, IsBackupAt, CanBegin}
+use Rattle.turning.specs.Begun.{begun_length, is_resize, IsUnturned, IsBackupAt, CanBegin}
 use Rattle.turning.proofs.Planned.{none-recovering, begin-live, lost-missing}
 
 -- ---- what is asked
@@ -194,21 +196,55 @@ begun-counted new behind to moved planned left active final moved_is planned_is 
 
 -- ---- what is entered
 
-begun-keeps : (who : Who) (end left roles spares : ℕ) → IsLengthKept (entries_of who end (Step Begun left ∷ losses_of roles spares))
-begun-keeps who end left roles spares =
-    let kept = subst (λ (l : List Event). IsLengthKept (entries_of who end l)) (append-nil (losses_of roles spares)) (behind-keeps who end roles spares [] (record { long = λ n. refl; free = refl })) in
-    record { long = λ n. kept.long n; free = kept.free }
+-- losses leave the length of the list, and its limit
+losses-keep : (who : Who) (end roles spares : ℕ) → IsLengthKept (entries_of who end (losses_of roles spares))
+losses-keep who end roles spares =
+    subst (λ (l : List Event). IsLengthKept (entries_of who end l)) (append-nil (losses_of roles spares)) (behind-keeps who end roles spares [] (record { long = λ n. refl; free = refl }))
+
+-- nothing limits it
+begun-free : (who : Who) (end left roles spares n : ℕ) (back : Bool)
+    → fold (λ (limit : Option ℕ) e. limit_after limit e.event) None (entries_of who end (Step Begun left ∷ begun_length back n ++ losses_of roles spares)) ≡ None
+begun-free who end left roles spares n true = (losses-keep who end roles spares).free
+begun-free who end left roles spares n false = (losses-keep who end roles spares).free
+
+-- the losses are told
+begun-tells : (who : Who) (end left roles spares n role : ℕ) (back : Bool) → role < 16 → IsAmong roles role → is_lost (entries_of who end (Step Begun left ∷ begun_length back n ++ losses_of roles spares)) role ≡ true
+begun-tells who end left roles spares n role back lt has = of back
+  where
+    told : is_lost (entries_of who end (losses_of roles spares)) role ≡ true
+    told = subst (λ (l : List Event). is_lost (entries_of who end l) role ≡ true) (append-nil (losses_of roles spares)) ((early-losses roles spares).lost who end [] role lt has)
+
+    of : (b : Bool) → is_lost (entries_of who end (Step Begun left ∷ begun_length b n ++ losses_of roles spares)) role ≡ true
+    of true = told
+    of false = told
+
+-- and of no end of a resync
+begun-ends : (who : Who) (end left roles spares n : ℕ) (back : Bool) → list_any (λ e. is_resync_end e.event) (entries_of who end (Step Begun left ∷ begun_length back n ++ losses_of roles spares)) ≡ false
+begun-ends who end left roles spares n back = of back
+  where
+    none : list_any (λ e. is_resync_end e.event) (entries_of who end (losses_of roles spares)) ≡ false
+    none = subst (λ (l : List Event). list_any (λ e. is_resync_end e.event) (entries_of who end l) ≡ false) (append-nil (losses_of roles spares)) (ends-losses who end (losses_of roles spares) [] (losses-are roles spares))
+
+    of : (b : Bool) → list_any (λ e. is_resync_end e.event) (entries_of who end (Step Begun left ∷ begun_length b n ++ losses_of roles spares)) ≡ false
+    of true = none
+    of false = none
 
 -- each loss has its cause: the slot held the role by the plan, and has failed
-pub begun-losses : (plan new : Members) (before after : ℕ → ℕ) (entries mid later : List Entry) (who : Who) (end left roles spares : ℕ) → AreLostSince plan new roles spares before after → mid ≡ entries
-    → later ≡ mid ++ entries_of who end (Step Begun left ∷ losses_of roles spares) → AreLossesOf plan before after entries later
-begun-losses plan new before after entries mid later who end left roles spares since mid_is is = record {
-  more = entries_of who end (Step Begun left ∷ losses_of roles spares);
-  grown = is ∙ ap (λ (l : List Entry). l ++ entries_of who end (Step Begun left ∷ losses_of roles spares)) mid_is;
-  failed = All-cons (λ e. IsLossBy (Held plan) before after e.event) (one who end (Step Begun left)) (entries_of who end (losses_of roles spares)) tt
-      (subst (λ (l : List Event). All (λ e. IsLossBy (Held plan) before after e.event) (entries_of who end l)) (append-nil (losses_of roles spares))
-      (all-losses (λ event. IsLossBy (Held plan) before after event) who end roles spares [] since.held since.failed (All-nil (λ e. IsLossBy (Held plan) before after e.event))));
+pub begun-losses : (plan new : Members) (before after : ℕ → ℕ) (entries mid later : List Entry) (who : Who) (end left n roles spares : ℕ) (back : Bool) → AreLostSince plan new roles spares before after → mid ≡ entries
+    → later ≡ mid ++ entries_of who end (Step Begun left ∷ begun_length back n ++ losses_of roles spares) → AreLossesOf plan before after entries later
+begun-losses plan new before after entries mid later who end left n roles spares back since mid_is is = record {
+  more = entries_of who end (Step Begun left ∷ begun_length back n ++ losses_of roles spares);
+  grown = is ∙ ap (λ (l : List Entry). l ++ entries_of who end (Step Begun left ∷ begun_length back n ++ losses_of roles spares)) mid_is;
+  failed = All-cons (λ e. IsLossBy (Held plan) before after e.event) (one who end (Step Begun left)) (entries_of who end (begun_length back n ++ losses_of roles spares)) tt (of back);
 }
+  where
+    lost : All (λ e. IsLossBy (Held plan) before after e.event) (entries_of who end (losses_of roles spares))
+    lost = subst (λ (l : List Event). All (λ e. IsLossBy (Held plan) before after e.event) (entries_of who end l)) (append-nil (losses_of roles spares))
+        (all-losses (λ event. IsLossBy (Held plan) before after event) who end roles spares [] since.held since.failed (All-nil (λ e. IsLossBy (Held plan) before after e.event)))
+
+    of : (b : Bool) → All (λ e. IsLossBy (Held plan) before after e.event) (entries_of who end (begun_length b n ++ losses_of roles spares))
+    of true = All-cons (λ e. IsLossBy (Held plan) before after e.event) (one who end (Resized n)) (entries_of who end (losses_of roles spares)) tt lost
+    of false = lost
 
 -- ---- the array in its reshape
 
@@ -231,7 +267,7 @@ pub record IsUpdated (tells : Type 0) (given : Given) (tape tape' : List Operati
 module _ {tells : Type 0} {given : Given} {tape tape' : List Operation} {first : ℕ} {entries : List Entry} {old new : Members} {work : Work} {before after : ℕ → ℕ} {steps room rows buffer far_rows far_buffer : ℕ}
     (uuid : List ℕ) (slots backup : ℕ) (ahead behind : PhasesLeft) (to : Shape) (who : Who) (end roles spares : ℕ)
     (was : IsReadyStill tells given tape (scope_in given uuid slots (Some backup)) first entries old work ahead before steps room rows buffer far_rows far_buffer)
-    (turned : IsUnturned entries who) (caller : who.caller ≢ 254) (idle : left_of work old ≡ 0) (next : phases_of ahead ≡ Reshape to ∷ phases_of behind) (forward : goes_back (shape_of old.newest) to ≡ false)
+    (turned : IsUnturned entries who) (caller : who.caller ≢ 254) (idle : left_of work old ≡ 0) (next : phases_of ahead ≡ Reshape to ∷ phases_of behind) (back : Bool) (way : goes_back (shape_of old.newest) to ≡ back)
     (at : IsBackupAt given slots old to backup) (can : CanBegin old to) (did : IsUpdated tells given tape tape' backup uuid to old new spares before after) (at_end : tells → end ≡ length tape')
     (long : length old.own ≡ 32) (sixteen : length uuid ≡ 16) (lost : (role : ℕ) → has_slot roles role ≡ (nat_lt role (length new.roles) && is_vacant (reading_of new) role)) where
   abbrev scope : Scope
@@ -241,7 +277,7 @@ module _ {tells : Type 0} {given : Given} {tape tape' : List Operation} {first :
   left = left_in new (closed 0) behind
 
   abbrev added : List Entry
-  added = entries_of who end (Step Begun (left_in new (closed 0) behind) ∷ losses_of roles spares)
+  added = entries_of who end (Step Begun (left_in new (closed 0) behind) ∷ begun_length back (list_length new.newest) ++ losses_of roles spares)
 
   still : is_reshaping old.newest ≡ false
   still = was.kept.members_are.still
@@ -287,42 +323,49 @@ module _ {tells : Type 0} {given : Given} {tape tape' : List Operation} {first :
   one-fewer : left_in new (closed 0) behind + 1 ≡ still_left work old ahead
   one-fewer = begun-left old new work ahead behind to did.newest still idle next
 
-  keeps : IsMoving tells given tape' (scope_in given uuid slots (Some backup)) first (entries ++ entries_of who end (Step Begun (left_in new (closed 0) behind) ∷ losses_of roles spares)) new (is_carried work) (closed 0) []
-      (left_in new (closed 0) behind)
-  keeps =
+  keeps : (b : Bool) → goes_back (shape_of old.newest) to ≡ b
+      → IsMoving tells given tape' (scope_in given uuid slots (Some backup)) first (entries ++ entries_of who end (Step Begun (left_in new (closed 0) behind) ∷ begun_length b (list_length new.newest) ++ losses_of roles spares)) new
+      (is_carried work) (closed 0) [] (left_in new (closed 0) behind)
+  keeps false forward =
       array-begins tells given tape tape' scope first entries backup uuid to old new (is_carried work) (is_carried work) roles (stands-kept tells given tape scope first entries old work (still_left work old ahead) was.kept synced)
       begun-by (none-recovering given old was.kept.members_are.placed can.0) was.kept.members_are.free long did.free (did.moved.spares (few-planned old (beginning old to) old.lost)) [] left who end spares forward turned.goes
       (not_254 who.caller caller) at_end did.grows (subst (λ (n : ℕ). IfSome (told_left entries) (λ m. m ≡ n)) (sym one-fewer) was.kept.left_told) (begun-some new behind did.newest.active) (λ number is. is)
       (λ t. did.plain t scope refl refl) did.others (λ t. unturned-open (world_in given tape' scope first) entries who turned)
+  keeps true backward =
+      array-shortens tells given scope first entries backup uuid to old new (is_carried work) (is_carried work) roles tape (stands-kept tells given tape scope first entries old work (still_left work old ahead) was.kept synced)
+      backward tape' begun-by (none-recovering given old was.kept.members_are.placed can.0) was.kept.members_are.free long did.free (did.moved.spares (few-planned old (beginning old to) old.lost)) [] left who end spares turned.goes
+      (not_254 who.caller caller) at_end did.grows (subst (λ (n : ℕ). IfSome (told_left entries) (λ m. m ≡ n)) (sym one-fewer) was.kept.left_told) (begun-some new behind did.newest.active) (λ number is. is)
+      (λ t. did.plain t scope refl refl) did.others (λ t. unturned-open (world_in given tape' scope first) entries who turned)
+
+  -- the entries tell the length of its list
+  tells-length : (b : Bool) → goes_back (shape_of old.newest) to ≡ b
+      → length_of (list_length new.newest) (entries ++ entries_of who end (Step Begun (left_in new (closed 0) behind) ∷ begun_length b (list_length new.newest) ++ losses_of roles spares)) ≡ list_length new.newest
+  tells-length false forward =
+      subst (λ (n : ℕ). length_of n (entries ++ entries_of who end (Step Begun (left_in new (closed 0) behind) ∷ losses_of roles spares)) ≡ n) (sym (begun-long old.newest new.newest to did.newest still forward))
+      (length-more (list_length old.newest) entries (entries_of who end (Step Begun (left_in new (closed 0) behind) ∷ losses_of roles spares)) was.sized ((losses-keep who end roles spares).long (list_length old.newest)))
+  tells-length true backward =
+      fold-append (λ m e. length_after m e.event) (list_length new.newest) entries (entries_of who end (Step Begun (left_in new (closed 0) behind) ∷ Resized (list_length new.newest) ∷ losses_of roles spares))
+      ∙ (losses-keep who end roles spares).long (list_length new.newest)
 
   -- where no entry takes a role's holder, none is missing
-  begun-whole : tells → TakesNone (world_in given tape' (scope_in given uuid slots (Some backup)) first) (entries ++ entries_of who end (Step Begun (left_in new (closed 0) behind) ∷ losses_of roles spares)) → AreWhole new
+  begun-whole : tells → TakesNone (world_in given tape' (scope_in given uuid slots (Some backup)) first) (entries ++ entries_of who end (Step Begun (left_in new (closed 0) behind) ∷ begun_length back (list_length new.newest) ++ losses_of roles spares)) → AreWhole new
   begun-whole t none role lt = by (is_missing (reading_of new) role) refl
     where
       later : World
       later = world_in given tape' (scope_in given uuid slots (Some backup)) first
 
-      none-here : list_any (loses later role) (entries_of who end (Step Begun (left_in new (closed 0) behind) ∷ losses_of roles spares)) ≡ false
+      none-here : list_any (loses later role) (entries_of who end (Step Begun (left_in new (closed 0) behind) ∷ begun_length back (list_length new.newest) ++ losses_of roles spares)) ≡ false
       none-here = (neither (list_any (loses later role) entries) (list_any (loses later role) added) (sym (list_any-append (loses later role) entries added) ∙ none role)).1
-
-      told-lost : IsAmong roles role → is_lost (entries_of who end (Step Begun (left_in new (closed 0) behind) ∷ losses_of roles spares)) role ≡ true
-      told-lost has = subst (λ (l : List Event). is_lost (entries_of who end l) role ≡ true) (append-nil (losses_of roles spares))
-          ((early-losses roles spares).lost who end [] role (let few = few-roles new.newest did.moved.placed.fit.valid in omega (arith, lt, few)) has)
 
       by : (b : Bool) → is_missing (reading_of new) role ≡ b → b ≡ false
       by false is = refl
       by true is = absurd (
           let has = lost-missing given old to was.kept.members_are.placed was.kept.members_are.unlost was.kept.members_are.free still sound.0 sound.1 can new roles spares before after did.moved did.failed lost role lt is in
-          let both : true ≡ false = sym (lost-taken later role added (told-lost has)) ∙ none-here in cc)
-
-  -- it tells of no end of a resync
-  none-ends : list_any (λ e. is_resync_end e.event) (entries_of who end (Step Begun (left_in new (closed 0) behind) ∷ losses_of roles spares)) ≡ false
-  none-ends = subst (λ (l : List Event). list_any (λ e. is_resync_end e.event) (entries_of who end l) ≡ false) (append-nil (losses_of roles spares))
-      (ends-losses who end (losses_of roles spares) [] (losses-are roles spares))
+          let both : true ≡ false = sym (lost-taken later role added (begun-tells who end left roles spares (list_length new.newest) role back (let few = few-roles new.newest did.moved.placed.fit.valid in omega (arith, lt, few)) has)) ∙ none-here in cc)
 
   -- So the array is ready in its reshape.
   pub begun-ready : {given' : Given} {scope' : Scope} {first' : ℕ} {mid entries' : List Entry} {steps' room' : ℕ} (window : List ℕ) → 512 * phase_window (shape_of old.newest) old.newest.size (Reshape to) ≤ length window
-      → given' ≡ given → scope' ≡ scope_in given uuid slots (Some backup) → first' ≡ first → mid ≡ entries → entries' ≡ mid ++ entries_of who end (Step Begun (left_in new (closed 0) behind) ∷ losses_of roles spares)
+      → given' ≡ given → scope' ≡ scope_in given uuid slots (Some backup) → first' ≡ first → mid ≡ entries → entries' ≡ mid ++ entries_of who end (Step Begun (left_in new (closed 0) behind) ∷ begun_length back (list_length new.newest) ++ losses_of roles spares)
       → 50 * steps' < room' → IsReadyMoving tells given' tape' scope' first' entries' new work (closed 0) behind window after steps' room' rows buffer far_rows far_buffer
   begun-ready {given' = given'} {scope' = scope'} {first' = first'} {mid = mid} {entries' = entries'} {steps' = steps'} {room' = room'} window wide same_given scope_is first_is mid_is is room_left =
       subst (λ (l : List Entry). IsReadyMoving tells given' tape' scope' first' l new work (closed 0) behind window after steps' room' rows buffer far_rows far_buffer) (sym (is ∙ ap (λ (l : List Entry). l ++ added) mid_is))
@@ -330,14 +373,13 @@ module _ {tells : Type 0} {given : Given} {tape tape' : List Operation} {first :
       (subst (λ (s : Scope). IsReadyMoving tells given' tape' s first (entries ++ added) new work (closed 0) behind window after steps' room' rows buffer far_rows far_buffer) (sym scope_is)
       (subst (λ (g : Given). IsReadyMoving tells g tape' scope first (entries ++ added) new work (closed 0) behind window after steps' room' rows buffer far_rows far_buffer) (sym same_given)
       (record {
-        kept = keeps;
+        kept = keeps back way;
         synced = synced;
-        sized = subst (λ (n : ℕ). length_of n (entries ++ added) ≡ n) (sym (begun-long old.newest new.newest to did.newest still forward))
-            (length-more (list_length old.newest) entries added was.sized ((begun-keeps who end left roles spares).long (list_length old.newest)));
-        unlimited = limit-more entries added was.unlimited (begun-keeps who end left roles spares).free;
+        sized = tells-length back way;
+        unlimited = limit-more entries added was.unlimited (begun-free who end left roles spares (list_length new.newest) back);
         full = begun-whole;
         settled = λ t.
-            unsynced-later given scope first (entries ++ added) did.grows (λ u. (was.kept.recorded u).begun) t ∙ unsynced-still (world_in given tape scope first) entries added none-ends
+            unsynced-later given scope first (entries ++ added) did.grows (λ u. (was.kept.recorded u).begun) t ∙ unsynced-still (world_in given tape scope first) entries added (begun-ends who end left roles spares (list_length new.newest) back)
             ∙ was.kept.pending t ∙ ap (λ (o : Option ℕ). is_some o) synced;
         planned = subst (λ (n : ℕ). AreSound (final_shape new.newest) n (phases_of behind)) (sym did.newest.size)
             (subst (λ (s : Shape). AreSound s old.newest.size (phases_of behind)) (sym did.newest.new) sound.2);

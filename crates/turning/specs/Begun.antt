@@ -1,5 +1,5 @@
 -- A reshape begins in an array that had none: what is asked of it, and what it leaves.
-use Rattle.std.specs.Prelude.{◌≡◌, ◌⊎◌, ℕ, ◌+◌, ◌-◌, ◌<◌, ◌≤◌, ◌++◌, Bool, true, false, List, [], ◌∷◌, Some, IfSome, ⊤}
+use Rattle.std.specs.Prelude.{◌≡◌, ◌⊎◌, ℕ, ◌+◌, ◌-◌, ◌<◌, ◌≤◌, ◌++◌, Bool, true, false, List, [], ◌∷◌, Some, IfSome, if◌then◌else◌, ⊤}
 use Rattle.std.specs.List.{list_any}
 use Rattle.md_base.specs.declared.answers.Refusal.{Refusal}
 use Rattle.md_base.specs.declared.answers.Refusal.TheVariants.{PastEnd, TooManyMissing, NotResynced, Degraded, NeedSpares, BackupFault}
@@ -9,6 +9,7 @@ use Rattle.md_base.specs.declared.wishes.Phase.TheVariants.{Reshape}
 use Rattle.md_base.specs.Shapes.{has_slot}
 use Rattle.bank.specs.declared.bank.Operation.{Operation}
 use Rattle.bank.specs.Given.{Given, IsFaulted, NeverFalls}
+use Rattle.geometry.specs.Geometry.{list_end}
 use Rattle.grow_plan.specs.Plans.{phase_window}
 use Rattle.superblocks.specs.declared.members.Members.{Members}
 use Rattle.superblocks.specs.Reading.{shape_of, role_state, holder, list_length}
@@ -25,6 +26,7 @@ use Rattle.views.specs.Placed.{AreStillHeld}
 use Rattle.views.specs.Moving.{Grows}
 use Rattle.views.specs.Status.{spare_count}
 use Rattle.array_kept.specs.Calls.{AreSparesFewer, AreLossesOf, IsEndOf}
+use Rattle.reshape_updates.specs.Beginning.{goes_back}
 use Rattle.reshape_ends.specs.Begun.{begun_plan}
 use Rattle.grow_asked.specs.declared.window.PhasesLeft.{PhasesLeft}
 use Rattle.grow_asked.specs.Left.{IsAtStartOf}
@@ -84,23 +86,27 @@ pub record IsSameArray {B : Type 0} (old new : RunningParts B) : Type 0 where
   pub backup : new.parts.backup ≡ old.parts.backup
   pub work : new.parts.work ≡ old.parts.work
 
--- a call entered that the reshape began, with so many steps left, and behind it what its update lost
-pub record IsBegunWith (who : Who) (old new : List Entry) (left : ℕ) : Type 0 where
+-- a reshape to fewer data disks makes the list shorter as it begins
+abbrev pub begun_length : Bool → ℕ → List Event
+begun_length back size = if back then Resized size ∷ [] else []
+
+-- a call entered that the reshape began, with so many steps left, and behind it the new length, where the list gets shorter, and what its update lost
+pub record IsBegunWith (who : Who) (back : Bool) (size : ℕ) (old new : List Entry) (left : ℕ) : Type 0 where
   pub roles : ℕ
   pub spares : ℕ
   pub end : ℕ
-  pub is : new ≡ old ++ entries_of who end (Step Begun left ∷ losses_of roles spares)
+  pub is : new ≡ old ++ entries_of who end (Step Begun left ∷ begun_length back size ++ losses_of roles spares)
 
--- The reshape to this shape has begun: no role was missing, and the lowest spares have the new roles, but those slots that were lost in it; the list is as it was, and these phases
--- are ahead.
+-- The reshape to this shape has begun: no role was missing, and the lowest spares have the new roles, but those slots that were lost in it; the list is as long as both shapes have room
+-- for, and these phases are ahead.
 pub record IsReshapeBegun {B : Type 0} (tells : Type 0) (tape tape' : List Operation) (before after : ℕ → ℕ) (who : Who) (to : Shape) (behind : PhasesLeft) (old new : RunningParts B) : Type 0 where
   pub could : CanBegin old.parts.members to
-  pub entered : IsBegunWith who old.parts.entries new.parts.entries (left_in new.parts.members new.course new.ahead)
+  pub entered : IsBegunWith who (goes_back (shape_of old.parts.members.newest) to) (list_length new.parts.members.newest) old.parts.entries new.parts.entries (left_in new.parts.members new.course new.ahead)
   pub ended : IsEndOf tells new.parts.first new.parts.entries tape'
   pub grows : Grows tells tape tape'
   pub left : left_in new.parts.members new.course new.ahead + 1 ≡ still_left old.parts.work old.parts.members old.ahead
   pub start : IsAtStartOf old.parts.members.newest to new.parts.members.newest
-  pub long : list_length new.parts.members.newest ≡ list_length old.parts.members.newest
+  pub long : list_length new.parts.members.newest ≡ list_end (shape_of old.parts.members.newest) to old.parts.members.newest.size
   pub held : AreStillHeld (begun_plan old.parts.members to) new.parts.members
   pub spares : AreSparesFewer (begun_plan old.parts.members to) new.parts.members
   pub losses : AreLossesOf (begun_plan old.parts.members to) before after old.parts.entries new.parts.entries

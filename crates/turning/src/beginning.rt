@@ -3,8 +3,8 @@
 ghost use Rattle.std.specs.Prelude.{◌≡◌, ◌≢◌, ◌⊎◌, ◌+◌, ◌*◌, ◌<◌, ◌≤◌, ◌++◌, ◌∷◌, [], ℕ, false, length, vec_capacity, Some, IfOk, IfErr};
 ghost use Rattle.md_base.specs.declared.wishes.Phase.TheVariants.{Reshape};
 ghost use Rattle.bank.specs.Given.{NeverFalls};
-ghost use Rattle.grow_plan.specs.Plans.{phase_window};
-ghost use Rattle.superblocks.specs.Reading.{shape_of};
+ghost use Rattle.grow_plan.specs.Plans.{phase_window, AreSound};
+ghost use Rattle.superblocks.specs.Reading.{shape_of, final_shape};
 ghost use Rattle.flat_history.specs.declared.events.Event.TheVariants.{Step};
 ghost use Rattle.flat_history.specs.declared.events.StepKind.TheVariants.{Begun};
 ghost use Rattle.flat_history.specs.Plain.{entries_of};
@@ -12,22 +12,23 @@ ghost use Rattle.views.specs.Moving.{Grows};
 ghost use Rattle.views.specs.Status.{left_of};
 ghost use Rattle.call_entries.specs.Losing.{losses_of};
 ghost use Rattle.array_kept.specs.Kept.{scope_in};
-ghost use Rattle.reshape_updates.specs.Beginning.{goes_back};
-ghost use Rattle.grow_asked.specs.Left.{phases_of};
+ghost use Rattle.grow_asked.specs.Left.{phases_of, IsReshapeUnderWay};
 ghost use Rattle.kept_history.specs.Recorded.{IsCallGoing};
 ghost use Rattle.course_kept.specs.Laws.{closed};
-ghost use Rattle.running_words.specs.Parts.{RunningParts};
+ghost use Rattle.running_words.specs.Parts.{RunningParts, left_in};
 ghost use Rattle.still_laws.specs.Ready.{IsReady};
-ghost use Rattle.turning.specs.Begun.{IsUnturned, IsBackupAt, IsPlain, IsReshapeBegun, IsGivenBack, IsBeginRefused};
+ghost use Rattle.turning.specs.Begun.{begun_length, IsUnturned, IsBackupAt, IsPlain, IsReshapeBegun, IsGivenBack, IsBeginRefused};
 
 use crate::refusing::unbegun;
 use bank::Bank;
 use call_entries::calls::{enter, enter_lost};
 use course_kept::Course;
 use flat_history::{Entries, Epoch, Event, StepKind};
+use grow_asked::shapes::is_backward;
 use grow_asked::{PhasesLeft, Window, planned_left, reshape_left};
 use md_base::{Refusal, Shape, Who};
 use moving::Moving;
+use moving_state::reshape::list_sectors;
 use pieces::Pieces;
 use reshape_ends::begin;
 use safe_updates::roles::vacant_roles;
@@ -42,32 +43,64 @@ fn check_going(entries: &Entries, who: Who)
     let _ = entries.next_number(who.caller);
 }
 
-// A superblock is kept of each of 32 slots.
-fn check_counts(members: &Members)
+// A superblock is kept of each of 32 slots, and a uuid has 16 bytes.
+fn check_sizes(members: &Members, uuid: &[u8; 16])
     ensures own { length members.now.own ≡ 32 }
+    ensures uuid { length uuid.now ≡ 16 }
 {
     let _ = members.own.get(0);
-}
-
-// A uuid has 16 bytes.
-fn check_uuid(uuid: &[u8; 16])
-    ensures { length uuid.now ≡ 16 }
-{
     let _ = uuid.len();
 }
 
-// Enters that a reshape began, and then what its update lost.
-fn enter_begun(epoch: &mut Epoch, who: Who, end: u64, left: u64, roles: u32, spares: u32)
-    requires room { 49 ≤ epoch.old.entries.room }
+// The steps that are left of a reshape to this shape that has just begun, and of the phases behind it.
+fn begun_left(members: &Members, to: &Shape, behind: &PhasesLeft) -> u64
+    requires reshape { IsReshapeUnderWay members.now.newest }
+    requires to { final_shape members.now.newest ≡ to.now }
+    requires sound { AreSound to.now members.now.newest.size (phases_of behind.now) }
+    ensures { result ≡ left_in members.now (closed 0) behind.now }
+{
+    let moved = reshape_left(members, &Window::Closed, 0);
+    moved + planned_left(to, members.newest.size, behind)
+}
+
+// Enters the new length, where the list gets shorter.
+fn enter_length(epoch: &mut Epoch, who: Who, end: u64, back: bool, size: u64)
+    requires room { 1 ≤ epoch.old.entries.room }
     requires number { who.number ≤ length epoch.old.entries.items }
-    ensures items { epoch.new.entries.items ≡ epoch.old.entries.items ++ entries_of who end (Step Begun left ∷ losses_of roles spares) }
-    ensures room { epoch.old.entries.room ≤ epoch.new.entries.room + 49 }
+    ensures items { epoch.new.entries.items ≡ epoch.old.entries.items ++ entries_of who end (begun_length back size) }
+    ensures room { epoch.old.entries.room ≤ epoch.new.entries.room + 1 }
+    ensures uuid { epoch.new.uuid ≡ epoch.old.uuid }
+    ensures given { epoch.new.given ≡ epoch.old.given }
+    ensures first { epoch.new.first ≡ epoch.old.first }
+{
+    if !back {
+        return;
+    }
+    enter(epoch, who, end, Event::Resized { length: size });
+}
+
+// Enters that a reshape began, the new length, where the list gets shorter, and then what its update lost.
+fn enter_begun(
+    epoch: &mut Epoch,
+    who: Who,
+    end: u64,
+    left: u64,
+    back: bool,
+    size: u64,
+    roles: u32,
+    spares: u32,
+)
+    requires room { 50 ≤ epoch.old.entries.room }
+    requires number { who.number ≤ length epoch.old.entries.items }
+    ensures items { epoch.new.entries.items ≡ epoch.old.entries.items ++ entries_of who end (Step Begun left ∷ begun_length back size ++ losses_of roles spares) }
+    ensures room { epoch.old.entries.room ≤ epoch.new.entries.room + 50 }
     ensures uuid { epoch.new.uuid ≡ epoch.old.uuid }
     ensures given { epoch.new.given ≡ epoch.old.given }
     ensures first { epoch.new.first ≡ epoch.old.first }
 {
     let kind = StepKind::Begun;
     enter(epoch, who, end, Event::Step { kind, left });
+    enter_length(epoch, who, end, back, size);
     enter_lost(epoch, who, end, roles, spares);
 }
 
@@ -107,8 +140,8 @@ fn give_back<B: Bank>(pieces: Pieces<B>, who: Who, refusal: Refusal) -> Still<B>
 }
 
 /// The next phase of a plan begins, a reshape to this shape, where nothing else is left to do: the backup's header is cleared, and
-/// the superblocks record the reshape, by which the lowest spares get the new roles. The phases behind it are ahead then, and the
-/// buffer is that of its windows. It takes no memory.
+/// the superblocks record the reshape, by which the lowest spares get the new roles. To fewer data disks the list gets shorter then. The
+/// phases behind it are ahead, and the buffer is that of its windows. It takes no memory.
 ///
 /// Refused, the array goes on as it was, and the buffer is given back: `Degraded` where a role is missing, and `NeedSpares`
 /// where there are fewer spares than new roles, with nothing done; and `BackupFault` where the backup failed.
@@ -124,7 +157,6 @@ pub fn begin_reshape<B: Bank>(
     requires room { 1 ≤ still.parts.steps }
     requires done { left_of still.parts.work still.parts.members ≡ 0 }
     requires next { phases_of still.ahead ≡ Reshape to ∷ phases_of behind }
-    requires forward { goes_back (shape_of still.parts.members.newest) to ≡ false }
     requires backed { (slot : ℕ) × (still.parts.backup ≡ Some slot) × IsBackupAt (B.given still.parts.bank) still.parts.given still.parts.members to slot }
     requires wide { 512 * phase_window (shape_of still.parts.members.newest) still.parts.members.newest.size (Reshape to) ≤ length window.items }
     ensures begun { IfOk result (λ r. IsReshapeBegun B.tells (B.tape still.parts.bank) (B.tape r.parts.bank) (B.faults_of still.parts.bank) (B.faults_of r.parts.bank) who to behind still r) }
@@ -142,8 +174,7 @@ pub fn begin_reshape<B: Bank>(
     }
     pieces.steps -= 1;
     check_going(&pieces.epoch.entries, who);
-    check_counts(&pieces.members);
-    check_uuid(&pieces.epoch.uuid);
+    check_sizes(&pieces.members, &pieces.epoch.uuid);
     let Some(backup) = pieces.backup else {
         unreachable!()
     };
@@ -159,15 +190,24 @@ pub fn begin_reshape<B: Bank>(
         enter(&mut pieces.epoch, who, end, Event::Refused { refusal });
         return Err((Still::of_pieces(pieces), window, refusal));
     }
-    let window_now = Window::Closed;
-    let moved = reshape_left(&pieces.members, &window_now, 0);
-    let left = moved + planned_left(&to, pieces.members.newest.size, &behind);
+    let left = begun_left(&pieces.members, &to, &behind);
     let count = pieces.members.roles.len() as u32;
     let roles = vacant_roles(&pieces.members, count);
-    enter_begun(&mut pieces.epoch, who, end, left, roles, begun.spares);
+    let back = is_backward(&pieces.members.newest);
+    let size = list_sectors(&pieces.members);
+    enter_begun(
+        &mut pieces.epoch,
+        who,
+        end,
+        left,
+        back,
+        size,
+        roles,
+        begun.spares,
+    );
     pieces.ahead = behind;
     let course = Course {
-        window: window_now,
+        window: Window::Closed,
         zeroed: 0,
     };
     Ok(Moving::of_pieces(pieces, backup, course, window))

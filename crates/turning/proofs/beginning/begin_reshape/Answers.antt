@@ -1,13 +1,14 @@
-use Rattle.std.proofs.Common.{◌≡◌, inl, inr, ℕ, ◌+◌, ◌-◌, ◌*◌, ◌≤◌, ◌&&◌, nat_lt, false, Option, Some, List, [], ◌∷◌, ◌++◌, length, vec_capacity, refl, sym, ◌∙◌, ap, subst, arith}
+use Rattle.std.proofs.Common.{◌≡◌, inl, inr, ℕ, ◌-◌, ◌*◌, ◌≤◌, ◌&&◌, nat_lt, Option, Some, List, [], ◌∷◌, ◌++◌, length, vec_capacity, refl, sym, ◌∙◌, ap, subst, arith}
 use Rattle.std.specs.Prelude.{IfSome}
 use Rattle.md_base.specs.declared.answers.Refusal.{Refusal}
 use Rattle.md_base.specs.declared.answers.Refusal.TheVariants.{BackupFault}
 use Rattle.md_base.specs.declared.wishes.Phase.TheVariants.{Reshape}
 use Rattle.bank.specs.Given.{IsFaulted}
 use Rattle.layout.proofs.Limits.{limited}
+use Rattle.geometry.specs.Geometry.{list_end}
 use Rattle.grow_plan.specs.Plans.{AreSound, phase_window}
 use Rattle.superblocks.specs.declared.members.Members.{Members}
-use Rattle.superblocks.specs.Reading.{shape_of}
+use Rattle.superblocks.specs.Reading.{shape_of, list_length}
 use Rattle.superblocks.proofs.ValidFields.{few-roles}
 use Rattle.row_io.specs.Rows.{reading_of}
 use Rattle.flat_history.specs.declared.events.Entry.{Entry}
@@ -21,6 +22,7 @@ use Rattle.reshape_updates.specs.Beginning.{goes_back}
 use Rattle.reshape_ends.specs.Begun.{begun_plan}
 use Rattle.views.specs.Placed.{is_vacant}
 use Rattle.views.specs.Status.{left_of}
+use Rattle.views.proofs.MovedLaws.{grows-none}
 use Rattle.call_entries.specs.Losing.{losses_of}
 use Rattle.call_entries.proofs.PlainLaws.{last_end-call}
 use Rattle.array_kept.specs.Kept.{scope_in}
@@ -32,8 +34,8 @@ use Rattle.running_words.specs.Parts.{left_in}
 use Rattle.running_words.proofs.Lengths.{alone-keeps}
 use Rattle.still_laws.specs.Ready.{IsReady}
 use Rattle.still_laws.proofs.Kept.{ready, rows-same}
-use Rattle.turning.specs.Begun.{IsUnturned, IsBackupAt}
-use Rattle.turning.proofs.Begun.{IsUpdated, next-sound, backup-here, begun-under, begun-counted, begun-left, begun-start, begun-long, begun-losses, begun-ready}
+use Rattle.turning.specs.Begun.{begun_length, IsUnturned, IsBackupAt}
+use Rattle.turning.proofs.Begun.{IsUpdated, next-sound, backup-here, begun-under, begun-left, begun-start, begun-losses, begun-ready}
 use Rattle.turning.proofs.GivenBack.{fault-stands}
 use Rattle.turning.proofs.Planned.{none-recovering, begin-live, lost-since}
 use Rattle.turning.proofs.beginning.begin_reshape.Goals as goal
@@ -56,6 +58,9 @@ unbegun-requires-clause-disks g c =
 
 pub returns-in-Some-clause-caused : goal.returns-in-Some-clause-caused
 returns-in-Some-clause-caused g c = rw (c.take_apart-pieces.ensures.same) (inl (c.in-Some.ensures, c.give_back.ensures.bank))
+
+pub returns-in-Some-clause-grows : goal.returns-in-Some-clause-grows
+returns-in-Some-clause-grows g c = rw (c.take_apart-pieces.ensures.same) (rw (c.give_back.ensures.bank) (grows-none (λ t. refl)))
 
 -- ---- the backup failed
 
@@ -128,16 +133,19 @@ returns-in-Some-refusal-clause-never_falls g c = rw (c.of_pieces.ensures.same) (
 
 -- ---- the steps that are left
 
-pub reshape_left-moved-requires-clause-reshape : goal.reshape_left-moved-requires-clause-reshape
-reshape_left-moved-requires-clause-reshape g c =
+pub begun_left-left-requires-clause-reshape : goal.begun_left-left-requires-clause-reshape
+begun_left-left-requires-clause-reshape g c =
     let p = c.take_apart-pieces.result in
     let none = c.in_default-refusal.is in
     let next = subst (λ s. phases_of s.ahead ≡ Reshape c.args.to ∷ phases_of c.args.behind) c.take_apart-pieces.ensures.same c.requires.next in
     let sound = next-sound (shape_of p.members.newest) p.members.newest.size (phases_of p.ahead) (phases_of c.args.behind) c.args.to c.take_apart-pieces.ensures.ready.planned next in
     begun-under p.members.newest c.begin-begun.new.members.newest c.args.to (c.begin-begun.ensures.newest none) sound.0 (c.begin-begun.ensures.moved none).placed.fit.position
 
-pub planned_left-requires : goal.planned_left-requires
-planned_left-requires g c =
+pub begun_left-left-requires-clause-to : goal.begun_left-left-requires-clause-to
+begun_left-left-requires-clause-to g c = (c.begin-begun.ensures.newest c.in_default-refusal.is).new
+
+pub begun_left-left-requires-clause-sound : goal.begun_left-left-requires-clause-sound
+begun_left-left-requires-clause-sound g c =
     let p = c.take_apart-pieces.result in
     let none = c.in_default-refusal.is in
     let next = subst (λ s. phases_of s.ahead ≡ Reshape c.args.to ∷ phases_of c.args.behind) c.take_apart-pieces.ensures.same c.requires.next in
@@ -159,6 +167,9 @@ vacant_roles-roles-requires-clause-few g c =
     let count = placed.roles in
     let long = c.len-count.ensures in
     omega (arith, few, count, long)
+
+pub list_sectors-size-requires : goal.list_sectors-size-requires
+list_sectors-size-requires g c = record { fit = (c.begin-begun.ensures.moved c.in_default-refusal.is).placed.fit }
 
 -- ---- it has begun
 
@@ -184,7 +195,6 @@ of_pieces-requires-2-clause-ready g c =
     let some : 1 ≤ p.steps = subst (λ s. 1 ≤ s.parts.steps) same c.requires.room in
     let idle = subst (λ s. left_of s.parts.work s.parts.members ≡ 0) same c.requires.done in
     let next = subst (λ s. phases_of s.ahead ≡ Reshape to ∷ phases_of behind) same c.requires.next in
-    let forward = subst (λ s. goes_back (shape_of s.parts.members.newest) to ≡ false) same c.requires.forward in
     let backed = subst (λ s. (slot : ℕ) × (s.parts.backup ≡ Some slot) × IsBackupAt (g.B.Bank.given s.parts.bank) s.parts.given s.parts.members to slot) same c.requires.backed in
     let wide = subst (λ s. 512 * phase_window (shape_of s.parts.members.newest) s.parts.members.newest.size (Reshape to) ≤ length c.args.window.items) same c.requires.wide in
     let update : IsUpdated g.B.Bank.tells given (g.B.Bank.tape p.bank) (g.B.Bank.tape c.begin-begun.new.bank) backup p.epoch.uuid to p.members new spares (g.B.Bank.faults_of p.bank) (g.B.Bank.faults_of c.begin-begun.new.bank) = record {
@@ -200,14 +210,15 @@ of_pieces-requires-2-clause-ready g c =
       safe = did.safe none;
       counts = did.counts;
     } in
-    let left_is = begun-counted new behind to c.reshape_left-moved.result c.planned_left.result (c.reshape_left-moved.result + c.planned_left.result) (did.newest none).active (did.newest none).new
-    c.reshape_left-moved.ensures.value c.planned_left.ensures.value refl in
-    begun-ready p.epoch.uuid p.epoch.given backup p.ahead behind to who end roles spares was turned c.requires.caller idle next forward
-    (backup-here given p.epoch.given p.members to p.backup backup backed c.in-Some-backup.is) c.in_default.ensures update c.ops-end.ensures.count c.check_counts.ensures.own c.check_uuid.ensures
+    let left_is : c.begun_left-left.result ≡ left_in new (closed 0) behind = c.begun_left-left.ensures in
+    let back_is : c.is_backward-back.result ≡ goes_back (shape_of p.members.newest) to = c.is_backward-back.ensures ∙ (did.newest none).backward in
+    let size_is : c.list_sectors-size.result ≡ list_length new.newest = c.list_sectors-size.ensures.length in
+    begun-ready p.epoch.uuid p.epoch.given backup p.ahead behind to who end roles spares was turned c.requires.caller idle next (goes_back (shape_of p.members.newest) to) refl
+    (backup-here given p.epoch.given p.members to p.backup backup backed c.in-Some-backup.is) c.in_default.ensures update c.ops-end.ensures.count c.check_sizes.ensures.own c.check_sizes.ensures.uuid
     (λ role. c.vacant_roles-roles.ensures role ∙ ap (λ (n : ℕ). nat_lt role n && is_vacant (reading_of new) role) c.len-count.ensures)
     c.args.window.items wide did.given
     (scope-same given p.backup did.given c.enter_begun.ensures.uuid c.enter_begun.ensures.given ∙ ap (λ (o : Option ℕ). scope_in given p.epoch.uuid p.epoch.given o) c.in-Some-backup.is) c.enter_begun.ensures.first refl
-    (c.enter_begun.ensures.items ∙ ap (λ (n : ℕ). p.epoch.entries.items ++ entries_of who end (Step Begun n ∷ losses_of roles spares)) left_is)
+    (c.enter_begun.ensures.items ∙ (λ i. p.epoch.entries.items ++ entries_of who end (Step Begun (left_is i) ∷ begun_length (back_is i) (size_is i) ++ losses_of roles spares)))
     (let had = was.room_left in let room = c.enter_begun.ensures.room in omega (arith, had, room, some))
 
 pub returns-clause-begun : goal.returns-clause-begun
@@ -229,26 +240,27 @@ returns-clause-begun g c =
     let some : 1 ≤ p.steps = subst (λ s. 1 ≤ s.parts.steps) same c.requires.room in
     let idle = subst (λ s. left_of s.parts.work s.parts.members ≡ 0) same c.requires.done in
     let next = subst (λ s. phases_of s.ahead ≡ Reshape to ∷ phases_of behind) same c.requires.next in
-    let forward = subst (λ s. goes_back (shape_of s.parts.members.newest) to ≡ false) same c.requires.forward in
     let sound = next-sound (shape_of p.members.newest) p.members.newest.size (phases_of p.ahead) (phases_of behind) to was.planned next in
-    let left_is = begun-counted new behind to c.reshape_left-moved.result c.planned_left.result (c.reshape_left-moved.result + c.planned_left.result) (did.newest none).active (did.newest none).new
-    c.reshape_left-moved.ensures.value c.planned_left.ensures.value refl in
-    let items = c.enter_begun.ensures.items ∙ ap (λ (n : ℕ). p.epoch.entries.items ++ entries_of who end (Step Begun n ∷ losses_of roles spares)) left_is in
+    let left_is : c.begun_left-left.result ≡ left_in new (closed 0) behind = c.begun_left-left.ensures in
+    let back_is : c.is_backward-back.result ≡ goes_back (shape_of p.members.newest) to = c.is_backward-back.ensures ∙ (did.newest none).backward in
+    let size_is : c.list_sectors-size.result ≡ list_length new.newest = c.list_sectors-size.ensures.length in
+    let items = c.enter_begun.ensures.items ∙ (λ i. p.epoch.entries.items ++ entries_of who end (Step Begun (left_is i) ∷ begun_length (back_is i) (size_is i) ++ losses_of roles spares)) in
     let since = lost-since given p.members to are.placed are.unlost are.free are.still sound.0 sound.1 c.in_default.ensures new roles spares (g.B.Bank.faults_of p.bank) (g.B.Bank.faults_of c.begin-begun.new.bank)
     (did.moved none) (did.failed none) (λ role. c.vacant_roles-roles.ensures role ∙ ap (λ (n : ℕ). nat_lt role n && is_vacant (reading_of new) role) c.len-count.ensures) in
     rw (c.of_pieces-2.ensures.same) (rw (c.take_apart-pieces.ensures.same) (record {
       could = c.in_default.ensures;
       entered = record { roles = roles; spares = spares; end = end; is = items };
       ended = λ t. ap (λ (l : List Entry). last_end_from c.enter_begun.new.epoch.first l) items
-          ∙ last_end-call c.enter_begun.new.epoch.first p.epoch.entries.items who end (Step Begun (left_in new (closed 0) behind)) (losses_of roles spares) ∙ c.ops-end.ensures.count t;
+          ∙ last_end-call c.enter_begun.new.epoch.first p.epoch.entries.items who end (Step Begun (left_in new (closed 0) behind))
+          (begun_length (goes_back (shape_of p.members.newest) to) (list_length new.newest) ++ losses_of roles spares) ∙ c.ops-end.ensures.count t;
       grows = did.grows;
       left = begun-left p.members new p.work p.ahead behind to (did.newest none) are.still idle next;
       start = begun-start p.members.newest new.newest to (did.newest none);
-      long = begun-long p.members.newest new.newest to (did.newest none) are.still forward;
+      long = λ i. list_end ((did.newest none).old i) ((did.newest none).new i) ((did.newest none).size i);
       held = (did.moved none).held;
       spares = (did.moved none).fewer;
       losses = begun-losses (begun_plan p.members to) new (g.B.Bank.faults_of p.bank) (g.B.Bank.faults_of c.begin-begun.new.bank) p.epoch.entries.items p.epoch.entries.items c.enter_begun.new.epoch.entries.items who end
-          (left_in new (closed 0) behind) roles spares since refl items;
+          (left_in new (closed 0) behind) (list_length new.newest) roles spares (goes_back (shape_of p.members.newest) to) since refl items;
       never_falls = did.counts;
       course = refl;
       ahead = refl;

@@ -1,0 +1,21 @@
+use Rattle.std.proofs.Common.{List, [], ◌∷◌, ◌++◌, sym, ◌∙◌, ap, append_assoc}
+use Rattle.flat_history.specs.declared.events.Entry.{Entry}
+use Rattle.flat_history.specs.declared.events.Event.TheVariants.{Step}
+use Rattle.flat_history.specs.declared.events.StepKind.TheVariants.{Begun}
+use Rattle.flat_history.specs.Plain.{entries_of}
+use Rattle.call_entries.specs.Losing.{losses_of}
+use Rattle.call_entries.proofs.LosingLaws.{entries-both}
+use Rattle.turning.specs.Begun.{begun_length}
+use Rattle.turning.proofs.beginning.enter_begun.Goals as goal
+
+pub returns-clause-items : goal.returns-clause-items
+returns-clause-items c =
+    let a = c.args in
+    let old = a.epoch.now.entries.items in
+    let first = entries_of a.who a.end (Step Begun a.left ∷ []) in
+    let sized = entries_of a.who a.end (begun_length a.back a.size) in
+    let lost = entries_of a.who a.end (losses_of a.roles a.spares) in
+    c.enter_lost.ensures.items
+    ∙ ap (λ (l : List Entry). l ++ lost) (c.enter_length.ensures.items ∙ ap (λ (l : List Entry). l ++ sized) c.enter.ensures.items)
+    ∙ append_assoc (old ++ first) sized lost ∙ append_assoc old first (sized ++ lost)
+    ∙ ap (λ (l : List Entry). old ++ (first ++ l)) (sym (entries-both a.who a.end (begun_length a.back a.size) (losses_of a.roles a.spares)))
