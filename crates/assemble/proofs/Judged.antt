@@ -1,5 +1,5 @@
 -- From what is judged of the superblocks that were found to what is answered of the contents.
-use Rattle.std.proofs.Common.{◌≡◌, ◌⊎◌, inl, inr, ℕ, Bool, true, false, cond, nat_lt, refl, sym, ap, ◌∙◌, subst, List, [], ◌∷◌, length, take, map, slice_index, Option, Some, None, unwrap_or, Result, Ok, Err, IfOk, IfErr, IfSome, option_map, arith, ◌<◌, ◌≤◌, zero, suc, ◌+◌, ◌-◌, ◌^◌, get_or, replicate, drop}
+use Rattle.std.proofs.Common.{◌≡◌, ◌⊎◌, inl, inr, ℕ, Bool, true, false, cond, nat_lt, refl, sym, ap, ◌∙◌, subst, List, [], ◌∷◌, length, take, map, slice_index, Option, Some, None, unwrap_or, Result, Ok, Err, IfOk, IfErr, IfSome, IsTrue, option_map, arith, ◌<◌, ◌≤◌, zero, suc, ◌+◌, ◌-◌, ◌^◌, get_or, replicate, drop}
 use Rattle.std.specs.Prelude.{not, ◌&&◌, ◌||◌, bytes_eq, find, option_to_list}
 use Rattle.std.specs.Option.{option_or, option_map_or}
 use Rattle.std.proofs.lemmas.List.{length-map, length-take-le, get_or-take, get_or-drop, get_or-replicate, get_or_past, length-replicate}
@@ -16,7 +16,7 @@ use Rattle.sb1.specs.declared.sb.Sb.{Sb}
 use Rattle.bank.specs.Given.{Given, sizes}
 use Rattle.bank.specs.Tape.{Contents}
 use Rattle.superblocks.specs.declared.members.Members.{Members}
-use Rattle.superblocks.specs.Reading.{Scope, Reading, reading, reading_of, reading_by, newest_of, newer, of_array, superblocks, seen_superblock, is_reshaping, shape_of, final_shape, target_of, shapes_in_force}
+use Rattle.superblocks.specs.Reading.{Scope, Reading, reading, reading_of, reading_by, newest_of, newer, of_array, superblocks, seen_superblock, is_backup, is_reshaping, shape_of, final_shape, target_of, shapes_in_force}
 use Rattle.superblocks.specs.Verdict.{members_refusal, members_verdict, first_of_all, fresh_from, unsupported, bad_field, two_holders, members_missing, missing_count, too_many, dirty_degraded, off_unit, AreValidShapes}
 use Rattle.superblocks.specs.Election.{seen_superblocks, uuid_for, reading_in, IsElected}
 use Rattle.superblocks.specs.Writing.{AreWritable}
@@ -26,8 +26,8 @@ use Rattle.election.proofs.Elected.{map-tabulate}
 use Rattle.shape_views.specs.Regions.{DoWithout}
 use Rattle.flat_history.specs.Stands.{verdict, refusal_of, backup_absent, has_room, reach_of}
 use Rattle.assemble.specs.declared.opening.Opened.{Opened}
-use Rattle.assemble.specs.Opening.{scope_of, array_of, AreGiven, AreOfGiven, AreCounted, IsOpened, IsRefused, IsReshapeRefused, HasCause}
-use Rattle.assemble.specs.Looking.{lengths_scope, IsMade, IsReshape, IsJudged}
+use Rattle.assemble.specs.Opening.{scope_of, array_of, AreGiven, AreOfGiven, AreCounted, IsFound, IsAside, IsUnfound, HasFoundNone, IsReshapeRefused, IsOpened, HasCause}
+use Rattle.assemble.specs.Looking.{lengths_scope, IsMade, IsLacking, IsJudged}
 
 -- ---- the shapes of what is refused for nothing are valid
 
@@ -89,48 +89,18 @@ elected-does sectors own lost members elected =
 
 -- ---- a reshape
 
--- what an active reshape is refused for
-abbrev pub reshape_refusal : Scope → Sb → Option Refusal
-reshape_refusal scope sb = option_or (backup_absent scope sb) (cond (is_reshaping sb) (Some (Unsupported 4)) None)
-
 module _ (scope : Scope) (sb : Sb) where
-  active_first : (refusal : Refusal) → reshape_refusal scope sb ≡ Some refusal
-      → (is_reshaping sb ≡ true) × (option_or (backup_absent scope sb) (Some (Unsupported 4)) ≡ Some refusal)
-  active_first refusal e = by_reshape (is_reshaping sb) refl
-    where
-      by_reshape : (b : Bool) → is_reshaping sb ≡ b
-          → (is_reshaping sb ≡ true) × (option_or (backup_absent scope sb) (Some (Unsupported 4)) ≡ Some refusal)
-      by_reshape true is = (is, sym (ap (λ b. option_or (backup_absent scope sb) (cond b (Some (Unsupported 4)) None)) is) ∙ e)
-      by_reshape false is = absurd (contrary (sym (ap (λ b. option_or (cond (not b || has_room scope (reach_of sb)) None (Some BackupAbsent)) (cond b (Some (Unsupported 4)) None)) is) ∙ e))
-        where
-          contrary : ◌≡◌ {A = Option Refusal} None (Some refusal) → ⊥
-          contrary e = absurd (cc)
-
-  pub none-still : reshape_refusal scope sb ≡ None → is_reshaping sb ≡ false
-  none-still e = by_reshape (is_reshaping sb) refl
-    where
-      some : (o : Option Refusal) → option_or o (Some (Unsupported 4)) ≡ None → ⊥
-      some None e = absurd (cc)
-      some (Some x) e = absurd (cc)
-
-      by_reshape : (b : Bool) → is_reshaping sb ≡ b → is_reshaping sb ≡ false
-      by_reshape true is = absurd (some (backup_absent scope sb) (sym (ap (λ b. option_or (backup_absent scope sb) (cond b (Some (Unsupported 4)) None)) is) ∙ e))
-      by_reshape false is = is
-
   pub still_none : is_reshaping sb ≡ false → backup_absent scope sb ≡ None
   still_none is = ap (λ b. cond (not b || has_room scope (reach_of sb)) None (Some BackupAbsent)) is
 
-pub reshape-refused : (scope : Scope) (own : List (Option Sb)) (lost : ℕ) (members : Members) (refusal : Refusal)
-    → IsElected scope.sizes.sectors own lost members → reshape_refusal scope members.newest ≡ Some refusal → IsReshape scope own refusal
-reshape-refused scope own lost members refusal elected e =
-    let parts = active_first scope members.newest refusal e in
-    record {
-      accepted = elected.accepted;
-      found = reading_in (length own) members;
-      says = elected.says;
-      active = parts.0;
-      first = parts.1;
-    }
+pub backup-refused : (scope : Scope) (own : List (Option Sb)) (lost : ℕ) (members : Members) (refusal : Refusal)
+    → IsElected scope.sizes.sectors own lost members → backup_absent scope members.newest ≡ Some refusal → IsLacking scope own refusal
+backup-refused scope own lost members refusal elected e = record {
+  accepted = elected.accepted;
+  found = reading_in (length own) members;
+  says = elected.says;
+  lacking = e;
+}
 
 -- ---- the uuid
 
@@ -311,8 +281,8 @@ module _ (tells : Type 0) (bank : Given) (c : Contents) (backup : Option ℕ) (a
   named : tells → uuid ≡ array_of bank backup given asked c
   named told = ap (uuid_for asked) (read told)
 
-  is-opened : (opened : Opened) → IsMade (scope []) own lost opened → IsOpened tells bank c backup asked opened
-  is-opened opened made =
+  is-found : (opened : Opened) → IsMade (scope []) own lost opened → IsFound tells bank c backup asked opened
+  is-found opened made =
       let members : Members = opened.members in
       let elected = made.elected in
       let parts = reading-made (sizes bank).sectors own (reading_in (length own) members) elected.says in
@@ -324,7 +294,7 @@ module _ (tells : Type 0) (bank : Given) (c : Contents) (backup : Option ℕ) (a
         elected = subst (λ n. IsElected (sizes bank).sectors (take bank.slots members.own) n members) (sym elected.named)
             (subst (λ o. IsElected (sizes bank).sectors o lost members) whole elected);
         lost = λ s. ap (λ n. has_slot n s) elected.named ∙ bits s ∙ ap (λ n. nat_lt s bank.slots && not (has_slot n s)) (sym made.given);
-        still = made.still;
+        backed = subst (λ n. backup_absent (scope_of bank backup n members.newest.set_uuid) members.newest ≡ None) (sym made.given) made.backed;
         array = λ told. of_it ∙ named told ∙ ap (λ n. array_of bank backup n asked c) (sym made.given);
         says = λ told. subst (λ n. reading (scope_of bank backup n members.newest.set_uuid) c ≡ Some (reading_in bank.slots members)) (sym made.given)
             (subst (λ u. reading (scope u) c ≡ Some (reading_in bank.slots members)) (sym of_it) (says told));
@@ -332,38 +302,23 @@ module _ (tells : Type 0) (bank : Given) (c : Contents) (backup : Option ℕ) (a
             (subst (λ u. verdict (scope u) c ≡ None) (sym of_it)
             (verdict-for (scope uuid) c (reading_in bank.slots members) (says told)
             (ap (members_verdict (sizes bank).sectors) (sym (own-stored told)) ∙ elected.accepted)
-            ∙ still_none (scope uuid) members.newest made.still));
+            ∙ made.backed));
       }
 
-  by_reshape : tells → (refusal : Refusal) → IsReshape (scope []) own refusal
-      → (verdict (scope uuid) c ≡ Some refusal) ⊎ IsReshapeRefused (scope uuid) c refusal
-  by_reshape told refusal reshape =
-      let says : reading (scope uuid) c ≡ Some reshape.found = reads told ∙ reshape.says in
-      let judged : verdict (scope uuid) c ≡ backup_absent (scope uuid) reshape.found.newest =
-      verdict-for (scope uuid) c reshape.found says (ap (members_verdict (sizes bank).sectors) (sym (own-stored told)) ∙ reshape.accepted) in
-      by_backup (backup_absent (scope []) reshape.found.newest) refl says judged reshape.first
-    where
-      by_backup : (absent : Option Refusal) → backup_absent (scope []) reshape.found.newest ≡ absent
-          → reading (scope uuid) c ≡ Some reshape.found → verdict (scope uuid) c ≡ backup_absent (scope uuid) reshape.found.newest
-          → option_or absent (Some (Unsupported 4)) ≡ Some refusal
-          → (verdict (scope uuid) c ≡ Some refusal) ⊎ IsReshapeRefused (scope uuid) c refusal
-      by_backup None is says judged e = inr (record { accepted = judged ∙ is; found = reshape.found; says = says; active = reshape.active; bits = cc })
-      by_backup (Some one) is says judged e = inl (judged ∙ is ∙ e)
-
-  is-refused : (refusal : Refusal) → (members_verdict (sizes bank).sectors own ≡ Some refusal) ⊎ IsReshape (scope []) own refusal
-      → IsRefused tells bank c backup asked before after refusal
+  is-refused : (refusal : Refusal) → (members_verdict (sizes bank).sectors own ≡ Some refusal) ⊎ IsLacking (scope []) own refusal
+      → IsUnfound tells bank c backup asked before after refusal
   is-refused refusal judged = record {
     given = given;
     slots = slots;
-    why = λ told. subst (λ u. (verdict (scope u) c ≡ Some refusal) ⊎ IsReshapeRefused (scope u) c refusal) (named told) (elim judged [
-      | inl first ↦ inl (verdict-refused (scope uuid) c refusal (ap (members_verdict (sizes bank).sectors) (sym (own-stored told)) ∙ first))
-      | inr reshape ↦ by_reshape told refusal reshape
+    why = λ told. subst (λ u. verdict (scope u) c ≡ Some refusal) (named told) (elim judged [
+      | inl first ↦ verdict-refused (scope uuid) c refusal (ap (members_verdict (sizes bank).sectors) (sym (own-stored told)) ∙ first)
+      | inr none ↦ verdict-for (scope uuid) c none.found (reads told ∙ none.says) (ap (members_verdict (sizes bank).sectors) (sym (own-stored told)) ∙ none.accepted) ∙ none.lacking
     ]);
   }
 
   module _ (judged : IsJudged (lengths_scope backup given lengths) (map (of_array (uuid_for asked (take (length lengths) seen))) (take (length lengths) seen)) lost result) where
-    by_ok : (r : Result Opened Fault) → IsJudged (scope []) own lost r → IfOk r (IsOpened tells bank c backup asked)
-    by_ok (Ok opened) made = is-opened opened made
+    by_ok : (r : Result Opened Fault) → IsJudged (scope []) own lost r → IfOk r (IsFound tells bank c backup asked)
+    by_ok (Ok opened) made = is-found opened made
     by_ok (Err fault) why = tt
 
     by_found : (r : Result Opened Fault) → IsJudged (scope []) own lost r → AreWritable bank seen
@@ -388,6 +343,15 @@ module _ (tells : Type 0) (bank : Given) (c : Contents) (backup : Option ℕ) (a
         is-given a false l known e stays = absurd (stays (e ∙ ap (λ x. x && true) known))
     by_own (Err fault) why none = tt
 
+    by_aside : (r : Result Opened Fault) → IsJudged (scope []) own lost r → ((s : ℕ) → IsTrue (is_backup backup s) → get_or seen s None ≡ None)
+        → IfOk r (λ opened. IsAside backup opened.members.own)
+    by_aside (Ok opened) made none = λ s is. at s (get_or opened.members.own s None) refl is
+      where
+        at : (s : ℕ) (found : Option Sb) → get_or opened.members.own s None ≡ found → IsTrue (is_backup backup s) → get_or opened.members.own s None ≡ None
+        at s None e is = e
+        at s (Some sb) e is = absurd (none-some (sym (none s is) ∙ own-found bank (sizes bank).sectors bank.slots lost uuid seen few count opened.members made.elected s sb e))
+    by_aside (Err fault) why none = tt
+
     by_name : (r : Result Opened Fault) → IsJudged (scope []) own lost r → IfOk r (λ opened. IfSome asked (λ u. opened.members.newest.set_uuid ≡ u))
     by_name (Ok opened) made = name asked (newest-array uuid found opened.members.newest
         (reading-made (sizes bank).sectors own (reading_in (length own) opened.members) made.elected.says).0)
@@ -403,13 +367,13 @@ module _ (tells : Type 0) (bank : Given) (c : Contents) (backup : Option ℕ) (a
         λ told s sb e. stand told s sb (own-found bank (sizes bank).sectors bank.slots lost uuid seen few count opened.members made.elected s sb e)
     by_sectors (Err fault) k why stand = tt
 
-    by_err : (r : Result Opened Fault) → IsJudged (scope []) own lost r → IfErr r (HasCause tells bank c backup asked before after)
+    by_err : (r : Result Opened Fault) → IsJudged (scope []) own lost r → IfErr r (HasFoundNone tells bank c backup asked before after)
     by_err (Ok opened) made = tt
     by_err (Err (Refused refusal)) why = is-refused refusal why
     by_err (Err NoMemory) why = tt
 
-    pub ok-opened : IfOk result (IsOpened tells bank c backup asked)
-    ok-opened = by_ok result (as-judged judged)
+    pub ok-found : IfOk result (IsFound tells bank c backup asked)
+    ok-found = by_ok result (as-judged judged)
 
     pub ok-writable : AreWritable bank seen → IfOk result (λ opened. AreWritable bank opened.members.own)
     ok-writable writable = by_found result (as-judged judged) writable
@@ -420,10 +384,13 @@ module _ (tells : Type 0) (bank : Given) (c : Contents) (backup : Option ℕ) (a
     pub ok-own : ((s : ℕ) → has_slot lost s ≡ true → get_or seen s None ≡ None) → IfOk result (λ opened. AreOfGiven opened.given opened.members.own)
     ok-own none = by_own result (as-judged judged) none
 
+    pub ok-aside : ((s : ℕ) → IsTrue (is_backup backup s) → get_or seen s None ≡ None) → IfOk result (λ opened. IsAside backup opened.members.own)
+    ok-aside none = by_aside result (as-judged judged) none
+
     pub ok-named : IfOk result (λ opened. IfSome asked (λ u. opened.members.newest.set_uuid ≡ u))
     ok-named = by_name result (as-judged judged)
 
-    pub err-caused : IfErr result (HasCause tells bank c backup asked before after)
+    pub err-caused : IfErr result (HasFoundNone tells bank c backup asked before after)
     err-caused = by_err result (as-judged judged)
 
 -- a fact of the given slots is one of those that are answered
@@ -442,3 +409,37 @@ counted-by bank lengths are small s h =
   where
     below : (a b : ℕ) → a < b → nat_lt a b ≡ true
     below a b h = grind (arith, nat_tests, h)
+
+-- ---- without a reshape
+
+-- what is found is opened where no reshape is active
+pub found-opened : (tells : Type 0) (bank : Given) (c : Contents) (backup : Option ℕ) (asked : Option (List ℕ)) (opened : Opened) → IsFound tells bank c backup asked opened
+    → is_reshaping opened.members.newest ≡ false → IsOpened tells bank c backup asked opened
+found-opened tells bank c backup asked opened found still = record {
+  elected = found.elected;
+  lost = found.lost;
+  still = still;
+  array = found.array;
+  says = found.says;
+  accepted = found.accepted;
+}
+
+-- and refused where one is
+pub found-refused : (tells : Type 0) (bank : Given) (c : Contents) (backup : Option ℕ) (asked : Option (List ℕ)) (before after : ℕ → ℕ) (opened : Opened) → IsFound tells bank c backup asked opened
+    → AreGiven bank opened.given before after → is_reshaping opened.members.newest ≡ true → HasCause tells bank c backup asked before after (Refused (Unsupported 4))
+found-refused tells bank c backup asked before after opened found slots active = record {
+  given = opened.given;
+  slots = slots;
+  why = λ told. inr (subst (λ (u : List ℕ). IsReshapeRefused (scope_of bank backup opened.given u) c (Unsupported 4)) (found.array told) (record {
+    accepted = found.accepted told;
+    found = reading_in bank.slots opened.members;
+    says = found.says told;
+    active = active;
+    bits = refl;
+  }));
+}
+
+pub unfound-refused : (tells : Type 0) (bank : Given) (c : Contents) (backup : Option ℕ) (asked : Option (List ℕ)) (before after : ℕ → ℕ) (fault : Fault)
+    → HasFoundNone tells bank c backup asked before after fault → HasCause tells bank c backup asked before after fault
+unfound-refused tells bank c backup asked before after (Refused refusal) none = record { given = none.given; slots = none.slots; why = λ told. inl (none.why told) }
+unfound-refused tells bank c backup asked before after NoMemory none = tt

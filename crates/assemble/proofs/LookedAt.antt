@@ -1,5 +1,5 @@
 -- What is known of the slots of a bank, after they were read and then flushed.
-use Rattle.std.proofs.Common.{◌≡◌, ◌<◌, ◌≤◌, ℕ, ◌+◌, ◌-◌, ◌^◌, Bool, true, false, cond, nat_lt, refl, sym, ap, ap₂, ◌∙◌, subst, arith, List, [], length, take, drop, get_or, Option, Some, None, inl, inr, replicate}
+use Rattle.std.proofs.Common.{◌≡◌, ◌<◌, ◌≤◌, ℕ, IsTrue, ◌+◌, ◌-◌, ◌^◌, Bool, true, false, cond, nat_lt, refl, sym, ap, ap₂, ◌∙◌, subst, arith, List, [], length, take, drop, get_or, Option, Some, None, inl, inr, replicate}
 use Rattle.std.specs.Prelude.{not, ◌&&◌}
 use Rattle.std.proofs.lemmas.Bool.{cases_lt}
 use Rattle.std.proofs.lemmas.List.{get_or_past, ext_get_or, get_or-take, get_or-drop, get_or-replicate, length-take-le, length-drop, length-replicate}
@@ -71,6 +71,19 @@ writable-left bank found seen lost kept long was s sb e = elim (cases_lt s 32) [
 
     contrary : ◌≡◌ {A = Option Sb} None (Some sb) → ⊥
     contrary e = absurd (cc)
+
+-- nor has the backup one
+pub aside-left : (backup : Option ℕ) (found seen : List (Option Sb)) (lost : ℕ)
+    → ((s : ℕ) → s < 32 → get_or seen s None ≡ cond (has_slot lost s) None (get_or found s None)) → length seen ≡ 32
+    → ((s : ℕ) → IsTrue (is_backup backup s) → get_or found s None ≡ None) → (s : ℕ) → IsTrue (is_backup backup s) → get_or seen s None ≡ None
+aside-left backup found seen lost kept long was s is = elim (cases_lt s 32) [
+  | inl within ↦ kept s within ∙ none (has_slot lost s) (get_or found s None) (was s is)
+  | inr past ↦ get_or_past seen s None (omega (arith, long, past))
+]
+  where
+    none : (b : Bool) (o : Option Sb) → o ≡ None → cond b None o ≡ None
+    none true o e = refl
+    none false o e = e
 
 -- and stand in sectors too
 pub sectors-left : (c : Contents) (found seen : List (Option Sb)) (lost : ℕ)

@@ -1,12 +1,10 @@
 -- What is known while the slots of a bank are read and flushed.
-use Rattle.std.specs.Prelude.{◌≡◌, ◌⊎◌, ℕ, List, [], length, slice_index, Option, Some, None, Result, Ok, Err, IsTrue, IsFalse}
-use Rattle.std.specs.Option.{option_or}
+use Rattle.std.specs.Prelude.{◌≡◌, ◌⊎◌, ℕ, List, [], length, slice_index, Option, Some, None, Result, Ok, Err}
 use Rattle.md_base.specs.declared.answers.Fault.{Fault}
 use Rattle.md_base.specs.declared.answers.Fault.TheVariants.{Refused, NoMemory}
 use Rattle.md_base.specs.declared.answers.Refusal.{Refusal}
-use Rattle.md_base.specs.declared.answers.Refusal.TheVariants.{Unsupported}
 use Rattle.sb1.specs.declared.sb.Sb.{Sb}
-use Rattle.superblocks.specs.Reading.{Scope, Reading, reading_of, is_reshaping}
+use Rattle.superblocks.specs.Reading.{Scope, Reading, reading_of}
 use Rattle.superblocks.specs.Verdict.{members_verdict}
 use Rattle.superblocks.specs.Election.{IsElected}
 use Rattle.flat_history.specs.Stands.{backup_absent}
@@ -16,22 +14,20 @@ use Rattle.assemble.specs.declared.opening.Opened.{Opened}
 abbrev pub lengths_scope : Option ℕ → ℕ → List ℕ → Scope
 lengths_scope backup given lengths = record { uuid = []; given = given; backup = backup; sizes = record { slots = length lengths; sectors = slice_index lengths } }
 
--- these superblocks are refused for nothing, but a reshape is active, which is refused for want of a backup, or else as
--- nobody goes on with it
-pub record IsReshape (scope : Scope) (own : List (Option Sb)) (refusal : Refusal) : Type 0 where
+-- these superblocks are refused for nothing, but a reshape is active that has no backup
+pub record IsLacking (scope : Scope) (own : List (Option Sb)) (refusal : Refusal) : Type 0 where
   pub accepted : members_verdict scope.sizes.sectors own ≡ None
   pub found : Reading
   pub says : reading_of scope.sizes.sectors own ≡ Some found
-  pub active : IsTrue (is_reshaping found.newest)
-  pub first : option_or (backup_absent scope found.newest) (Some (Unsupported 4)) ≡ Some refusal
+  pub lacking : backup_absent scope found.newest ≡ Some refusal
 
--- the members that these superblocks of an array's slots make, where nothing is refused and no reshape is active
+-- the members that these superblocks of an array's slots make, where nothing is refused
 pub record IsMade (scope : Scope) (own : List (Option Sb)) (lost : ℕ) (opened : Opened) : Type 0 where
   pub elected : IsElected scope.sizes.sectors own lost opened.members
   pub given : opened.given ≡ scope.given
-  pub still : IsFalse (is_reshaping opened.members.newest)
+  pub backed : backup_absent scope opened.members.newest ≡ None
 
 abbrev pub IsJudged : Scope → List (Option Sb) → ℕ → Result Opened Fault → Type 0
 IsJudged scope own lost (Ok opened) = IsMade scope own lost opened
-IsJudged scope own lost (Err (Refused refusal)) = (members_verdict scope.sizes.sectors own ≡ Some refusal) ⊎ IsReshape scope own refusal
+IsJudged scope own lost (Err (Refused refusal)) = (members_verdict scope.sizes.sectors own ≡ Some refusal) ⊎ IsLacking scope own refusal
 IsJudged scope own lost (Err NoMemory) = Unit {0}

@@ -9,10 +9,10 @@ use Rattle.sb1.specs.declared.sb.Sb.{Sb}
 use Rattle.bank.specs.declared.bank.Operation.{Operation}
 use Rattle.bank.specs.Given.{Given, sizes, IsFaulted}
 use Rattle.bank.specs.Tape.{Contents, contents, disk}
-use Rattle.superblocks.specs.Reading.{Scope, Reading, reading, is_reshaping}
+use Rattle.superblocks.specs.Reading.{Scope, Reading, reading, is_reshaping, is_backup}
 use Rattle.superblocks.specs.Update.{own_in}
 use Rattle.superblocks.specs.Election.{seen_superblocks, uuid_for, reading_in, IsElected}
-use Rattle.flat_history.specs.Stands.{verdict}
+use Rattle.flat_history.specs.Stands.{verdict, backup_absent}
 use Rattle.assemble.specs.declared.opening.Opened.{Opened}
 
 -- these slots of a bank, looked at for an array
@@ -41,6 +41,30 @@ AreCounted bank = (s : ℕ) → s < bank.slots → bank.sectors s < 2 ^ 64
 abbrev pub AreFlushed : Contents → List Operation → ℕ → Type 0
 AreFlushed start tape given =
     (s k : ℕ) → IsTrue (has_slot given s) → disk start tape s k ≡ contents start tape (length tape) s k ∷ []
+
+-- What is found: the reading of what the given slots hold for the array, which is refused for nothing, in a reshape or not. The lost slots are the bank's other ones.
+pub record IsFound (tells : Type 0) (bank : Given) (c : Contents) (backup : Option ℕ) (asked : Option (List ℕ)) (opened : Opened) : Type 0 where
+  pub elected : IsElected (sizes bank).sectors (take bank.slots opened.members.own) opened.members.lost opened.members
+  pub lost : (s : ℕ) → has_slot opened.members.lost s ≡ (nat_lt s bank.slots && not (has_slot opened.given s))
+  pub backed : backup_absent (scope_of bank backup opened.given opened.members.newest.set_uuid) opened.members.newest ≡ None
+  pub array : tells → opened.members.newest.set_uuid ≡ array_of bank backup opened.given asked c
+  pub says : tells → reading (scope_of bank backup opened.given opened.members.newest.set_uuid) c ≡ Some (reading_in bank.slots opened.members)
+  pub accepted : tells → verdict (scope_of bank backup opened.given opened.members.newest.set_uuid) c ≡ None
+
+-- the backup has no superblock of the array
+abbrev pub IsAside : Option ℕ → List (Option Sb) → Type 0
+IsAside backup own = (slot : ℕ) → IsTrue (is_backup backup slot) → own_in own slot ≡ None
+
+-- the first refusal of what the given slots hold
+pub record IsUnfound (tells : Type 0) (bank : Given) (c : Contents) (backup : Option ℕ) (asked : Option (List ℕ)) (before after : ℕ → ℕ) (refusal : Refusal) : Type 0 where
+  pub given : ℕ
+  pub slots : AreGiven bank given before after
+  pub why : tells → verdict (scope_of bank backup given (array_of bank backup given asked c)) c ≡ Some refusal
+
+-- a refusal has its cause; want of memory may come at any time
+abbrev pub HasFoundNone : Type 0 → Given → Contents → Option ℕ → Option (List ℕ) → (ℕ → ℕ) → (ℕ → ℕ) → Fault → Type 0
+HasFoundNone tells bank c backup asked before after (Refused refusal) = IsUnfound tells bank c backup asked before after refusal
+HasFoundNone tells bank c backup asked before after NoMemory = Unit {0}
 
 -- What is opened: the reading of what the given slots hold for the array, which is refused for nothing and has no active
 -- reshape. The lost slots are the bank's other ones.

@@ -16,5 +16,5 @@ mod zeros;
 
 pub use creating::refusal_of_create;
 pub use making::make;
-pub use opening::{Opened, open};
+pub use opening::{Opened, find, open};
 pub use running::{assemble, create};

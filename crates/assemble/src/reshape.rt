@@ -1,17 +1,16 @@
 //! What a stored reshape is refused for.
 
-ghost use Rattle.std.specs.Prelude.{◌≡◌, ◌+◌, ◌<◌, ◌≤◌, ◌&&◌, length, nat_le, slice_index, false, Some, None, IfSome, if◌then◌else◌};
-ghost use Rattle.std.specs.Option.{option_map_or, option_or};
-ghost use Rattle.md_base.specs.declared.answers.Refusal.TheVariants.{Unsupported};
+ghost use Rattle.std.specs.Prelude.{◌≡◌, ◌+◌, ◌<◌, ◌≤◌, ◌&&◌, length, nat_le, slice_index, false, Some, None, IfSome};
+ghost use Rattle.std.specs.Option.{option_map_or};
 ghost use Rattle.md_base.specs.Shapes.{has_slot};
-ghost use Rattle.superblocks.specs.Reading.{is_reshaping, target_of};
+ghost use Rattle.superblocks.specs.Reading.{target_of};
 ghost use Rattle.superblocks.specs.Verdict.{AreValidShapes};
 ghost use Rattle.flat_history.specs.Stands.{reach_of, backup_absent};
 ghost use Rattle.assemble.specs.Looking.{lengths_scope};
 
 use geometry::unit;
 use md_base::{Refusal, Shape};
-use sb1::{Features, Sb};
+use sb1::Sb;
 use superblocks::says::{list_length, shape_of, target_of};
 use superblocks::sets::contains;
 
@@ -40,9 +39,9 @@ fn reach(newest: &Sb, target: &Shape) -> u128
     unit.min(list_length(newest))
 }
 
-/// The refusal of an active reshape: the backup isn't there or is too short for a window, or else nobody goes on with
-/// reshapes yet. The given slots are those that are there, each of which has a length in sectors.
-pub fn reshape_refusal(
+/// The refusal of an active reshape whose backup isn't there or is too short for a window. The given slots are those that
+/// are there, each of which has a length in sectors.
+pub fn backup_refusal(
     newest: &Sb,
     backup: Option<u32>,
     given: u32,
@@ -51,15 +50,14 @@ pub fn reshape_refusal(
     requires shapes { AreValidShapes newest.now }
     requires slots { length lengths.now ≤ 32 }
     requires backup { IfSome backup (λ slot. slot < length lengths.now) }
-    ensures { result ≡ option_or (backup_absent (lengths_scope backup given lengths.now) newest.now)
-        (if is_reshaping newest.now then Some (Unsupported 4) else None) }
+    ensures { result ≡ backup_absent (lengths_scope backup given lengths.now) newest.now }
 {
     let target = match target_of(newest) {
         None => return None,
         Some(target) => target,
     };
     if has_room(backup, given, lengths, reach(newest, &target)) {
-        Some(Refusal::Unsupported(u64::from(Features::RESHAPE_ACTIVE.0)))
+        None
     } else {
         Some(Refusal::BackupAbsent)
     }

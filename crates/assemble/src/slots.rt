@@ -1,8 +1,9 @@
 //! The slots of a bank are looked at: their superblocks are read, and they are flushed.
 
-ghost use Rattle.std.specs.Prelude.{◌≡◌, ◌<◌, ◌≤◌, ◌-◌, ℕ, true, [], None, IfOk, nat_lt, not, ◌&&◌, take, drop, replicate, length, slice_index_or, if◌then◌else◌};
+ghost use Rattle.std.specs.Prelude.{◌≡◌, ◌<◌, ◌≤◌, ◌-◌, ℕ, true, [], None, IfOk, nat_lt, not, ◌&&◌, take, drop, replicate, length, slice_index_or, IsTrue, if◌then◌else◌};
 ghost use Rattle.md_base.specs.Shapes.{has_slot};
 ghost use Rattle.bank.specs.Tape.{contents};
+ghost use Rattle.superblocks.specs.Reading.{is_backup};
 ghost use Rattle.superblocks.specs.Election.{seen_superblocks};
 ghost use Rattle.superblocks.specs.Writing.{AreWritable};
 ghost use Rattle.superblocks.specs.Found.{AreInSectors};
@@ -60,6 +61,7 @@ pub fn look<B: Bank>(alloc: Global, bank: &mut B, backup: Option<u32>) -> Result
         take bank_given.slots found.seen ≡ seen_superblocks (scope_of bank_given backup found.given []) (contents bank_given.start tape (length tape))) }
     ensures rest { let bank_given = B.given bank.old in IfOk result (λ found. drop bank_given.slots found.seen ≡ replicate (32 - bank_given.slots) None) }
     ensures count { IfOk result (λ found. length found.seen ≡ 32) }
+    ensures aside { IfOk result (λ found. (slot : ℕ) → IsTrue (is_backup backup slot) → slice_index_or found.seen slot None ≡ None) }
     ensures writable { IfOk result (λ found. AreWritable (B.given bank.old) found.seen) }
     ensures sectors { let bank_given = B.given bank.old in let tape = B.tape bank.new in IfOk result (λ found. B.tells →
         AreInSectors (contents bank_given.start tape (length tape)) found.seen) }

@@ -125,6 +125,18 @@ read-found tells given backup c n seen lost before mid after sb small within kno
   faults = on given backup n before mid after known was.faults rises others is_kept;
 }
 
+-- the backup still has none
+pub aside-found : (backup : Option ℕ) (n : ℕ) (seen : List (Option Sb)) (sb : Option Sb) → n < length seen → ((s : ℕ) → IsTrue (is_backup backup s) → get_or seen s None ≡ None)
+    → (IsTrue (is_backup backup n) → sb ≡ None) → (s : ℕ) → IsTrue (is_backup backup s) → get_or (set seen n sb) s None ≡ None
+aside-found backup n seen sb within was none s is = elim (cases_eq s n) [
+  | inl same ↦ subst (λ k. get_or (set seen n sb) k None ≡ None) (sym same)
+      (get_or-set_same seen n sb None within ∙ none (subst (λ k. IsTrue (is_backup backup k)) same is))
+  | inr apart ↦ get_or-set_other seen n s sb None apart ∙ was s is
+]
+
+pub aside-none : (backup : Option ℕ) (s : ℕ) → IsTrue (is_backup backup s) → ◌≡◌ {A = Option Sb} (get_or (replicate 32 None) s None) None
+aside-none backup s is = elim (cases_lt s 32) [ inl below ↦ get_or-replicate 32 s None None below | inr past ↦ get_or_past (replicate 32 None) s None past ]
+
 pub read-lost : (tells : Type 0) (given : Given) (backup : Option ℕ) (c : Contents) (n : ℕ) (seen : List (Option Sb)) (lost : ℕ)
     (before mid after : ℕ → ℕ) → lost < 2 ^ 32 → n < 32 → n < given.slots → given.slots ≤ 32
     → IsRead tells given backup c n seen lost before mid

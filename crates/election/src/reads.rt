@@ -86,6 +86,7 @@ fn read_member<B: Bank>(
     ensures cause { IsCausedBy slot (B.faults_of bank.old) (B.faults_of bank.new) result }
     ensures backup { IsTrue (is_backup backup slot) → B.faults_of bank.new slot ≡ B.faults_of bank.old slot }
     ensures member { OnErr result (IsFalse (is_backup backup slot)) }
+    ensures aside { IfOk result (λ found. IsTrue (is_backup backup slot) → found ≡ None) }
 {
     if is_backup(backup, slot) {
         return Ok(None);
@@ -104,6 +105,7 @@ pub fn read_superblocks<B: Bank>(
         take given.slots found.0
         ≡ seen_superblocks (members_scope given backup found.1 []) (contents given.start tape (length tape))) }
     ensures rest { let given = B.given bank.old in IfOk result (λ found. drop given.slots found.0 ≡ replicate (32 - given.slots) None) }
+    ensures aside { IfOk result (λ found. (slot : ℕ) → IsTrue (is_backup backup slot) → slice_index_or found.0 slot None ≡ None) }
     ensures writable { IfOk result (λ found. AreWritable (B.given bank.old) found.0) }
     ensures sectors { let given = B.given bank.old in let tape = B.tape bank.old in IfOk result (λ found. B.tells →
         AreInSectors (contents given.start tape (length tape)) found.0) }

@@ -26,11 +26,12 @@ use Rattle.superblocks.proofs.Searches.{any_below-some}
 use Rattle.row_io.specs.Rows.{reading_of, present, is_missing}
 use Rattle.flat_history.specs.declared.events.Entry.{Entry}
 use Rattle.flat_history.specs.declared.events.Event.{Event}
-use Rattle.flat_history.specs.declared.events.Event.TheVariants.{Resized, Step}
+use Rattle.flat_history.specs.declared.events.Event.TheVariants.{Lost, SpareLost, Resized, Step}
+use Rattle.flat_history.specs.declared.events.LostCause.TheVariants.{Fault}
 use Rattle.flat_history.specs.declared.events.StepKind.TheVariants.{Finished}
 use Rattle.flat_history.specs.Epochs.{HasRoomForEvents, OpensAlike}
 use Rattle.flat_history.specs.Flat.{is_same_call, length_of, resized, values_of, now}
-use Rattle.flat_history.specs.Legal.{call_before, disturbs, end_before, is_all_gone, is_free_step, known_left, level_after, level_at, size_at, target_at, told_left, IsResized, IsResizedAfter, IsStep, IsUnkeptLength}
+use Rattle.flat_history.specs.Legal.{call_before, disturbs, end_before, is_all_gone, is_free_step, known_left, left_after, level_after, level_at, size_at, target_at, told_left, IsResized, IsResizedAfter, IsStep, IsUnkeptLength}
 use Rattle.flat_history.specs.Losses.{is_gone_after, is_unsynced, loses, unsettles}
 use Rattle.flat_history.specs.OneShape.{is_unsettled}
 use Rattle.flat_history.specs.Plain.{entries_of}
@@ -51,7 +52,7 @@ use Rattle.views.proofs.LiveLeft.{left-steady, without-left}
 use Rattle.views.proofs.SoundViews.{throughout-changed}
 use Rattle.views.proofs.Still.{count-still}
 use Rattle.call_entries.specs.Losing.{losses_of}
-use Rattle.call_entries.proofs.CallLaws.{losses-are}
+use Rattle.call_entries.proofs.CallLaws.{AreLossEvents, losses-are}
 use Rattle.call_entries.proofs.StepLaws.{faults-are}
 use Rattle.kept_history.specs.Recorded.{IsHistoryKept, IsLegalCall, IsReshapedCall, IsCallGoing, entry_of, gives_some}
 use Rattle.kept_history.specs.Safe.{world_in, IsFilledRight, IsSafeHistory}
@@ -67,6 +68,7 @@ use Rattle.kept_history.proofs.Longer.{regains-none}
 use Rattle.kept_history.proofs.Records.{same-call}
 use Rattle.kept_history.proofs.Reshapes.{call-ends_none, reshaped-losses}
 use Rattle.kept_history.proofs.Seen.{now-more}
+use Rattle.kept_history.proofs.Tests.{or-right}
 use Rattle.kept_history.proofs.Turned.{filled-before}
 use Rattle.kept_history.proofs.Turns.{either-call, resized-call}
 use Rattle.reshape_ends.specs.Finished.{IsFinishable}
@@ -110,15 +112,36 @@ pub record IsEndingCall (given : Given) (tape : List Operation) (scope : Scope) 
 abbrev pub IsPlannedTo : World → List Entry → Members → ℕ → Type 0
 IsPlannedTo world entries old left = left ≡ 0 → ArePlannedTo world (final_shape old.newest) (open_plans entries)
 
--- As many steps are left as one fewer, or a role is missing, so that more steps may follow the reshape.
-abbrev pub IsStepped : Members → ℕ → ℕ → Type 0
-IsStepped old steps left = (steps ≡ left + 1) ⊎ ((role : ℕ) × (role < role_count old.newest) × (is_missing (reading_of old) role ≡ true))
+-- As many steps are left as one fewer, or a role is missing, so that more steps may follow the reshape, or the call tells a loss.
+abbrev pub IsStepped : Members → ℕ → ℕ → List Event → Type 0
+IsStepped old steps left lost = (steps ≡ left + 1) ⊎ (((role : ℕ) × (role < role_count old.newest) × (is_missing (reading_of old) role ≡ true)) ⊎ (list_any disturbs lost ≡ true))
+
+-- behind losses nothing is known of the steps that are left
+left-none : (who : Who) (end : ℕ) (xs : List Event) → AreLossEvents xs → fold (λ left e. left_after left e.event) None (entries_of who end xs) ≡ None
+left-none who end [] are = refl
+left-none who end (Lost role Fault ∷ xs) are = left-none who end xs are
+left-none who end (SpareLost slot ∷ xs) are = left-none who end xs are
+left-none who end (event ∷ xs) are = absurd are
+
+left-lost : (who : Who) (end : ℕ) (xs : List Event) → AreLossEvents xs → list_any disturbs xs ≡ true → (left : Option ℕ) → fold (λ left e. left_after left e.event) left (entries_of who end xs) ≡ None
+left-lost who end [] are some left = absurd (cc)
+left-lost who end (Lost role Fault ∷ xs) are some left = left-none who end xs are
+left-lost who end (SpareLost slot ∷ xs) are some left = left-none who end xs are
+left-lost who end (event ∷ xs) are some left = absurd are
+
+either-lost : (a b : Bool) → (a || b) ≡ true → (a ≡ true) ⊎ (b ≡ true)
+either-lost true b is = inl refl
+either-lost false b is = inr is
+
+disturbs-entries : (who : Who) (end : ℕ) (xs : List Event) → list_any (λ e. disturbs e.event) (entries_of who end xs) ≡ list_any disturbs xs
+disturbs-entries who end [] = refl
+disturbs-entries who end (x ∷ xs) = ap (λ (b : Bool). disturbs x || b) (disturbs-entries who end xs)
 
 module _ (given : Given) (tape : List Operation) (scope : Scope) (first : ℕ) (entries : List Entry) (old new : Members) (carried carried' : ℕ → Bool) (buffer : List ℕ) (zeroed steps left : ℕ)
     (who : Who) (roles spares late late_spares : ℕ) (ops : List Operation) (tells : Type 0) (was : IsMoving tells given tape scope first entries old carried (closed zeroed) buffer steps) (t : tells)
     (few_roles : role_count old.newest ≤ 16)
     (all_zeroed : zeroed ≡ zeroed_stripes (shape_of old.newest) (final_shape old.newest) old.newest.size (is_backward old.newest))
-    (stepped : IsStepped old steps left) (planned : IsPlannedTo (world_in given tape scope first) entries old left)
+    (stepped : IsStepped old steps left (losses_of roles spares ++ losses_of late late_spares)) (planned : IsPlannedTo (world_in given tape scope first) entries old left)
     (call : IsEndingCall given tape scope first old new carried carried' zeroed buffer roles late (tape ++ ops)) where
   abbrev world : World
   world = world_in given tape scope first
@@ -476,11 +499,27 @@ module _ (given : Given) (tape : List Operation) (scope : Scope) (first : ℕ) (
       | inl one ↦ free (is_free_step later (entries ++ flushed) Finished)
           (known (list_any (λ e. disturbs e.event) (call_before (entries ++ flushed) step ++ rest)) (told_left (entries ++ flushed))
           (subst (λ (k : ℕ). IfSome (told_left (entries ++ flushed)) (λ n. n ≡ k)) one (told-behind steps entries who end losses (losses-are roles spares) was.left_told)))
-      | inr (role, lt, miss) ↦ subst (λ (b : Bool). MatchBool b ⊤ (IfSome (known_left (entries ++ flushed) step rest) (λ n. left + 1 ≡ n)))
+      | inr (inr lost) ↦ free (is_free_step later (entries ++ flushed) Finished) (elim (either-lost (list_any disturbs losses) (list_any disturbs (losses_of late late_spares)) (sym (list_any-append disturbs losses (losses_of late late_spares)) ∙ lost)) [
+        | inl first ↦ subst (λ (o : Option ℕ). IfSome (cond (list_any (λ e. disturbs e.event) (call_before (entries ++ flushed) step ++ rest)) None o) (λ n. left + 1 ≡ n))
+            (sym (fold-append (λ left e. left_after left e.event) None entries flushed ∙ left-lost who end losses (losses-are roles spares) first (told_left entries)))
+            (unknown (list_any (λ e. disturbs e.event) (call_before (entries ++ flushed) step ++ rest)))
+        | inr then ↦ subst (λ (b : Bool). IfSome (cond b None (told_left (entries ++ flushed))) (λ n. left + 1 ≡ n))
+            (sym (list_any-append (λ e. disturbs e.event) (call_before (entries ++ flushed) step) rest
+            ∙ or-right (list_any (λ e. disturbs e.event) (call_before (entries ++ flushed) step)) (list_any (λ e. disturbs e.event) rest) (late-lost longer then))) tt
+      ])
+      | inr (inl (role, lt, miss)) ↦ subst (λ (b : Bool). MatchBool b ⊤ (IfSome (known_left (entries ++ flushed) step rest) (λ n. left + 1 ≡ n)))
           (sym (any_below-some 32 (is_gone_after later (entries ++ flushed)) role (omega (arith, lt, few_roles))
           (any-gone later role entries flushed (regains-none later role flushed gives-first) (gone-was later entries flushed role (gone-still before role lt miss))))) tt
     ]
       where
+        unknown : (b : Bool) → IfSome (cond b None None) (λ n. left + 1 ≡ n)
+        unknown true = tt
+        unknown false = tt
+
+        late-lost : (b : Bool) → list_any disturbs (losses_of late late_spares) ≡ true → list_any (λ e. disturbs e.event) (entries_of who end (length_by b size ++ losses_of late late_spares)) ≡ true
+        late-lost true then = disturbs-entries who end (losses_of late late_spares) ∙ then
+        late-lost false then = disturbs-entries who end (losses_of late late_spares) ∙ then
+
         known : (b : Bool) (o : Option ℕ) → IfSome o (λ n. n ≡ left + 1) → IfSome (cond b None o) (λ n. left + 1 ≡ n)
         known true o is = tt
         known false None is = tt

@@ -22,6 +22,7 @@ use Rattle.flat_history.specs.Sound.{OpensFit}
 use Rattle.flat_history.specs.World.{opening_list}
 use Rattle.shape_changes.specs.Safety.{HasLiveSlot}
 use Rattle.views.specs.Moving.{Grows}
+use Rattle.call_entries.specs.Losing.{losses_of}
 use Rattle.views.proofs.MarkEnds.{some-or-none}
 use Rattle.kept_history.specs.Recorded.{IsHistoryKept, IsCallGoing}
 use Rattle.kept_history.specs.Safe.{world_in, IsFilledRight, IsSafeHistory}
@@ -60,7 +61,7 @@ module _ (tells : Type 0) (given : Given) (tape tape' : List Operation) (scope :
     (who : Who) (end roles spares late late_spares : ℕ) (was : IsMoving tells given tape scope first entries old carried (closed zeroed) buffer steps) (goes : IsCallGoing entries who) (caller : IsFalse (who.caller == 254))
     (at_end : tells → end ≡ length tape') (grows : Grows tells tape tape')
     (all_zeroed : zeroed ≡ zeroed_stripes (shape_of old.newest) (final_shape old.newest) old.newest.size (is_backward old.newest))
-    (stepped : IsStepped old steps left) (planned : tells → IsPlannedTo (world_in given tape scope first) entries old left) (numbers : (number : ℕ) → carried number ≡ true → carried' number ≡ true)
+    (stepped : IsStepped old steps left (losses_of roles spares ++ losses_of late late_spares)) (planned : tells → IsPlannedTo (world_in given tape scope first) entries old left) (numbers : (number : ℕ) → carried number ≡ true → carried' number ≡ true)
     (did : IsEndedBy tells given tape tape' old new roles late) where
   few : role_count old.newest ≤ 16
   few = few-roles old.newest was.members_are.placed.fit.valid

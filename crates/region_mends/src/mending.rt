@@ -2,6 +2,7 @@
 
 ghost use Rattle.std.specs.Prelude.{◌≡◌, ◌+◌, ◌<◌, ◌≤◌, ℕ, Bool, true, false, length, vec_capacity, None, Some, Option, MatchOption, ⊤};
 ghost use Rattle.bank.specs.Given.{NeverFalls};
+ghost use Rattle.bank.specs.Tape.{disk};
 ghost use Rattle.md_base.specs.Sectors.{Sector};
 ghost use Rattle.md_base.specs.declared.places.Shape.{Shape};
 ghost use Rattle.md_base.specs.declared.places.Span.{Span};
@@ -21,6 +22,7 @@ ghost use Rattle.views.specs.Placed.{IsPlaced};
 ghost use Rattle.views.specs.Rebuilding.{AreSparesFree};
 ghost use Rattle.views.specs.Moving.{Grows, IsMoved};
 ghost use Rattle.views.specs.Lacking.{HaveFailedSince, DoesWithout, AreOtherRowsKept};
+ghost use Rattle.safe_updates.specs.Unused.{IsUnusedKept};
 ghost use Rattle.region_rows.specs.Stretches.{ListStandsIn, RowsStandIn};
 ghost use Rattle.region_mends.specs.Mends.{low_shape, mend_stripes, relied_sector, mend_shape, IsMendRow, MendStands, AreEndsStanding, lacking_or, mend_refusal, IsNotMended};
 
@@ -107,6 +109,7 @@ pub fn mend_list<B: Bank>(
         → (role slot row : ℕ) → role < (mend_shape members.old.newest mended).disks → role_state (reading_of members.new) role ≡ IsRecovering slot → IsMendRow members.old.newest mended row
         → HasFull (reading_of members.old) (present (B.given bank.old) (B.tape bank.old)) (mend_shape members.old.newest mended) list row role slot → HasFull (reading_of members.new) (present (B.given bank.old) (B.tape bank.new)) (mend_shape members.old.newest mended) list row role slot }
     ensures others { B.tells → AreOtherRowsKept (IsMendRow members.old.newest mended) (reading_of members.new) (present (B.given bank.old) (B.tape bank.old)) (present (B.given bank.old) (B.tape bank.new)) }
+    ensures unused { B.tells → IsUnusedKept members.old (disk (B.given bank.old).start (B.tape bank.old)) (disk (B.given bank.old).start (B.tape bank.new)) }
     ensures rise { IsRisen B.tells members.old members.new (B.tape bank.old) (B.tape bank.new) }
     ensures safe { B.tells → (world : World) → (told : Ledger) → HasRoomLeft members.old (B.tape bank.old) (B.tape bank.new)
         → AreGoneTold told members.new → told.unclean ≡ true → (hidden : Option Span) → (list : ℕ → Sector)

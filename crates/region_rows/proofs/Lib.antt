@@ -1,4 +1,3 @@
 pub mod StretchLaws
 pub mod UnreadLaws
 pub mod StretchReads
-pub mod UnusedReads

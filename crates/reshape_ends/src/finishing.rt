@@ -2,9 +2,10 @@
 
 ghost use Rattle.std.specs.Prelude.{◌≡◌, ◌≤◌, ℕ, true, length, Some, None, MatchOption};
 ghost use Rattle.bank.specs.Given.{NeverFalls};
+ghost use Rattle.bank.specs.Tape.{disk};
 ghost use Rattle.md_base.specs.Sectors.{Sector};
 ghost use Rattle.md_base.specs.Shapes.{has_slot};
-ghost use Rattle.superblocks.specs.Reading.{is_reshaping, role_state, holder, data_offset_of};
+ghost use Rattle.superblocks.specs.Reading.{is_clean, is_reshaping, role_state, holder, data_offset_of};
 ghost use Rattle.row_io.specs.Rows.{present, reading_of};
 ghost use Rattle.flat_history.specs.World.{World};
 ghost use Rattle.flat_history.specs.Sound.{OpensFit};
@@ -21,6 +22,7 @@ ghost use Rattle.views.specs.Moving.{Grows, IsMoved};
 ghost use Rattle.views.specs.Lacking.{AreTooMany, AreHoldersFlushed};
 ghost use Rattle.views.specs.Rebuilding.{AreSparesFree};
 ghost use Rattle.safe_updates.specs.Named.{AreNamedMissing};
+ghost use Rattle.safe_updates.specs.Unused.{IsUnusedKept};
 ghost use Rattle.reshape_ends.specs.Finished.{IsOver, IsEndedBehind, AreLostInEnd, IsFinishable};
 
 use crate::beginning::{check_counts, check_entries};
@@ -65,6 +67,8 @@ pub fn finish<B: Bank>(members: &mut Members, bank: &mut B) -> Finished
     requires whole { HasNoneRecovering members.old }
     ensures answer { MatchOption result.refusal (IsOver members.old.newest members.new.newest) (AreTooMany members.new) }
     ensures refused { (why : Refusal) → result.refusal ≡ Some why → (result.lost ≡ 0) × IsMoved (B.given bank.old) members.old members.new }
+    ensures untouched { (why : Refusal) → result.refusal ≡ Some why → (is_clean members.new.newest ≡ is_clean members.old.newest)
+        × (B.tells → IsUnusedKept members.old (disk (B.given bank.old).start (B.tape bank.old)) (disk (B.given bank.old).start (B.tape bank.new))) }
     ensures ended { result.refusal ≡ None → IsEndedBehind B.tells (B.given bank.old) result.roles members.old members.new (B.tape bank.old) (B.tape bank.new) }
     ensures placed { IsPlaced (B.given bank.old) members.new }
     ensures unlost { AreUnlost members.new }

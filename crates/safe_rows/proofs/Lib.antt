@@ -1,3 +1,4 @@
 pub mod ReadParts
 pub mod FillingLaws
 pub mod MendedStripes
+pub mod UnusedReads

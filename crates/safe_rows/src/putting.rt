@@ -265,6 +265,7 @@ fn prepare<B: Bank>(
     ensures first { MatchOption result.refusal ⊤ (λ refusal. write_refusal shape.now synced members.new ≡ Some refusal) }
     ensures grows { Grows B.tells (B.tape bank.old) (B.tape bank.new) }
     ensures others { B.tells → AreOthersPresent (present (B.given bank.old) (B.tape bank.old)) (present (B.given bank.old) (B.tape bank.new)) }
+    ensures unused { B.tells → IsUnusedKept members.old (disk (B.given bank.old).start (B.tape bank.old)) (disk (B.given bank.old).start (B.tape bank.new)) }
     ensures read { result.refusal ≡ None → B.tells → AreRowsRead shape.now synced members.old members.new (present (B.given bank.old) (B.tape bank.old)) rows.new.items buffer.new.items }
     ensures dirty { result.refusal ≡ None → is_clean members.new.newest ≡ false }
     ensures stays { is_clean members.old.newest ≡ false → is_clean members.new.newest ≡ false }
@@ -352,6 +353,7 @@ pub fn put<B: Bank>(
     ensures dirty { result.refusal ≡ None → is_clean members.new.newest ≡ false }
     ensures stays { is_clean members.old.newest ≡ false → is_clean members.new.newest ≡ false }
     ensures untouched { result.begun ≡ false → B.tells → AreOthersPresent (present (B.given bank.old) (B.tape bank.old)) (present (B.given bank.old) (B.tape bank.new)) }
+    ensures unused { B.tells → IsUnusedKept members.old (disk (B.given bank.old).start (B.tape bank.old)) (disk (B.given bank.old).start (B.tape bank.new)) }
     ensures rise { IsRisen B.tells members.old members.new (B.tape bank.old) (B.tape bank.new) }
     ensures safe { B.tells → (world : World) → (told : Ledger) → HasRoomLeft members.old (B.tape bank.old) (B.tape bank.new)
         → AreGoneTold told members.new → told.unclean ≡ true → (list list' : ℕ → Sector) → IsWritten list list' first from.now

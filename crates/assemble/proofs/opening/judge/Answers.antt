@@ -1,22 +1,22 @@
 use Rattle.std.proofs.Common.{inr, refl, sym, ◌∙◌, slice_index, arith}
 use Rattle.assemble.specs.Looking.{lengths_scope}
-use Rattle.assemble.proofs.Judged.{elected-valid, reshape-refused, none-still}
+use Rattle.assemble.proofs.Judged.{elected-valid, backup-refused}
 use Rattle.assemble.proofs.opening.judge.Goals as goal
 
-pub reshape_refusal-requires-clause-shapes : goal.reshape_refusal-requires-clause-shapes
-reshape_refusal-requires-clause-shapes c =
+pub backup_refusal-requires-clause-shapes : goal.backup_refusal-requires-clause-shapes
+backup_refusal-requires-clause-shapes c =
     elected-valid (slice_index c.args.lengths.now) _ c.args.found.lost c.in-Ok.members c.in-Ok.ensures
 
 pub returns-in-Some-clause-judged : goal.returns-in-Some-clause-judged
 returns-in-Some-clause-judged c =
-    inr (reshape-refused (lengths_scope c.args.backup c.args.found.given c.args.lengths.now) _ c.args.found.lost c.in-Ok.members c.in-Some.refusal
-    c.in-Ok.ensures (sym c.reshape_refusal.ensures ∙ c.in-Some.is))
+    inr (backup-refused (lengths_scope c.args.backup c.args.found.given c.args.lengths.now) _ c.args.found.lost c.in-Ok.members c.in-Some.refusal
+    c.in-Ok.ensures (sym c.backup_refusal.ensures ∙ c.in-Some.is))
 
 pub returns-in-None-clause-judged : goal.returns-in-None-clause-judged
 returns-in-None-clause-judged c = record {
   elected = c.in-Ok.ensures;
   given = refl;
-  still = none-still (lengths_scope c.args.backup c.args.found.given c.args.lengths.now) c.in-Ok.members.newest (sym c.reshape_refusal.ensures ∙ c.in-None.is);
+  backed = sym c.backup_refusal.ensures ∙ c.in-None.is;
 }
 
 pub returns-in-Err-clause-counted : goal.returns-in-Err-clause-counted

@@ -7,7 +7,7 @@ use Rattle.bank.specs.Tape.{Contents, contents}
 use Rattle.superblocks.specs.Found.{AreInSectors}
 use Rattle.views.specs.Flushing.{AreTried, OnlyFlushesAdded, OnlyItsSlotsFail}
 use Rattle.views.proofs.Flushed.{contents-added}
-use Rattle.assemble.proofs.LookedAt.{writable-left, sectors-left, seen-given, rest-none}
+use Rattle.assemble.proofs.LookedAt.{aside-left, writable-left, sectors-left, seen-given, rest-none}
 use Rattle.assemble.proofs.slots.look.Goals as goal
 
 pub returns-clause-seen : goal.returns-clause-seen
@@ -33,6 +33,10 @@ pub returns-clause-rest : goal.returns-clause-rest
 returns-clause-rest g c =
     rest-none (g.B.Bank.given c.args.bank.now).slots c.in-Ok.found.0 c.forget.new.seen c.flush_slots-lost.result c.in-Ok.ensures.rest
     c.forget.ensures.each c.forget.ensures.count
+
+pub returns-clause-aside : goal.returns-clause-aside
+returns-clause-aside g c =
+    aside-left c.args.backup c.in-Ok.found.0 c.forget.new.seen c.flush_slots-lost.result c.forget.ensures.each c.forget.ensures.count c.in-Ok.ensures.aside
 
 pub returns-clause-writable : goal.returns-clause-writable
 returns-clause-writable g c =

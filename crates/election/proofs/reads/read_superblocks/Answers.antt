@@ -1,4 +1,4 @@
-use Rattle.std.proofs.Common.{◌<◌, List, Option, Some, None, refl, sym, subst, ap₂, ◌∙◌, cond, arith, length}
+use Rattle.std.proofs.Common.{◌≡◌, ◌<◌, get_or, List, Option, Some, None, refl, sym, subst, ap₂, ◌∙◌, cond, arith, length}
 use Rattle.sb1.specs.declared.sb.Sb.{Sb}
 use Rattle.sb1.specs.Superblock.{superblock_in}
 use Rattle.bank.specs.declared.bank.Operation.{Operation}
@@ -7,7 +7,7 @@ use Rattle.bank.specs.Tape.{contents}
 use Rattle.superblocks.specs.Reading.{is_backup}
 use Rattle.superblocks.specs.Found.{IsInSectors, AreInSectors}
 use Rattle.superblocks.specs.Writing.{IsMember, AreWritable}
-use Rattle.election.proofs.Looked.{sectors-none, sectors-found, writable-none, writable-found, read-none, read-found, read-lost, read-seen, read-rest, read-as}
+use Rattle.election.proofs.Looked.{sectors-none, sectors-found, writable-none, writable-found, aside-none, aside-found, read-none, read-found, read-lost, read-seen, read-rest, read-as}
 use Rattle.election.proofs.reads.read_superblocks.Goals as goal
 use Rattle.election.proofs.reads.read_superblocks.Goals.{in-Ok, in-Err}
 
@@ -16,6 +16,7 @@ loop-slot-init g c = record {
   same_tape = λ told. refl;
   same_given = refl;
   writable = subst (λ seen. AreWritable (g.B.Bank.given c.args.bank.now) seen) (sym c.in_ok-seen.ensures) (writable-none (g.B.Bank.given c.args.bank.now));
+  aside = λ s is. subst (λ seen. get_or seen s None ≡ None) (sym c.in_ok-seen.ensures) (aside-none c.args.backup s is);
   sectors = λ told. subst (λ seen. AreInSectors (contents (g.B.Bank.given c.args.bank.now).start (g.B.Bank.tape c.args.bank.now) (length (g.B.Bank.tape c.args.bank.now))) seen) (sym c.in_ok-seen.ensures)
       (sectors-none (contents (g.B.Bank.given c.args.bank.now).start (g.B.Bank.tape c.args.bank.now) (length (g.B.Bank.tape c.args.bank.now))));
   read = read-as c.in_ok-seen.ensures refl
@@ -39,6 +40,11 @@ loop-slot-preserved g c =
             (writable-found given c.loop-slot.seen c.loop-slot.slot w.in-Ok.superblock (omega (arith, was.read.count)) was.writable
             (λ sb e. subst (λ (b : Given). IsMember b (Some sb) c.loop-slot.slot) was.same_given (w.in-Ok.ensures.writable sb e)))
         | in-Err w ↦ subst (λ seen. AreWritable given seen) (sym w.seen-is) was.writable
+      ];
+      aside = λ s is. elim c.match-read_member.branch [
+        | in-Ok w ↦ subst (λ seen. get_or seen s None ≡ None) (sym (w.seen-is ∙ w.set.ensures.own))
+            (aside-found c.args.backup c.loop-slot.slot c.loop-slot.seen w.in-Ok.superblock (omega (arith, was.read.count, c.requires, known)) was.aside w.in-Ok.ensures.aside s is)
+        | in-Err w ↦ subst (λ seen. get_or seen s None ≡ None) (sym w.seen-is) (was.aside s is)
       ];
       sectors = λ told. elim c.match-read_member.branch [
         | in-Ok w ↦ subst (λ seen. AreInSectors (contents given.start tape (length tape)) seen) (sym (w.seen-is ∙ w.set.ensures.own))

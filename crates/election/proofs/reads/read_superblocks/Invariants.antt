@@ -1,6 +1,7 @@
-use Rattle.std.proofs.Common.{◌≡◌, length}
+use Rattle.std.proofs.Common.{◌≡◌, ℕ, None, IsTrue, get_or, length}
 use Rattle.bank.specs.Tape.{contents}
 use Rattle.superblocks.specs.Found.{AreInSectors}
+use Rattle.superblocks.specs.Reading.{is_backup}
 use Rattle.superblocks.specs.Writing.{AreWritable}
 use Rattle.election.proofs.Looked.{IsRead}
 use Rattle.election.proofs.reads.read_superblocks.Given as goal
@@ -13,6 +14,7 @@ invariant-loop-slot g l =
       same_tape : g.B.Bank.tells → g.B.Bank.tape l.bank ≡ tape;
       writable : AreWritable given l.seen;
       sectors : g.B.Bank.tells → AreInSectors (contents given.start tape (length tape)) l.seen;
+      aside : (s : ℕ) → IsTrue (is_backup l.backup s) → get_or l.seen s None ≡ None;
       same_given : g.B.Bank.given l.bank ≡ given;
       read : IsRead g.B.Bank.tells given l.backup (contents given.start tape (length tape)) l.slot l.seen l.lost (g.B.Bank.faults_of l.fn.bank) (g.B.Bank.faults_of l.bank);
     }

@@ -15,6 +15,7 @@ use Rattle.shape_changes.specs.Steady.{IsSteady, IsSafeOver}
 use Rattle.shape_changes.specs.Updates.{planned_view}
 use Rattle.shape_changes.proofs.PlannedRoles.{live-before}
 use Rattle.shape_changes.proofs.Risen.{risen-then, room-then}
+use Rattle.safe_updates.proofs.Unused.{rest-unused}
 use Rattle.reshape_updates.specs.Ending.{ending}
 use Rattle.views.proofs.Fit.{few, count-alike}
 use Rattle.views.proofs.LackingLaws.{holders-updated, holders-fewer}
@@ -118,6 +119,13 @@ returns-in-Some-clause-failed g c =
 pub returns-in-Some-clause-refused : goal.returns-in-Some-clause-refused
 returns-in-Some-clause-refused g c = λ why is. (refl, c.flush_naming-spares.ensures.moved)
 
+pub returns-in-Some-clause-untouched : goal.returns-in-Some-clause-untouched
+returns-in-Some-clause-untouched g c = λ why is. (
+  c.flush_naming-spares.ensures.clean,
+  λ tell. rest-unused c.args.members.now (disk (g.B.Bank.given c.args.bank.now).start (g.B.Bank.tape c.args.bank.now))
+      (disk (g.B.Bank.given c.args.bank.now).start (g.B.Bank.tape c.flush_naming-spares.new.bank)) (c.flush_naming-spares.ensures.rest tell),
+)
+
 pub returns-in-Some-clause-ended : goal.returns-in-Some-clause-ended
 returns-in-Some-clause-ended g c = λ none. absurd (cc)
 
@@ -128,6 +136,9 @@ pub returns-in-Some-clause-safe : goal.returns-in-Some-clause-safe
 returns-in-Some-clause-safe g c = λ none. absurd (cc)
 
 -- ---- it has ended
+
+pub returns-clause-untouched : goal.returns-clause-untouched
+returns-clause-untouched g c = λ why is. absurd (cc)
 
 module _ (g : Over) (c : After-check_entries g) where
   abbrev first_given : Given

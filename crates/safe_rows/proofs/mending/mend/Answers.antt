@@ -1,5 +1,6 @@
 use Rattle.std.proofs.Common.{inl, inr, ℕ, ◌+◌, ◌*◌, ◌≤◌, refl, sym, ◌∙◌, ap, subst, arith}
 use Rattle.bank.specs.Given.{Given}
+use Rattle.bank.specs.Tape.{disk}
 use Rattle.row_io.specs.Rows.{reading_of, present}
 use Rattle.md_base.specs.Shapes.{data_disks}
 use Rattle.shape_views.specs.Regions.{place_by}
@@ -17,6 +18,8 @@ use Rattle.views.proofs.Fit.{alike-force}
 use Rattle.views.proofs.PutLists.{touched-or-not}
 use Rattle.views.proofs.LackingWrites.{others-then}
 use Rattle.views.proofs.FilledParts.{touched-in_parts, parts-of_stripe}
+use Rattle.safe_updates.specs.Unused.{IsUnusedKept}
+use Rattle.safe_updates.proofs.Unused.{unused-then}
 use Rattle.safe_rows.proofs.MendedStripes.{put-wider}
 use Rattle.views.proofs.MendedParts.{valid-in, stripe-within, part-within, part-touches, ArePut, put-none, put-then, put-untouched, nothing-written, no-bytes, not-begun, safe-part}
 use Rattle.safe_rows.proofs.mending.mend.Goals as goal
@@ -38,6 +41,7 @@ loop-done-init g c =
       dirty = c.requires.dirty;
       within = omega arith;
       put = λ told. put-none given c.args.shape.now _ _ m tape0 (λ row at. absurd (let low = at.0 in let high = at.1 in omega (arith, low, high)));
+      unused = λ told s k v unused may. may;
       rise = risen-none m tape0 tape0 (λ told. omega arith);
       safe = λ told world ledger room gone unclean list stands region allowed zeros safe. safe-none (OpensFit world) world.scope given ledger m tape0 safe;
       given = refl;
@@ -182,6 +186,19 @@ returns-then-is_some-clause-safe g c = λ told world ledger room gone unclean li
     (region-later given m n c.args.shape.now touched was.moved (λ x lt at. region x lt (inside (place_by m.newest x).row at)))
     (λ begun. allowed-later given m n was.moved ledger.values list allowed) (λ fit. zeros-later given m n was.moved list (zeros fit)) now)
 
+pub returns-then-is_some-clause-unused : goal.returns-then-is_some-clause-unused
+returns-then-is_some-clause-unused g c = λ told.
+    let was = c.loop-done.invariant in
+    let did = c.put-part.ensures in
+    let m = c.args.members.now in
+    let n = c.loop-done.members in
+    let given = g.B.Bank.given c.args.bank.now in
+    let tape0 = g.B.Bank.tape c.args.bank.now in
+    let tape1 = g.B.Bank.tape c.loop-done.bank in
+    let tape2 = g.B.Bank.tape c.put-part.new.bank in
+    unused-then given m n (disk given.start tape0) (disk given.start tape1) (disk given.start tape2) was.moved (was.unused told)
+    (subst (λ (b : Given). IsUnusedKept n (disk b.start tape1) (disk b.start tape2)) was.given (did.unused told))
+
 pub loop-done-preserved : goal.loop-done-preserved
 loop-done-preserved g c =
     let was = c.loop-done.invariant in
@@ -221,6 +238,8 @@ loop-done-preserved g c =
             rebuilt = λ list stands role slot row below is has lt. did.rebuilt none told list list (nothing-written list first) stands (λ is. absurd (cc)) role slot row below is has lt;
             others = did.others told;
           })));
+      unused = λ told. unused-then given m n (disk given.start tape0) (disk given.start tape1) (disk given.start tape2) was.moved (was.unused told)
+          (subst (λ (b : Given). IsUnusedKept n (disk b.start tape1) (disk b.start tape2)) was.given (did.unused told));
       rise = risen-then was.rise did.rise;
       safe = λ told world ledger room gone unclean list stands region allowed zeros safe.
           safe-part world given given1 ledger m n new tape0 tape1 tape2 told was.given was.moved.placed moved did.grows was.rise room gone

@@ -1,11 +1,13 @@
 use Rattle.std.proofs.Common.{◌≡◌, ◌-◌, ◌≤◌, ℕ, true, false, length, vec_capacity}
 use Rattle.bank.specs.Given.{NeverFalls}
+use Rattle.bank.specs.Tape.{disk}
 use Rattle.md_base.specs.Sectors.{Sector}
 use Rattle.superblocks.specs.Reading.{is_clean}
 use Rattle.row_io.specs.Rows.{present}
 use Rattle.views.specs.Moving.{Grows, IsMoved}
 use Rattle.shape_changes.specs.Safety.{HasRoomLeft, IsRisen}
 use Rattle.views.specs.Lacking.{HaveFailedSince, DataStandsAmong, IsOfStripe}
+use Rattle.safe_updates.specs.Unused.{IsUnusedKept}
 use Rattle.flat_history.specs.World.{World}
 use Rattle.flat_history.specs.Sound.{OpensFit}
 use Rattle.shape_views.specs.Views.{Ledger, IsTailZero}
@@ -26,6 +28,7 @@ invariant-loop-done g l = record {
   within : l.done ≤ l.chunk;
   put : g.B.Bank.tells → ArePut (g.B.Bank.given l.fn.bank) l.shape (IsOfStripe l.shape l.stripe) (IsInParts l.shape l.stripe l.done) l.fn.members l.members
       (g.B.Bank.tape l.fn.bank) (g.B.Bank.tape l.bank);
+  unused : g.B.Bank.tells → IsUnusedKept l.fn.members (disk (g.B.Bank.given l.fn.bank).start (g.B.Bank.tape l.fn.bank)) (disk (g.B.Bank.given l.fn.bank).start (g.B.Bank.tape l.bank));
   rise : IsRisen g.B.Bank.tells l.fn.members l.members (g.B.Bank.tape l.fn.bank) (g.B.Bank.tape l.bank);
   safe : g.B.Bank.tells → (world : World) → (told : Ledger) → HasRoomLeft l.fn.members (g.B.Bank.tape l.fn.bank) (g.B.Bank.tape l.bank)
       → AreGoneTold told l.members → told.unclean ≡ true → (list : ℕ → Sector) → DataStandsAmong l.shape (IsOfStripe l.shape l.stripe) l.fn.members (present (g.B.Bank.given l.fn.bank) (g.B.Bank.tape l.fn.bank)) list

@@ -19,6 +19,7 @@ use Rattle.shape_changes.specs.Safety.{IsRisen}
 use Rattle.shape_changes.specs.Steady.{KeepsSafe}
 use Rattle.shape_changes.proofs.Risen.{risen-then, risen-lost, room-then}
 use Rattle.views.proofs.SafeStretch.{safe-then, safe-lost, over-at, keeps-from}
+use Rattle.safe_rows.proofs.UnusedReads.{read-unused, named-unused}
 use Rattle.safe_rows.proofs.putting.prepare.Goals as goal
 
 pub returns-then-is_err-clause-moved : goal.returns-then-is_err-clause-moved
@@ -220,3 +221,20 @@ returns-clause-others g c = λ told.
 
 pub returns-clause-counts : goal.returns-clause-counts
 returns-clause-counts g c = λ s. let one = c.read_touched-read.ensures.lost.never_falls s in let two = c.raise-spares.ensures.counts s in omega (arith, one, two)
+
+pub returns-then-is_err-clause-unused : goal.returns-then-is_err-clause-unused
+returns-then-is_err-clause-unused g c = λ told.
+    read-unused c.args.members.now (g.B.Bank.given c.args.bank.now).start (g.B.Bank.tape c.args.bank.now) (g.B.Bank.tape c.read_touched-read.new.bank) (c.read_touched-read.ensures.tape told)
+
+pub returns-clause-unused : goal.returns-clause-unused
+returns-clause-unused g c = λ told.
+    let m = c.args.members.now in
+    let n = c.read_touched-read.new.members in
+    let given = g.B.Bank.given c.args.bank.now in
+    let f0 = g.B.Bank.faults_of c.args.bank.now in
+    let f1 = g.B.Bank.faults_of c.read_touched-read.new.bank in
+    let r = c.read_touched-read.result.lost in
+    let shape = c.args.shape.now in
+    let did = c.read_touched-read.ensures in
+    named-unused given (g.B.Bank.given c.read_touched-read.new.bank) m n (g.B.Bank.tape c.args.bank.now) (g.B.Bank.tape c.read_touched-read.new.bank) (g.B.Bank.tape c.raise-spares.new.bank) (did.tape told) did.given
+    (moved-lost given shape m n r f0 f1 c.requires.placed (lost-of given shape m n r f0 f1 c.requires.placed did.lost) c.requires.unlost) (c.raise-spares.ensures.rest told)

@@ -1,6 +1,7 @@
 use Rattle.std.proofs.Common.{◌≡◌, ◌-◌, ◌<◌, ℕ, List, length, inl, refl, sym, ◌∙◌, ap, subst, arith}
 use Rattle.std.specs.Prelude.{Contains, slice_index, None}
 use Rattle.bank.specs.Given.{Given}
+use Rattle.bank.specs.Tape.{disk}
 use Rattle.row_io.specs.Rows.{reading_of, present}
 use Rattle.list_io.specs.Buffers.{buffered, AreStanding, IsTouched}
 use Rattle.list_io.specs.Writing.{AreDataFrom}
@@ -18,6 +19,8 @@ use Rattle.flat_history.specs.Sound.{OpensFit}
 use Rattle.shape_changes.proofs.Risen.{risen-then, room-first, room-then}
 use Rattle.views.proofs.SafeStretch.{gone-before, safe-then, allowed-later, zeros-later, region-later, grows-longer, over-at, keeps-from}
 use Rattle.safe_updates.proofs.RefusingLaws.{many-told}
+use Rattle.safe_updates.specs.Unused.{IsUnusedKept}
+use Rattle.safe_updates.proofs.Unused.{unused-then}
 use Rattle.safe_rows.proofs.putting.put.Goals as goal
 
 pub put_rows-done-requires-clause-below : goal.put_rows-done-requires-clause-below
@@ -221,3 +224,13 @@ returns-clause-dirty g c = λ ok. c.put_rows-done.ensures.clean ∙ c.prepare-be
 
 pub returns-clause-counts : goal.returns-clause-counts
 returns-clause-counts g c = λ s. let one = c.prepare-begun.ensures.counts s in let two = c.put_rows-done.ensures.counts s in omega (arith, one, two)
+
+pub returns-clause-unused : goal.returns-clause-unused
+returns-clause-unused g c = λ told.
+    let given = g.B.Bank.given c.args.bank.now in
+    let n = c.prepare-begun.new.members in
+    let tape1 = g.B.Bank.tape c.prepare-begun.new.bank in
+    let tape2 = g.B.Bank.tape c.put_rows-done.new.bank in
+    let did = c.prepare-begun.ensures in
+    unused-then given c.args.members.now n (disk given.start (g.B.Bank.tape c.args.bank.now)) (disk given.start tape1) (disk given.start tape2) did.moved (did.unused told)
+    (subst (λ (b : Given). IsUnusedKept n (disk b.start tape1) (disk b.start tape2)) did.given (c.put_rows-done.ensures.unused told))
