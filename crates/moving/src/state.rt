@@ -137,7 +137,7 @@ impl<B: Bank> Moving<B> {
 
     /// How many background steps are left, those of the phases behind the reshape among them.
     pub fn left(&self) -> u64
-        ensures { result ≡ left_in self.now.parts.members self.now.course self.now.ahead }
+        ensures { result ≡ left_in self.now.parts.work self.now.parts.members self.now.course self.now.ahead }
     {
         steps_left(&self.members, &self.course, &self.ahead)
     }

@@ -25,11 +25,11 @@ impl<B: Bank> Moving<B> {
         requires room { 1 ≤ self.old.parts.steps }
         requires due { due_of self.old.parts.members.newest self.old.course ≢ EndsReshape }
         requires sure { (span : Span) → self.old.course ≡ unsure span → ⊥ }
-        ensures entered { IsStepTaken who self.old.parts.entries self.new.parts.entries (kind_of (due_of self.old.parts.members.newest self.old.course)) (left_in self.new.parts.members self.new.course self.new.ahead) result }
+        ensures entered { IsStepTaken who self.old.parts.entries self.new.parts.entries (kind_of (due_of self.old.parts.members.newest self.old.course)) (left_in self.new.parts.work self.new.parts.members self.new.course self.new.ahead) result }
         ensures called { IsCalled B.tells (B.given self.old.parts.bank) (B.tape self.old.parts.bank) (B.tape self.new.parts.bank) (B.faults_of self.old.parts.bank) (B.faults_of self.new.parts.bank) self.old self.new }
         ensures clean { is_clean self.new.parts.members.newest ≡ is_clean self.old.parts.members.newest }
         ensures caused { IsStepCaused (due_of self.old.parts.members.newest self.old.course) self.old.parts.backup self.old.parts.members self.new.parts.members (B.faults_of self.old.parts.bank) (B.faults_of self.new.parts.bank) result }
-        ensures left { OnOk result (left_in self.new.parts.members self.new.course self.new.ahead + 1 ≡ left_in self.old.parts.members self.old.course self.old.ahead) }
+        ensures left { OnOk result (left_in self.new.parts.work self.new.parts.members self.new.course self.new.ahead + 1 ≡ left_in self.old.parts.work self.old.parts.members self.old.course self.old.ahead) }
         ensures course { OnErr result ((self.new.course ≡ self.old.course) ⊎ IsNextUnsure self.old.parts.members self.new.course) }
         ensures room { self.new.parts.steps + 1 ≡ self.old.parts.steps }
         ensures given { B.given self.new.parts.bank ≡ B.given self.old.parts.bank }

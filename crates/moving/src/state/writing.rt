@@ -48,7 +48,7 @@ impl<B: Bank> Moving<B> {
             self.old.parts.members self.new.parts.members result }
         ensures failed { HaveRolesFailed self.old.parts.members self.new.parts.members (B.faults_of self.old.parts.bank) (B.faults_of self.new.parts.bank) }
         ensures dirty { OnOk result (is_clean self.new.parts.members.newest ≡ false) }
-        ensures left { left_in self.new.parts.members self.new.course self.new.ahead ≡ left_in self.old.parts.members self.old.course self.old.ahead }
+        ensures left { left_in self.new.parts.work self.new.parts.members self.new.course self.new.ahead ≡ left_in self.old.parts.work self.old.parts.members self.old.course self.old.ahead }
         ensures course { self.new.course ≡ self.old.course }
         ensures given { B.given self.new.parts.bank ≡ B.given self.old.parts.bank }
     {
@@ -102,7 +102,7 @@ impl<B: Bank> Moving<B> {
         requires room { 1 ≤ self.old.parts.steps }
         requires short { at + count < 2 ^ 63 }
         requires due { IsWindowOpen self.old }
-        ensures entered { IsStepTaken who self.old.parts.entries self.new.parts.entries FinishesWindow (left_in self.new.parts.members self.new.course self.new.ahead) result }
+        ensures entered { IsStepTaken who self.old.parts.entries self.new.parts.entries FinishesWindow (left_in self.new.parts.work self.new.parts.members self.new.course self.new.ahead) result }
         ensures goes { OnOk result (IsCallGoing self.new.parts.entries who) }
         ensures called { IsCalled B.tells (B.given self.old.parts.bank) (B.tape self.old.parts.bank) (B.tape self.new.parts.bank) (B.faults_of self.old.parts.bank) (B.faults_of self.new.parts.bank) self.old self.new }
         ensures caused { IsCausedBy (list_length self.old.parts.members.newest) (at + count)
@@ -135,7 +135,7 @@ impl<B: Bank> Moving<B> {
         requires short { at + length from.now / 512 < 2 ^ 63 }
         requires sure { (x : ℕ) → at ≤ x → x < at + length from.now / 512 → covers (unsure_in self.old.course.window) x ≡ false }
         ensures answered { IsWriteAnswered (list_length self.old.parts.members.newest) at (sectors_of from.now) who self.old.parts.entries self.new.parts.entries result }
-        ensures entered { IsWriteEntered self.old.course.window at (at + length from.now / 512) (sectors_of from.now) who self.old.parts.entries self.new.parts.entries (left_in self.new.parts.members self.new.course self.new.ahead) result }
+        ensures entered { IsWriteEntered self.old.course.window at (at + length from.now / 512) (sectors_of from.now) who self.old.parts.entries self.new.parts.entries (left_in self.new.parts.work self.new.parts.members self.new.course self.new.ahead) result }
         ensures unchanged { OnNoMemory result (self.new ≡ self.old) }
         ensures called { IsCalled B.tells (B.given self.old.parts.bank) (B.tape self.old.parts.bank) (B.tape self.new.parts.bank) (B.faults_of self.old.parts.bank) (B.faults_of self.new.parts.bank) self.old self.new }
         ensures caused { IsCausedBy (list_length self.old.parts.members.newest) (at + length from.now / 512)
