@@ -13,7 +13,7 @@ use Rattle.bank.specs.declared.bank.Operation.{Operation}
 use Rattle.bank.specs.Given.{Given}
 use Rattle.bank.specs.Tape.{IsIn, disk}
 use Rattle.superblocks.specs.declared.members.Members.{Members}
-use Rattle.superblocks.specs.Reading.{Scope, is_clean, shape_of, final_shape, list_length, role_count}
+use Rattle.superblocks.specs.Reading.{Scope, is_clean, shape_of, final_shape, list_length}
 use Rattle.superblocks.proofs.ValidFields.{few-roles}
 use Rattle.row_io.specs.Rows.{reading_of, present}
 use Rattle.list_io.specs.Full.{AreWholeIn}
@@ -33,7 +33,7 @@ use Rattle.shape_views.specs.Views.{Ledger, IsTailZero}
 use Rattle.shape_views.specs.Windows.{IsShown, AreTailsStanding}
 use Rattle.shape_changes.specs.Safety.{HasLiveSlot, HasRoomLeft, IsRisen}
 use Rattle.shape_changes.specs.Steady.{IsMoreTold, IsSafeOver, KeepsSafe, AreGoneTold, IsUncleanTold, AreWritesAllowed}
-use Rattle.views.specs.Lacking.{lacking, DoesWithout, AreTooMany, IsNotResynced, AreOtherRowsKept}
+use Rattle.views.specs.Lacking.{lacking, DoesWithout, AreTooMany, AreOtherRowsKept}
 use Rattle.views.specs.Moving.{Grows, IsMoved}
 use Rattle.views.proofs.Fit.{list-alike, count-alike, force-disks}
 use Rattle.views.proofs.LiveLeft.{without-left}
@@ -52,7 +52,7 @@ use Rattle.kept_history.specs.Told.{told_now}
 use Rattle.kept_history.proofs.Growing.{unsynced-grown}
 use Rattle.kept_history.proofs.Ledgers.{unsynced-still}
 use Rattle.kept_history.proofs.Lists.{newest-in}
-use Rattle.history_calls.specs.Reliable.{IsReliable, AreToldGone}
+use Rattle.history_calls.specs.Reliable.{AreToldGone}
 use Rattle.grow_asked.specs.declared.window.Window.{Window}
 use Rattle.grow_asked.specs.declared.window.Window.TheVariants.{Closed, Entered, Unsure}
 use Rattle.course_kept.specs.declared.course.Course.{Course}
@@ -132,7 +132,7 @@ module _ (tells : Type 0) (given : Given) (tape tape' : List Operation) (scope :
   }
 
   -- the shapes that do without what is missing behind it
-  tolerated : Shape → Bool
+  abbrev tolerated : Shape → Bool
   tolerated shape = nat_le (lacking shape new) (tolerance shape)
 
   is-tolerated : (shape : Shape) → DoesWithout shape new → tolerated shape ≡ true
@@ -260,10 +260,13 @@ module _ (tells : Type 0) (given : Given) (tape tape' : List Operation) (scope :
           → IsNotMended (mend_shape old.newest mended) new refusal → IsRefusedRight (world_in given tape' scope first) (entries ++ entries_of who end (losses_of roles spares)) refusal
       right t gone level (inl many) = refused-right (world_in given tape' scope first) (entries ++ entries_of who end (losses_of roles spares)) given new did.moved.placed gone level refusal many
       right t gone level (inr (able, lacked)) =
-          subst (λ (r : Refusal). IsRefusedRight (world_in given tape' scope first) (entries ++ entries_of who end (losses_of roles spares)) r) (sym lacked.1) (gone lacked.0 (
-            let lt = lacked.4.0 in
+          subst (λ (r : Refusal). IsRefusedRight (world_in given tape' scope first) (entries ++ entries_of who end (losses_of roles spares)) r) (sym lacked.1) (
+            gone lacked.0 (
+                let lt = lacked.4.0 in
                 let disks = force-disks old.newest was.members_are.placed.fit (mend_shape old.newest mended) (is-next old.newest was.members_are.placed.fit mended below).force in
-                let same = count-alike old.newest new.newest did.moved.reshape did.moved.shape did.moved.size in omega (arith, lt, disks, same)) lacked.3, pending t)
+                let same = count-alike old.newest new.newest did.moved.reshape did.moved.shape did.moved.size in omega (arith, lt, disks, same)) lacked.3,
+            pending t,
+          )
 
 -- ---- its end
 
