@@ -82,7 +82,7 @@ module _ {tells : Type 0} {given : Given} {tape : List Operation} {scope : Scope
   current = now (opening_list (world_in given tape scope first)) entries
 
   fills : IsFilledRight world entries → FillsRight world entries
-  fills (inl none) = inl (λ role. none-lost world role entries (none role))
+  fills (inl none) = inl (λ role. none-lost world role entries (none.0 role))
   fills (inr fit) = inr fit
 
   keep : tells → IsFilledRight world entries → KeepShape entries
@@ -137,7 +137,7 @@ module _ {tells : Type 0} {given : Given} {tape : List Operation} {scope : Scope
   placed = placed-two alone given members was.placed (backup-still alone members.newest was.still) (λ role slot held none. absurd (cc))
 
   rebuilds : IsFilledRight world entries → AreRebuildsRight world entries
-  rebuilds (inl none) = inl (was.built (λ role. none-lost world role entries (none role)))
+  rebuilds (inl none) = inl (was.built (λ role. none-lost world role entries (none.0 role)))
   rebuilds (inr fit) = inr fit
 
   listed : tells → DoWithout members → IsFilledRight world entries → HasListStill (OpensFit world) members (present given tape) current
