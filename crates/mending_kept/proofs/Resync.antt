@@ -195,7 +195,7 @@ module _ (tells : Type 0) (given : Given) (tape tape' : List Operation) (scope :
       })
       (sym (ap (λ (o : Option ℕ). is_some o) waits)) (few-roles new.newest did.moved.placed.fit.valid) (missing-moved roles did.moved did.since) list-same (ap (λ (s : Shape). s.level) did.moved.shape) clean
       (course-moved given old new course did.moved was.course_is)
-      (λ t. stored-kept scope given old new course.window buffer (disk given.start tape) (disk given.start tape') was.members_are did.moved (did.unused t) (was.stored t))
+      (λ t on. stored-kept scope given old new course.window buffer (disk given.start tape) (disk given.start tape') was.members_are did.moved (did.unused t) (was.stored t on))
       (told-step entries who end (losses_of roles spares) ResyncStripe steps (losses-are roles spares))
       (λ t. record {
         rise = did.rise t;
@@ -228,7 +228,7 @@ module _ (tells : Type 0) (given : Given) (tape tape' : List Operation) (scope :
       was live goes caller at_end did.grows (quiet-refusal refusal) (reshaping-moved scope given old new did.moved was.members_are)
       (resync-moved did.moved (λ is dirty. did.dirty) was.beside (resync-of was)) refl (few-roles new.newest did.moved.placed.fit.valid) (missing-moved roles did.moved did.since) list-same
       (ap (λ (s : Shape). s.level) did.moved.shape) clean (course-moved given old new course did.moved was.course_is)
-      (λ t. stored-kept scope given old new course.window buffer (disk given.start tape) (disk given.start tape') was.members_are did.moved (did.unused t) (was.stored t))
+      (λ t on. stored-kept scope given old new course.window buffer (disk given.start tape) (disk given.start tape') was.members_are did.moved (did.unused t) (was.stored t on))
       (left-more left entries who end (losses_of roles spares ++ Refused refusal ∷ []) was.left_told (left-behind left who end (losses_of roles spares) (Refused refusal ∷ []) (losses-are roles spares) (λ told is. is)))
       (λ t. record {
         rise = did.rise t;

@@ -55,6 +55,7 @@ use Rattle.moving_kept.proofs.Refusals.{refused-right}
 use Rattle.moving_kept.proofs.Settling.{IsSettling, settlement, not-ended, settling-moves}
 use Rattle.moving_kept.proofs.Staying.{course-moved}
 use Rattle.moving_kept.proofs.Steps.{AreMissingSince, missing-moved}
+use Rattle.kept_history.proofs.Turned.{fills-on_course}
 
 -- What a flush of the members leaves, in an array that is unsynced behind it or not: none but superblocks is written, and each mark is safe as long as the list
 -- stands whichever header a stop leaves.
@@ -117,8 +118,8 @@ module _ (tells : Type 0) (given : Given) (tape tape' : List Operation) (scope :
         record {
           list = l.list;
           is = l.is;
-          stands = λ does. (courses-stand-under ⊥ scope old course buffer (present given tape) (disk given.start tape) l.list (was.stored t) (whole l does).in_course).0;
-          rows = λ all does fit. (courses-stand-under (OpensFit (world_in given tape scope first)) scope old course buffer (present given tape) (disk given.start tape) l.list (was.stored t)
+          stands = λ does. (courses-stand-under ⊥ scope old course buffer (present given tape) (disk given.start tape) l.list (was.stored t (fills-on_course (world_in given tape scope first) entries fills)) (whole l does).in_course).0;
+          rows = λ all does fit. (courses-stand-under (OpensFit (world_in given tape scope first)) scope old course buffer (present given tape) (disk given.start tape) l.list (was.stored t (fills-on_course (world_in given tape scope first) entries fills))
               ((none-pending (OpensFit (world_in given tape scope first)) AnyShape old course buffer (present given tape) l.list).1
               (all-stand (OpensFit (world_in given tape scope first)) AnyShape resync old course buffer (present given tape) l.list was.members_are.placed.fit (synced all) (whole l does)))).1 fit;
         }
@@ -145,7 +146,7 @@ module _ (tells : Type 0) (given : Given) (tape tape' : List Operation) (scope :
         settling-moves tells given tape tape' scope first entries old new carried resync resync' unsynced course course buffer buffer left left' who end roles spares event was live goes caller at_end grows settling other ends
         (reshaping-moved scope given old new did.moved was.members_are) has pends did.few (missing-moved roles did.moved did.since) list-same level-same done.clean unsynced_is
         (course-moved given old new course did.moved was.course_is)
-        (λ t. stored-kept scope given old new course.window buffer (disk given.start tape) (disk given.start tape') was.members_are did.moved (did.unused t) (was.stored t)) told
+        (λ t on. stored-kept scope given old new course.window buffer (disk given.start tape) (disk given.start tape') was.members_are did.moved (did.unused t) (was.stored t on)) told
         (λ t. record {
           rise = did.rise t;
           keeps = λ told_so fills more allowed room gone unclean before. keeps t told_so fills allowed room gone unclean before;
@@ -170,7 +171,7 @@ module _ (tells : Type 0) (given : Given) (tape tape' : List Operation) (scope :
         (reshaping-moved scope given old new did.moved was.members_are)
         (record { progress = progress-moved did.moved resync was.progress; beside = was.beside; dirty = λ does. absurd (never-both new refusal does many) }) did.few (missing-moved roles did.moved did.since) list-same level-same (λ dirty. inr (unsettled refusal many))
         (course-moved given old new course did.moved was.course_is)
-        (λ t. stored-kept scope given old new course.window buffer (disk given.start tape) (disk given.start tape') was.members_are did.moved (did.unused t) (was.stored t))
+        (λ t on. stored-kept scope given old new course.window buffer (disk given.start tape) (disk given.start tape') was.members_are did.moved (did.unused t) (was.stored t on))
         (left-more left entries who end (losses_of roles spares ++ Refused refusal ∷ []) was.left_told (left-behind left who end (losses_of roles spares) (Refused refusal ∷ []) (losses-are roles spares) (λ told is. is)))
         (λ t. record {
           within = tt;
