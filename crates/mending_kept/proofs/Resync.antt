@@ -35,7 +35,8 @@ use Rattle.shape_changes.specs.Safety.{HasLiveSlot, HasRoomLeft, IsRisen}
 use Rattle.shape_changes.specs.Steady.{IsMoreTold, IsSafeOver, KeepsSafe, AreGoneTold, IsUncleanTold, AreWritesAllowed}
 use Rattle.views.specs.Lacking.{lacking, DoesWithout, AreTooMany, AreOtherRowsKept}
 use Rattle.views.specs.Moving.{Grows, IsMoved}
-use Rattle.views.proofs.Fit.{list-alike, count-alike, force-disks}
+use Rattle.views.specs.Placed.{IsPlaced, IsInForce}
+use Rattle.views.proofs.Fit.{list-alike, force-disks, alike-force}
 use Rattle.views.proofs.LiveLeft.{without-left}
 use Rattle.safe_updates.specs.Unused.{IsUnusedKept}
 use Rattle.call_entries.specs.Losing.{losses_of}
@@ -67,6 +68,7 @@ use Rattle.moving_kept.proofs.MembersMove.{reshaping-moved}
 use Rattle.moving_kept.proofs.Pending.{resync-of, resync-moved, all-stand, mended-later}
 use Rattle.moving_kept.proofs.Quiet.{quiet-moves}
 use Rattle.moving_kept.proofs.Refusals.{quiet-refusal, refused-right}
+use Rattle.moving_kept.proofs.Resting.{resting-moves}
 use Rattle.moving_kept.proofs.Staying.{course-moved}
 use Rattle.moving_kept.proofs.Steps.{AreMissingSince, quiet-step, missing-moved, step-is, told-behind, told-step}
 
@@ -103,6 +105,29 @@ AreRowsMended tells given tape tape' old new mended = tells → (among : Shape �
     → ListStandsIn (λ s. among s ≡ true) hidden old (present given tape) list → AreEndsStanding old (present given tape) list
     → RowsStandIn (λ s. among s ≡ true) hidden (relied_sector old.newest (Some mended)) old (present given tape) list
     → RowsStandIn (λ s. among s ≡ true) hidden (relied_sector old.newest (Some (mended + 1))) new (present given tape') list
+
+-- ---- why it isn't mended
+
+-- What is told is right by a history by which a resync is pending, and what is missing gone.
+not-mended-right : (world : World) (before : List Entry) (given : Given) (m : Members) (shape : Shape) → IsPlaced given m → IsInForce m.newest shape → AreToldGone world before m
+    → tolerance_of (level_at world before) ≡ tolerance (shape_of m.newest) → is_unsynced world before ≡ true → (refusal : Refusal) → IsNotMended shape m refusal → IsRefusedRight world before refusal
+not-mended-right world before given m shape placed force gone level pending refusal (inl many) = refused-right world before given m placed gone level refusal many
+not-mended-right world before given m shape placed force gone level pending refusal (inr (able, lacked)) =
+    subst (λ (r : Refusal). IsRefusedRight world before r) (sym lacked.1)
+    (gone lacked.0 (let lt = lacked.4.0 in let disks = force-disks m.newest placed.fit shape force in omega (arith, lt, disks)) lacked.3, pending)
+
+-- A call that is refused so before any device is touched keeps the record.
+pub untried-moves : (tells : Type 0) (given : Given) (tape : List Operation) (scope : Scope) (first : ℕ) (entries : List Entry) (m : Members) (carried : ℕ → Bool)
+    (resync : Option ℕ) (course : Course) (buffer : List ℕ) (left : ℕ) (who : Who) (end mended : ℕ) (refusal : Refusal)
+    → IsMoving tells given tape scope first entries m carried resync course buffer left → IsCallGoing entries who → IsFalse (who.caller == 254) → (tells → end ≡ length tape)
+    → resync ≡ Some mended → mended < mend_stripes m.newest → IsNotMended (mend_shape m.newest mended) m refusal
+    → IsMoving tells given tape scope first (entries ++ entries_of who end (Refused refusal ∷ [])) m carried resync course buffer left
+untried-moves tells given tape scope first entries m carried resync course buffer left who end mended refusal was goes caller at_end waits below why =
+    resting-moves tells given tape scope first entries m carried resync course buffer left who end (Refused refusal) was goes caller at_end (quiet-refusal refusal) (λ told is. is)
+    (λ t right. not-mended-right (world_in given tape scope first) entries given m (mend_shape m.newest mended) was.members_are.placed (is-next m.newest was.members_are.placed.fit mended below).force
+    (was.gone t right) (was.levelled t right) (was.pending t ∙ ap (λ (o : Option ℕ). is_some o) waits) refusal why)
+
+-- ---- a stripe that was tried
 
 -- where no window is entered, nothing is hidden
 aside-shown : (window : Window) → IsAside window → (x : ℕ) → covers (hidden_in window) x ≡ false
@@ -242,7 +267,9 @@ module _ (tells : Type 0) (given : Given) (tape tape' : List Operation) (scope :
                   (mends-go-on (OpensFit (world_in given tape scope first)) (λ shape. DoesWithout shape new) given old new course mended buffer (present given tape) (present given tape') l.list
                   was.members_are.placed did.moved was.course_is aside below (mending t l.list) (stood t l)).0;
             };
-        legal = λ fills gone level. right t gone (ap tolerance_of level ∙ was.levelled t fills ∙ ap tolerance (sym did.moved.shape)) why;
+        legal = λ fills gone level. not-mended-right (world_in given tape' scope first) (entries ++ entries_of who end (losses_of roles spares)) given new (mend_shape old.newest mended) did.moved.placed
+            (alike-force old.newest new.newest did.moved.reshape did.moved.shape did.moved.size (mend_shape old.newest mended) (is-next old.newest was.members_are.placed.fit mended below).force) gone
+            (ap tolerance_of level ∙ was.levelled t fills ∙ ap tolerance (sym did.moved.shape)) (pending t) refusal why;
       })
     where
       -- a resync is pending behind the losses
@@ -254,19 +281,6 @@ module _ (tells : Type 0) (given : Given) (tape tape' : List Operation) (scope :
           ∙ unsynced-still (world_in given tape scope first) entries (entries_of who end (losses_of roles spares))
           (subst (λ (l : List Event). list_any (λ e. is_resync_end e.event) (entries_of who end l) ≡ false) (append-nil (losses_of roles spares)) (ends-losses who end (losses_of roles spares) [] (losses-are roles spares)))
           ∙ was.pending t ∙ ap (λ (o : Option ℕ). is_some o) waits
-
-      right : (t : tells) → AreToldGone (world_in given tape' scope first) (entries ++ entries_of who end (losses_of roles spares)) new
-          → tolerance_of (level_at (world_in given tape' scope first) (entries ++ entries_of who end (losses_of roles spares))) ≡ tolerance (shape_of new.newest)
-          → IsNotMended (mend_shape old.newest mended) new refusal → IsRefusedRight (world_in given tape' scope first) (entries ++ entries_of who end (losses_of roles spares)) refusal
-      right t gone level (inl many) = refused-right (world_in given tape' scope first) (entries ++ entries_of who end (losses_of roles spares)) given new did.moved.placed gone level refusal many
-      right t gone level (inr (able, lacked)) =
-          subst (λ (r : Refusal). IsRefusedRight (world_in given tape' scope first) (entries ++ entries_of who end (losses_of roles spares)) r) (sym lacked.1) (
-            gone lacked.0 (
-                let lt = lacked.4.0 in
-                let disks = force-disks old.newest was.members_are.placed.fit (mend_shape old.newest mended) (is-next old.newest was.members_are.placed.fit mended below).force in
-                let same = count-alike old.newest new.newest did.moved.reshape did.moved.shape did.moved.size in omega (arith, lt, disks, same)) lacked.3,
-            pending t,
-          )
 
 -- ---- its end
 
