@@ -37,7 +37,7 @@ use Rattle.growing.proofs.Read.{read-whole}
 
 -- ---- what the history tells before it
 
-where-is : (world : World) (before : List Entry) (end : ℕ) (Fact : Reading → Type 0) → WhereAsked world before end Fact → (r : Reading) → reading_at world end ≡ Some r → is_asked world before r ≡ true → Fact r
+pub where-is : (world : World) (before : List Entry) (end : ℕ) (Fact : Reading → Type 0) → WhereAsked world before end Fact → (r : Reading) → reading_at world end ≡ Some r → is_asked world before r ≡ true → Fact r
 where-is world before end Fact all r is asked =
     subst (λ (b : Bool). MatchBool b (Fact r) ⊤) asked (subst (λ (o : Option Reading). IfSome o (λ r. MatchBool (is_asked world before r) (Fact r) ⊤)) is all)
 

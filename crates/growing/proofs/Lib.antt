@@ -2,3 +2,4 @@ pub mod Idle
 pub mod Read
 pub mod Fitting
 pub mod Kept
+pub mod Busy

@@ -33,7 +33,7 @@ of_pieces-requires g c =
     let some : 1 ≤ p.steps = subst (λ s. 1 ≤ s.parts.steps) same c.requires.room in
     let why = subst (λ s. grow_refusal (asked_in (g.B.Bank.given s.parts.bank) s) wish ≡ Some refusal) same c.requires.why in
     record {
-      ready = ready (entries_of who end (Refused refusal ∷ [])) was (rows-same p.members.newest)
+      ready = ready {scope' = scope_in given c.enter.new.epoch.uuid c.enter.new.epoch.given p.backup} (entries_of who end (Refused refusal ∷ [])) was (rows-same p.members.newest)
           (refused-going who end refusal was.kept (begins-going p.epoch.entries.items who number) c.requires.caller c.ops-end.ensures.count
           (grow-plain a wish p.work.resync p.members refusal (first-of a wish refusal why).holds))
           (λ slot. omega arith) (alone-keeps who end (Refused refusal) (λ n. refl) refl) refl (scope-same given p.backup refl c.enter.ensures.uuid c.enter.ensures.given) c.enter.ensures.first refl c.enter.ensures.items
