@@ -1,6 +1,5 @@
 -- The position behind the window under way lies in the list.
-use Rattle.std.proofs.Common.{◌≡◌, ◌<◌, ◌≤◌, ℕ, Bool, true, false, arith}
-use Rattle.md_base.specs.declared.places.Span.{Span}
+use Rattle.std.proofs.Common.{◌≡◌, ◌<◌, ◌≤◌, Bool, true, false, arith}
 use Rattle.sb1.specs.declared.sb.Sb.{Sb}
 use Rattle.geometry.specs.Geometry.{beyond}
 use Rattle.superblocks.specs.Reading.{is_reshaping, is_backward, list_length}

@@ -22,7 +22,6 @@ use Rattle.sb1.specs.declared.sb.Sb.{Sb}
 use Rattle.superblocks.specs.declared.members.Members.{Members}
 use Rattle.superblocks.specs.Reading.{Scope, is_clean, list_length, role_count}
 use Rattle.row_io.specs.Rows.{reading_of, present, is_missing}
-use Rattle.list_io.specs.Full.{RowStands}
 use Rattle.flat_history.specs.declared.events.Entry.{Entry}
 use Rattle.flat_history.specs.declared.events.Event.{Event}
 use Rattle.flat_history.specs.declared.events.Event.TheVariants.{Read, Refused}
@@ -38,12 +37,11 @@ use Rattle.flat_history.specs.World.{World, opening_list}
 use Rattle.flat_history.proofs.SoundLaws.{fit-before}
 use Rattle.shape_views.specs.Regions.{AreShapesFit, place_by}
 use Rattle.shape_views.specs.Views.{Ledger}
-use Rattle.shape_views.specs.Windows.{IsShown}
 use Rattle.shape_changes.specs.Marking.{AreOthersPresent}
 use Rattle.shape_changes.specs.Safety.{HasRoomLeft, IsRisen, HasLiveSlot}
 use Rattle.shape_changes.specs.Steady.{IsSafeOver, KeepsSafe, AreGoneTold, IsUncleanTold}
 use Rattle.views.specs.Placed.{AreWhole}
-use Rattle.views.specs.Lacking.{DoesWithout, LacksTooMany, lacking, too_many}
+use Rattle.views.specs.Lacking.{DoesWithout, lacking, too_many}
 use Rattle.views.specs.Moving.{Grows, IsMoved}
 use Rattle.views.proofs.Fit.{list-alike}
 use Rattle.views.proofs.LackingLists.{row-sector}

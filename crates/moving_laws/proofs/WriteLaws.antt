@@ -29,7 +29,7 @@ use Rattle.flat_history.specs.Legal.{visible_at, IsRefusedRight}
 use Rattle.flat_history.specs.Plain.{entries_of}
 use Rattle.flat_history.specs.Stands.{covers, shape_for}
 use Rattle.flat_history.specs.World.{opening_list}
-use Rattle.shape_views.specs.Regions.{AreShapesFit, DoWithout}
+use Rattle.shape_views.specs.Regions.{DoWithout}
 use Rattle.shape_views.specs.Windows.{moved_past}
 use Rattle.shape_changes.specs.Safety.{HasLiveSlot}
 use Rattle.views.specs.declared.work.Work.{Work}
@@ -45,7 +45,7 @@ use Rattle.call_entries.specs.Losing.{losses_of, failure_events}
 use Rattle.call_entries.proofs.CallLaws.{losses-are, length-losses, limit-losses}
 use Rattle.array_kept.specs.Calls.{IsRoleLossBy, IsLossBy, AreLossesOf, IsBehind, IsRefusedFor, IsCausedBy}
 use Rattle.array_kept.proofs.ReplyLaws.{IsOfMissing, unwritten-of}
-use Rattle.region_writes.specs.Runs.{IsListTorn, IsListUnwritten}
+use Rattle.region_writes.specs.Runs.{IsListUnwritten}
 use Rattle.region_writes.proofs.Together.{shape-force}
 use Rattle.grow_asked.specs.declared.window.Window.{Window}
 use Rattle.grow_asked.specs.declared.window.Window.TheVariants.{Closed, Entered, Unsure}
