@@ -13,3 +13,5 @@ pub mod EnterLaws
 pub mod Entered
 pub mod Reading
 pub mod DueSteps
+pub mod Resyncs
+pub mod MendLaws
