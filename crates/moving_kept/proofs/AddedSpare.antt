@@ -236,7 +236,7 @@ module _ (tells : Type 0) (given : Given) (tape mid tape' : List Operation) (sco
 
   -- a resync is as far
   has : HasResync new resync course
-  has = resync-moved {old = with_it} did.moved (λ some dirty. did.clean ∙ dirty) was.beside (record { progress = was.progress; beside = was.beside; dirty = was.dirty })
+  has = resync-moved {old = with_it} {course = course} did.moved (λ some dirty. did.clean ∙ dirty) was.beside (record { progress = was.progress; beside = was.beside; dirty = λ does. was.dirty (record { old = does.old; final = does.final }) })
 
   -- ---- each mark
 

@@ -157,7 +157,7 @@ module _ (given : Given) (tape : List Operation) (scope : Scope) (first : ℕ) (
     unclean = λ dirty. shortened-unclean given tape scope first entries old plan new carried carried' who left n roles spares ops was.sizes_are recorded.begun recorded.ends recorded.sized (was.gone t) call (was.unclean t (sym are.clean ∙ dirty));
     recorded = shortened-recorded given tape scope first entries old plan new carried carried' who left n roles spares ops was.sizes_are recorded.begun recorded.ends recorded.sized (was.gone t) call (safe-over was t call.live) recorded goes caller behind told some;
     last_step = last-step;
-    pending = shortened-unsynced given tape scope first entries old plan new carried carried' who left n roles spares ops was.sizes_are recorded.begun recorded.ends recorded.sized (was.gone t) call (safe-over was t call.live) ∙ synced;
+    pending = shortened-unsynced given tape scope first entries old plan new carried carried' who left n roles spares ops was.sizes_are recorded.begun recorded.ends recorded.sized (was.gone t) call ∙ synced;
     listed = listed;
     safe = shortened-safe given tape scope first entries old plan new carried carried' who left n roles spares ops was.sizes_are recorded.begun recorded.ends recorded.sized (was.gone t) call (safe-over was t call.live);
   }
