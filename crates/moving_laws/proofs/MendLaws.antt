@@ -129,10 +129,10 @@ first-for newest m told resync stripes at first mended is = subst (λ (n : ℕ).
 -- one that is mended had no cause to be refused
 pub mendable : (shape : Shape) (m : Members) → DoWithout m → mend_refusal shape m ≡ None → (refusal : Refusal) → IsNotMended shape m refusal → ⊥
 mendable shape m does none refusal (inl many) = never-both m refusal does many
-mendable shape m does none refusal (inr (without, role, told, unsynced, gone, data)) =
+mendable shape m does none refusal (inr (without, lacked)) =
     absurd (
-      let parity = (write-none shape false m (none-found m (write_refusal shape false m) none)).1 refl role data.0 gone in
-      let both = sym parity ∙ data.1 in
+      let parity = (write-none shape false m (none-found m (write_refusal shape false m) none)).1 refl lacked.0 lacked.4.0 lacked.3 in
+      let both = sym parity ∙ lacked.4.1 in
       cc)
 
 pub mendable-for : (newest : Sb) (m : Members) (resync : Option ℕ) (stripes : ℕ) → resync ≡ Some stripes → DoWithout m → mend_refusal (mend_shape newest stripes) m ≡ None
@@ -198,7 +198,20 @@ kept-work old new called = record {
   losses = called.losses;
   never_falls = called.never_falls;
   work = refl;
-  same = called.same;
+  same = record {
+    array = record {
+      uuid = called.same.array.uuid;
+      given = called.same.array.given;
+      first = called.same.array.first;
+      backup = called.same.array.backup;
+      shape = called.same.array.shape;
+      size = called.same.array.size;
+      list = called.same.array.list;
+    };
+    final = called.same.final;
+    backward = called.same.backward;
+    ahead = called.same.ahead;
+  };
 }
 
 pub one-more : (work : Work) (stripes : ℕ) → work.resync ≡ Some stripes → mended_work work (Some (stripes + 1)) ≡ mended_work work (one_more work.resync)

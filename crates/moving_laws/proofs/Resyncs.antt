@@ -122,8 +122,8 @@ unsynced-behind given tape tape' scope first entries who end roles spares grows 
 pub not-mended-right : (world : World) (before : List Entry) (given : Given) (m : Members) (shape : Shape) → IsPlaced given m → IsInForce m.newest shape → AreToldGone world before m
     → tolerance_of (level_at world before) ≡ tolerance (shape_of m.newest) → is_unsynced world before ≡ true → (refusal : Refusal) → IsNotMended shape m refusal → IsRefusedRight world before refusal
 not-mended-right world before given m shape placed force gone level pending refusal (inl many) = refused-right world before given m placed gone level refusal many
-not-mended-right world before given m shape placed force gone level pending refusal (inr (does, role, told, unsynced, missing, data)) =
-    subst (λ (r : Refusal). IsRefusedRight world before r) (sym told) (gone role (less-than role shape.disks _ data.0 (force-disks m.newest placed.fit shape force)) missing, pending)
+not-mended-right world before given m shape placed force gone level pending refusal (inr (does, lacked)) =
+    subst (λ (r : Refusal). IsRefusedRight world before r) (sym lacked.1) (gone lacked.0 (less-than lacked.0 shape.disks _ lacked.4.0 (force-disks m.newest placed.fit shape force)) lacked.3, pending)
 
 -- so it is before anything is done
 pub unmended-right : {tells : Type 0} {given : Given} {tape : List Operation} {scope : Scope} {first : ℕ} {entries : List Entry} {members : Members} {carried : ℕ → Bool} {resync : Option ℕ} {course : Course} {buffer : List ℕ} {left : ℕ} (mended : ℕ)
