@@ -153,8 +153,8 @@ read-does m relied from to none x low high = elim (cases_lt (tolerance (shape_fo
 ]
 
 -- so a live slot is left, where a sector is read
-pub read-live : {tells : Type 0} {given : Given} {tape : List Operation} {scope : Scope} {first : ℕ} {entries : List Entry} {m : Members} {carried : ℕ → Bool} {course : Course} {buffer : List ℕ} {left : ℕ}
-    (relied from to : ℕ) → IsMoving tells given tape scope first entries m carried course buffer left → ((refusal : Refusal) → IsListUnread relied from to m refusal → ⊥) → from < to → HasLiveSlot m
+pub read-live : {tells : Type 0} {given : Given} {tape : List Operation} {scope : Scope} {first : ℕ} {entries : List Entry} {m : Members} {carried : ℕ → Bool} {resync : Option ℕ} {course : Course} {buffer : List ℕ} {left : ℕ}
+    (relied from to : ℕ) → IsMoving tells given tape scope first entries m carried resync course buffer left → ((refusal : Refusal) → IsListUnread relied from to m refusal → ⊥) → from < to → HasLiveSlot m
 read-live {given = given} {m = m} relied from to was none some =
     shape-left given m was.members_are.placed was.members_are.unlost (shape_for m.newest from) (shape-force m.newest from) (read-does m relied from to none from (omega arith) some)
 
@@ -195,8 +195,8 @@ pub record IsFetched (tells : Type 0) (given : Given) (tape tape' : List Operati
 pub read-quiet : (at : ℕ) (body : List Sector) → IsQuiet (Read at body)
 read-quiet at body = record { adds = refl; gives = refl; ends = refl; still = λ x values. refl; level = λ n. refl; other = refl }
 
-module _ {tells : Type 0} {given : Given} {tape : List Operation} {scope : Scope} {first : ℕ} {entries : List Entry} {old : Members} {carried : ℕ → Bool} {course : Course} {buffer : List ℕ} {left : ℕ}
-    (was : IsMoving tells given tape scope first entries old carried course buffer left) (unlimited : limit_of entries ≡ None) where
+module _ {tells : Type 0} {given : Given} {tape : List Operation} {scope : Scope} {first : ℕ} {entries : List Entry} {old : Members} {carried : ℕ → Bool} {resync : Option ℕ} {course : Course} {buffer : List ℕ} {left : ℕ}
+    (was : IsMoving tells given tape scope first entries old carried resync course buffer left) (unlimited : limit_of entries ≡ None) where
   -- all of the list is visible
   seen : tells → visible_at (world_in given tape scope first) entries ≡ list_length old.newest
   seen t =
@@ -233,9 +233,9 @@ module _ {tells : Type 0} {given : Given} {tape : List Operation} {scope : Scope
     -- ---- one that is refused behind what it lost
 
     pub unread-moves : (at to : ℕ) (refusal : Refusal) → to ≤ list_length old.newest → IsListUnread (list_length old.newest) at to new refusal
-        → IsMoving tells given tape' scope first (entries ++ entries_of who end (losses_of roles spares ++ Refused refusal ∷ [])) new carried course buffer left
+        → IsMoving tells given tape' scope first (entries ++ entries_of who end (losses_of roles spares ++ Refused refusal ∷ [])) new carried resync course buffer left
     unread-moves at to refusal within why =
-        stays-moves tells given tape tape' scope first entries old new carried course buffer left who end roles spares (Refused refusal) was live goes caller at_end grows (quiet-refusal refusal) (λ told is. is)
+        stays-moves tells given tape tape' scope first entries old new carried resync course buffer left who end roles spares (Refused refusal) was live goes caller at_end grows (quiet-refusal refusal) (λ told is. is)
         did.moved did.few did.since did.clean did.rise did.unused moves
         (λ t told fills more room gone unclean safe. did.safe t (world_in given tape scope first) told room gone unclean safe)
         (λ t right gone level.
@@ -338,7 +338,7 @@ module _ {tells : Type 0} {given : Given} {tape : List Operation} {scope : Scope
         | inr fit ↦ inr (fit-earlier t fit)
       ])
 
-      pub read-moves : IsMoving tells given tape' scope first all new carried course buffer left
+      pub read-moves : IsMoving tells given tape' scope first all new carried resync course buffer left
       read-moves = record {
         slots = was.slots;
         members_are = reshaping-moved scope given old new did.moved was.members_are;

@@ -128,11 +128,9 @@ roomed {tells = tells} {given = given} {tape = tape} {scope = scope} {first = fi
     {rows = rows} {buffer = buffer} {far_rows = far_rows} {far_buffer = far_buffer} {faults = faults} same fits was =
     subst (λ (l : List Entry). IsReady tells given tape scope first l members work course ahead window faults steps' room' rows buffer far_rows far_buffer) (sym same) (record {
       kept = was.kept;
-      synced = was.synced;
       sized = was.sized;
       unlimited = was.unlimited;
       full = was.full;
-      settled = was.settled;
       planned = was.planned;
       wide = was.wide;
       failed = was.failed;
@@ -151,11 +149,9 @@ pub with-rooms : {tells : Type 0} {given : Given} {tape : List Operation} {scope
     → IsReady tells given tape scope first entries members work course ahead window faults steps room rows' buffer' far_rows' far_buffer'
 with-rooms one two three four was = record {
   kept = was.kept;
-  synced = was.synced;
   sized = was.sized;
   unlimited = was.unlimited;
   full = was.full;
-  settled = was.settled;
   planned = was.planned;
   wide = was.wide;
   failed = was.failed;
@@ -210,48 +206,53 @@ pub finished-missing : (given : Given) (old new : Members) (span : Span) (refusa
 finished-missing given old new span None moved {roles = roles} since = missing-since {old = moved_past span old} roles moved since.vacant
 finished-missing given old new span (Some why) moved {roles = roles} since = missing-since roles moved since.vacant
 
-module _ {tells : Type 0} {given : Given} {tape tape' : List Operation} {scope : Scope} {first : ℕ} {entries : List Entry} {old new : Members} {carried : ℕ → Bool} (course : Course) (ahead : PhasesLeft) (window : List ℕ)
-    (span : Span) (copied done : ℕ) (sectioned : Bool) (who : Who) (end roles spares : ℕ) (was : IsMoving tells given tape scope first entries old carried course (bytes_in course.window window) (left_in old course ahead))
+module _ {tells : Type 0} {given : Given} {tape tape' : List Operation} {scope : Scope} {first : ℕ} {entries : List Entry} {old new : Members} {carried : ℕ → Bool} {resync : Option ℕ} (course : Course) (ahead : PhasesLeft) (window : List ℕ)
+    (span : Span) (copied done : ℕ) (sectioned : Bool) (who : Who) (end roles spares : ℕ) (was : IsMoving tells given tape scope first entries old carried resync course (bytes_in course.window window) (left_by resync old course ahead))
     (is : course ≡ entered span copied sectioned) (goes : IsCallGoing entries who) (caller : who.caller ≢ 254) (at_end : tells → end ≡ length tape') (grows : Grows tells tape tape') (enough : DoWithout old)
     (refusal : Option Refusal) (did : IsFinishedBy tells given tape tape' old new (final_shape old.newest) span copied done (take (512 * (span.hi - span.lo)) window) roles refusal) where
   abbrev bytes : List ℕ
   bytes = take (512 * (span.hi - span.lo)) window
 
-  opened : IsMoving tells given tape scope first entries old carried (entered span copied sectioned) bytes (left_in old course ahead)
-  opened = subst (λ (c : Course). IsMoving tells given tape scope first entries old carried c (bytes_in c.window window) (left_in old course ahead)) is was
+  opened : IsMoving tells given tape scope first entries old carried resync (entered span copied sectioned) bytes (left_by resync old course ahead)
+  opened = subst (λ (c : Course). IsMoving tells given tape scope first entries old carried resync c (bytes_in c.window window) (left_by resync old course ahead)) is was
 
   -- it is done: no window is open
-  pub finish-done : (left : ℕ) → refusal ≡ None → left ≡ left_in new (closed 0) ahead
-      → IsMoving tells given tape' scope first (entries ++ entries_of who end (losses_of roles spares ++ Step FinishesWindow left ∷ [])) new carried (closed 0) [] (left_in new (closed 0) ahead)
+  pub finish-done : (left : ℕ) → refusal ≡ None → left ≡ left_by resync new (closed 0) ahead
+      → IsMoving tells given tape' scope first (entries ++ entries_of who end (losses_of roles spares ++ Step FinishesWindow left ∷ [])) new carried resync (closed 0) [] (left_by resync new (closed 0) ahead)
   finish-done left none told =
-      subst (λ (n : ℕ). IsMoving tells given tape' scope first (entries ++ entries_of who end (losses_of roles spares ++ Step FinishesWindow left ∷ [])) new carried (closed 0) [] n) told
+      subst (λ (n : ℕ). IsMoving tells given tape' scope first (entries ++ entries_of who end (losses_of roles spares ++ Step FinishesWindow left ∷ [])) new carried resync (closed 0) [] n) told
       (closed-bare 0 bytes left
-      (finish-moves tells given tape tape' scope first entries old new carried (final_shape old.newest) span copied done sectioned bytes who end roles spares goes (not_254 who.caller caller) at_end grows enough
-      None (left_in old course ahead) left opened some (subst (λ (o : Option Refusal). IsFinishedBy tells given tape tape' old new (final_shape old.newest) span copied done bytes roles o) none did)))
+      (finish-moves tells given tape tape' scope first entries old new carried resync (final_shape old.newest) span copied done sectioned bytes who end roles spares goes (not_254 who.caller caller) at_end grows enough
+      None (left_by resync old course ahead) left opened some (subst (λ (o : Option Refusal). IsFinishedBy tells given tape tape' old new (final_shape old.newest) span copied done bytes roles o) none did)))
     where
       some : left ≢ 0
-      some zero = absurd (record-some given old new span ahead (moved-none given span old new refusal none did.moved) was.members_are.active (sym told ∙ zero))
+      some zero = absurd (record-some given old new resync span ahead (moved-none given span old new refusal none did.moved) was.members_are.active (sym told ∙ zero))
 
   -- it is refused: the window is open as before
   pub finish-refused : (why : Refusal) → refusal ≡ Some why
-      → IsMoving tells given tape' scope first (entries ++ entries_of who end (losses_of roles spares ++ Refused why ∷ [])) new carried course (bytes_in course.window window) (left_in new course ahead)
+      → IsMoving tells given tape' scope first (entries ++ entries_of who end (losses_of roles spares ++ Refused why ∷ [])) new carried resync course (bytes_in course.window window) (left_by resync new course ahead)
   finish-refused why refused =
-      subst (λ (n : ℕ). IsMoving tells given tape' scope first (entries ++ entries_of who end (losses_of roles spares ++ Refused why ∷ [])) new carried course (bytes_in course.window window) n)
-      (sym (left-moved given old new course ahead (moved-if given span old new refusal why refused did.moved)))
-      (subst (λ (c : Course). IsMoving tells given tape' scope first (entries ++ entries_of who end (losses_of roles spares ++ Refused why ∷ [])) new carried c (bytes_in c.window window) (left_in old course ahead)) (sym is)
-      (finish-moves tells given tape tape' scope first entries old new carried (final_shape old.newest) span copied done sectioned bytes who end roles spares goes (not_254 who.caller caller) at_end grows enough
-      (Some why) (left_in old course ahead) 1 opened one (subst (λ (o : Option Refusal). IsFinishedBy tells given tape tape' old new (final_shape old.newest) span copied done bytes roles o) refused did)))
+      subst (λ (n : ℕ). IsMoving tells given tape' scope first (entries ++ entries_of who end (losses_of roles spares ++ Refused why ∷ [])) new carried resync course (bytes_in course.window window) n)
+      (sym (left-moved given old new resync course ahead (moved-if given span old new refusal why refused did.moved)))
+      (subst (λ (c : Course). IsMoving tells given tape' scope first (entries ++ entries_of who end (losses_of roles spares ++ Refused why ∷ [])) new carried resync c (bytes_in c.window window) (left_by resync old course ahead)) (sym is)
+      (finish-moves tells given tape tape' scope first entries old new carried resync (final_shape old.newest) span copied done sectioned bytes who end roles spares goes (not_254 who.caller caller) at_end grows enough
+      (Some why) (left_by resync old course ahead) 1 opened one (subst (λ (o : Option Refusal). IsFinishedBy tells given tape tape' old new (final_shape old.newest) span copied done bytes roles o) refused did)))
     where
       one : ◌≢◌ {A = ℕ} 1 0
       one zero = absurd (omega (arith, zero))
 
 -- the steps that the window still had are taken
-pub finish-left : (given : Given) (old new : Members) (course : Course) (ahead : PhasesLeft) (span : Span) (copied : ℕ) (sectioned : Bool) → course ≡ entered span copied sectioned
-    → IsMoved given (moved_past span old) new → is_reshaping old.newest ≡ true → left_in new (closed 0) ahead + steps_in old.newest course.window ≡ left_in old course ahead
-finish-left given old new course ahead span copied sectioned is moved active =
-    ap (λ (c : Course). left_in new (closed 0) ahead + steps_in old.newest c.window) is
-    ∙ finishing old.newest new.newest span sectioned copied 0 (phases_of ahead) active (past-of given old new span moved)
-    ∙ sym (ap (λ (c : Course). left_in old c ahead) is)
+pub finish-left : (given : Given) (old new : Members) (resync : Option ℕ) (course : Course) (ahead : PhasesLeft) (span : Span) (copied : ℕ) (sectioned : Bool) → course ≡ entered span copied sectioned
+    → IsMoved given (moved_past span old) new → is_reshaping old.newest ≡ true → left_by resync new (closed 0) ahead + steps_in old.newest course.window ≡ left_by resync old course ahead
+finish-left given old new resync course ahead span copied sectioned is moved active =
+    ap (λ (c : Course). left_by resync new (closed 0) ahead + steps_in old.newest c.window) is
+    ∙ both (grow_left new.newest Closed 0 (phases_of ahead)) (grow_left old.newest (Entered span copied sectioned) 0 (phases_of ahead)) (resync_left new.newest Closed resync) (resync_left old.newest (Entered span copied sectioned) resync)
+    (stripes_in old.newest span - copied)
+    (finishing old.newest new.newest span sectioned copied 0 (phases_of ahead) active (past-of given old new span moved)) (records-leave given old new span copied sectioned resync moved)
+    ∙ sym (ap (λ (c : Course). left_by resync old c ahead) is)
+  where
+    both : (x y m n k : ℕ) → x + (k + 1) ≡ y → m ≡ n → (x + m) + (k + 1) ≡ y + n
+    both x y m n k taken same = omega (arith, taken, same)
 
 -- ---- sectors beside the window
 
@@ -268,8 +269,8 @@ pub torn-missing : (relied at to : ℕ) (m : Members) (refusal : Refusal) → Is
 torn-missing relied at to m refusal (inl torn) = unwritten-of (shape_for m.newest torn.0) false m refusal (inl torn.3)
 torn-missing relied at to m refusal (inr (each, there)) = unwritten-of (shape_for m.newest there.0) false m refusal (inr there.4)
 
-module _ {tells : Type 0} {given : Given} {tape : List Operation} {scope : Scope} {first : ℕ} {entries : List Entry} {old : Members} {carried : ℕ → Bool} {course : Course} {buffer : List ℕ} {left : ℕ}
-    (was : IsMoving tells given tape scope first entries old carried course buffer left) (unlimited : limit_of entries ≡ None) where
+module _ {tells : Type 0} {given : Given} {tape : List Operation} {scope : Scope} {first : ℕ} {entries : List Entry} {old : Members} {carried : ℕ → Bool} {resync : Option ℕ} {course : Course} {buffer : List ℕ} {left : ℕ}
+    (was : IsMoving tells given tape scope first entries old carried resync course buffer left) (unlimited : limit_of entries ≡ None) where
   -- all of the list is visible
   pub all-seen : tells → visible_at (world_in given tape scope first) entries ≡ list_length old.newest
   all-seen t =
@@ -284,9 +285,9 @@ module _ {tells : Type 0} {given : Given} {tape : List Operation} {scope : Scope
       let torn = torn-of old was.members_are.placed.fit (list_length old.newest) at to refusal (omega arith) why.0 why.1 in
       lacking-right (world_in given tape scope first) entries given old was.members_are.placed (was.gone t right) (was.levelled t right) (shape_for old.newest torn.0) refusal (shape-force old.newest torn.0) torn.3
 
-module _ {tells : Type 0} {given : Given} {tape tape' : List Operation} {scope : Scope} {first : ℕ} {entries : List Entry} {old new : Members} {carried : ℕ → Bool} (course : Course) (ahead : PhasesLeft) (buffer : List ℕ)
+module _ {tells : Type 0} {given : Given} {tape tape' : List Operation} {scope : Scope} {first : ℕ} {entries : List Entry} {old new : Members} {carried : ℕ → Bool} {resync : Option ℕ} (course : Course) (ahead : PhasesLeft) (buffer : List ℕ)
     (who : Who) (end roles spares at : ℕ) (from : List ℕ) (relied : ℕ) (begun : Bool)
-    (was : IsMoving tells given tape scope first entries old carried course buffer (left_in old course ahead)) (goes : IsCallGoing entries who) (caller : who.caller ≢ 254)
+    (was : IsMoving tells given tape scope first entries old carried resync course buffer (left_by resync old course ahead)) (goes : IsCallGoing entries who) (caller : who.caller ≢ 254)
     (at_end : tells → end ≡ length tape') (grows : Grows tells tape tape') (unlimited : limit_of entries ≡ None) (some : 0 < length from / 512)
     (fine : (refusal : Refusal) → IsListUnwritten relied at (at + length from / 512) old refusal → ⊥) (did : ArePut tells given tape tape' old new course at from relied roles begun) where
   -- no shape of the write misses too many
@@ -302,17 +303,17 @@ module _ {tells : Type 0} {given : Given} {tape tape' : List Operation} {scope :
 
   -- it is done
   pub wrote-kept : AreWritten tells given tape tape' old new at from relied
-      → IsMoving tells given tape' scope first (entries ++ entries_of who end (losses_of roles spares ++ Wrote at (sectors_of from) ∷ [])) new carried course buffer (left_in new course ahead)
+      → IsMoving tells given tape' scope first (entries ++ entries_of who end (losses_of roles spares ++ Wrote at (sectors_of from) ∷ [])) new carried resync course buffer (left_by resync new course ahead)
   wrote-kept done =
-      subst (λ (n : ℕ). IsMoving tells given tape' scope first (entries ++ entries_of who end (losses_of roles spares ++ Wrote at (sectors_of from) ∷ [])) new carried course buffer n) (sym (left-moved given old new course ahead did.moved))
-      (written-moves tells given tape tape' scope first entries old new carried course buffer (left_in old course ahead) who end roles spares at from relied begun was live goes (not_254 who.caller caller) at_end grows each-does seen did done)
+      subst (λ (n : ℕ). IsMoving tells given tape' scope first (entries ++ entries_of who end (losses_of roles spares ++ Wrote at (sectors_of from) ∷ [])) new carried resync course buffer n) (sym (left-moved given old new resync course ahead did.moved))
+      (written-moves tells given tape tape' scope first entries old new carried resync course buffer (left_by resync old course ahead) who end roles spares at from relied begun was live goes (not_254 who.caller caller) at_end grows each-does seen did done)
 
   -- it is refused
   pub unwritten-kept : (refusal : Refusal) → AreUnwritten tells given tape tape' scope first entries old new at from relied begun refusal
-      → IsMoving tells given tape' scope first (entries ++ entries_of who end (failure_events roles spares begun at (sectors_of from) refusal)) new carried course buffer (left_in new course ahead)
+      → IsMoving tells given tape' scope first (entries ++ entries_of who end (failure_events roles spares begun at (sectors_of from) refusal)) new carried resync course buffer (left_by resync new course ahead)
   unwritten-kept refusal undone =
-      subst (λ (n : ℕ). IsMoving tells given tape' scope first (entries ++ entries_of who end (failure_events roles spares begun at (sectors_of from) refusal)) new carried course buffer n) (sym (left-moved given old new course ahead did.moved))
-      (unwritten-moves tells given tape tape' scope first entries old new carried course buffer (left_in old course ahead) who end roles spares at from relied begun was live goes (not_254 who.caller caller) at_end grows each-does seen did refusal undone)
+      subst (λ (n : ℕ). IsMoving tells given tape' scope first (entries ++ entries_of who end (failure_events roles spares begun at (sectors_of from) refusal)) new carried resync course buffer n) (sym (left-moved given old new resync course ahead did.moved))
+      (unwritten-moves tells given tape tape' scope first entries old new carried resync course buffer (left_by resync old course ahead) who end roles spares at from relied begun was live goes (not_254 who.caller caller) at_end grows each-does seen did refusal undone)
 
 -- ---- one call behind another
 
