@@ -166,7 +166,7 @@ pub mend-left : (given : Given) (old new : Members) (work : Work) (course : Cour
 mend-left given old new work course ahead mended fit active is more moved aside =
     subst (λ (o : Option ℕ). left_in (mended_work work (Some (mended + 1))) new course ahead + 1 ≡ left_in (mended_work work o) old course ahead) (sym is)
     (one-less (grow_left new.newest course.window course.zeroed (phases_of ahead)) (grow_left old.newest course.window course.zeroed (phases_of ahead)) _ _
-    (left-moved given old new (mended_work work None) course ahead moved) (mended-one given old new course.window mended fit active more moved aside))
+    (left-moved given old new None course ahead moved) (mended-one given old new course.window mended fit active more moved aside))
 
 pub end-left : (given : Given) (old new : Members) (work : Work) (course : Course) (ahead : PhasesLeft) → AreShapesFit old.newest → is_reshaping old.newest ≡ true
     → work.resync ≡ Some (mend_stripes old.newest) → IsMoved given old new → IsAside course.window
@@ -174,7 +174,7 @@ pub end-left : (given : Given) (old new : Members) (work : Work) (course : Cours
 end-left given old new work course ahead fit active is moved aside =
     subst (λ (o : Option ℕ). left_in (mended_work work None) new course ahead + 1 ≡ left_in (mended_work work o) old course ahead) (sym is)
     (one-less (grow_left new.newest course.window course.zeroed (phases_of ahead)) (grow_left old.newest course.window course.zeroed (phases_of ahead)) 0 _
-    (left-moved given old new (mended_work work None) course ahead moved) (sym (ended-one old.newest course.window fit active aside)))
+    (left-moved given old new None course ahead moved) (sym (ended-one old.newest course.window fit active aside)))
 
 -- the end of the reshape is left
 pub left-some : (m : Members) (work : Work) (course : Course) (ahead : PhasesLeft) → is_reshaping m.newest ≡ true → IsCourseOf m.newest course → left_in work m course ahead ≢ 0
@@ -265,7 +265,7 @@ module _ {tells : Type 0} {given : Given} {tape tape' : List Operation} {scope :
   pub mend-refused : (refusal : Refusal) → IsNotMended (mend_shape old.newest mended) new refusal
       → IsMoving tells given tape' scope first (entries ++ entries_of who end (losses_of roles spares ++ Refused refusal ∷ [])) new (is_carried work) work.resync course buffer (left_in work new course ahead)
   mend-refused refusal why =
-      subst (λ (n : ℕ). IsMoving tells given tape' scope first (entries ++ entries_of who end (losses_of roles spares ++ Refused refusal ∷ [])) new (is_carried work) work.resync course buffer n) (sym (left-moved given old new work course ahead did.moved))
+      subst (λ (n : ℕ). IsMoving tells given tape' scope first (entries ++ entries_of who end (losses_of roles spares ++ Refused refusal ∷ [])) new (is_carried work) work.resync course buffer n) (sym (left-moved given old new work.resync course ahead did.moved))
       (unmended-moves course who end roles spares mended is below aside was does goes (not_254 who.caller caller) at_end did refusal why)
 
   -- it is
@@ -286,7 +286,7 @@ module _ {tells : Type 0} {given : Given} {tape tape' : List Operation} {scope :
   pub end-refused : (refusal : Refusal) → AreTooMany new refusal
       → IsMoving tells given tape' scope first (entries ++ entries_of who end (losses_of roles spares ++ Refused refusal ∷ [])) new (is_carried work) work.resync course buffer (left_in work new course ahead)
   end-refused refusal many =
-      subst (λ (n : ℕ). IsMoving tells given tape' scope first (entries ++ entries_of who end (losses_of roles spares ++ Refused refusal ∷ [])) new (is_carried work) work.resync course buffer n) (sym (left-moved given old new work course ahead did.moved))
+      subst (λ (n : ℕ). IsMoving tells given tape' scope first (entries ++ entries_of who end (losses_of roles spares ++ Refused refusal ∷ [])) new (is_carried work) work.resync course buffer n) (sym (left-moved given old new work.resync course ahead did.moved))
       (unresynced-moves course who end roles spares is aside was does goes (not_254 who.caller caller) at_end grows did refusal many)
 
   -- it is done
