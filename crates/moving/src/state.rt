@@ -14,6 +14,7 @@ mod entering;
 mod examining;
 mod failing;
 mod finishing;
+mod mending;
 mod moves;
 mod parting;
 mod reading;

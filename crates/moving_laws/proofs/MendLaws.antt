@@ -44,11 +44,11 @@ use Rattle.array_kept.proofs.ReplyLaws.{IsOfMissing, too-many-of, unwritten-of, 
 use Rattle.grow_asked.specs.declared.window.Window.{Window}
 use Rattle.grow_asked.specs.declared.window.Window.TheVariants.{Closed, Entered, Unsure}
 use Rattle.grow_asked.specs.declared.window.PhasesLeft.{PhasesLeft}
-use Rattle.grow_asked.specs.Left.{phases_of, grow_left, reshape_left}
+use Rattle.grow_asked.specs.Left.{phases_of, grow_left, reshape_left, IsWindowRight}
 use Rattle.region_rows.specs.Stretches.{ListStandsIn, RowsStandIn}
 use Rattle.region_writes.proofs.Sides.{low-some, low-fits, list-few}
 use Rattle.region_mends.specs.Mends.{low_end, low_shape, low_stripes, high_shape, high_stripe, mend_stripes, mend_shape, relied_sector, IsMendRow, AreEndsStanding, mend_refusal, IsNotMended}
-use Rattle.region_mends.specs.Left.{resync_left}
+use Rattle.region_mends.specs.Left.{position_behind, resync_left}
 use Rattle.region_mends.proofs.LeftLaws.{mending-takes-one, resync-ends-last}
 use Rattle.region_mends.proofs.RefusalLaws.{none-found}
 use Rattle.kept_history.specs.Recorded.{IsCallGoing}
@@ -65,6 +65,7 @@ use Rattle.moving_kept.proofs.Steps.{missing-since}
 use Rattle.running_words.specs.Parts.{RunningParts, left_in}
 use Rattle.running_words.specs.Calls.{IsCalled}
 use Rattle.running_words.proofs.Called.{not_254, risen-told}
+use Rattle.moving_laws.specs.Ready.{IsReady}
 use Rattle.moving_laws.specs.Mending.{IsMendDue, IsResyncEndDue, IsMendCalled, AreRowsGood}
 use Rattle.moving_laws.proofs.Kept.{left-moved}
 use Rattle.moving_laws.proofs.Resyncs.{IsMendStep, IsStripeMended, mended-moves, unmended-moves, resynced-moves, unresynced-moves}
@@ -92,6 +93,17 @@ pub none-hidden : (window : Window) → IsAside window → hidden_in window ≡ 
 none-hidden Closed aside = refl
 none-hidden (Entered span copied sectioned) aside = absurd aside
 none-hidden (Unsure span) aside = refl
+
+-- and the window is as the steps that are left ask it to be
+pub aside-right : (newest : Sb) (window : Window) → IsAside window → IsWindowRight newest window
+aside-right newest Closed aside = tt
+aside-right newest (Entered span copied sectioned) aside = absurd aside
+aside-right newest (Unsure span) aside = tt
+
+pub aside-within : (newest : Sb) (window : Window) → IsAside window → AreShapesFit newest → is_reshaping newest ≡ true → position_behind newest window ≤ list_length newest
+aside-within newest Closed aside fit active = fit.position active
+aside-within newest (Entered span copied sectioned) aside fit active = absurd aside
+aside-within newest (Unsure span) aside fit active = fit.position active
 
 pub mend-due : {B : Type 0} (array : RunningParts B) → (mended : ℕ) × (array.parts.work.resync ≡ Some mended) × (mended < mend_stripes array.parts.members.newest) × (open_in array.course.window ≡ None) → IsMendDue array
 mend-due array due = record { mended = due.0; is = due.1; more = due.2; aside = aside-of array.course.window due.3 }
@@ -186,6 +198,26 @@ left-some m work course ahead active is =
     some g r p more counted least none = absurd (omega (arith, counted, least, none))
 
 -- ---- what a call leaves
+
+-- with other buffers for rows
+pub with-buffers : {tells : Type 0} {given : Given} {tape : List Operation} {scope : Scope} {first : ℕ} {entries : List Entry} {members : Members}
+    {work : Work} {course : Course} {ahead : PhasesLeft} {window : List ℕ} {steps room rows rows' buffer buffer' far_rows far_buffer : ℕ} {faults : ℕ → ℕ} → 128 ≤ rows' → 1048576 ≤ buffer'
+    → IsReady tells given tape scope first entries members work course ahead window faults steps room rows buffer far_rows far_buffer
+    → IsReady tells given tape scope first entries members work course ahead window faults steps room rows' buffer' far_rows far_buffer
+with-buffers rows_fit buffer_fits was = record {
+  kept = was.kept;
+  sized = was.sized;
+  unlimited = was.unlimited;
+  full = was.full;
+  planned = was.planned;
+  wide = was.wide;
+  failed = was.failed;
+  room_left = was.room_left;
+  rows_fit = rows_fit;
+  buffer_fits = buffer_fits;
+  far_rows_fit = was.far_rows_fit;
+  far_buffer_fits = was.far_buffer_fits;
+}
 
 -- one that leaves the work leaves all that a step of the resync does
 pub kept-work : {B : Type 0} {tells : Type 0} {given : Given} {tape tape' : List Operation} {before after : ℕ → ℕ} (old new : RunningParts B) → IsCalled tells given tape tape' before after old new

@@ -24,7 +24,7 @@ use Rattle.running_words.proofs.Called.{not_254, called, alone-lossless, risen-t
 use Rattle.moving_laws.specs.Mending.{IsResyncEndDue}
 use Rattle.moving_laws.specs.Ready.{bytes_in}
 use Rattle.moving_laws.proofs.Kept.{ready, ready-with, shapes-same, shapes-moved, alone-keeps, behind-keeps, behind-whole}
-use Rattle.moving_laws.proofs.MendLaws.{end-refused, end-done, end-left, rows-good}
+use Rattle.moving_laws.proofs.MendLaws.{aside-right, aside-within, end-refused, end-done, end-left, rows-good}
 use Rattle.moving.proofs.state.Moving.end_resync.Goals as goal
 
 -- ---- refused before anything is done
@@ -164,6 +164,19 @@ returns-in-Some-refusal-clause-caused g c =
 
 -- ---- it is done
 
+pub steps_left-left-requires-clause-open : goal.steps_left-left-requires-clause-open
+steps_left-left-requires-clause-open g c =
+    let a = c.self.inside in
+    let due = subst (λ p. IsResyncEndDue p) (sym c.self.view_is) c.requires.due in
+    aside-right c.settle-settled.new.members.newest a.course.window due.aside
+
+pub steps_left-left-requires-clause-within : goal.steps_left-left-requires-clause-within
+steps_left-left-requires-clause-within g c =
+    let was = c.self.invariant in
+    let due = subst (λ p. IsResyncEndDue p) (sym c.self.view_is) c.requires.due in
+    let moved = c.settle-settled.ensures.moved in
+    aside-within c.settle-settled.new.members.newest c.self.inside.course.window due.aside moved.placed.fit (moved.reshape.reshaping ∙ was.kept.members_are.active)
+
 pub invariant_of-self-2 : goal.invariant_of-self-2
 invariant_of-self-2 g c =
     let was = c.self.invariant in
@@ -233,6 +246,9 @@ returns-clause-left g c =
 
 pub returns-clause-caused : goal.returns-clause-caused
 returns-clause-caused g c = rw (← c.self.view_is) (omega arith, λ refusal many. never-both c.self.inside.members refusal c.in_default.ensures many)
+
+pub returns-clause-clean : goal.returns-clause-clean
+returns-clause-clean g c = c.settle-settled.ensures.clean c.in_default-refusal.is refl
 
 pub returns-clause-good : goal.returns-clause-good
 returns-clause-good g c =
