@@ -58,7 +58,7 @@ use Rattle.call_entries.proofs.CallLaws.{losses-are}
 use Rattle.call_entries.proofs.LeftLaws.{TellLeft, left-behind, left-more}
 use Rattle.array_kept.specs.Calls.{IsUnaddable}
 use Rattle.kept_history.specs.Recorded.{IsCallGoing, entry_of}
-use Rattle.kept_history.specs.Safe.{world_in}
+use Rattle.kept_history.specs.Safe.{world_in, OpensOnCourse}
 use Rattle.course_kept.specs.declared.course.Course.{Course}
 use Rattle.grow_asked.specs.declared.window.Window.{Window}
 use Rattle.grow_asked.specs.declared.window.Window.TheVariants.{Closed, Entered, Unsure}
@@ -220,9 +220,9 @@ module _ (tells : Type 0) (given : Given) (tape mid tape' : List Operation) (sco
   backup-all t = rest-backup scope with_it course.window (disk given.start tape) (disk given.start tape') reshaping.aside
       (λ s k v which may. flushed-fewer given.start tape mid (did.looked t) s k v (did.rest t s k v which may))
 
-  stored-all : tells → IsStored scope new course.window buffer (disk given.start tape')
-  stored-all t = stored-moves scope given with_it new course.window buffer (disk given.start tape) (disk given.start tape') did.moved (backup-all t)
-      (spares-stored scope old with_it course.window buffer (disk given.start tape) (differ-with old slot sb unheld-it) (was.stored t))
+  stored-all : tells → OpensOnCourse (world_in given tape scope first) → IsStored scope new course.window buffer (disk given.start tape')
+  stored-all t on = stored-moves scope given with_it new course.window buffer (disk given.start tape) (disk given.start tape') did.moved (backup-all t)
+      (spares-stored scope old with_it course.window buffer (disk given.start tape) (differ-with old slot sb unheld-it) (was.stored t on))
 
   -- what new members do without the former ones did
   without-all : (shape : Shape) → DoesWithout shape new → DoesWithout shape old
@@ -307,8 +307,8 @@ pub looked-moves : (tells : Type 0) (given : Given) (tape tape' : List Operation
 looked-moves tells given tape tape' scope first entries m carried resync course buffer left who end slot was live goes caller at_end looked =
     early-moves tells given tape tape' scope first entries m m carried resync resync course course buffer buffer left left who end [] (λ role. ⊥) (Refused (SlotFault slot)) was live goes caller at_end
     (record { more = λ t. ((looked t).0, (looked t).2) }) (quiet-refusal (SlotFault slot)) was.members_are (resync-of was) refl (few-roles m.newest was.members_are.placed.fit.valid) early-none (λ role lt gone. inl (lt, gone)) refl refl refl was.course_is
-    (λ t. stored-moves scope given m m course.window buffer (disk given.start tape) (disk given.start tape') (moved-same given given m m refl refl was.members_are.placed was.members_are.unlost)
-    (fewer-backup scope course.window (disk given.start tape) (disk given.start tape') (flushed-fewer given.start tape tape' (looked t))) (was.stored t))
+    (λ t on. stored-moves scope given m m course.window buffer (disk given.start tape) (disk given.start tape') (moved-same given given m m refl refl was.members_are.placed was.members_are.unlost)
+    (fewer-backup scope course.window (disk given.start tape) (disk given.start tape') (flushed-fewer given.start tape tape' (looked t))) (was.stored t on))
     (left-more left entries who end (Refused (SlotFault slot) ∷ []) was.left_told (λ told is. is))
     (λ t. record {
       rise = record { left = λ live. live; events = λ u live. let longer = added-longer tape tape' (looked t) in omega (arith, longer) };

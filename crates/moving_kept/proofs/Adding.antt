@@ -23,7 +23,7 @@ use Rattle.shape_changes.specs.Steady.{IsMoreTold, IsSafeOver, KeepsSafe, AreGon
 use Rattle.views.specs.Moving.{Grows}
 use Rattle.call_entries.specs.Losing.{losses_of}
 use Rattle.kept_history.specs.Recorded.{IsCallGoing, entry_of, IsHistoryKept, IsLegalCall}
-use Rattle.kept_history.specs.Safe.{world_in, IsFilledRight}
+use Rattle.kept_history.specs.Safe.{world_in, IsFilledRight, OpensOnCourse}
 use Rattle.kept_history.specs.Told.{told_now}
 use Rattle.course_kept.specs.declared.course.Course.{Course}
 use Rattle.course_kept.specs.Course.{IsCourseOf, IsStored}
@@ -34,7 +34,7 @@ use Rattle.history_calls.proofs.Quiet.{IsLeftBehind, last-left}
 use Rattle.history_calls.proofs.Adding.{IsAdding, changing-leaves, ChangesEarly, unsettled-last}
 use Rattle.moving_kept.specs.Moving.{AreReshaping, HasListInCourse, IsMoving}
 use Rattle.moving_kept.proofs.Pending.{HasResync, pending-on}
-use Rattle.moving_kept.proofs.Quiet.{listed-later, safe-now}
+use Rattle.moving_kept.proofs.Quiet.{listed-later, safe-now, course-earlier}
 use Rattle.std.specs.List.{list_any}
 use Rattle.md_base.specs.Sectors.{Sector}
 use Rattle.flat_history.specs.OneShape.{is_unsettled}
@@ -96,7 +96,7 @@ module _ (given : Given) (tape : List Operation) (scope : Scope) (first : ℕ) (
       → AreToldGone (world_in given (tape ++ ops) scope first) (entries ++ entries_of who (length (tape ++ ops)) (early ++ event ∷ [])) new
       → AreWhole new ⊎ OpensFit (world_in given tape scope first)
   whole right all_gone = elim right.fills [
-    | inl none ↦ inl (λ role lt. told-whole role lt (is_missing (reading_of new) role) refl (all_gone role lt) (none role))
+    | inl none ↦ inl (λ role lt. told-whole role lt (is_missing (reading_of new) role) refl (all_gone role lt) (none.0 role))
     | inr fit ↦ inr (subst (λ (p : Type 0). p) (fit-grown (world_in given tape scope first) ops recorded.begun) fit)
   ]
     where
@@ -134,7 +134,7 @@ pub behind-moves : (tells : Type 0) (given : Given) (tape tape' : List Operation
     → AreFirst early IsTaken → AreLostOrMissing old new IsTaken
     → list_length new.newest ≡ list_length old.newest → (shape_of new.newest).level ≡ (shape_of old.newest).level
     → (tells → is_clean new.newest ≡ false → ((is_unsynced (world_in given tape scope first) entries || is_unsettled entries) ≡ true) ⊎ (unsettles event ≡ true))
-    → IsCourseOf new.newest course' → (tells → IsStored scope new course'.window buffer' (disk given.start tape'))
+    → IsCourseOf new.newest course' → (tells → OpensOnCourse (world_in given tape scope first) → IsStored scope new course'.window buffer' (disk given.start tape'))
     → IfSome (told_left (entries ++ entries_of who end (early ++ event ∷ []))) (λ n. n ≡ left')
     → (tells → IsAddingBehind given tape scope first entries old new carried resync course' buffer' who early event tape' end)
     → IsMoving tells given tape' scope first (entries ++ entries_of who end (early ++ event ∷ [])) new carried resync course' buffer' left'
@@ -154,7 +154,7 @@ behind-moves tells given tape tape' scope first entries old new carried resync c
       unclean = λ t. (leaves t).unclean;
       recorded = λ t. (leaves t).recorded;
       last_step = λ t. last-left given tape tape' scope first entries (list_length old.newest) new carried true who end early event (leaves t) (at_end t) adding.other sized (was.last_step t).past;
-      stored = stored;
+      stored = λ t on. stored t (course-earlier given tape tape' scope first (leaves t).begun (leaves t).grown on);
       listed = λ t. listed-later given tape scope first entries (entries ++ entries_of who end (early ++ event ∷ [])) new carried resync course' buffer' tape'
           (now (opening_list (world_in given tape scope first)) (entries ++ entries_of who end (early ++ event ∷ []))) (leaves t) (λ x. refl) (call t).listed;
       safe = λ t. (leaves t).safe;
@@ -183,7 +183,7 @@ pub adding-moves : (tells : Type 0) (given : Given) (tape tape' : List Operation
     → IsMoving tells given tape scope first entries old carried resync course buffer left → HasLiveSlot old → IsCallGoing entries who → IsFalse (who.caller == 254) → (tells → end ≡ length tape') → Grows tells tape tape' → IsAdding event
     → AreReshaping scope given new → HasResync new resync course' → role_count new.newest ≤ 16
     → AreLostOrMissing old new (IsAmong roles)
-    → list_length new.newest ≡ list_length old.newest → (shape_of new.newest).level ≡ (shape_of old.newest).level → (is_clean new.newest ≡ false → (is_clean old.newest ≡ false) ⊎ (unsettles event ≡ true)) → IsCourseOf new.newest course' → (tells → IsStored scope new course'.window buffer' (disk given.start tape'))
+    → list_length new.newest ≡ list_length old.newest → (shape_of new.newest).level ≡ (shape_of old.newest).level → (is_clean new.newest ≡ false → (is_clean old.newest ≡ false) ⊎ (unsettles event ≡ true)) → IsCourseOf new.newest course' → (tells → OpensOnCourse (world_in given tape scope first) → IsStored scope new course'.window buffer' (disk given.start tape'))
     → IfSome (told_left (entries ++ entries_of who end (losses_of roles spares ++ event ∷ []))) (λ n. n ≡ left')
     → (tells → IsAddingCall given tape scope first entries old new carried resync course' buffer' who roles spares event tape' end)
     → IsMoving tells given tape' scope first (entries ++ entries_of who end (losses_of roles spares ++ event ∷ [])) new carried resync course' buffer' left'

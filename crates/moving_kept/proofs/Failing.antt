@@ -60,7 +60,7 @@ failed-moves tells given tape tape' scope first entries old new carried resync c
     was live goes caller at_end grows (record { adds = refl; gives = refl; ends = refl; still = λ x values. refl; level = λ n. refl; other = refl })
     (reshaping-moved scope given old new did.moved was.members_are) (resync-moved did.moved (λ some dirty. did.clean ∙ dirty) was.beside (resync-of was)) refl did.few (early-failed role roles spares) missing list-same (ap (λ (s : Shape). s.level) did.moved.shape) did.clean
     (course-moved given old new course did.moved was.course_is)
-    (λ t. stored-kept scope given old new course.window buffer (disk given.start tape) (disk given.start tape') was.members_are did.moved (did.unused t) (was.stored t))
+    (λ t on. stored-kept scope given old new course.window buffer (disk given.start tape) (disk given.start tape') was.members_are did.moved (did.unused t) (was.stored t on))
     (left-more left entries who end ((Lost role Command ∷ losses_of roles spares) ++ Failed role ∷ []) was.left_told
     (λ told is. left-behind left who end (losses_of roles spares) (Failed role ∷ []) (losses-are roles spares) (λ told is. is) None tt))
     (λ t. record {

@@ -35,7 +35,7 @@ use Rattle.window_calls.specs.Finishing.{IsOfRest, AreStripesCopied, IsOpenWindo
 use Rattle.call_entries.specs.Losing.{losses_of}
 use Rattle.call_entries.proofs.CallLaws.{losses-are}
 use Rattle.kept_history.specs.Recorded.{IsCallGoing}
-use Rattle.kept_history.specs.Safe.{world_in}
+use Rattle.kept_history.specs.Safe.{world_in, IsFilledRight}
 use Rattle.kept_history.specs.Told.{told_now}
 use Rattle.kept_history.proofs.Lists.{newest-in}
 use Rattle.course_kept.specs.Course.{AnyShape}
@@ -49,17 +49,18 @@ use Rattle.moving_kept.proofs.Pending.{resync-of, resync-unmended, unmended-of, 
 use Rattle.moving_kept.proofs.Quiet.{quiet-moves}
 use Rattle.moving_kept.proofs.Staying.{refused-moves}
 use Rattle.moving_kept.proofs.Steps.{AreMissingSince, quiet-step, missing-moved, told-step, able-kept, plain-of}
+use Rattle.kept_history.proofs.Turned.{fills-on_course}
 
 -- ---- the open window
 
 -- What is kept of it is what the call asks, by whatever tells more than the history does.
 pub window-open : (tells : Type 0) (given : Given) (tape : List Operation) (scope : Scope) (first : ℕ) (entries : List Entry) (old : Members) (carried : ℕ → Bool)
     (resync : Option ℕ) (span : Span) (copied : ℕ) (sectioned : Bool) (buffer : List ℕ) (left : ℕ) → IsMoving tells given tape scope first entries old carried resync (entered span copied sectioned) buffer left → tells
-    → DoWithout old → (told : Ledger) → IsMoreTold (told_now (world_in given tape scope first) carried true entries) told
+    → IsFilledRight (world_in given tape scope first) entries → DoWithout old → (told : Ledger) → IsMoreTold (told_now (world_in given tape scope first) carried true entries) told
     → (l : HasListInCourse (OpensFit (world_in given tape scope first)) old resync (entered span copied sectioned) buffer (present given tape) (now (opening_list (world_in given tape scope first)) entries))
     → IsOpenWindow (OpensFit (world_in given tape scope first)) scope told old span buffer copied l.list (present given tape) (disk given.start tape)
-window-open tells given tape scope first entries old carried resync span copied sectioned buffer left was t enough told more l = record {
-  able = able-kept scope given old span copied sectioned (disk given.start tape) was.course_is.window (was.stored t).section;
+window-open tells given tape scope first entries old carried resync span copied sectioned buffer left was t fills enough told more l = record {
+  able = able-kept scope given old span copied sectioned (disk given.start tape) was.course_is.window (was.stored t (fills-on_course (world_in given tape scope first) entries fills)).section;
   written = λ row at. l.stands.in_course.copied enough.final row at;
   buffered = courses-copied ⊥ (λ shape. DoesWithout shape old) scope given old span copied sectioned buffer (present given tape) l.list was.members_are.backed was.course_is.window.0 l.stands.in_course;
   allowed = λ x lt. more.values x (within x lt) (l.list x) (subst (λ (v : Sector). IsIn (values_of (opening_list (world_in given tape scope first)) entries x) v) (sym (l.is x lt))
@@ -67,7 +68,7 @@ window-open tells given tape scope first entries old carried resync span copied 
   stands = list-beside ⊥ old span copied sectioned buffer (present given tape) l.list whole.in_course;
   rows_are = λ is few so. rows-beside (OpensFit (world_in given tape scope first)) old span copied sectioned buffer (present given tape) l.list
       (none-stands (OpensFit (world_in given tape scope first)) AnyShape resync old (entered span copied sectioned) buffer (present given tape) l.list (clean-none old resync (entered span copied sectioned) (resync-of was) few is) whole) so;
-  headers = (was.stored t).headers;
+  headers = (was.stored t (fills-on_course (world_in given tape scope first) entries fills)).headers;
   zeros = λ so x tail. l.stands.in_course.zeros tail.forth x tail.past;
 }
   where
@@ -109,13 +110,13 @@ module _ (tells : Type 0) (given : Given) (tape tape' : List Operation) (scope :
       (resync-unmended new resync (closed 0) (unmended-of resync was.beside) (λ any some. did.clean ∙ was.dirty did.enough some)) refl did.few (missing-moved roles moved did.since)
       (list-alike (moved_past span old).newest new.newest moved.reshape moved.shape moved.size) (ap (λ (s : Shape). s.level) moved.shape) did.clean
       (record { window = tt; through = λ some. absurd (omega (arith, some)); few = omega arith })
-      (λ t. let now = plain t (was.stored t).headers in record { section = now.0; sectors = tt; headers = now.1 })
+      (λ t on. let now = plain t (was.stored t on).headers in record { section = now.0; sectors = tt; headers = now.1 })
       (told-step entries who end (losses_of roles spares) FinishesWindow left (losses-are roles spares))
       (λ t. record {
         rise = did.rise t;
         keeps = λ told fills more room gone unclean here.
             let l = was.listed t fills in
-            did.safe t (world_in given tape scope first) told room gone unclean l.list (window-open tells given tape scope first entries old carried resync span copied sectioned buffer former was t did.enough told more l) here;
+            did.safe t (world_in given tape scope first) told room gone unclean l.list (window-open tells given tape scope first entries old carried resync span copied sectioned buffer former was t fills did.enough told more l) here;
         listed = λ fills. on t (was.listed t fills);
         legal = λ fills gone level. tt;
       })
@@ -142,4 +143,4 @@ module _ (tells : Type 0) (given : Given) (tape tape' : List Operation) (scope :
       (plain-of old.newest span copied sectioned was.course_is.window) (did.others t) stands).0)
       (λ t told fills more room gone unclean here.
       let l = was.listed t fills in
-      did.safe t (world_in given tape scope first) told room gone unclean l.list (window-open tells given tape scope first entries old carried resync span copied sectioned buffer left was t did.enough told more l) here)
+      did.safe t (world_in given tape scope first) told room gone unclean l.list (window-open tells given tape scope first entries old carried resync span copied sectioned buffer left was t fills did.enough told more l) here)

@@ -31,6 +31,7 @@ use Rattle.views.specs.Moving.{Grows, IsMoved}
 use Rattle.views.specs.Under.{StandsUnder, RowsStandUnder}
 use Rattle.safe_updates.specs.Unused.{IsUnusedKept}
 use Rattle.views.proofs.Fit.{list-alike}
+use Rattle.views.proofs.LackingLaws.{never-both}
 use Rattle.views.proofs.LackingLists.{none-of}
 use Rattle.call_entries.specs.Losing.{losses_of}
 use Rattle.call_entries.proofs.CallLaws.{losses-are, values-losses}
@@ -49,11 +50,12 @@ use Rattle.moving_kept.specs.Moving.{HasListInCourse, IsMoving}
 use Rattle.moving_kept.proofs.Adding.{adding-moves}
 use Rattle.moving_kept.proofs.BackupKept.{stored-kept}
 use Rattle.moving_kept.proofs.MembersMove.{reshaping-moved}
-use Rattle.moving_kept.proofs.Pending.{HasResync, resync-of, resync-moved, all-stand, mended-later, mended-whole}
+use Rattle.moving_kept.proofs.Pending.{HasResync, resync-of, progress-moved, resync-moved, all-stand, mended-later, mended-whole}
 use Rattle.moving_kept.proofs.Refusals.{refused-right}
 use Rattle.moving_kept.proofs.Settling.{IsSettling, settlement, not-ended, settling-moves}
 use Rattle.moving_kept.proofs.Staying.{course-moved}
 use Rattle.moving_kept.proofs.Steps.{AreMissingSince, missing-moved}
+use Rattle.kept_history.proofs.Turned.{fills-on_course}
 
 -- What a flush of the members leaves, in an array that is unsynced behind it or not: none but superblocks is written, and each mark is safe as long as the list
 -- stands whichever header a stop leaves.
@@ -116,8 +118,8 @@ module _ (tells : Type 0) (given : Given) (tape tape' : List Operation) (scope :
         record {
           list = l.list;
           is = l.is;
-          stands = λ does. (courses-stand-under ⊥ scope old course buffer (present given tape) (disk given.start tape) l.list (was.stored t) (whole l does).in_course).0;
-          rows = λ all does fit. (courses-stand-under (OpensFit (world_in given tape scope first)) scope old course buffer (present given tape) (disk given.start tape) l.list (was.stored t)
+          stands = λ does. (courses-stand-under ⊥ scope old course buffer (present given tape) (disk given.start tape) l.list (was.stored t (fills-on_course (world_in given tape scope first) entries fills)) (whole l does).in_course).0;
+          rows = λ all does fit. (courses-stand-under (OpensFit (world_in given tape scope first)) scope old course buffer (present given tape) (disk given.start tape) l.list (was.stored t (fills-on_course (world_in given tape scope first) entries fills))
               ((none-pending (OpensFit (world_in given tape scope first)) AnyShape old course buffer (present given tape) l.list).1
               (all-stand (OpensFit (world_in given tape scope first)) AnyShape resync old course buffer (present given tape) l.list was.members_are.placed.fit (synced all) (whole l does)))).1 fit;
         }
@@ -144,7 +146,7 @@ module _ (tells : Type 0) (given : Given) (tape tape' : List Operation) (scope :
         settling-moves tells given tape tape' scope first entries old new carried resync resync' unsynced course course buffer buffer left left' who end roles spares event was live goes caller at_end grows settling other ends
         (reshaping-moved scope given old new did.moved was.members_are) has pends did.few (missing-moved roles did.moved did.since) list-same level-same done.clean unsynced_is
         (course-moved given old new course did.moved was.course_is)
-        (λ t. stored-kept scope given old new course.window buffer (disk given.start tape) (disk given.start tape') was.members_are did.moved (did.unused t) (was.stored t)) told
+        (λ t on. stored-kept scope given old new course.window buffer (disk given.start tape) (disk given.start tape') was.members_are did.moved (did.unused t) (was.stored t on)) told
         (λ t. record {
           rise = did.rise t;
           keeps = λ told_so fills more allowed room gone unclean before. keeps t told_so fills allowed room gone unclean before;
@@ -160,35 +162,22 @@ module _ (tells : Type 0) (given : Given) (tape tape' : List Operation) (scope :
           legal = legal t;
         })
 
-  module _ (same : unsynced ≡ is_some resync) where
-    has : HasResync new resync course
-    has = resync-moved did.moved (λ some dirty. did.stays (same ∙ some) ∙ dirty) was.beside (resync-of was)
-
-    -- a flush or a stop that is done
-    pub flushed-moves : (event : Event) → IsSettling event → AreSettled tells given tape tape' old new unsynced
-        → IsMoving tells given tape' scope first (entries ++ entries_of who end (losses_of roles spares ++ event ∷ [])) new carried resync course buffer left
-    flushed-moves event settling done =
-        settled-moves (λ is. sym same ∙ is) (λ is. inl (none-of resync (sym same ∙ is))) resync left event done (settlement event settling) settling.other settling.ends
-        has same
-        (λ t. not-ended (is_unsynced (world_in given tape scope first) entries) (is_resync_end event) settling.resync ∙ was.pending t ∙ sym same)
-        (left-more left entries who end (losses_of roles spares ++ event ∷ []) was.left_told (left-behind left who end (losses_of roles spares) (event ∷ []) (losses-are roles spares) (settling.tells left who end)))
-        (λ sound c list l. l) (λ t. settling.legal (world_in given tape' scope first) (entries ++ entries_of who end (losses_of roles spares)) (entry_of who end event))
-
-    -- one that is refused, since more are missing than the array can do without
-    pub unflushed-moves : (refusal : Refusal) → AreTooMany new refusal
+    -- one that is refused, since more are missing than the array can do without: a resync is pending as before
+    pub unsettled-moves : (refusal : Refusal) → AreTooMany new refusal
         → IsMoving tells given tape' scope first (entries ++ entries_of who end (losses_of roles spares ++ Refused refusal ∷ [])) new carried resync course buffer left
-    unflushed-moves refusal many =
+    unsettled-moves refusal many =
         adding-moves tells given tape tape' scope first entries old new carried resync course course buffer buffer left left who end roles spares (Refused refusal) was live goes caller at_end grows
         (record { adds = refl; gives = refl; ends = refl; level = λ n. refl; other = refl })
-        (reshaping-moved scope given old new did.moved was.members_are) has did.few (missing-moved roles did.moved did.since) list-same level-same (λ dirty. inr (unsettled refusal many))
+        (reshaping-moved scope given old new did.moved was.members_are)
+        (record { progress = progress-moved did.moved resync was.progress; beside = was.beside; dirty = λ does. absurd (never-both new refusal does many) }) did.few (missing-moved roles did.moved did.since) list-same level-same (λ dirty. inr (unsettled refusal many))
         (course-moved given old new course did.moved was.course_is)
-        (λ t. stored-kept scope given old new course.window buffer (disk given.start tape) (disk given.start tape') was.members_are did.moved (did.unused t) (was.stored t))
+        (λ t on. stored-kept scope given old new course.window buffer (disk given.start tape) (disk given.start tape') was.members_are did.moved (did.unused t) (was.stored t on))
         (left-more left entries who end (losses_of roles spares ++ Refused refusal ∷ []) was.left_told (left-behind left who end (losses_of roles spares) (Refused refusal ∷ []) (losses-are roles spares) (λ told is. is)))
         (λ t. record {
           within = tt;
           rise = did.rise t;
           keeps = λ told fills more allowed room gone unclean unsettled before.
-              keeps (λ is. sym same ∙ is) (λ is. inl (none-of resync (sym same ∙ is))) t told fills (λ x lt. subst (IsIn (told.values x)) (now-same x) (allowed x lt)) room gone unclean before;
+              keeps t told fills (λ x lt. subst (IsIn (told.values x)) (now-same x) (allowed x lt)) room gone unclean before;
           listed = λ fills.
               let l = still-listed t fills in
               record { list = l.list; is = λ x lt. l.is x lt ∙ sym (now-same x); stands = l.stands };
@@ -205,3 +194,22 @@ module _ (tells : Type 0) (given : Given) (tape tape' : List Operation) (scope :
         now-same x = ap (λ (l : List Sector). slice_index_or l 0 [])
             (values-more (opening_list (world_in given tape scope first)) entries (entries_of who end (losses_of roles spares ++ Refused refusal ∷ [])) x
             ∙ values-losses who end (losses_of roles spares) (Refused refusal ∷ []) (losses-are roles spares) x (values_of (opening_list (world_in given tape scope first)) entries x))
+
+  module _ (same : unsynced ≡ is_some resync) where
+    has : HasResync new resync course
+    has = resync-moved did.moved (λ some dirty. did.stays (same ∙ some) ∙ dirty) was.beside (resync-of was)
+
+    -- a flush or a stop that is done
+    pub flushed-moves : (event : Event) → IsSettling event → AreSettled tells given tape tape' old new unsynced
+        → IsMoving tells given tape' scope first (entries ++ entries_of who end (losses_of roles spares ++ event ∷ [])) new carried resync course buffer left
+    flushed-moves event settling done =
+        settled-moves (λ is. sym same ∙ is) (λ is. inl (none-of resync (sym same ∙ is))) resync left event done (settlement event settling) settling.other settling.ends
+        has same
+        (λ t. not-ended (is_unsynced (world_in given tape scope first) entries) (is_resync_end event) settling.resync ∙ was.pending t ∙ sym same)
+        (left-more left entries who end (losses_of roles spares ++ event ∷ []) was.left_told (left-behind left who end (losses_of roles spares) (event ∷ []) (losses-are roles spares) (settling.tells left who end)))
+        (λ sound c list l. l) (λ t. settling.legal (world_in given tape' scope first) (entries ++ entries_of who end (losses_of roles spares)) (entry_of who end event))
+
+    -- one that is refused
+    pub unflushed-moves : (refusal : Refusal) → AreTooMany new refusal
+        → IsMoving tells given tape' scope first (entries ++ entries_of who end (losses_of roles spares ++ Refused refusal ∷ [])) new carried resync course buffer left
+    unflushed-moves = unsettled-moves (λ is. sym same ∙ is) (λ is. inl (none-of resync (sym same ∙ is)))

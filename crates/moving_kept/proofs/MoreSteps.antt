@@ -38,7 +38,7 @@ use Rattle.window_steps.specs.Recording.{IsCopiedWindow}
 use Rattle.window_steps.specs.Zeroing.{IsThrough}
 use Rattle.window_steps.proofs.ZeroLaws.{through-moved}
 use Rattle.kept_history.specs.Recorded.{IsCallGoing, entry_of}
-use Rattle.kept_history.specs.Safe.{world_in}
+use Rattle.kept_history.specs.Safe.{world_in, IsFilledRight}
 use Rattle.kept_history.specs.Told.{told_now}
 use Rattle.kept_history.proofs.Lists.{newest-in}
 use Rattle.grow_asked.specs.declared.window.Window.TheVariants.{Closed}
@@ -53,6 +53,7 @@ use Rattle.moving_kept.proofs.MembersMove.{reshaping-moved, reshaping-past}
 use Rattle.moving_kept.proofs.Pending.{resync-of, resync-moved, resync-unmended, unmended-of, clean-none, none-on, none-stands, mended-later, mended-whole, mended-without}
 use Rattle.moving_kept.proofs.Quiet.{quiet-moves}
 use Rattle.moving_kept.proofs.Steps.{AreMissingSince, quiet-step, missing-moved, step-is, told-behind, told-step}
+use Rattle.kept_history.proofs.Turned.{fills-on_course}
 
 -- ---- a stripe behind the list is zeroed
 
@@ -72,7 +73,7 @@ zeroed-moves tells given tape tape' scope first entries old new carried resync z
     quiet-moves tells given tape tape' scope first entries old new carried resync resync (closed zeroed) (closed (zeroed + 1)) buffer buffer (left + 1) left who end roles spares (Step ZeroesStripe left)
     was live goes caller at_end grows (quiet-step ZeroesStripe left tt some) (reshaping-moved scope given old new moved was.members_are) (resync-moved moved (λ some dirty. clean ∙ dirty) (inl tt) (resync-of was)) refl few (missing-moved roles moved since)
     (list-alike old.newest new.newest moved.reshape moved.shape moved.size) (ap (λ (s : Shape). s.level) moved.shape) clean course_is
-    (λ t. stored-kept scope given old new Closed buffer (disk given.start tape) (disk given.start tape') was.members_are moved (unused t) (was.stored t))
+    (λ t on. stored-kept scope given old new Closed buffer (disk given.start tape) (disk given.start tape') was.members_are moved (unused t) (was.stored t on))
     (told-step entries who end (losses_of roles spares) ZeroesStripe left (losses-are roles spares))
     (λ t. record {
       rise = rise t;
@@ -119,13 +120,13 @@ recorded-moves tells given tape tape' scope first entries old new carried resync
     (resync-unmended new resync (closed 0) (unmended-of resync was.beside) (λ any some. clean ∙ was.dirty does some)) refl few (missing-moved roles moved since)
     (list-alike (moved_past span old).newest new.newest moved.reshape moved.shape moved.size) (ap (λ (s : Shape). s.level) moved.shape) clean
     (record { window = tt; through = λ some. absurd (omega (arith, some)); few = omega arith })
-    (λ t. let now = plain t (was.stored t).headers in record { section = now.0; sectors = tt; headers = now.1 })
+    (λ t on. let now = plain t (was.stored t on).headers in record { section = now.0; sectors = tt; headers = now.1 })
     (told-step entries who end (losses_of roles spares) RecordsWindow left (losses-are roles spares))
     (λ t. record {
       rise = rise t;
       keeps = λ told fills more_told room gone unclean here.
           let l = was.listed t fills in
-          safe t (world_in given tape scope first) told room gone unclean l.list (copied t told more_told l) here;
+          safe t (world_in given tape scope first) told room gone unclean l.list (copied t fills told more_told l) here;
       listed = λ fills. on t (was.listed t fills);
       legal = λ fills gone level. step-is (world_in given tape' scope first) (entries ++ entries_of who end (losses_of roles spares)) (entry_of who end (Step RecordsWindow left)) RecordsWindow left
           (told-behind (left + 1) entries who end (losses_of roles spares) (losses-are roles spares) was.left_told);
@@ -134,10 +135,10 @@ recorded-moves tells given tape tape' scope first entries old new carried resync
     all : ℕ
     all = stripes (final_shape old.newest) span.lo span.hi
 
-    copied : (t : tells) → (told : Ledger) → IsMoreTold (told_now (world_in given tape scope first) carried true entries) told
+    copied : (t : tells) → IsFilledRight (world_in given tape scope first) entries → (told : Ledger) → IsMoreTold (told_now (world_in given tape scope first) carried true entries) told
         → (l : HasListInCourse (OpensFit (world_in given tape scope first)) old resync (entered span (stripes (final_shape old.newest) span.lo span.hi) sectioned) buffer (present given tape) (now (opening_list (world_in given tape scope first)) entries))
         → IsCopiedWindow (OpensFit (world_in given tape scope first)) scope told old span l.list (present given tape) (disk given.start tape)
-    copied t told more l = record {
+    copied t fills told more l = record {
       allowed = λ x lt. more.values x (within x lt) (l.list x) (subst (λ (v : Sector). IsIn (values_of (opening_list (world_in given tape scope first)) entries x) v) (sym (l.is x lt))
           (newest-in (opening_list (world_in given tape scope first)) entries x (within x lt)));
       window = done.window;
@@ -145,7 +146,7 @@ recorded-moves tells given tape tape' scope first entries old new carried resync
       rows_are = λ is enough so. (windows-copied (OpensFit (world_in given tape scope first)) old span sectioned buffer (present given tape) l.list
           (none-stands (OpensFit (world_in given tape scope first)) AnyShape resync old (entered span (stripes (final_shape old.newest) span.lo span.hi) sectioned) buffer (present given tape) l.list
           (clean-none old resync (entered span (stripes (final_shape old.newest) span.lo span.hi) sectioned) (resync-of was) enough is) whole)).rows_are so;
-      headers = (was.stored t).headers;
+      headers = (was.stored t (fills-on_course (world_in given tape scope first) entries fills)).headers;
       zeros = λ so x tail. l.stands.in_course.zeros tail.forth x tail.past;
     }
       where

@@ -41,18 +41,19 @@ pub resync-of : {tells : Type 0} {given : Given} {tape : List Operation} {scope 
     → IsMoving tells given tape scope first entries members carried resync course buffer left → HasResync members resync course
 resync-of was = record { progress = was.progress; beside = was.beside; dirty = was.dirty }
 
--- as far on members that lost slots and stay as dirty, whatever course they are in where it may be beside that
+-- as far on members that lost slots
+pub progress-moved : {given : Given} {old new : Members} → IsMoved given old new → (resync : Option ℕ) → IfSome resync (λ mended. mended ≤ mend_stripes old.newest) → IfSome resync (λ mended. mended ≤ mend_stripes new.newest)
+progress-moved moved None is = is
+progress-moved {old = old} {new = new} moved (Some mended) is = subst (λ (n : ℕ). mended ≤ n) (sym (mends-alike old.newest new.newest moved.reshape moved.shape moved.size)) is
+
+-- so it is where they stay as dirty, whatever course they are in if it may be beside that
 pub resync-moved : {given : Given} {old new : Members} {resync : Option ℕ} {course course' : Course} → IsMoved given old new → (IsSome resync → is_clean old.newest ≡ false → is_clean new.newest ≡ false)
     → IsAside course'.window ⊎ IsUnmended resync → HasResync old resync course → HasResync new resync course'
 resync-moved {given = given} {old = old} {new = new} {resync = resync} moved stays beside was = record {
-  progress = of resync was.progress;
+  progress = progress-moved moved resync was.progress;
   beside = beside;
   dirty = λ does some. stays some (was.dirty (without-before given old new moved does) some);
 }
-  where
-    of : (resync : Option ℕ) → IfSome resync (λ mended. mended ≤ mend_stripes old.newest) → IfSome resync (λ mended. mended ≤ mend_stripes new.newest)
-    of None is = is
-    of (Some mended) is = subst (λ (n : ℕ). mended ≤ n) (sym (mends-alike old.newest new.newest moved.reshape moved.shape moved.size)) is
 
 -- nothing is mended while a window is entered, nor behind it
 pub unmended-of : (resync : Option ℕ) → ⊥ ⊎ IsUnmended resync → IsUnmended resync

@@ -28,7 +28,7 @@ use Rattle.views.specs.Moving.{Grows}
 use Rattle.call_entries.specs.Losing.{losses_of}
 use Rattle.call_entries.proofs.CallLaws.{losses-are, last_end-behind}
 use Rattle.kept_history.specs.Recorded.{IsHistoryKept, IsLegalCall, IsCallGoing, entry_of, ends_reshape}
-use Rattle.kept_history.specs.Safe.{world_in, IsFilledRight, IsSafeHistory}
+use Rattle.kept_history.specs.Safe.{world_in, IsFilledRight, IsSafeHistory, OpensOnCourse}
 use Rattle.kept_history.specs.Told.{told_now}
 use Rattle.course_kept.specs.declared.course.Course.{Course}
 use Rattle.course_kept.specs.Course.{IsCourseOf, IsStored}
@@ -41,6 +41,7 @@ use Rattle.history_calls.proofs.Behind.{AreEarly, AreLostOrMissing, IsAmong, ear
 use Rattle.history_calls.proofs.Quiet.{IsQuiet, IsLeftBehind, fit-later, quiet-last, last-left, stretch-more, numbers-leaves, quiet-leaves, quiet-now}
 use Rattle.moving_kept.specs.Moving.{AreReshaping, HasListInCourse, IsMoving}
 use Rattle.moving_kept.proofs.Pending.{HasResync, pending-on}
+use Rattle.kept_history.proofs.Growing.{course-before}
 
 -- ---- what a stop may leave now
 
@@ -121,6 +122,12 @@ listed-later given tape scope first entries all new carried resync course' buffe
       stands = subst (λ (sound : Type 0). StandsMended sound (λ shape. DoesWithout shape new) resync new course' buffer' (present given tape') l.list) (sym (fit-later left)) l.stands;
     }
 
+-- what the opening found of a reshape it found before more was done
+pub course-earlier : (given : Given) (tape tape' : List Operation) (scope : Scope) (first : ℕ) → first ≤ length tape → (ops : List Operation) × (tape' ≡ tape ++ ops)
+    → OpensOnCourse (world_in given tape' scope first) → OpensOnCourse (world_in given tape scope first)
+course-earlier given tape tape' scope first begun grown on = course-before (world_in given tape scope first) grown.0 begun
+    (subst (λ (l : List Operation). OpensOnCourse (world_in given l scope first)) grown.1 on)
+
 -- ---- what is kept
 
 -- The call keeps the record: the array is in its reshape still, however far that has come then.
@@ -129,7 +136,7 @@ pub early-moves : (tells : Type 0) (given : Given) (tape tape' : List Operation)
     → IsMoving tells given tape scope first entries old carried resync course buffer left → HasLiveSlot old → IsCallGoing entries who → IsFalse (who.caller == 254) → (tells → end ≡ length tape') → Grows tells tape tape' → IsQuiet event
     → AreReshaping scope given new → HasResync new resync' course' → is_some resync' ≡ is_some resync → role_count new.newest ≤ 16
     → AreEarly early IsTaken → AreLostOrMissing old new IsTaken
-    → list_length new.newest ≡ list_length old.newest → (shape_of new.newest).level ≡ (shape_of old.newest).level → is_clean new.newest ≡ is_clean old.newest → IsCourseOf new.newest course' → (tells → IsStored scope new course'.window buffer' (disk given.start tape'))
+    → list_length new.newest ≡ list_length old.newest → (shape_of new.newest).level ≡ (shape_of old.newest).level → is_clean new.newest ≡ is_clean old.newest → IsCourseOf new.newest course' → (tells → OpensOnCourse (world_in given tape scope first) → IsStored scope new course'.window buffer' (disk given.start tape'))
     → IfSome (told_left (entries ++ entries_of who end (early ++ event ∷ []))) (λ n. n ≡ left')
     → (tells → IsEarlyCall given tape scope first entries old new carried resync' course' buffer' who early event tape' end)
     → IsMoving tells given tape' scope first (entries ++ entries_of who end (early ++ event ∷ [])) new carried resync' course' buffer' left'
@@ -149,7 +156,7 @@ early-moves tells given tape tape' scope first entries old new carried resync re
       unclean = λ t. (leaves t).unclean;
       recorded = λ t. (leaves t).recorded;
       last_step = λ t. last-left given tape tape' scope first entries (list_length old.newest) new carried true who end early event (leaves t) (at_end t) quiet.other sized (was.last_step t).past;
-      stored = stored;
+      stored = λ t on. stored t (course-earlier given tape tape' scope first (leaves t).begun (leaves t).grown on);
       listed = λ t. listed-later given tape scope first entries (entries ++ entries_of who end (early ++ event ∷ [])) new carried resync' course' buffer' tape' (now (opening_list (world_in given tape scope first)) entries) (leaves t)
           (quiet-now (opening_list (world_in given tape scope first)) entries who end early IsTaken event are quiet) (call t).listed;
       safe = λ t. (leaves t).safe;
@@ -174,7 +181,7 @@ pub carrying-moves : (tells : Type 0) (given : Given) (tape tape' : List Operati
     → ((number : ℕ) → carried number ≡ true → carried' number ≡ true) → IsMoving tells given tape scope first entries old carried resync course buffer left → HasLiveSlot old → IsCallGoing entries who → IsFalse (who.caller == 254) → (tells → end ≡ length tape') → Grows tells tape tape' → IsQuiet event
     → AreReshaping scope given new → HasResync new resync course' → role_count new.newest ≤ 16
     → AreEarly early IsTaken → AreLostOrMissing old new IsTaken
-    → list_length new.newest ≡ list_length old.newest → (shape_of new.newest).level ≡ (shape_of old.newest).level → is_clean new.newest ≡ is_clean old.newest → IsCourseOf new.newest course' → (tells → IsStored scope new course'.window buffer' (disk given.start tape'))
+    → list_length new.newest ≡ list_length old.newest → (shape_of new.newest).level ≡ (shape_of old.newest).level → is_clean new.newest ≡ is_clean old.newest → IsCourseOf new.newest course' → (tells → OpensOnCourse (world_in given tape scope first) → IsStored scope new course'.window buffer' (disk given.start tape'))
     → IfSome (told_left (entries ++ entries_of who end (early ++ event ∷ []))) (λ n. n ≡ left')
     → (tells → IsCarryingCall given tape scope first entries old new carried carried' resync course' buffer' who early event tape' end)
     → IsMoving tells given tape' scope first (entries ++ entries_of who end (early ++ event ∷ [])) new carried' resync course' buffer' left'
@@ -194,7 +201,7 @@ carrying-moves tells given tape tape' scope first entries old new carried carrie
       unclean = λ t. (leaves t).unclean;
       recorded = λ t. (leaves t).recorded;
       last_step = λ t. last-left given tape tape' scope first entries (list_length old.newest) new carried' true who end early event (leaves t) (at_end t) quiet.other sized (was.last_step t).past;
-      stored = stored;
+      stored = λ t on. stored t (course-earlier given tape tape' scope first (leaves t).begun (leaves t).grown on);
       listed = λ t. listed-later given tape scope first entries (entries ++ entries_of who end (early ++ event ∷ [])) new carried' resync course' buffer' tape' (now (opening_list (world_in given tape scope first)) entries) (leaves t)
           (quiet-now (opening_list (world_in given tape scope first)) entries who end early IsTaken event are quiet) (call t).listed;
       safe = λ t. (leaves t).safe;
@@ -228,7 +235,7 @@ pub quiet-moves : (tells : Type 0) (given : Given) (tape tape' : List Operation)
     → IsMoving tells given tape scope first entries old carried resync course buffer left → HasLiveSlot old → IsCallGoing entries who → IsFalse (who.caller == 254) → (tells → end ≡ length tape') → Grows tells tape tape' → IsQuiet event
     → AreReshaping scope given new → HasResync new resync' course' → is_some resync' ≡ is_some resync → role_count new.newest ≤ 16
     → AreLostOrMissing old new (IsAmong roles)
-    → list_length new.newest ≡ list_length old.newest → (shape_of new.newest).level ≡ (shape_of old.newest).level → is_clean new.newest ≡ is_clean old.newest → IsCourseOf new.newest course' → (tells → IsStored scope new course'.window buffer' (disk given.start tape'))
+    → list_length new.newest ≡ list_length old.newest → (shape_of new.newest).level ≡ (shape_of old.newest).level → is_clean new.newest ≡ is_clean old.newest → IsCourseOf new.newest course' → (tells → OpensOnCourse (world_in given tape scope first) → IsStored scope new course'.window buffer' (disk given.start tape'))
     → IfSome (told_left (entries ++ entries_of who end (losses_of roles spares ++ event ∷ []))) (λ n. n ≡ left')
     → (tells → IsQuietCall given tape scope first entries old new carried resync' course' buffer' who roles spares event tape' end)
     → IsMoving tells given tape' scope first (entries ++ entries_of who end (losses_of roles spares ++ event ∷ [])) new carried resync' course' buffer' left'

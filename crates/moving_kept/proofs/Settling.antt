@@ -29,7 +29,7 @@ use Rattle.call_entries.specs.Losing.{losses_of}
 use Rattle.call_entries.proofs.CallLaws.{losses-are, ends-losses}
 use Rattle.call_entries.proofs.LeftLaws.{TellLeft}
 use Rattle.kept_history.specs.Recorded.{IsCallGoing, entry_of, ends_reshape, gives_some}
-use Rattle.kept_history.specs.Safe.{world_in, IsFilledRight}
+use Rattle.kept_history.specs.Safe.{world_in, IsFilledRight, OpensOnCourse}
 use Rattle.kept_history.specs.Told.{told_now}
 use Rattle.course_kept.specs.declared.course.Course.{Course}
 use Rattle.course_kept.specs.Course.{IsCourseOf, IsStored}
@@ -38,7 +38,7 @@ use Rattle.history_calls.proofs.Quiet.{IsLeftBehind, last-left}
 use Rattle.history_calls.proofs.Settling.{IsSettlement, IsSettledBy, takes-newest, settling-ends, settling-leaves, settled-same}
 use Rattle.moving_kept.specs.Moving.{AreReshaping, HasListInCourse, IsMoving}
 use Rattle.moving_kept.proofs.Pending.{HasResync, later-unsynced}
-use Rattle.moving_kept.proofs.Quiet.{listed-later, safe-now}
+use Rattle.moving_kept.proofs.Quiet.{listed-later, safe-now, course-earlier}
 
 -- ---- the event
 
@@ -112,7 +112,7 @@ pub settling-moves : (tells : Type 0) (given : Given) (tape tape' : List Operati
     → AreReshaping scope given new → HasResync new resync' course' → unsynced ≡ is_some resync' → role_count new.newest ≤ 16
     → AreLostOrMissing old new (IsAmong roles)
     → list_length new.newest ≡ list_length old.newest → (shape_of new.newest).level ≡ (shape_of old.newest).level → (unsynced ≡ false → is_clean new.newest ≡ true)
-    → (tells → (is_unsynced (world_in given tape scope first) entries && not (is_resync_end event)) ≡ unsynced) → IsCourseOf new.newest course' → (tells → IsStored scope new course'.window buffer' (disk given.start tape'))
+    → (tells → (is_unsynced (world_in given tape scope first) entries && not (is_resync_end event)) ≡ unsynced) → IsCourseOf new.newest course' → (tells → OpensOnCourse (world_in given tape scope first) → IsStored scope new course'.window buffer' (disk given.start tape'))
     → IfSome (told_left (entries ++ entries_of who end (losses_of roles spares ++ event ∷ []))) (λ n. n ≡ left')
     → (tells → IsSettlingCall given tape scope first entries old new carried unsynced resync' course' buffer' who roles spares event tape' end)
     → IsMoving tells given tape' scope first (entries ++ entries_of who end (losses_of roles spares ++ event ∷ [])) new carried resync' course' buffer' left'
@@ -132,7 +132,7 @@ settling-moves tells given tape tape' scope first entries old new carried resync
       unclean = λ t. (leaves t).unclean;
       recorded = λ t. (leaves t).recorded;
       last_step = λ t. last-left given tape tape' scope first entries (list_length old.newest) new carried true who end (losses_of roles spares) event (leaves t) (at_end t) other sized (was.last_step t).past;
-      stored = stored;
+      stored = λ t on. stored t (course-earlier given tape tape' scope first (leaves t).begun (leaves t).grown on);
       listed = λ t. listed-later given tape scope first entries (entries ++ entries_of who end (losses_of roles spares ++ event ∷ [])) new carried resync' course' buffer' tape' (now (opening_list (world_in given tape scope first)) entries) (leaves t)
           (settled-same (opening_list (world_in given tape scope first)) entries who end roles spares event settling) (call t).listed;
       safe = λ t. (leaves t).safe;

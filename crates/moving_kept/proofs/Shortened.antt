@@ -185,7 +185,7 @@ shortened-moves tells given tape tape' scope first entries old plan new carried 
   unclean = λ t. (leaves t).unclean;
   recorded = λ t. (leaves t).recorded;
   last_step = λ t. (leaves t).last_step;
-  stored = λ t. let plain = cleared-plain scope new (disk given.start tape') (cleared t) in record { section = plain.0; sectors = tt; headers = plain.1 };
+  stored = λ t on. let plain = cleared-plain scope new (disk given.start tape') (cleared t) in record { section = plain.0; sectors = tt; headers = plain.1 };
   listed = λ t. (leaves t).listed;
   safe = λ t. (leaves t).safe;
 }

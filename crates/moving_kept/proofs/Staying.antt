@@ -89,7 +89,7 @@ stays-moves tells given tape tape' scope first entries old new carried resync co
     quiet-moves tells given tape tape' scope first entries old new carried resync resync course course buffer buffer left left who end roles spares event
     was live goes caller at_end grows quiet (reshaping-moved scope given old new moved was.members_are) (resync-moved moved (λ some dirty. clean ∙ dirty) was.beside (resync-of was)) refl few (missing-moved roles moved since)
     (list-alike old.newest new.newest moved.reshape moved.shape moved.size) (ap (λ (s : Shape). s.level) moved.shape) clean (course-moved given old new course moved was.course_is)
-    (λ t. stored-kept scope given old new course.window buffer (disk given.start tape) (disk given.start tape') was.members_are moved (unused t) (was.stored t))
+    (λ t on. stored-kept scope given old new course.window buffer (disk given.start tape) (disk given.start tape') was.members_are moved (unused t) (was.stored t on))
     (left-more left entries who end (losses_of roles spares ++ event ∷ []) was.left_told (left-behind left who end (losses_of roles spares) (event ∷ []) (losses-are roles spares) tell))
     (λ t. record {
       rise = rise t;

@@ -56,6 +56,7 @@ use Rattle.moving_kept.proofs.MembersMove.{reshaping-moved}
 use Rattle.moving_kept.proofs.Pending.{resync-of, resync-moved, unmended-of, mended-later}
 use Rattle.history_calls.proofs.Quiet.{IsQuiet}
 use Rattle.moving_kept.proofs.Quiet.{quiet-moves}
+use Rattle.kept_history.proofs.Turned.{fills-on_course}
 
 -- ---- a step
 
@@ -172,11 +173,11 @@ pub copied-moves : (tells : Type 0) (given : Given) (tape tape' : List Operation
 copied-moves tells given tape tape' scope first entries old new carried resync span copied sectioned buffer left who end roles spares was live goes caller at_end grows more some moved few since clean rise unused others stands safe =
     quiet-moves tells given tape tape' scope first entries old new carried resync resync (entered span copied sectioned) (entered span (copied + 1) sectioned) buffer buffer (left + 1) left who end roles spares (Step CopiesStripe left)
     was live goes caller at_end grows (quiet-step CopiesStripe left tt some) (reshaping-moved scope given old new moved was.members_are) (resync-moved moved (λ some dirty. clean ∙ dirty) was.beside (resync-of was)) refl few (missing-moved roles moved since)
-    (list-alike old.newest new.newest moved.reshape moved.shape moved.size) (ap (λ (s : Shape). s.level) moved.shape) clean course_is (λ t. stored (was.stored t) (unused t)) (told-step entries who end (losses_of roles spares) CopiesStripe left (losses-are roles spares))
+    (list-alike old.newest new.newest moved.reshape moved.shape moved.size) (ap (λ (s : Shape). s.level) moved.shape) clean course_is (λ t on. stored (was.stored t on) (unused t)) (told-step entries who end (losses_of roles spares) CopiesStripe left (losses-are roles spares))
     (λ t. record {
       rise = rise t;
       keeps = λ told fills more_told room gone unclean now. safe t (world_in given tape scope first) told room gone unclean
-          (able-kept scope given old span copied sectioned (disk given.start tape) was.course_is.window (was.stored t).section) now;
+          (able-kept scope given old span copied sectioned (disk given.start tape) was.course_is.window (was.stored t (fills-on_course (world_in given tape scope first) entries fills)).section) now;
       listed = λ fills. on t (was.listed t fills);
       legal = λ fills gone level. step-is (world_in given tape' scope first) (entries ++ entries_of who end (losses_of roles spares)) (entry_of who end (Step CopiesStripe left)) CopiesStripe left
           (told-behind (left + 1) entries who end (losses_of roles spares) (losses-are roles spares) was.left_told);

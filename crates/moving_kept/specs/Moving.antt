@@ -27,7 +27,7 @@ use Rattle.views.specs.Lacking.{DoesWithout}
 use Rattle.views.specs.Rebuilding.{AreSparesFree}
 use Rattle.safe_updates.specs.Unused.{IsUnused}
 use Rattle.kept_history.specs.Recorded.{IsHistoryKept}
-use Rattle.kept_history.specs.Safe.{world_in, IsFilledRight, IsSafeHistory}
+use Rattle.kept_history.specs.Safe.{world_in, OpensOnCourse, IsFilledRight, IsSafeHistory}
 use Rattle.history_calls.specs.Reliable.{IsReliable, AreToldGone, IsNonePast, HasLastStep}
 use Rattle.course_kept.specs.declared.course.Course.{Course}
 use Rattle.course_kept.specs.Course.{IsCourseOf, IsStored}
@@ -81,8 +81,9 @@ pub record IsStillKept (tells : Type 0) (given : Given) (tape : List Operation) 
 
 -- A reshape is active in the array, and this is how far it has come; a resync may be pending, beside whose mended stripes no window is open; so many steps are left. What is
 -- missing was told so, and a dirty mark, and a pending resync; over a bank that
--- tells its contents the history is legal and reaches to the tape's end, as its last step does, and tells nothing past the list's end; the backup's headers say how far the window has come, the list stands where what is
--- filled in is right, by each shape that does without what is missing of it, and each mark so far is safe.
+-- tells its contents the history is legal and reaches to the tape's end, as its last step does, and tells nothing past the list's end. If the opening found no reshape, or
+-- one on its course, the backup's headers say how far the window has come; where what is filled in is right the list stands, by each shape that does without what is
+-- missing of it, and each mark so far is safe.
 pub record IsMoving (tells : Type 0) (given : Given) (tape : List Operation) (scope : Scope) (first : ℕ) (entries : List Entry)
     (members : Members) (carried : ℕ → Bool) (resync : Option ℕ) (course : Course) (buffer : List ℕ) (left : ℕ) : Type 0 where
   pub slots : given.slots ≤ 32
@@ -99,7 +100,7 @@ pub record IsMoving (tells : Type 0) (given : Given) (tape : List Operation) (sc
   pub unclean : tells → is_clean members.newest ≡ false → (is_unsynced (world_in given tape scope first) entries || is_unsettled entries) ≡ true
   pub recorded : tells → IsHistoryKept (IsReliable (world_in given tape scope first) entries) (world_in given tape scope first) (list_length members.newest) entries
   pub last_step : tells → HasLastStep (world_in given tape scope first) entries (list_length members.newest)
-  pub stored : tells → IsStored scope members course.window buffer (disk given.start tape)
+  pub stored : tells → OpensOnCourse (world_in given tape scope first) → IsStored scope members course.window buffer (disk given.start tape)
   pub listed : tells → IsFilledRight (world_in given tape scope first) entries
       → HasListInCourse (OpensFit (world_in given tape scope first)) members resync course buffer (present given tape) (now (opening_list (world_in given tape scope first)) entries)
   pub safe : tells → IsFilledRight (world_in given tape scope first) entries → HasRoomForEvents (world_in given tape scope first) → OpensAlike (world_in given tape scope first)

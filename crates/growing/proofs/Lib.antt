@@ -1,0 +1,4 @@
+pub mod Idle
+pub mod Read
+pub mod Fitting
+pub mod Kept
