@@ -13,5 +13,4 @@ pub mod EnterLaws
 pub mod Entered
 pub mod Reading
 pub mod DueSteps
-pub mod Resyncs
 pub mod MendLaws

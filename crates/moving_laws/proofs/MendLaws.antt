@@ -1,6 +1,6 @@
 -- The steps of a pending resync of an array in a reshape, from what `mend_list` of `region_mends` and `settle` of `safe_updates` leave: what is kept, done or refused.
 use Rattle.std.proofs.Common.{◌≡◌, ◌≢◌, inl, inr, ℕ, ◌+◌, ◌-◌, ◌/◌, ◌^◌, ◌<◌, ◌≤◌, Bool, true, false, Option, Some, None, unwrap_or, List, [], ◌∷◌, ◌++◌, length, refl, sym, ◌∙◌, ap, subst, arith}
-use Rattle.std.specs.Prelude.{MatchOption}
+use Rattle.std.specs.Prelude.{IsSome, MatchOption}
 use Rattle.std.proofs.Math.Nat.{div-le_self}
 use Rattle.md_base.specs.Sectors.{Sector}
 use Rattle.md_base.specs.Shapes.{stripe_sectors}
@@ -62,13 +62,13 @@ use Rattle.moving_kept.specs.Moving.{IsMoving}
 use Rattle.moving_kept.proofs.Flushing.{AreFlushed, AreSettled}
 use Rattle.moving_kept.proofs.Staying.{course-moved}
 use Rattle.moving_kept.proofs.Steps.{missing-since}
+use Rattle.mending_kept.proofs.Resync.{IsMendingMoving, AreRowsMended, mended-moves, unmended-moves, resynced-moves, unresynced-moves}
 use Rattle.running_words.specs.Parts.{RunningParts, left_in}
 use Rattle.running_words.specs.Calls.{IsCalled}
 use Rattle.running_words.proofs.Called.{not_254, risen-told}
 use Rattle.moving_laws.specs.Ready.{IsReady}
 use Rattle.moving_laws.specs.Mending.{IsMendDue, IsResyncEndDue, IsMendCalled, AreRowsGood}
 use Rattle.moving_laws.proofs.Kept.{left-moved}
-use Rattle.moving_laws.proofs.Resyncs.{IsMendStep, IsStripeMended, mended-moves, unmended-moves, resynced-moves, unresynced-moves}
 
 -- ---- when a step is due
 
@@ -271,7 +271,7 @@ pub mend-step : {tells : Type 0} (given : Given) (old new : Members) (tape tape'
     → ListStandsIn (λ s. s ≡ mend_shape old.newest mended) hidden old (present given tape) list
     → (mend_shape old.newest mended ≡ final_shape old.newest → AreTailsStanding old (present given tape) list)
     → AreWritesAllowed old told.values list → (OpensFit world → IsTailZero old.newest list) → IsSafeOver world given told old tape → KeepsSafe world given told new tape tape')
-    → IsMendStep tells given old new tape tape' mended roles
+    → IsMendingMoving tells given tape tape' old new mended roles
 mend-step given old new tape tape' mended roles spares before after moved grows since dirty rise unused others kept stands tail ends safe = record {
   moved = moved;
   grows = grows;
@@ -289,25 +289,32 @@ mend-step given old new tape tape' mended roles spares before after moved grows 
 
 -- ---- what is kept
 
+-- while a resync is pending, the mark is dirty
+pub was-dirty : {tells : Type 0} {given : Given} {tape : List Operation} {scope : Scope} {first : ℕ} {entries : List Entry} {members : Members} {carried : ℕ → Bool} {resync : Option ℕ} {course : Course} {buffer : List ℕ} {left : ℕ} (mended : ℕ)
+    → IsMoving tells given tape scope first entries members carried resync course buffer left → resync ≡ Some mended → DoWithout members → is_clean members.newest ≡ false
+was-dirty mended was is does = was.dirty does (subst IsSome (sym is) refl)
+
 module _ {tells : Type 0} {given : Given} {tape tape' : List Operation} {scope : Scope} {first : ℕ} {entries : List Entry} {old new : Members} (work : Work) (course : Course) {buffer : List ℕ} (ahead : PhasesLeft)
     (who : Who) (end roles spares mended : ℕ) (is : work.resync ≡ Some mended) (below : mended < mend_stripes old.newest) (aside : IsAside course.window)
     (was : IsMoving tells given tape scope first entries old (is_carried work) work.resync course buffer (left_in work old course ahead)) (does : DoWithout old)
-    (goes : IsCallGoing entries who) (caller : who.caller ≢ 254) (at_end : tells → end ≡ length tape') (did : IsMendStep tells given old new tape tape' mended roles) where
+    (goes : IsCallGoing entries who) (caller : who.caller ≢ 254) (at_end : tells → end ≡ length tape') (did : IsMendingMoving tells given tape tape' old new mended roles) where
   -- a stripe isn't mended
   pub mend-refused : (refusal : Refusal) → IsNotMended (mend_shape old.newest mended) new refusal
       → IsMoving tells given tape' scope first (entries ++ entries_of who end (losses_of roles spares ++ Refused refusal ∷ [])) new (is_carried work) work.resync course buffer (left_in work new course ahead)
   mend-refused refusal why =
       subst (λ (n : ℕ). IsMoving tells given tape' scope first (entries ++ entries_of who end (losses_of roles spares ++ Refused refusal ∷ [])) new (is_carried work) work.resync course buffer n) (sym (left-moved given old new work.resync course ahead did.moved))
-      (unmended-moves course who end roles spares mended is below aside was does goes (not_254 who.caller caller) at_end did refusal why)
+      (unmended-moves tells given tape tape' scope first entries old new (is_carried work) work.resync course buffer (left_in work old course ahead) who end roles spares mended was does goes (not_254 who.caller caller) at_end
+      is aside below did refusal why)
 
   -- it is
-  pub mend-done : (left : ℕ) → left ≡ left_in (mended_work work (Some (mended + 1))) new course ahead → DoWithout new → IsStripeMended tells given old new tape tape' mended
+  pub mend-done : (left : ℕ) → left ≡ left_in (mended_work work (Some (mended + 1))) new course ahead → DoWithout new → AreRowsMended tells given tape tape' old new mended
       → IsMoving tells given tape' scope first (entries ++ entries_of who end (losses_of roles spares ++ Step MendsStripe left ∷ [])) new (is_carried work) (Some (mended + 1)) course buffer
       (left_in (mended_work work (Some (mended + 1))) new course ahead)
   mend-done left told can mends =
       subst (λ (n : ℕ). IsMoving tells given tape' scope first (entries ++ entries_of who end (losses_of roles spares ++ Step MendsStripe left ∷ [])) new (is_carried work) (Some (mended + 1)) course buffer n) told
-      (mended-moves course who end roles spares mended is below aside was does goes (not_254 who.caller caller) at_end did left
-      (ap (λ (n : ℕ). n + 1) told ∙ mend-left given old new work course ahead mended was.members_are.placed.fit was.members_are.active is below did.moved aside)
+      (mended-moves tells given tape tape' scope first entries old new (is_carried work) work.resync course buffer (left_in work old course ahead) who end roles spares mended was does goes (not_254 who.caller caller) at_end
+      is aside below did left
+      (sym (ap (λ (n : ℕ). n + 1) told ∙ mend-left given old new work course ahead mended was.members_are.placed.fit was.members_are.active is below did.moved aside))
       (λ zero. left-some new (mended_work work (Some (mended + 1))) course ahead (did.moved.reshape.reshaping ∙ was.members_are.active) (course-moved given old new course did.moved was.course_is) (sym told ∙ zero)) can mends)
 
 module _ {tells : Type 0} {given : Given} {tape tape' : List Operation} {scope : Scope} {first : ℕ} {entries : List Entry} {old new : Members} (work : Work) (course : Course) {buffer : List ℕ} (ahead : PhasesLeft)
@@ -319,15 +326,16 @@ module _ {tells : Type 0} {given : Given} {tape tape' : List Operation} {scope :
       → IsMoving tells given tape' scope first (entries ++ entries_of who end (losses_of roles spares ++ Refused refusal ∷ [])) new (is_carried work) work.resync course buffer (left_in work new course ahead)
   end-refused refusal many =
       subst (λ (n : ℕ). IsMoving tells given tape' scope first (entries ++ entries_of who end (losses_of roles spares ++ Refused refusal ∷ [])) new (is_carried work) work.resync course buffer n) (sym (left-moved given old new work.resync course ahead did.moved))
-      (unresynced-moves course who end roles spares is aside was does goes (not_254 who.caller caller) at_end grows did refusal many)
+      (unresynced-moves tells given tape tape' scope first entries old new (is_carried work) work.resync course buffer (left_in work old course ahead) who end roles spares was does goes (not_254 who.caller caller) at_end grows is did
+      refusal many)
 
   -- it is done
   pub end-done : (left : ℕ) → left ≡ left_in (mended_work work None) new course ahead → AreSettled tells given tape tape' old new false
       → IsMoving tells given tape' scope first (entries ++ entries_of who end (losses_of roles spares ++ Step EndsResync left ∷ [])) new (is_carried work) None course buffer (left_in (mended_work work None) new course ahead)
   end-done left told done =
       subst (λ (n : ℕ). IsMoving tells given tape' scope first (entries ++ entries_of who end (losses_of roles spares ++ Step EndsResync left ∷ [])) new (is_carried work) None course buffer n) told
-      (resynced-moves course who end roles spares is aside was does goes (not_254 who.caller caller) at_end grows did left
-      (ap (λ (n : ℕ). n + 1) told ∙ end-left given old new work course ahead was.members_are.placed.fit was.members_are.active is did.moved aside)
+      (resynced-moves tells given tape tape' scope first entries old new (is_carried work) work.resync course buffer (left_in work old course ahead) who end roles spares was does goes (not_254 who.caller caller) at_end grows is did left
+      (sym (ap (λ (n : ℕ). n + 1) told ∙ end-left given old new work course ahead was.members_are.placed.fit was.members_are.active is did.moved aside))
       (λ zero. left-some new (mended_work work None) course ahead (did.moved.reshape.reshaping ∙ was.members_are.active) (course-moved given old new course did.moved was.course_is) (sym told ∙ zero)) done)
 
 -- ---- the rows

@@ -14,16 +14,14 @@ use Rattle.array_kept.proofs.LossLaws.{losses-behind, ended-behind, behind-alone
 use Rattle.array_kept.proofs.ReadyLaws.{scope-same}
 use Rattle.kept_history.specs.Recorded.{IsCallGoing}
 use Rattle.region_mends.specs.Mends.{mend_shape, mend_refusal, IsNotMended}
-use Rattle.moving_kept.proofs.Refusals.{quiet-refusal}
-use Rattle.moving_kept.proofs.Resting.{resting-moves}
 use Rattle.moving_kept.proofs.Steps.{missing-since}
+use Rattle.mending_kept.proofs.Resync.{untried-moves}
 use Rattle.running_words.specs.Parts.{left_in}
 use Rattle.moving_laws.specs.Mending.{IsMendDue}
 use Rattle.moving_laws.specs.Ready.{bytes_in}
 use Rattle.running_words.proofs.Called.{not_254, called, alone-lossless}
 use Rattle.moving_laws.proofs.Kept.{ready, ready-with, shapes-same, shapes-moved, alone-keeps, behind-keeps, behind-whole}
-use Rattle.moving_laws.proofs.MendLaws.{next-of, aside-right, aside-within, with-buffers, mends-short, not-mended-for, mendable-for, first-for, one-more, refused-why, done-why, mend-step, mend-refused, mend-done, mend-left}
-use Rattle.moving_laws.proofs.Resyncs.{unmended-right, was-dirty}
+use Rattle.moving_laws.proofs.MendLaws.{next-of, aside-right, aside-within, with-buffers, mends-short, not-mended-for, mendable-for, first-for, one-more, refused-why, done-why, mend-step, mend-refused, mend-done, mend-left, was-dirty}
 use Rattle.moving.proofs.state.Moving.mend_stripe.Goals as goal
 
 -- ---- the stripe
@@ -45,9 +43,8 @@ invariant_of-self g c =
     let next = next-of _ c.unwrap_or-stripes.result (subst (λ p. IsMendDue p) (sym c.self.view_is) c.requires.due) c.unwrap_or-stripes.ensures in
     let end = c.ops-end.result in
     let refusal = c.in-Some.refusal in
-    let kept = resting-moves g.B.Bank.tells given (g.B.Bank.tape a.bank) scope a.epoch.first a.epoch.entries.items a.members (is_carried a.work) a.work.resync a.course (bytes_in a.course.window a.window.items) (left_in a.work a.members a.course a.ahead)
-    c.args.who end (Refused refusal) was.kept goes (not_254 c.args.who.caller c.requires.caller) c.ops-end.ensures.count (quiet-refusal refusal) (λ told is. is)
-    (unmended-right c.unwrap_or-stripes.result was.kept next.0 next.1 refusal c.in-Some.ensures.why) in
+    let kept = untried-moves g.B.Bank.tells given (g.B.Bank.tape a.bank) scope a.epoch.first a.epoch.entries.items a.members (is_carried a.work) a.work.resync a.course (bytes_in a.course.window a.window.items) (left_in a.work a.members a.course a.ahead)
+    c.args.who end c.unwrap_or-stripes.result refusal was.kept goes (not_254 c.args.who.caller c.requires.caller) c.ops-end.ensures.count next.0 next.1 c.in-Some.ensures.why in
     ready (entries_of c.args.who end (Refused refusal ∷ [])) was (grows-none (λ t. refl)) (shapes-same a.members.newest) kept
     refl (λ slot. omega arith) (alone-keeps c.args.who end (Refused refusal) (λ n. refl) refl) (λ none whole. whole) refl (scope-same given (Some a.backup) refl c.enter.ensures.uuid c.enter.ensures.given) c.enter.ensures.first refl c.enter.ensures.items
     (omega (arith, c.enter.ensures.room, was.room_left, some))
