@@ -15,6 +15,7 @@ mod entering;
 mod examining;
 mod failing;
 mod finishing;
+mod mending;
 mod moves;
 mod parting;
 mod reading;

@@ -15,3 +15,4 @@ pub mod EnterLaws
 pub mod Entered
 pub mod Reading
 pub mod DueSteps
+pub mod MendLaws
