@@ -1,13 +1,12 @@
 -- What a section leaves that is stored, and a header that is cleared: an array that is safe.
-use Rattle.std.proofs.Common.{◌≡◌, ◌⊎◌, inl, inr, ℕ, ◌+◌, ◌-◌, ◌*◌, ◌<◌, ◌≤◌, List, [], ◌∷◌, length, take, drop, take_all, Some, None, refl, sym, ◌∙◌, ap, subst, arith}
-use Rattle.std.specs.Prelude.{◌^◌, ⊤, Result, Ok, Err, OnErr}
+use Rattle.std.proofs.Common.{◌≡◌, ◌⊎◌, inl, inr, ℕ, ◌+◌, ◌-◌, ◌*◌, ◌<◌, ◌≤◌, List, length, take, drop, take_all, Some, None, sym, ◌∙◌, ap, subst, arith}
+use Rattle.std.specs.Prelude.{⊤, Result, Ok, Err, OnErr}
 use Rattle.md_base.specs.declared.places.Span.{Span}
 use Rattle.md_base.specs.Sectors.{Sector}
 use Rattle.bank.specs.declared.bank.Operation.{Operation}
 use Rattle.bank.specs.Given.{Given}
 use Rattle.bank.specs.Tape.{Contents, IsIn, EachMark, disk}
 use Rattle.parity.specs.Rows.{sector_of}
-use Rattle.sb1.specs.declared.sb.Sb.{Sb}
 use Rattle.superblocks.specs.declared.members.Members.{Members}
 use Rattle.superblocks.specs.Reading.{Scope, list_length, next_window}
 use Rattle.backup.specs.Written.{header_of, cleared_header}
@@ -25,7 +24,7 @@ use Rattle.shape_changes.specs.Steady.{IsSteady, IsSafeNow, IsSafeStretch}
 use Rattle.shape_changes.proofs.Drawn.{disk-somewhere}
 use Rattle.shape_changes.proofs.Steady.{steady-seen}
 use Rattle.window_rows.specs.Copies.{HasWindow, IsRoomFor}
-use Rattle.window_sections.specs.Backup.{IsBackupFor}
+use Rattle.window_entering.specs.Backup.{IsBackupFor}
 use Rattle.window_steps.proofs.SteadyLaws.{sections-steady, clearing-steady}
 
 -- ---- the window

@@ -1,5 +1,4 @@
-use Rattle.std.proofs.Common.{ℕ, List, length, sym, ◌∙◌, ap, subst}
-use Rattle.md_base.specs.Sectors.{Sector}
+use Rattle.std.proofs.Common.{ℕ, List, length, ◌∙◌, ap}
 use Rattle.bank.specs.Tape.{disk}
 use Rattle.row_io.proofs.RowBytes.{on_ok}
 use Rattle.backup.specs.Written.{header_of}
@@ -7,10 +6,10 @@ use Rattle.backup.specs.Storing.{IsStoringOrNaming}
 use Rattle.flat_history.specs.Sound.{OpensFit}
 use Rattle.shape_views.specs.Views.{Disk}
 use Rattle.shape_views.proofs.BackupLaws.{stored-closed}
-use Rattle.window_sections.proofs.SectionLaws.{opened, unsure, marks-by, saved-safe}
-use Rattle.window_sections.proofs.storing.store_window.Given.{Over}
-use Rattle.window_sections.proofs.storing.store_window.Goals.{After-write_section}
-use Rattle.window_sections.proofs.storing.store_window.Goals as goal
+use Rattle.window_entering.proofs.SectionLaws.{opened, unsure, marks-by, saved-safe}
+use Rattle.window_entering.proofs.storing.store_window.Given.{Over}
+use Rattle.window_entering.proofs.storing.store_window.Goals.{After-write_section}
+use Rattle.window_entering.proofs.storing.store_window.Goals as goal
 
 module _ (g : Over) (c : After-write_section g) where
   abbrev start : Disk

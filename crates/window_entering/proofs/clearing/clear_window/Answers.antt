@@ -11,10 +11,10 @@ use Rattle.shape_views.specs.Views.{Disk}
 use Rattle.shape_views.proofs.BackupLaws.{cleared-closed}
 use Rattle.shape_changes.specs.Steady.{KeepsSafe}
 use Rattle.views.proofs.SafeStretch.{safe-none}
-use Rattle.window_sections.proofs.SectionLaws.{unsure-still, marks-by, cleared-safe, at-end, on-err}
-use Rattle.window_sections.proofs.clearing.clear_window.Given.{Over}
-use Rattle.window_sections.proofs.clearing.clear_window.Goals.{After-clear_section}
-use Rattle.window_sections.proofs.clearing.clear_window.Goals as goal
+use Rattle.window_entering.proofs.SectionLaws.{unsure-still, marks-by, cleared-safe, at-end, on-err}
+use Rattle.window_entering.proofs.clearing.clear_window.Given.{Over}
+use Rattle.window_entering.proofs.clearing.clear_window.Goals.{After-clear_section}
+use Rattle.window_entering.proofs.clearing.clear_window.Goals as goal
 
 -- ---- the slot failed at the read
 

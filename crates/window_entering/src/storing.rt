@@ -16,7 +16,7 @@ ghost use Rattle.shape_views.specs.Backups.{IsSectionOf, IsOpenUnderAll, IsOpenO
 ghost use Rattle.shape_changes.specs.Safety.{HasLiveSlot};
 ghost use Rattle.shape_changes.specs.Steady.{IsSafeOver, KeepsSafe};
 ghost use Rattle.window_rows.specs.Copies.{IsRoomFor};
-ghost use Rattle.window_sections.specs.Backup.{IsBackupFor};
+ghost use Rattle.window_entering.specs.Backup.{IsBackupFor};
 
 use backup::{SectionFault, write_section};
 use bank::Bank;
