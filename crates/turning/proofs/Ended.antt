@@ -1,53 +1,39 @@
 -- What the end of a reshape leaves is ready as an array without one; and refused, it is ready in its reshape.
-use Rattle.std.proofs.Common.{◌≡◌, ◌≢◌, ◌⊎◌, inl, inr, ℕ, ◌+◌, ◌*◌, ◌<◌, ◌≤◌, ◌&&◌, ◌||◌, nat_lt, Bool, true, false, not, Option, Some, None, List, [], ◌∷◌, ◌++◌, length, refl, sym, ◌∙◌, ap, subst, arith, append-nil}
+use Rattle.std.proofs.Common.{◌≡◌, ◌≢◌, inl, inr, ℕ, ◌*◌, ◌<◌, ◌≤◌, ◌&&◌, ◌||◌, nat_lt, Bool, true, false, not, Option, Some, None, List, [], ◌∷◌, ◌++◌, length, refl, sym, ◌∙◌, ap, subst, arith, append-nil}
 use Rattle.std.specs.Prelude.{if◌then◌else◌, is_some}
-use Rattle.std.specs.List.{All, list_any}
-use Rattle.std.proofs.lemmas.Bool.{cases_lt, and_parts}
+use Rattle.std.specs.List.{All}
+use Rattle.std.proofs.lemmas.Bool.{and_parts}
 use Rattle.std.proofs.lemmas.Bool.Decides.{nat_tests}
 use Rattle.std.proofs.lemmas.List.Elements.{All-nil, All-cons}
 use Rattle.md_base.specs.Shapes.{has_slot}
-use Rattle.md_base.specs.declared.answers.Refusal.{Refusal}
 use Rattle.md_base.specs.declared.answers.Who.{Who}
 use Rattle.md_base.specs.declared.places.Shape.{Shape}
 use Rattle.bank.specs.declared.bank.Operation.{Operation}
-use Rattle.bank.specs.Given.{Given, IsFaulted, NeverFalls}
-use Rattle.bank.specs.Tape.{disk}
+use Rattle.bank.specs.Given.{Given, IsFaulted}
 use Rattle.grow_plan.specs.Plans.{AreSound}
 use Rattle.superblocks.specs.declared.members.Members.{Members}
-use Rattle.superblocks.specs.Reading.{Scope, is_clean, shape_of, final_shape, list_length, role_count, role_state, holder}
-use Rattle.superblocks.specs.Reads.{has_spare}
-use Rattle.superblocks.proofs.SlotSets.{none_there}
-use Rattle.superblocks.proofs.ValidFields.{few-roles}
-use Rattle.row_io.specs.Rows.{reading_of, present}
+use Rattle.superblocks.specs.Reading.{Scope, shape_of, final_shape, list_length, role_state, holder}
+use Rattle.row_io.specs.Rows.{reading_of}
 use Rattle.flat_history.specs.declared.events.Entry.{Entry}
 use Rattle.flat_history.specs.declared.events.Event.{Event}
-use Rattle.flat_history.specs.declared.events.Event.TheVariants.{Step, Resized, Refused}
+use Rattle.flat_history.specs.declared.events.Event.TheVariants.{Step, Resized}
 use Rattle.flat_history.specs.declared.events.StepKind.TheVariants.{Finished}
-use Rattle.flat_history.specs.Growing.{EndBy}
-use Rattle.flat_history.specs.Losses.{loses}
 use Rattle.flat_history.specs.Plain.{entries_of}
-use Rattle.shape_changes.specs.Marking.{AreOthersPresent}
 use Rattle.shape_changes.specs.Updates.{IsAtEnd}
 use Rattle.reshape_ends.specs.Finished.{AreLostInEnd}
 use Rattle.views.specs.declared.work.Work.{Work}
-use Rattle.views.specs.Lacking.{AreLostSince}
-use Rattle.views.specs.Moving.{Grows, IsMoved}
 use Rattle.views.specs.Numbers.{is_carried}
-use Rattle.views.specs.Placed.{is_vacant, AreWhole}
-use Rattle.views.specs.Rebuilding.{AreSparesFree, Held}
+use Rattle.views.specs.Placed.{is_vacant}
+use Rattle.views.specs.Rebuilding.{Held}
 use Rattle.call_entries.specs.Losing.{losses_of}
 use Rattle.call_entries.proofs.CallLaws.{all-losses}
 use Rattle.call_entries.proofs.PlainLaws.{one}
 use Rattle.array_kept.specs.Calls.{AreLossesOf, IsLossBy}
-use Rattle.array_kept.specs.Kept.{scope_in}
 use Rattle.array_kept.proofs.NowLaws.{limit-more}
-use Rattle.grow_asked.specs.declared.window.Window.TheVariants.{Closed}
 use Rattle.grow_asked.specs.declared.window.PhasesLeft.{PhasesLeft}
 use Rattle.grow_asked.specs.Left.{phases_of, zeroed_by}
 use Rattle.kept_history.specs.Recorded.{IsCallGoing}
-use Rattle.kept_history.specs.Safe.{world_in, TakesNone}
-use Rattle.kept_history.proofs.Growing.{takes-grown}
-use Rattle.kept_history.proofs.Tests.{none-before}
+use Rattle.kept_history.specs.Safe.{world_in}
 use Rattle.course_kept.specs.declared.course.Course.{Course}
 use Rattle.course_kept.specs.Laws.{closed}
 use Rattle.moving_kept.specs.Moving.{IsMoving}
@@ -58,7 +44,7 @@ use Rattle.running_words.proofs.Called.{not_254}
 use Rattle.still_laws.specs.Ready.{IsReady as IsReadyStill}
 use Rattle.moving_laws.specs.Ready.{IsReady as IsReadyMoving, bytes_in}
 use Rattle.moving_laws.proofs.Kept.{takes-before}
-use Rattle.turning.specs.Ended.{ended_length, AreDroppedSpares, AreKeptOrFailed, ArePlansTo}
+use Rattle.turning.specs.Ended.{AreKeptOrFailed, ArePlansTo}
 use Rattle.turning.proofs.EndedStill.{IsFinished, plans-of, ahead-none, ended-still, ended-sized, ended-free}
 
 -- the new length is entered in the words of the law

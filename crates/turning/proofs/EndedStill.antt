@@ -1,7 +1,7 @@
 -- What the end of a reshape leaves, from what `finish` of `reshape_ends` says of it: the array keeps its record without a reshape.
-use Rattle.std.proofs.Common.{◌≡◌, ◌≢◌, ◌⊎◌, inl, inr, ℕ, ◌+◌, ◌*◌, ◌<◌, ◌≤◌, ◌&&◌, ◌||◌, nat_lt, ◌==◌, min, max, Bool, true, false, not, cond, Option, Some, None, List, [], ◌∷◌, ◌++◌, length, fold, refl, sym, ◌∙◌, ap, subst, arith, append-nil}
+use Rattle.std.proofs.Common.{◌≡◌, ◌⊎◌, inl, inr, ℕ, ◌+◌, ◌*◌, ◌<◌, ◌≤◌, ◌&&◌, ◌||◌, nat_lt, ◌==◌, min, max, Bool, true, false, not, cond, Option, Some, None, List, [], ◌∷◌, ◌++◌, length, fold, refl, sym, ◌∙◌, ap, subst, arith, append-nil}
 use Rattle.std.proofs.Math.Nat.{mul-le-mul_right}
-use Rattle.std.specs.Prelude.{if◌then◌else◌, IfSome, is_some, IsFalse}
+use Rattle.std.specs.Prelude.{IfSome, IsFalse}
 use Rattle.std.specs.List.{list_any, All}
 use Rattle.std.proofs.lemmas.Bool.{and_parts}
 use Rattle.std.proofs.lemmas.Bool.Decides.{nat_tests}
@@ -16,22 +16,21 @@ use Rattle.md_base.specs.declared.wishes.Phase.{Phase}
 use Rattle.md_base.specs.declared.wishes.Phase.TheVariants.{Reshape, UpTo6, DownTo5}
 use Rattle.bank.specs.declared.bank.Operation.{Operation}
 use Rattle.bank.specs.Given.{Given, NeverFalls}
-use Rattle.grow_plan.specs.Plans.{phases_steps, phase_steps, phase_shape}
+use Rattle.grow_plan.specs.Plans.{phases_steps, phase_steps}
 use Rattle.superblocks.specs.declared.members.Members.{Members}
 use Rattle.superblocks.specs.Reading.{Scope, shape_of, final_shape, list_length, role_count, role_state, holder, data_offset_of}
 use Rattle.superblocks.proofs.ValidFields.{few-roles}
 use Rattle.row_io.specs.Rows.{reading_of, present, is_missing}
 use Rattle.flat_history.specs.declared.events.Entry.{Entry}
 use Rattle.flat_history.specs.declared.events.Event.{Event}
-use Rattle.flat_history.specs.declared.events.Event.TheVariants.{Lost, SpareLost, Resized, Step}
+use Rattle.flat_history.specs.declared.events.Event.TheVariants.{Lost, SpareLost, Step}
 use Rattle.flat_history.specs.declared.events.LostCause.TheVariants.{Fault}
 use Rattle.flat_history.specs.declared.events.StepKind.TheVariants.{Finished}
 use Rattle.flat_history.specs.Flat.{length_of, length_after, limit_after}
 use Rattle.flat_history.specs.Legal.{left_after, told_left}
 use Rattle.flat_history.specs.Losses.{is_resync_end, is_unsynced, loses}
-use Rattle.flat_history.specs.OneShape.{is_lost}
 use Rattle.flat_history.specs.Plain.{entries_of}
-use Rattle.flat_history.specs.Reshaped.{open_plans, planned_shape}
+use Rattle.flat_history.specs.Reshaped.{planned_shape}
 use Rattle.flat_history.specs.Sound.{OpensFit}
 use Rattle.flat_history.specs.World.{World}
 use Rattle.shape_views.specs.Regions.{ArePlaced}
@@ -55,7 +54,7 @@ use Rattle.views.proofs.Still.{count-still}
 use Rattle.call_entries.specs.Losing.{losses_of}
 use Rattle.call_entries.proofs.CallLaws.{AreLossEvents, losses-are, ends-losses, limit-losses}
 use Rattle.grow_asked.specs.declared.window.PhasesLeft.{PhasesLeft}
-use Rattle.grow_asked.specs.Left.{phases_of, zeroed_by}
+use Rattle.grow_asked.specs.Left.{zeroed_by}
 use Rattle.kept_history.specs.Recorded.{IsCallGoing}
 use Rattle.kept_history.specs.Safe.{world_in, TakesNone}
 use Rattle.kept_history.proofs.Entered.{lost-taken}

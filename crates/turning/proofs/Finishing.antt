@@ -1,5 +1,5 @@
 -- What `finish` of `reshape_ends` leaves, done or refused: the array is ready, in the words of the call, and so many steps are left.
-use Rattle.std.proofs.Common.{◌≡◌, ◌≢◌, ◌⊎◌, inl, inr, ℕ, ◌+◌, ◌*◌, ◌<◌, ◌≤◌, ◌&&◌, ◌||◌, nat_lt, max, Bool, true, false, not, Option, Some, None, List, [], ◌∷◌, ◌++◌, length, drop, get_or, refl, sym, ◌∙◌, ap, subst, arith}
+use Rattle.std.proofs.Common.{◌≡◌, ◌≢◌, ◌⊎◌, inl, inr, ℕ, ◌+◌, ◌<◌, ◌≤◌, ◌&&◌, ◌||◌, nat_lt, max, Bool, true, false, not, Option, Some, None, List, [], ◌∷◌, ◌++◌, length, drop, refl, sym, ◌∙◌, ap, subst, arith}
 use Rattle.std.specs.List.{list_any}
 use Rattle.std.proofs.lemmas.Bool.{and_parts}
 use Rattle.std.proofs.Math.Seq.{drop-append_seam}
@@ -9,15 +9,13 @@ use Rattle.md_base.specs.Shapes.{has_slot}
 use Rattle.md_base.specs.declared.answers.Refusal.{Refusal}
 use Rattle.md_base.specs.declared.answers.Who.{Who}
 use Rattle.md_base.specs.declared.places.Shape.{Shape}
-use Rattle.md_base.specs.declared.status.Role.{Role}
 use Rattle.md_base.specs.declared.status.Role.TheVariants.{Missing}
 use Rattle.bank.specs.declared.bank.Operation.{Operation}
-use Rattle.bank.specs.Given.{Given, IsFaulted}
+use Rattle.bank.specs.Given.{Given}
 use Rattle.bank.specs.Tape.{disk}
 use Rattle.sb1.specs.declared.sb.Sb.{Sb}
 use Rattle.superblocks.specs.declared.members.Members.{Members}
-use Rattle.superblocks.specs.Reading.{Scope, is_clean, is_reshaping, shape_of, final_shape, list_length, role_count, role_state, holder}
-use Rattle.superblocks.specs.Reads.{has_spare}
+use Rattle.superblocks.specs.Reading.{Scope, is_clean, is_reshaping, shape_of, final_shape, role_count, role_state, holder}
 use Rattle.superblocks.proofs.SlotSets.{none_there}
 use Rattle.superblocks.proofs.ValidFields.{few-roles}
 use Rattle.row_io.specs.Rows.{reading_of, present, is_missing}
@@ -46,7 +44,7 @@ use Rattle.window_steps.specs.Zeroing.{IsThrough}
 use Rattle.call_entries.specs.Losing.{losses_of}
 use Rattle.array_kept.specs.Calls.{TellNoLoss}
 use Rattle.grow_asked.specs.declared.window.PhasesLeft.{PhasesLeft}
-use Rattle.grow_asked.specs.Left.{phases_of, zeroed_by}
+use Rattle.grow_asked.specs.Left.{zeroed_by}
 use Rattle.kept_history.specs.Recorded.{IsCallGoing}
 use Rattle.kept_history.specs.Safe.{world_in}
 use Rattle.history_calls.proofs.Behind.{IsAmong}

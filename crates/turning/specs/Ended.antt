@@ -1,6 +1,6 @@
 -- A reshape ends: what is asked of the history, and what it leaves.
-use Rattle.std.specs.Prelude.{◌≡◌, ◌⊎◌, ℕ, ◌+◌, ◌*◌, ◌≤◌, ◌++◌, nat_lt, true, false, not, List, [], ◌∷◌, Some, drop, length, if◌then◌else◌}
-use Rattle.std.specs.List.{list_any, All}
+use Rattle.std.specs.Prelude.{◌≡◌, ◌⊎◌, ℕ, ◌+◌, ◌*◌, ◌≤◌, ◌++◌, nat_lt, true, List, [], ◌∷◌, Some, if◌then◌else◌}
+use Rattle.std.specs.List.{All}
 use Rattle.md_base.specs.Shapes.{data_disks}
 use Rattle.md_base.specs.declared.answers.Refusal.{Refusal}
 use Rattle.md_base.specs.declared.answers.Who.{Who}

@@ -10,7 +10,6 @@ use Rattle.grow_plan.specs.Plans.{AreSound, phase_window}
 use Rattle.superblocks.specs.declared.members.Members.{Members}
 use Rattle.superblocks.specs.Reading.{shape_of, list_length}
 use Rattle.superblocks.proofs.ValidFields.{few-roles}
-use Rattle.row_io.specs.Rows.{reading_of}
 use Rattle.flat_history.specs.declared.events.Entry.{Entry}
 use Rattle.flat_history.specs.declared.events.Event.TheVariants.{Step, Refused}
 use Rattle.flat_history.specs.declared.events.StepKind.TheVariants.{Begun}
@@ -20,7 +19,6 @@ use Rattle.shape_changes.specs.Safety.{IsRisen}
 use Rattle.shape_changes.specs.Steady.{KeepsSafe}
 use Rattle.reshape_updates.specs.Beginning.{goes_back}
 use Rattle.reshape_ends.specs.Begun.{begun_plan}
-use Rattle.views.specs.Placed.{is_vacant}
 use Rattle.views.specs.Status.{left_of}
 use Rattle.views.proofs.MovedLaws.{grows-none}
 use Rattle.call_entries.specs.Losing.{losses_of}

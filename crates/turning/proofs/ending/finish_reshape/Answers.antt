@@ -1,10 +1,10 @@
-use Rattle.std.proofs.Common.{◌≡◌, ℕ, ◌-◌, ◌*◌, ◌≤◌, ◌&&◌, ◌||◌, nat_lt, not, None, Option, Some, List, [], ◌∷◌, ◌++◌, refl, sym, ◌∙◌, ap, subst, arith}
+use Rattle.std.proofs.Common.{◌≡◌, ℕ, ◌*◌, ◌≤◌, ◌&&◌, ◌||◌, nat_lt, not, Option, List, [], ◌∷◌, ◌++◌, refl, sym, ◌∙◌, ap, subst, arith}
 use Rattle.std.specs.Prelude.{MatchOption}
 use Rattle.std.proofs.lemmas.Bool.{and_parts}
 use Rattle.md_base.specs.Shapes.{has_slot, data_disks}
 use Rattle.md_base.specs.declared.answers.Refusal.{Refusal}
 use Rattle.md_base.specs.declared.places.Shape.{Shape}
-use Rattle.superblocks.specs.Reading.{shape_of, final_shape, list_length, holder}
+use Rattle.superblocks.specs.Reading.{list_length, holder}
 use Rattle.superblocks.proofs.ValidFields.{few-roles}
 use Rattle.row_io.specs.Rows.{reading_of}
 use Rattle.flat_history.specs.declared.events.Event.{Event}
@@ -166,7 +166,7 @@ pub returns-in-Some-refusal-clause-caused : goal.returns-in-Some-refusal-clause-
 returns-in-Some-refusal-clause-caused g c =
     let p = c.take_apart-pieces.result.0 in
     let m = c.finish-done.new.members in
-    rw (c.of_pieces-2.ensures.same) (subst (λ (o : Option Refusal). MatchOption o (IsOver p.members.newest m.newest) (AreTooMany m)) c.in-Some-refusal.is c.finish-done.ensures.answer)
+    rw (c.of_pieces-in-Some-refusal.ensures.same) (subst (λ (o : Option Refusal). MatchOption o (IsOver p.members.newest m.newest) (AreTooMany m)) c.in-Some-refusal.is c.finish-done.ensures.answer)
 
 pub returns-in-Some-refusal-clause-called : goal.returns-in-Some-refusal-clause-called
 returns-in-Some-refusal-clause-called g c =
@@ -190,7 +190,7 @@ returns-in-Some-refusal-clause-called g c =
     let since = lost-since given p.members m c.before_end-was.result.count vacant roles spares before after here.placed moved failed
     (c.before_end-was.ensures.count ∙ here.placed.roles)
     (λ role. c.before_end-was.ensures.vacant role ∙ ap (λ (n : ℕ). nat_lt role n && is_vacant (reading_of p.members) role) (sym c.before_end-was.ensures.count)) c.newly_vacant-roles.ensures in
-    rw (c.of_pieces-2.ensures.same) (rw (c.take_apart-pieces.ensures.same) (called did.grows moved
+    rw (c.of_pieces-in-Some-refusal.ensures.same) (rw (c.take_apart-pieces.ensures.same) (called did.grows moved
     (ended-behind (g.B.Bank.tape c.finish-done.new.bank) c.enter_behind.new.epoch.first p.epoch.entries.items who end (losses_of roles spares) (Refused refusal) c.enter_behind.ensures.items c.ops-end-2.ensures.count)
     (losses-behind p.members m before after p.epoch.entries.items p.epoch.entries.items c.enter_behind.new.epoch.entries.items who end roles spares (Refused refusal) since tt refl c.enter_behind.ensures.items)
     did.counts
@@ -288,7 +288,7 @@ returns-clause-ended g c =
     let items = entered
     ∙ ap (λ (l : List Event). p.epoch.entries.items ++ entries_of who end (losses_of roles spares ++ Step Finished (still_left p.work m p.ahead) ∷ (l ++ losses_of told.late told.late_spares)))
     (length-same (nat_lt (list_length p.members.newest) (list_length m.newest)) (list_length m.newest)) in
-    rw (c.of_pieces-3.ensures.same) (rw (c.take_apart-pieces.ensures.same) (record {
+    rw (c.of_pieces-2.ensures.same) (rw (c.take_apart-pieces.ensures.same) (record {
       could = λ refusal many. never-both p.members refusal c.in_default-too_many.ensures many;
       entered = record { roles = roles; spares = spares; late = told.late; late_spares = told.late_spares; end = end; is = entered };
       ended = λ t. ap (last_end_from c.enter_ended.new.epoch.first) items

@@ -1,4 +1,4 @@
-use Rattle.std.proofs.Common.{◌≡◌, ◌≤◌, ◌&&◌, Bool, not, inl, inr, sym, ◌∙◌, ap, arith}
+use Rattle.std.proofs.Common.{◌&&◌, Bool, not, inl, inr, sym, ◌∙◌, ap, arith}
 use Rattle.std.proofs.lemmas.Bool.{cases_lt}
 use Rattle.md_base.specs.Shapes.{has_slot}
 use Rattle.superblocks.proofs.SlotSets.{none_above}
