@@ -1,11 +1,12 @@
 -- What `finish` of `reshape_ends` leaves, done or refused: the array is ready, in the words of the call, and so many steps are left.
-use Rattle.std.proofs.Common.{◌≡◌, ◌≢◌, ◌⊎◌, inl, inr, ℕ, ◌+◌, ◌<◌, ◌≤◌, ◌&&◌, ◌||◌, nat_lt, max, Bool, true, false, not, Option, Some, None, List, [], ◌∷◌, ◌++◌, length, drop, refl, sym, ◌∙◌, ap, subst, arith}
+use Rattle.std.proofs.Common.{◌≡◌, ◌≢◌, ◌⊎◌, inl, inr, ℕ, ◌+◌, ◌<◌, ◌≤◌, ◌&&◌, ◌||◌, nat_lt, max, Bool, true, false, not, cond, Option, Some, None, List, [], ◌∷◌, ◌++◌, length, drop, refl, sym, ◌∙◌, ap, subst, arith}
 use Rattle.std.specs.List.{list_any}
 use Rattle.std.proofs.lemmas.Bool.{and_parts}
 use Rattle.std.proofs.Math.Seq.{drop-append_seam}
-use Rattle.std.proofs.lemmas.List.{get_or_past}
+use Rattle.std.proofs.lemmas.List.{get_or_past, get_or-drop}
 use Rattle.std.proofs.lemmas.List.Folds.{list_any-append}
 use Rattle.md_base.specs.Shapes.{has_slot}
+use Rattle.md_base.proofs.Tabulated.{get_or-tabulate}
 use Rattle.md_base.specs.declared.answers.Refusal.{Refusal}
 use Rattle.md_base.specs.declared.answers.Who.{Who}
 use Rattle.md_base.specs.declared.places.Shape.{Shape}
@@ -14,8 +15,12 @@ use Rattle.bank.specs.declared.bank.Operation.{Operation}
 use Rattle.bank.specs.Given.{Given}
 use Rattle.bank.specs.Tape.{disk}
 use Rattle.sb1.specs.declared.sb.Sb.{Sb}
+use Rattle.superblocks.specs.declared.change.Give.{Give}
+use Rattle.superblocks.specs.declared.change.Give.TheVariants.{Same, Spare}
 use Rattle.superblocks.specs.declared.members.Members.{Members}
 use Rattle.superblocks.specs.Reading.{Scope, is_clean, is_reshaping, shape_of, final_shape, role_count, role_state, holder}
+use Rattle.superblocks.specs.Reads.{has_spare}
+use Rattle.superblocks.specs.Update.{give_of, is_planned_spare}
 use Rattle.superblocks.proofs.SlotSets.{none_there}
 use Rattle.superblocks.proofs.ValidFields.{few-roles}
 use Rattle.row_io.specs.Rows.{reading_of, present, is_missing}
@@ -32,7 +37,11 @@ use Rattle.shape_changes.specs.Marking.{AreOthersPresent}
 use Rattle.shape_changes.specs.Safety.{HasRoomLeft, IsRisen}
 use Rattle.shape_changes.specs.Steady.{IsSafeOver, KeepsSafe, AreGoneTold, IsUncleanTold}
 use Rattle.shape_ends.specs.Plans.{HasNoneRecovering}
-use Rattle.reshape_ends.specs.Finished.{AreLostInEnd, IsOver}
+use Rattle.shape_changes.proofs.Without.{any-holds}
+use Rattle.reshape_updates.specs.Ending.{holds_from, dropped_give, ending}
+use Rattle.reshape_updates.proofs.EndedPlan.{disks-are}
+use Rattle.reshape_ends.specs.Finished.{AreLostInEnd, IsEndedBehind, IsOver}
+use Rattle.reshape_ends.proofs.Made.{spare-planned}
 use Rattle.views.specs.declared.work.Work.{Work}
 use Rattle.views.specs.Lacking.{AreLostSince, AreTooMany, HaveFailedSince}
 use Rattle.views.specs.Moving.{Grows, IsMoved}
@@ -66,7 +75,8 @@ use Rattle.moving_state.proofs.DueLaws.{due-is}
 use Rattle.moving_state.proofs.ReshapeLaws.{under-way-of}
 use Rattle.running_words.specs.Parts.{left_in, still_left}
 use Rattle.running_words.proofs.Called.{not_254, risen-told}
-use Rattle.turning.specs.Ended.{AreDroppedSpares}
+use Rattle.turning.specs.Begun.{AreSparesKeptOrFailed}
+use Rattle.turning.specs.Ended.{AreDroppedSpares, AreSparesOrDropped}
 use Rattle.turning.proofs.EndedLeft.{whole-idle, whole-left, whole-new, ended-stepped}
 
 -- ---- the end is due
@@ -131,6 +141,49 @@ dropped-or-failed given old new roles spares lost before after placed over faile
     beyond : role_state (reading_of new) role ≡ Missing
     beyond = get_or_past new.roles role Missing
         (let count = placed.roles in let same = count-still new.newest over.still in let disks = ap (λ (s : Shape). s.disks) over.shape in omega (arith, past, count, same, disks))
+
+same-spare : (spares : List ℕ) (slot : ℕ) (give : Give) → give ≡ Same → is_planned_spare spares None give slot ≡ true → has_spare spares slot ≡ true
+same-spare spares slot give same is = or-none (has_spare spares slot) (sym (ap (λ (g : Give). is_planned_spare spares None g slot) same) ∙ is)
+  where
+    or-none : (b : Bool) → (b || false) ≡ true → b ≡ true
+    or-none true e = refl
+    or-none false e = absurd (cc)
+
+-- and each spare was one before, or is such a slot
+pub spare-or-dropped : (tells : Type 0) (given : Given) (old new : Members) (roles : ℕ) (before after : List Operation) → is_reshaping old.newest ≡ true → HasNoneRecovering old → IsEndedBehind tells given roles old new before after
+    → AreSparesOrDropped old new
+spare-or-dropped tells given old new roles before after active whole ended slot has =
+    of (holds_from ended.flushed.roles ended.flushed.newest.raid_disks slot) refl
+  where
+    moved : IsMoved given old ended.flushed
+    moved = ended.moved
+
+    plan : (slot < 32) × (has_slot new.lost slot ≡ false) × (is_planned_spare ended.flushed.spares None (give_of (ending ended.flushed).gives slot) slot ≡ true)
+    plan = spare-planned ended.flushed (ending ended.flushed) new.lost slot (sym (ap (λ (l : List ℕ). has_spare l slot) ended.update.spares) ∙ has)
+
+    given-is : give_of (ending ended.flushed).gives slot ≡ dropped_give ended.flushed.roles ended.flushed.newest.raid_disks slot
+    given-is = get_or-tabulate 32 (dropped_give ended.flushed.roles ended.flushed.newest.raid_disks) slot Same plan.0
+
+    disks : ended.flushed.newest.raid_disks ≡ (final_shape old.newest).disks
+    disks = disks-are ended.flushed (moved.reshape.reshaping ∙ active) moved.placed.fit moved.placed.roles (λ role slot held. (moved.placed.holders role slot held).small)
+        (λ role slot is. whole role slot (sym (moved.states role slot (ap holder is)) ∙ is)) ∙ ap (λ (s : Shape). s.disks) moved.reshape.final
+
+    of : (b : Bool) → holds_from ended.flushed.roles ended.flushed.newest.raid_disks slot ≡ b
+        → (has_spare old.spares slot ≡ true) ⊎ ((role : ℕ) × ((final_shape old.newest).disks ≤ role) × (holder (role_state (reading_of old) role) ≡ Some slot))
+    of true is =
+        let found = any-holds slot (drop ended.flushed.newest.raid_disks ended.flushed.roles) is in
+        let held : holder (role_state (reading_of ended.flushed) (ended.flushed.newest.raid_disks + found.0)) ≡ Some slot = ap holder (sym (get_or-drop ended.flushed.newest.raid_disks ended.flushed.roles found.0 Missing)) ∙ found.1 in
+        inr (ended.flushed.newest.raid_disks + found.0, (let d = disks in omega (arith, d)), moved.held (ended.flushed.newest.raid_disks + found.0) slot held)
+    of false is =
+        inl (moved.fewer slot (same-spare ended.flushed.spares slot (give_of (ending ended.flushed).gives slot) (given-is ∙ ap (λ (b : Bool). cond b Spare Same) is) plan.2))
+
+-- each slot that was a spare is one still, or it has failed
+pub spares-kept : (old new : Members) (roles spares lost : ℕ) (before after : ℕ → ℕ) → AreLostInEnd old new roles spares lost before after → AreSparesKeptOrFailed old new before after
+spares-kept old new roles spares lost before after failed slot was = elim (failed.told slot was) [
+  | inl still ↦ inl still
+  | inr (inl has) ↦ inr (failed.spares_are slot has)
+  | inr (inr has) ↦ inr (failed.lost_are slot has)
+]
 
 -- ---- the steps that are left
 

@@ -24,6 +24,7 @@ use Rattle.flat_history.specs.Plain.{entries_of}
 use Rattle.flat_history.specs.Reshaped.{is_done}
 use Rattle.call_entries.specs.Losing.{losses_of}
 use Rattle.views.specs.Placed.{AreStillHeld}
+use Rattle.views.specs.Lacking.{HaveRolesFailed}
 use Rattle.views.specs.Moving.{Grows}
 use Rattle.views.specs.Status.{spare_count}
 use Rattle.array_kept.specs.Calls.{AreSparesFewer, AreLossesOf, IsEndOf}
@@ -87,9 +88,13 @@ pub record StaysItself {B : Type 0} (old new : RunningParts B) : Type 0 where
   pub backup : new.parts.backup ≡ old.parts.backup
   pub work : new.parts.work ≡ old.parts.work
 
+-- each slot that was a spare is one still, or it has failed
+abbrev pub AreSparesKeptOrFailed : Members → Members → (ℕ → ℕ) → (ℕ → ℕ) → Type 0
+AreSparesKeptOrFailed old new before after = (slot : ℕ) → has_spare old.spares slot ≡ true → (has_spare new.spares slot ≡ true) ⊎ IsFaulted slot before after
+
 -- every sector but the superblocks and the backup's header is as it was
-abbrev pub AreOthersKept : Option ℕ → Contents → Contents → Type 0
-AreOthersKept backup before after = (slot k : ℕ) → k ≢ 8 → (backup ≢ Some slot) ⊎ (k ≢ 0) → after slot k ≡ before slot k
+abbrev pub AreOtherSectorsKept : Option ℕ → Contents → Contents → Type 0
+AreOtherSectorsKept backup before after = (slot k : ℕ) → k ≢ 8 → (backup ≢ Some slot) ⊎ (k ≢ 0) → after slot k ≡ before slot k
 
 -- a reshape to fewer data disks makes the list shorter as it begins
 abbrev pub begun_length : Bool → ℕ → List Event
@@ -102,8 +107,8 @@ pub record IsBegunWith (who : Who) (back : Bool) (size : ℕ) (old new : List En
   pub end : ℕ
   pub is : new ≡ old ++ entries_of who end (Step Begun left ∷ begun_length back size ++ losses_of roles spares)
 
--- The reshape to this shape has begun: no role was missing, and the lowest spares have the new roles, but those slots that were lost in it; the list is as long as both shapes have room
--- for, and these phases are ahead.
+-- The reshape to this shape has begun: no role was missing, and the lowest spares have the new roles, but those slots that failed in it; the list is as long as both shapes have room
+-- for, and these phases are ahead. Nothing is changed on the slots but superblocks and the backup's header.
 pub record IsReshapeBegun {B : Type 0} (tells : Type 0) (given : Given) (tape tape' : List Operation) (before after : ℕ → ℕ) (who : Who) (to : Shape) (behind : PhasesLeft) (old new : RunningParts B) : Type 0 where
   pub could : CanBegin old.parts.members to
   pub entered : IsBegunWith who (goes_back (shape_of old.parts.members.newest) to) (list_length new.parts.members.newest) old.parts.entries new.parts.entries (left_in new.parts.members new.course new.ahead)
@@ -114,22 +119,24 @@ pub record IsReshapeBegun {B : Type 0} (tells : Type 0) (given : Given) (tape ta
   pub long : list_length new.parts.members.newest ≡ list_end (shape_of old.parts.members.newest) to old.parts.members.newest.size
   pub held : AreStillHeld (begun_plan old.parts.members to) new.parts.members
   pub spares : AreSparesFewer (begun_plan old.parts.members to) new.parts.members
+  pub kept : HaveRolesFailed (begun_plan old.parts.members to) new.parts.members before after
+  pub spares_kept : AreSparesKeptOrFailed (begun_plan old.parts.members to) new.parts.members before after
   pub losses : AreLossesOf (begun_plan old.parts.members to) before after old.parts.entries new.parts.entries
   pub never_falls : NeverFalls before after
   pub clean : is_clean new.parts.members.newest ≡ is_clean old.parts.members.newest
-  pub others : tells → AreOthersKept old.parts.backup (present given tape) (present given tape')
+  pub others : tells → AreOtherSectorsKept old.parts.backup (present given tape) (present given tape')
   pub course : new.course ≡ closed 0
   pub ahead : new.ahead ≡ behind
   pub steps : new.parts.steps + 1 ≡ old.parts.steps
   pub same : StaysItself old new
 
--- The array is as it was, and this refusal is entered.
+-- The array is as it was, and this refusal is entered. Nothing is changed on the slots but, perhaps, the backup's header.
 pub record IsGivenBack {B : Type 0} (tells : Type 0) (given : Given) (tape tape' : List Operation) (who : Who) (refusal : Refusal) (old new : RunningParts B) : Type 0 where
   pub end : ℕ
   pub entered : new.parts.entries ≡ old.parts.entries ++ entries_of who end (Refused refusal ∷ [])
   pub ended : IsEndOf tells new.parts.first new.parts.entries tape'
   pub members : new.parts.members ≡ old.parts.members
-  pub others : tells → AreOthersKept old.parts.backup (present given tape) (present given tape')
+  pub others : tells → AreOtherSectorsKept old.parts.backup (present given tape) (present given tape')
   pub course : new.course ≡ closed 0
   pub ahead : new.ahead ≡ old.ahead
   pub steps : new.parts.steps + 1 ≡ old.parts.steps

@@ -28,7 +28,7 @@ use Rattle.array_kept.specs.Calls.{AreLossesOf, IsEndOf, TellNoLoss}
 use Rattle.grow_asked.specs.Left.{phases_of}
 use Rattle.course_kept.specs.Laws.{closed}
 use Rattle.running_words.specs.Parts.{RunningParts, left_in, still_left}
-use Rattle.turning.specs.Begun.{StaysItself}
+use Rattle.turning.specs.Begun.{StaysItself, AreSparesKeptOrFailed}
 
 -- ---- what is asked
 
@@ -64,8 +64,13 @@ abbrev pub AreKeptOrFailed : Members → Members → (ℕ → ℕ) → (ℕ → 
 AreKeptOrFailed old new before after = (role slot : ℕ) → role + 1 ≤ (final_shape old.newest).disks → holder (role_state (reading_of old) role) ≡ Some slot
     → (holder (role_state (reading_of new) role) ≡ Some slot) ⊎ IsFaulted slot before after
 
+-- each spare was one before, or held a role which the new shape hasn't
+abbrev pub AreSparesOrDropped : Members → Members → Type 0
+AreSparesOrDropped old new = (slot : ℕ) → has_spare new.spares slot ≡ true
+    → (has_spare old.spares slot ≡ true) ⊎ ((role : ℕ) × ((final_shape old.newest).disks ≤ role) × (holder (role_state (reading_of old) role) ≡ Some slot))
+
 -- The reshape has ended: no shape in force missed too many roles, and the superblocks say the new shape alone; the list is as long as it has room for, and the same phases are ahead. Each role
--- that a slot holds is one that it held, and each slot of a dropped role is a spare, but those slots that were lost in it.
+-- that a slot holds is one that it held, and each slot of a dropped role is a spare, as are the former ones, but those slots that failed in it. Nothing is changed on the slots but superblocks.
 pub record IsReshapeEnded {B : Type 0} (tells : Type 0) (given : Given) (tape tape' : List Operation) (before after : ℕ → ℕ) (who : Who) (old new : RunningParts B) : Type 0 where
   pub could : (refusal : Refusal) → AreTooMany old.parts.members refusal → ⊥
   pub entered : IsEndedWith who (list_length old.parts.members.newest) (list_length new.parts.members.newest) old.parts.entries new.parts.entries (still_left new.parts.work new.parts.members new.ahead)
@@ -77,6 +82,8 @@ pub record IsReshapeEnded {B : Type 0} (tells : Type 0) (given : Given) (tape ta
   pub held : AreStillHeld old.parts.members new.parts.members
   pub kept : AreKeptOrFailed old.parts.members new.parts.members before after
   pub dropped : AreDroppedSpares old.parts.members new.parts.members before after
+  pub spares : AreSparesOrDropped old.parts.members new.parts.members
+  pub spares_kept : AreSparesKeptOrFailed old.parts.members new.parts.members before after
   pub losses : AreLossesOf old.parts.members before after old.parts.entries new.parts.entries
   pub never_falls : NeverFalls before after
   pub others : tells → AreOthersPresent (present given tape) (present given tape')

@@ -247,6 +247,8 @@ returns-clause-begun g c =
       long = λ i. list_end ((did.newest none).old i) ((did.newest none).new i) ((did.newest none).size i);
       held = (did.moved none).held;
       spares = (did.moved none).fewer;
+      kept = (did.failed none).roles;
+      spares_kept = λ slot was. elim ((did.failed none).told slot was) [ inl still ↦ inl still | inr gone ↦ inr ((did.failed none).spares_are slot gone) ];
       losses = begun-losses (begun_plan p.members to) new (g.B.Bank.faults_of p.bank) (g.B.Bank.faults_of c.begin-begun.new.bank) p.epoch.entries.items p.epoch.entries.items c.enter_begun.new.epoch.entries.items who end
           (left_in new (closed 0) behind) (list_length new.newest) roles spares (goes_back (shape_of p.members.newest) to) since refl items;
       never_falls = did.counts;

@@ -39,7 +39,7 @@ use Rattle.moving_laws.proofs.Kept.{ready, shapes-same, shapes-moved, alone-keep
 use Rattle.turning.specs.Ended.{ended_length, ArePlansEnding}
 use Rattle.turning.proofs.Ended.{kept-or-failed, late-held, length-same, ended-ready, ended-losses}
 use Rattle.turning.proofs.EndedStill.{IsFinished, ended-long}
-use Rattle.turning.proofs.Finishing.{end-due, flush-failed, refused-behind, final-few, dropped-or-failed, none-lost, finish-stepped, finish-left}
+use Rattle.turning.proofs.Finishing.{end-due, flush-failed, refused-behind, final-few, dropped-or-failed, spare-or-dropped, spares-kept, none-lost, finish-stepped, finish-left}
 use Rattle.turning.proofs.ending.finish_reshape.Goals as goal
 
 -- ---- refused before anything is done
@@ -302,6 +302,8 @@ returns-clause-ended g c =
       held = λ role slot held. ap holder (sym (did.states role slot held)) ∙ held;
       kept = kept-or-failed p.members m roles spares lost before after did.failed;
       dropped = dropped-or-failed given p.members m roles spares lost before after did.placed over did.failed;
+      spares = spare-or-dropped g.B.Bank.tells given p.members m roles (g.B.Bank.tape p.bank) (g.B.Bank.tape c.finish-done.new.bank) here.active here.whole (did.ended none);
+      spares_kept = spares-kept p.members m roles spares lost before after did.failed;
       losses = ended-losses p.members m roles spares lost before after did.failed told.late told.late_spares
           (late-held p.members m roles spares lost before after did.failed vacant told.late c.before_end-was.ensures.vacant (final-few given p.members here.placed)
           (λ role. tell.late role ∙ ap (λ (s : Shape). (nat_lt role s.disks && is_vacant (reading_of m) role) && not (has_slot vacant role || has_slot roles role)) over.shape))
