@@ -1,5 +1,5 @@
 -- What the begin of a reshape leaves, from what `begin` of `reshape_ends` says of it: the array keeps its record in the reshape.
-use Rattle.std.proofs.Common.{◌≡◌, ◌≢◌, ◌⊎◌, inr, ℕ, ◌+◌, ◌-◌, ◌*◌, ◌<◌, ◌≤◌, ◌&&◌, ◌||◌, nat_le, nat_lt, min, Bool, true, false, not, cond, Option, Some, None, List, [], ◌∷◌, ◌++◌, length, refl, sym, ◌∙◌, ap, subst, arith, append-nil}
+use Rattle.std.proofs.Common.{◌≡◌, ◌≢◌, ◌⊎◌, inl, inr, ℕ, ◌+◌, ◌-◌, ◌*◌, ◌<◌, ◌≤◌, ◌&&◌, ◌||◌, nat_le, nat_lt, min, Bool, true, false, not, cond, Option, Some, None, List, [], ◌∷◌, ◌++◌, length, refl, sym, ◌∙◌, ap, subst, arith, append-nil}
 use Rattle.std.specs.Prelude.{if◌then◌else◌, IfSome, is_some, fold}
 use Rattle.std.specs.List.{list_any, All}
 use Rattle.std.proofs.lemmas.Bool.Decides.{nat_tests}
@@ -82,7 +82,7 @@ use Rattle.running_words.proofs.Called.{not_254}
 use Rattle.running_words.proofs.Lengths.{IsLengthKept, behind-keeps}
 use Rattle.still_laws.specs.Ready.{IsReady as IsReadyStill}
 use Rattle.moving_laws.specs.Ready.{IsReady as IsReadyMoving}
-use Rattle.turning.specs.Begun.{begun_length, is_resize, IsUnturned, IsBackupAt, CanBegin}
+use Rattle.turning.specs.Begun.{begun_length, is_resize, HasKeptLength, IsBackupAt, CanBegin}
 use Rattle.turning.proofs.Planned.{none-recovering, begin-live, lost-missing}
 
 -- ---- what is asked
@@ -104,6 +104,11 @@ backup-here given slots members to found backup asked is =
     let one : asked.0 ≡ backup = cc in
     subst (λ (s : ℕ). IsBackupAt given slots members to s) one asked.2
 
+-- another slot than the backup, or another sector than its header's
+pub others-of : (found : Option ℕ) (backup slot k : ℕ) → found ≡ Some backup → (found ≢ Some slot) ⊎ (k ≢ 0) → (slot ≢ backup) ⊎ (k ≢ 0)
+others-of found backup slot k is (inl other) = inl (λ same. other (is ∙ ap (λ (n : ℕ). Some n) (sym same)))
+others-of found backup slot k is (inr far) = inr far
+
 -- a call that has changed no length leaves nothing open
 lengths-kept : (world : World) (call : List Entry) → list_any (λ e. is_resize e.event) call ≡ false → All (λ e. IsResizeKept world e.end e.event) call
 lengths-kept world [] none = All-nil (λ e. IsResizeKept world e.end e.event)
@@ -115,7 +120,7 @@ lengths-kept world (x ∷ call) none =
     kept (Resized n) is = absurd (cc)
     kept event is = tt
 
-pub unturned-open : (world : World) (entries : List Entry) (who : Who) (turned : IsUnturned entries who) → IsOpenBehind world turned.goes.call
+pub unturned-open : (world : World) (entries : List Entry) (who : Who) (turned : HasKeptLength entries who) → IsOpenBehind world turned.goes.call
 unturned-open world entries who turned = record { kept = lengths-kept world turned.goes.call turned.lengths; steps = turned.steps }
 
 room-there : (still there fits : Bool) → there ≡ true → fits ≡ true → ◌≡◌ {A = Option Refusal} (if still || (there && fits) then None else Some BackupAbsent) None
@@ -267,7 +272,7 @@ pub record IsUpdated (tells : Type 0) (given : Given) (tape tape' : List Operati
 module _ {tells : Type 0} {given : Given} {tape tape' : List Operation} {first : ℕ} {entries : List Entry} {old new : Members} {work : Work} {before after : ℕ → ℕ} {steps room rows buffer far_rows far_buffer : ℕ}
     (uuid : List ℕ) (slots backup : ℕ) (ahead behind : PhasesLeft) (to : Shape) (who : Who) (end roles spares : ℕ)
     (was : IsReadyStill tells given tape (scope_in given uuid slots (Some backup)) first entries old work ahead before steps room rows buffer far_rows far_buffer)
-    (turned : IsUnturned entries who) (caller : who.caller ≢ 254) (idle : left_of work old ≡ 0) (next : phases_of ahead ≡ Reshape to ∷ phases_of behind) (back : Bool) (way : goes_back (shape_of old.newest) to ≡ back)
+    (turned : HasKeptLength entries who) (caller : who.caller ≢ 254) (idle : left_of work old ≡ 0) (next : phases_of ahead ≡ Reshape to ∷ phases_of behind) (back : Bool) (way : goes_back (shape_of old.newest) to ≡ back)
     (at : IsBackupAt given slots old to backup) (can : CanBegin old to) (did : IsUpdated tells given tape tape' backup uuid to old new spares before after) (at_end : tells → end ≡ length tape')
     (long : length old.own ≡ 32) (sixteen : length uuid ≡ 16) (lost : (role : ℕ) → has_slot roles role ≡ (nat_lt role (length new.roles) && is_vacant (reading_of new) role)) where
   abbrev scope : Scope

@@ -1,5 +1,5 @@
 -- A reshape begins in an array that had none: what is asked of it, and what it leaves.
-use Rattle.std.specs.Prelude.{◌≡◌, ◌⊎◌, ℕ, ◌+◌, ◌-◌, ◌<◌, ◌≤◌, ◌++◌, Bool, true, false, List, [], ◌∷◌, Some, IfSome, if◌then◌else◌, ⊤}
+use Rattle.std.specs.Prelude.{◌≡◌, ◌≢◌, ◌⊎◌, ℕ, ◌+◌, ◌-◌, ◌<◌, ◌≤◌, ◌++◌, Bool, true, false, List, [], ◌∷◌, Option, Some, IfSome, if◌then◌else◌, ⊤}
 use Rattle.std.specs.List.{list_any}
 use Rattle.md_base.specs.declared.answers.Refusal.{Refusal}
 use Rattle.md_base.specs.declared.answers.Refusal.TheVariants.{PastEnd, TooManyMissing, NotResynced, Degraded, NeedSpares, BackupFault}
@@ -9,12 +9,13 @@ use Rattle.md_base.specs.declared.wishes.Phase.TheVariants.{Reshape}
 use Rattle.md_base.specs.Shapes.{has_slot}
 use Rattle.bank.specs.declared.bank.Operation.{Operation}
 use Rattle.bank.specs.Given.{Given, IsFaulted, NeverFalls}
+use Rattle.bank.specs.Tape.{Contents}
 use Rattle.geometry.specs.Geometry.{list_end}
 use Rattle.grow_plan.specs.Plans.{phase_window}
 use Rattle.superblocks.specs.declared.members.Members.{Members}
-use Rattle.superblocks.specs.Reading.{shape_of, role_state, holder, list_length}
+use Rattle.superblocks.specs.Reading.{is_clean, shape_of, role_state, holder, list_length}
 use Rattle.superblocks.specs.Reads.{has_spare}
-use Rattle.row_io.specs.Rows.{reading_of}
+use Rattle.row_io.specs.Rows.{reading_of, present}
 use Rattle.flat_history.specs.declared.events.Entry.{Entry}
 use Rattle.flat_history.specs.declared.events.Event.{Event}
 use Rattle.flat_history.specs.declared.events.Event.TheVariants.{Step, Refused, Resized}
@@ -44,7 +45,7 @@ is_resize (Resized n) = true
 is_resize event = false
 
 -- A call goes on that has changed no length so far, and told of steps that are left wherever it told of steps.
-pub record IsUnturned (entries : List Entry) (who : Who) : Type 0 where
+pub record HasKeptLength (entries : List Entry) (who : Who) : Type 0 where
   pub goes : IsCallGoing entries who
   pub lengths : list_any (λ e. is_resize e.event) goes.call ≡ false
   pub steps : list_any (λ e. is_done e.event) goes.call ≡ false
@@ -79,12 +80,16 @@ IsPlain refusal = ⊤
 -- ---- what it leaves
 
 -- the same array, from the same mark on
-pub record IsSameArray {B : Type 0} (old new : RunningParts B) : Type 0 where
+pub record StaysItself {B : Type 0} (old new : RunningParts B) : Type 0 where
   pub uuid : new.parts.uuid ≡ old.parts.uuid
   pub given : new.parts.given ≡ old.parts.given
   pub first : new.parts.first ≡ old.parts.first
   pub backup : new.parts.backup ≡ old.parts.backup
   pub work : new.parts.work ≡ old.parts.work
+
+-- every sector but the superblocks and the backup's header is as it was
+abbrev pub AreOthersKept : Option ℕ → Contents → Contents → Type 0
+AreOthersKept backup before after = (slot k : ℕ) → k ≢ 8 → (backup ≢ Some slot) ⊎ (k ≢ 0) → after slot k ≡ before slot k
 
 -- a reshape to fewer data disks makes the list shorter as it begins
 abbrev pub begun_length : Bool → ℕ → List Event
@@ -99,7 +104,7 @@ pub record IsBegunWith (who : Who) (back : Bool) (size : ℕ) (old new : List En
 
 -- The reshape to this shape has begun: no role was missing, and the lowest spares have the new roles, but those slots that were lost in it; the list is as long as both shapes have room
 -- for, and these phases are ahead.
-pub record IsReshapeBegun {B : Type 0} (tells : Type 0) (tape tape' : List Operation) (before after : ℕ → ℕ) (who : Who) (to : Shape) (behind : PhasesLeft) (old new : RunningParts B) : Type 0 where
+pub record IsReshapeBegun {B : Type 0} (tells : Type 0) (given : Given) (tape tape' : List Operation) (before after : ℕ → ℕ) (who : Who) (to : Shape) (behind : PhasesLeft) (old new : RunningParts B) : Type 0 where
   pub could : CanBegin old.parts.members to
   pub entered : IsBegunWith who (goes_back (shape_of old.parts.members.newest) to) (list_length new.parts.members.newest) old.parts.entries new.parts.entries (left_in new.parts.members new.course new.ahead)
   pub ended : IsEndOf tells new.parts.first new.parts.entries tape'
@@ -111,21 +116,24 @@ pub record IsReshapeBegun {B : Type 0} (tells : Type 0) (tape tape' : List Opera
   pub spares : AreSparesFewer (begun_plan old.parts.members to) new.parts.members
   pub losses : AreLossesOf (begun_plan old.parts.members to) before after old.parts.entries new.parts.entries
   pub never_falls : NeverFalls before after
+  pub clean : is_clean new.parts.members.newest ≡ is_clean old.parts.members.newest
+  pub others : tells → AreOthersKept old.parts.backup (present given tape) (present given tape')
   pub course : new.course ≡ closed 0
   pub ahead : new.ahead ≡ behind
   pub steps : new.parts.steps + 1 ≡ old.parts.steps
-  pub same : IsSameArray old new
+  pub same : StaysItself old new
 
 -- The array is as it was, and this refusal is entered.
-pub record IsGivenBack {B : Type 0} (tells : Type 0) (tape' : List Operation) (who : Who) (refusal : Refusal) (old new : RunningParts B) : Type 0 where
+pub record IsGivenBack {B : Type 0} (tells : Type 0) (given : Given) (tape tape' : List Operation) (who : Who) (refusal : Refusal) (old new : RunningParts B) : Type 0 where
   pub end : ℕ
   pub entered : new.parts.entries ≡ old.parts.entries ++ entries_of who end (Refused refusal ∷ [])
   pub ended : IsEndOf tells new.parts.first new.parts.entries tape'
   pub members : new.parts.members ≡ old.parts.members
+  pub others : tells → AreOthersKept old.parts.backup (present given tape) (present given tape')
   pub course : new.course ≡ closed 0
   pub ahead : new.ahead ≡ old.ahead
   pub steps : new.parts.steps + 1 ≡ old.parts.steps
-  pub same : IsSameArray old new
+  pub same : StaysItself old new
 
 -- why it was refused: before anything was done, or because the backup failed
 abbrev pub IsBeginRefused : {B : Type 0} → (ℕ → ℕ) → (ℕ → ℕ) → Shape → Refusal → RunningParts B → RunningParts B → Type 0

@@ -1,14 +1,18 @@
 //! A reshape begins in an array that had none.
 
-ghost use Rattle.std.specs.Prelude.{◌≡◌, ◌≢◌, ◌⊎◌, ◌+◌, ◌*◌, ◌<◌, ◌≤◌, ◌++◌, ◌∷◌, [], ℕ, false, length, vec_capacity, Some, IfOk, IfErr};
+ghost use Rattle.std.specs.Prelude.{◌≡◌, ◌≢◌, ◌⊎◌, ◌+◌, ◌*◌, ◌<◌, ◌≤◌, ◌&&◌, ◌++◌, ◌∷◌, [], ℕ, nat_lt, false, length, vec_capacity, Some, IfOk, IfErr};
+ghost use Rattle.md_base.specs.Shapes.{has_slot};
 ghost use Rattle.md_base.specs.declared.wishes.Phase.TheVariants.{Reshape};
 ghost use Rattle.bank.specs.Given.{NeverFalls};
 ghost use Rattle.grow_plan.specs.Plans.{phase_window, AreSound};
-ghost use Rattle.superblocks.specs.Reading.{shape_of, final_shape};
+ghost use Rattle.superblocks.specs.Reading.{is_backward, shape_of, final_shape, list_length, role_count};
+ghost use Rattle.row_io.specs.Rows.{reading_of};
 ghost use Rattle.flat_history.specs.declared.events.Event.TheVariants.{Step};
 ghost use Rattle.flat_history.specs.declared.events.StepKind.TheVariants.{Begun};
 ghost use Rattle.flat_history.specs.Plain.{entries_of};
+ghost use Rattle.shape_views.specs.Regions.{AreShapesFit};
 ghost use Rattle.views.specs.Moving.{Grows};
+ghost use Rattle.views.specs.Placed.{is_vacant};
 ghost use Rattle.views.specs.Status.{left_of};
 ghost use Rattle.call_entries.specs.Losing.{losses_of};
 ghost use Rattle.array_kept.specs.Kept.{scope_in};
@@ -17,7 +21,7 @@ ghost use Rattle.kept_history.specs.Recorded.{IsCallGoing};
 ghost use Rattle.course_kept.specs.Laws.{closed};
 ghost use Rattle.running_words.specs.Parts.{RunningParts, left_in};
 ghost use Rattle.still_laws.specs.Ready.{IsReady};
-ghost use Rattle.turning.specs.Begun.{begun_length, IsUnturned, IsBackupAt, IsPlain, IsReshapeBegun, IsGivenBack, IsBeginRefused};
+ghost use Rattle.turning.specs.Begun.{begun_length, HasKeptLength, IsBackupAt, IsPlain, IsReshapeBegun, IsGivenBack, IsBeginRefused};
 
 use crate::refusing::unbegun;
 use bank::Bank;
@@ -36,7 +40,7 @@ use still::Still;
 use superblocks::Members;
 
 // The number of a call that goes on is at most the number of entries.
-fn check_going(entries: &Entries, who: Who)
+pub(crate) fn check_going(entries: &Entries, who: Who)
     requires { IsCallGoing entries.now.items who }
     ensures { who.number ≤ length entries.now.items }
 {
@@ -79,29 +83,56 @@ fn enter_length(epoch: &mut Epoch, who: Who, end: u64, back: bool, size: u64)
     enter(epoch, who, end, Event::Resized { length: size });
 }
 
-// Enters that a reshape began, the new length, where the list gets shorter, and then what its update lost.
-fn enter_begun(
-    epoch: &mut Epoch,
-    who: Who,
-    end: u64,
+// What is told of a begin: the steps that are left, whether the list gets shorter, its length, and what the update lost.
+#[derive(Clone, Copy)]
+struct BeginTold {
     left: u64,
     back: bool,
     size: u64,
     roles: u32,
     spares: u32,
-)
+}
+
+fn told_of(members: &Members, to: &Shape, behind: &PhasesLeft, spares: u32) -> BeginTold
+    requires reshape { IsReshapeUnderWay members.now.newest }
+    requires to { final_shape members.now.newest ≡ to.now }
+    requires sound { AreSound to.now members.now.newest.size (phases_of behind.now) }
+    requires fit { AreShapesFit members.now.newest }
+    requires roles { length members.now.roles ≡ role_count members.now.newest }
+    ensures left { result.left ≡ left_in members.now (closed 0) behind.now }
+    ensures back { result.back ≡ is_backward members.now.newest }
+    ensures size { result.size ≡ list_length members.now.newest }
+    ensures roles { (role : ℕ) → has_slot result.roles role ≡ (nat_lt role (length members.now.roles) && is_vacant (reading_of members.now) role) }
+    ensures spares { result.spares ≡ spares }
+{
+    let count = members.roles.len() as u32;
+    BeginTold {
+        left: begun_left(members, to, behind),
+        back: is_backward(&members.newest),
+        size: list_sectors(members),
+        roles: vacant_roles(members, count),
+        spares,
+    }
+}
+
+// Enters that a reshape began, the new length, where the list gets shorter, and then what its update lost.
+fn enter_begun(epoch: &mut Epoch, who: Who, end: u64, told: &BeginTold)
     requires room { 50 ≤ epoch.old.entries.room }
     requires number { who.number ≤ length epoch.old.entries.items }
-    ensures items { epoch.new.entries.items ≡ epoch.old.entries.items ++ entries_of who end (Step Begun left ∷ begun_length back size ++ losses_of roles spares) }
+    ensures items { epoch.new.entries.items ≡ epoch.old.entries.items
+        ++ entries_of who end (Step Begun told.now.left ∷ begun_length told.now.back told.now.size ++ losses_of told.now.roles told.now.spares) }
     ensures room { epoch.old.entries.room ≤ epoch.new.entries.room + 50 }
     ensures uuid { epoch.new.uuid ≡ epoch.old.uuid }
     ensures given { epoch.new.given ≡ epoch.old.given }
     ensures first { epoch.new.first ≡ epoch.old.first }
 {
-    let kind = StepKind::Begun;
-    enter(epoch, who, end, Event::Step { kind, left });
-    enter_length(epoch, who, end, back, size);
-    enter_lost(epoch, who, end, roles, spares);
+    let event = Event::Step {
+        kind: StepKind::Begun,
+        left: told.left,
+    };
+    enter(epoch, who, end, event);
+    enter_length(epoch, who, end, told.back, told.size);
+    enter_lost(epoch, who, end, told.roles, told.spares);
 }
 
 // The array goes on as it was, and the step is refused.
@@ -128,7 +159,7 @@ fn give_back<B: Bank>(pieces: Pieces<B>, who: Who, refusal: Refusal) -> Still<B>
       };
       course = closed 0;
       ahead = pieces.ahead;
-    } in IsGivenBack B.tells (B.tape pieces.bank) who refusal old result }
+    } in IsGivenBack B.tells (B.given pieces.bank) (B.tape pieces.bank) (B.tape pieces.bank) who refusal old result }
     ensures bank { result.parts.bank ≡ pieces.bank }
 {
     let mut pieces = pieces;
@@ -152,16 +183,16 @@ pub fn begin_reshape<B: Bank>(
     behind: PhasesLeft,
     window: Vec<u8>,
 ) -> Result<Moving<B>, (Still<B>, Vec<u8>, Refusal)>
-    requires open { IsUnturned still.parts.entries who }
+    requires open { HasKeptLength still.parts.entries who }
     requires caller { who.caller ≢ 254 }
     requires room { 1 ≤ still.parts.steps }
     requires done { left_of still.parts.work still.parts.members ≡ 0 }
     requires next { phases_of still.ahead ≡ Reshape to ∷ phases_of behind }
     requires backed { (slot : ℕ) × (still.parts.backup ≡ Some slot) × IsBackupAt (B.given still.parts.bank) still.parts.given still.parts.members to slot }
     requires wide { 512 * phase_window (shape_of still.parts.members.newest) still.parts.members.newest.size (Reshape to) ≤ length window.items }
-    ensures begun { IfOk result (λ r. IsReshapeBegun B.tells (B.tape still.parts.bank) (B.tape r.parts.bank) (B.faults_of still.parts.bank) (B.faults_of r.parts.bank) who to behind still r) }
+    ensures begun { IfOk result (λ r. IsReshapeBegun B.tells (B.given still.parts.bank) (B.tape still.parts.bank) (B.tape r.parts.bank) (B.faults_of still.parts.bank) (B.faults_of r.parts.bank) who to behind still r) }
     ensures given { IfOk result (λ r. B.given r.parts.bank ≡ B.given still.parts.bank) }
-    ensures refused { IfErr result (λ e. IsGivenBack B.tells (B.tape e.0.parts.bank) who e.2 still e.0) }
+    ensures refused { IfErr result (λ e. IsGivenBack B.tells (B.given still.parts.bank) (B.tape still.parts.bank) (B.tape e.0.parts.bank) who e.2 still e.0) }
     ensures caused { IfErr result (λ e. IsBeginRefused (B.faults_of still.parts.bank) (B.faults_of e.0.parts.bank) to e.2 still e.0) }
     ensures grows { IfErr result (λ e. Grows B.tells (B.tape still.parts.bank) (B.tape e.0.parts.bank)) }
     ensures never_falls { IfErr result (λ e. NeverFalls (B.faults_of still.parts.bank) (B.faults_of e.0.parts.bank)) }
@@ -190,21 +221,8 @@ pub fn begin_reshape<B: Bank>(
         enter(&mut pieces.epoch, who, end, Event::Refused { refusal });
         return Err((Still::of_pieces(pieces), window, refusal));
     }
-    let left = begun_left(&pieces.members, &to, &behind);
-    let count = pieces.members.roles.len() as u32;
-    let roles = vacant_roles(&pieces.members, count);
-    let back = is_backward(&pieces.members.newest);
-    let size = list_sectors(&pieces.members);
-    enter_begun(
-        &mut pieces.epoch,
-        who,
-        end,
-        left,
-        back,
-        size,
-        roles,
-        begun.spares,
-    );
+    let told = told_of(&pieces.members, &to, &behind, begun.spares);
+    enter_begun(&mut pieces.epoch, who, end, &told);
     pieces.ahead = behind;
     let course = Course {
         window: Window::Closed,

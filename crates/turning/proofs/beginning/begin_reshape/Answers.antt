@@ -1,4 +1,4 @@
-use Rattle.std.proofs.Common.{◌≡◌, inl, inr, ℕ, ◌-◌, ◌*◌, ◌≤◌, ◌&&◌, nat_lt, Option, Some, List, [], ◌∷◌, ◌++◌, length, vec_capacity, refl, sym, ◌∙◌, ap, subst, arith}
+use Rattle.std.proofs.Common.{◌≡◌, inl, inr, ℕ, ◌-◌, ◌*◌, ◌≤◌, ◌^◌, ◌==◌, Option, Some, List, [], ◌∷◌, ◌++◌, length, vec_capacity, refl, sym, ◌∙◌, ap, subst, arith}
 use Rattle.std.specs.Prelude.{IfSome}
 use Rattle.md_base.specs.declared.answers.Refusal.{Refusal}
 use Rattle.md_base.specs.declared.answers.Refusal.TheVariants.{BackupFault}
@@ -10,7 +10,6 @@ use Rattle.grow_plan.specs.Plans.{AreSound, phase_window}
 use Rattle.superblocks.specs.declared.members.Members.{Members}
 use Rattle.superblocks.specs.Reading.{shape_of, list_length}
 use Rattle.superblocks.proofs.ValidFields.{few-roles}
-use Rattle.row_io.specs.Rows.{reading_of}
 use Rattle.flat_history.specs.declared.events.Entry.{Entry}
 use Rattle.flat_history.specs.declared.events.Event.TheVariants.{Step, Refused}
 use Rattle.flat_history.specs.declared.events.StepKind.TheVariants.{Begun}
@@ -20,7 +19,6 @@ use Rattle.shape_changes.specs.Safety.{IsRisen}
 use Rattle.shape_changes.specs.Steady.{KeepsSafe}
 use Rattle.reshape_updates.specs.Beginning.{goes_back}
 use Rattle.reshape_ends.specs.Begun.{begun_plan}
-use Rattle.views.specs.Placed.{is_vacant}
 use Rattle.views.specs.Status.{left_of}
 use Rattle.views.proofs.MovedLaws.{grows-none}
 use Rattle.call_entries.specs.Losing.{losses_of}
@@ -34,8 +32,8 @@ use Rattle.running_words.specs.Parts.{left_in}
 use Rattle.running_words.proofs.Lengths.{alone-keeps}
 use Rattle.still_laws.specs.Ready.{IsReady}
 use Rattle.still_laws.proofs.Kept.{ready, rows-same}
-use Rattle.turning.specs.Begun.{begun_length, IsUnturned, IsBackupAt}
-use Rattle.turning.proofs.Begun.{IsUpdated, next-sound, backup-here, begun-under, begun-left, begun-start, begun-losses, begun-ready}
+use Rattle.turning.specs.Begun.{begun_length, HasKeptLength, IsBackupAt}
+use Rattle.turning.proofs.Begun.{others-of, IsUpdated, next-sound, backup-here, begun-under, begun-left, begun-start, begun-losses, begun-ready}
 use Rattle.turning.proofs.GivenBack.{fault-stands}
 use Rattle.turning.proofs.Planned.{none-recovering, begin-live, lost-since}
 use Rattle.turning.proofs.beginning.begin_reshape.Goals as goal
@@ -82,7 +80,7 @@ of_pieces-requires g c =
     let none = did.refused refusal is in
     let fault = (did.answer refusal is).0 in
     let can = c.in_default.ensures in
-    let turned : IsUnturned p.epoch.entries.items c.args.who = subst (λ s. IsUnturned s.parts.entries c.args.who) same c.requires.open in
+    let turned : HasKeptLength p.epoch.entries.items c.args.who = subst (λ s. HasKeptLength s.parts.entries c.args.who) same c.requires.open in
     let some : 1 ≤ p.steps = subst (λ s. 1 ≤ s.parts.steps) same c.requires.room in
     let next = subst (λ s. phases_of s.ahead ≡ Reshape c.args.to ∷ phases_of c.args.behind) same c.requires.next in
     let sound = next-sound (shape_of p.members.newest) p.members.newest.size (phases_of p.ahead) (phases_of c.args.behind) c.args.to was.planned next in
@@ -111,6 +109,7 @@ returns-in-Some-refusal-clause-refused g c =
       entered = c.enter.ensures.items;
       ended = ended-behind (g.B.Bank.tape c.begin-begun.new.bank) c.enter.new.epoch.first p.epoch.entries.items c.args.who end [] (Refused refusal) c.enter.ensures.items c.ops-end.ensures.count;
       members = (c.begin-begun.ensures.refused refusal c.in-Some-refusal.is).members;
+      others = λ t slot k far which. c.begin-begun.ensures.others t slot k far (others-of p.backup c.in-Some-backup.backup slot k c.in-Some-backup.is which);
       course = refl;
       ahead = refl;
       steps = omega (arith, some);
@@ -133,43 +132,30 @@ returns-in-Some-refusal-clause-never_falls g c = rw (c.of_pieces.ensures.same) (
 
 -- ---- the steps that are left
 
-pub begun_left-left-requires-clause-reshape : goal.begun_left-left-requires-clause-reshape
-begun_left-left-requires-clause-reshape g c =
+pub told_of-told-requires-clause-reshape : goal.told_of-told-requires-clause-reshape
+told_of-told-requires-clause-reshape g c =
     let p = c.take_apart-pieces.result in
     let none = c.in_default-refusal.is in
     let next = subst (λ s. phases_of s.ahead ≡ Reshape c.args.to ∷ phases_of c.args.behind) c.take_apart-pieces.ensures.same c.requires.next in
     let sound = next-sound (shape_of p.members.newest) p.members.newest.size (phases_of p.ahead) (phases_of c.args.behind) c.args.to c.take_apart-pieces.ensures.ready.planned next in
     begun-under p.members.newest c.begin-begun.new.members.newest c.args.to (c.begin-begun.ensures.newest none) sound.0 (c.begin-begun.ensures.moved none).placed.fit.position
 
-pub begun_left-left-requires-clause-to : goal.begun_left-left-requires-clause-to
-begun_left-left-requires-clause-to g c = (c.begin-begun.ensures.newest c.in_default-refusal.is).new
+pub told_of-told-requires-clause-to : goal.told_of-told-requires-clause-to
+told_of-told-requires-clause-to g c = (c.begin-begun.ensures.newest c.in_default-refusal.is).new
 
-pub begun_left-left-requires-clause-sound : goal.begun_left-left-requires-clause-sound
-begun_left-left-requires-clause-sound g c =
+pub told_of-told-requires-clause-sound : goal.told_of-told-requires-clause-sound
+told_of-told-requires-clause-sound g c =
     let p = c.take_apart-pieces.result in
     let none = c.in_default-refusal.is in
     let next = subst (λ s. phases_of s.ahead ≡ Reshape c.args.to ∷ phases_of c.args.behind) c.take_apart-pieces.ensures.same c.requires.next in
     let sound = next-sound (shape_of p.members.newest) p.members.newest.size (phases_of p.ahead) (phases_of c.args.behind) c.args.to c.take_apart-pieces.ensures.ready.planned next in
     subst (λ (n : ℕ). AreSound c.args.to n (phases_of c.args.behind)) (sym (c.begin-begun.ensures.newest none).size) sound.2
 
-pub overflow_cast-count : goal.overflow_cast-count
-overflow_cast-count g c =
-    let placed = (c.begin-begun.ensures.moved c.in_default-refusal.is).placed in
-    let few = few-roles c.begin-begun.new.members.newest placed.fit.valid in
-    let count = placed.roles in
-    let long = c.len-count.ensures in
-    omega (arith, few, count, long)
+pub told_of-told-requires-clause-fit : goal.told_of-told-requires-clause-fit
+told_of-told-requires-clause-fit g c = (c.begin-begun.ensures.moved c.in_default-refusal.is).placed.fit
 
-pub vacant_roles-roles-requires-clause-few : goal.vacant_roles-roles-requires-clause-few
-vacant_roles-roles-requires-clause-few g c =
-    let placed = (c.begin-begun.ensures.moved c.in_default-refusal.is).placed in
-    let few = few-roles c.begin-begun.new.members.newest placed.fit.valid in
-    let count = placed.roles in
-    let long = c.len-count.ensures in
-    omega (arith, few, count, long)
-
-pub list_sectors-size-requires : goal.list_sectors-size-requires
-list_sectors-size-requires g c = record { fit = (c.begin-begun.ensures.moved c.in_default-refusal.is).placed.fit }
+pub told_of-told-requires-clause-roles : goal.told_of-told-requires-clause-roles
+told_of-told-requires-clause-roles g c = (c.begin-begun.ensures.moved c.in_default-refusal.is).placed.roles
 
 -- ---- it has begun
 
@@ -186,12 +172,12 @@ of_pieces-requires-2-clause-ready g c =
     let to = c.args.to in
     let behind = c.args.behind in
     let end = c.ops-end.result in
-    let roles = c.vacant_roles-roles.result in
+    let roles = c.told_of-told.result.roles in
     let spares = c.begin-begun.result.spares in
     let was = subst
     (λ (o : Option ℕ). IsReady g.B.Bank.tells given (g.B.Bank.tape p.bank) (scope_in given p.epoch.uuid p.epoch.given o) p.epoch.first p.epoch.entries.items p.members p.work p.ahead
     (g.B.Bank.faults_of p.bank) p.steps p.epoch.entries.room (vec_capacity p.rows) (length p.buffer.items) (vec_capacity p.far_rows) (length p.far_buffer.items)) c.in-Some-backup.is c.take_apart-pieces.ensures.ready in
-    let turned : IsUnturned p.epoch.entries.items who = subst (λ s. IsUnturned s.parts.entries who) same c.requires.open in
+    let turned : HasKeptLength p.epoch.entries.items who = subst (λ s. HasKeptLength s.parts.entries who) same c.requires.open in
     let some : 1 ≤ p.steps = subst (λ s. 1 ≤ s.parts.steps) same c.requires.room in
     let idle = subst (λ s. left_of s.parts.work s.parts.members ≡ 0) same c.requires.done in
     let next = subst (λ s. phases_of s.ahead ≡ Reshape to ∷ phases_of behind) same c.requires.next in
@@ -210,15 +196,16 @@ of_pieces-requires-2-clause-ready g c =
       safe = did.safe none;
       counts = did.counts;
     } in
-    let left_is : c.begun_left-left.result ≡ left_in new (closed 0) behind = c.begun_left-left.ensures in
-    let back_is : c.is_backward-back.result ≡ goes_back (shape_of p.members.newest) to = c.is_backward-back.ensures ∙ (did.newest none).backward in
-    let size_is : c.list_sectors-size.result ≡ list_length new.newest = c.list_sectors-size.ensures.length in
+    let left_is : c.told_of-told.result.left ≡ left_in new (closed 0) behind = c.told_of-told.ensures.left in
+    let back_is : c.told_of-told.result.back ≡ goes_back (shape_of p.members.newest) to = c.told_of-told.ensures.back ∙ (did.newest none).backward in
+    let size_is : c.told_of-told.result.size ≡ list_length new.newest = c.told_of-told.ensures.size in
+    let spares_is : c.told_of-told.result.spares ≡ spares = c.told_of-told.ensures.spares in
     begun-ready p.epoch.uuid p.epoch.given backup p.ahead behind to who end roles spares was turned c.requires.caller idle next (goes_back (shape_of p.members.newest) to) refl
     (backup-here given p.epoch.given p.members to p.backup backup backed c.in-Some-backup.is) c.in_default.ensures update c.ops-end.ensures.count c.check_sizes.ensures.own c.check_sizes.ensures.uuid
-    (λ role. c.vacant_roles-roles.ensures role ∙ ap (λ (n : ℕ). nat_lt role n && is_vacant (reading_of new) role) c.len-count.ensures)
+    c.told_of-told.ensures.roles
     c.args.window.items wide did.given
     (scope-same given p.backup did.given c.enter_begun.ensures.uuid c.enter_begun.ensures.given ∙ ap (λ (o : Option ℕ). scope_in given p.epoch.uuid p.epoch.given o) c.in-Some-backup.is) c.enter_begun.ensures.first refl
-    (c.enter_begun.ensures.items ∙ (λ i. p.epoch.entries.items ++ entries_of who end (Step Begun (left_is i) ∷ begun_length (back_is i) (size_is i) ++ losses_of roles spares)))
+    (c.enter_begun.ensures.items ∙ (λ i. p.epoch.entries.items ++ entries_of who end (Step Begun (left_is i) ∷ begun_length (back_is i) (size_is i) ++ losses_of roles (spares_is i))))
     (let had = was.room_left in let room = c.enter_begun.ensures.room in omega (arith, had, room, some))
 
 pub returns-clause-begun : goal.returns-clause-begun
@@ -235,18 +222,19 @@ returns-clause-begun g c =
     let to = c.args.to in
     let behind = c.args.behind in
     let end = c.ops-end.result in
-    let roles = c.vacant_roles-roles.result in
+    let roles = c.told_of-told.result.roles in
     let spares = c.begin-begun.result.spares in
     let some : 1 ≤ p.steps = subst (λ s. 1 ≤ s.parts.steps) same c.requires.room in
     let idle = subst (λ s. left_of s.parts.work s.parts.members ≡ 0) same c.requires.done in
     let next = subst (λ s. phases_of s.ahead ≡ Reshape to ∷ phases_of behind) same c.requires.next in
     let sound = next-sound (shape_of p.members.newest) p.members.newest.size (phases_of p.ahead) (phases_of behind) to was.planned next in
-    let left_is : c.begun_left-left.result ≡ left_in new (closed 0) behind = c.begun_left-left.ensures in
-    let back_is : c.is_backward-back.result ≡ goes_back (shape_of p.members.newest) to = c.is_backward-back.ensures ∙ (did.newest none).backward in
-    let size_is : c.list_sectors-size.result ≡ list_length new.newest = c.list_sectors-size.ensures.length in
-    let items = c.enter_begun.ensures.items ∙ (λ i. p.epoch.entries.items ++ entries_of who end (Step Begun (left_is i) ∷ begun_length (back_is i) (size_is i) ++ losses_of roles spares)) in
+    let left_is : c.told_of-told.result.left ≡ left_in new (closed 0) behind = c.told_of-told.ensures.left in
+    let back_is : c.told_of-told.result.back ≡ goes_back (shape_of p.members.newest) to = c.told_of-told.ensures.back ∙ (did.newest none).backward in
+    let size_is : c.told_of-told.result.size ≡ list_length new.newest = c.told_of-told.ensures.size in
+    let spares_is : c.told_of-told.result.spares ≡ spares = c.told_of-told.ensures.spares in
+    let items = c.enter_begun.ensures.items ∙ (λ i. p.epoch.entries.items ++ entries_of who end (Step Begun (left_is i) ∷ begun_length (back_is i) (size_is i) ++ losses_of roles (spares_is i))) in
     let since = lost-since given p.members to are.placed are.unlost are.free are.still sound.0 sound.1 c.in_default.ensures new roles spares (g.B.Bank.faults_of p.bank) (g.B.Bank.faults_of c.begin-begun.new.bank)
-    (did.moved none) (did.failed none) (λ role. c.vacant_roles-roles.ensures role ∙ ap (λ (n : ℕ). nat_lt role n && is_vacant (reading_of new) role) c.len-count.ensures) in
+    (did.moved none) (did.failed none) c.told_of-told.ensures.roles in
     rw (c.of_pieces-2.ensures.same) (rw (c.take_apart-pieces.ensures.same) (record {
       could = c.in_default.ensures;
       entered = record { roles = roles; spares = spares; end = end; is = items };
@@ -262,6 +250,8 @@ returns-clause-begun g c =
       losses = begun-losses (begun_plan p.members to) new (g.B.Bank.faults_of p.bank) (g.B.Bank.faults_of c.begin-begun.new.bank) p.epoch.entries.items p.epoch.entries.items c.enter_begun.new.epoch.entries.items who end
           (left_in new (closed 0) behind) (list_length new.newest) roles spares (goes_back (shape_of p.members.newest) to) since refl items;
       never_falls = did.counts;
+      clean = ap (λ (n : ℕ). n == 2 ^ 64 - 1) (did.newest none).clean;
+      others = λ t slot k far which. did.others t slot k far (others-of p.backup c.in-Some-backup.backup slot k c.in-Some-backup.is which);
       course = refl;
       ahead = refl;
       steps = omega (arith, some);

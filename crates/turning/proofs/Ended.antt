@@ -1,0 +1,184 @@
+-- What the end of a reshape leaves is ready as an array without one; and refused, it is ready in its reshape.
+use Rattle.std.proofs.Common.{◌≡◌, ◌≢◌, inl, inr, ℕ, ◌*◌, ◌<◌, ◌≤◌, ◌&&◌, ◌||◌, nat_lt, Bool, true, false, not, Option, Some, None, List, [], ◌∷◌, ◌++◌, length, refl, sym, ◌∙◌, ap, subst, arith, append-nil}
+use Rattle.std.specs.Prelude.{if◌then◌else◌, is_some}
+use Rattle.std.specs.List.{All}
+use Rattle.std.proofs.lemmas.Bool.{and_parts}
+use Rattle.std.proofs.lemmas.Bool.Decides.{nat_tests}
+use Rattle.std.proofs.lemmas.List.Elements.{All-nil, All-cons}
+use Rattle.md_base.specs.Shapes.{has_slot}
+use Rattle.md_base.specs.declared.answers.Who.{Who}
+use Rattle.md_base.specs.declared.places.Shape.{Shape}
+use Rattle.bank.specs.declared.bank.Operation.{Operation}
+use Rattle.bank.specs.Given.{Given, IsFaulted}
+use Rattle.grow_plan.specs.Plans.{AreSound}
+use Rattle.superblocks.specs.declared.members.Members.{Members}
+use Rattle.superblocks.specs.Reading.{Scope, shape_of, final_shape, list_length, role_state, holder}
+use Rattle.row_io.specs.Rows.{reading_of}
+use Rattle.flat_history.specs.declared.events.Entry.{Entry}
+use Rattle.flat_history.specs.declared.events.Event.{Event}
+use Rattle.flat_history.specs.declared.events.Event.TheVariants.{Step, Resized}
+use Rattle.flat_history.specs.declared.events.StepKind.TheVariants.{Finished}
+use Rattle.flat_history.specs.Plain.{entries_of}
+use Rattle.shape_changes.specs.Updates.{IsAtEnd}
+use Rattle.reshape_ends.specs.Finished.{AreLostInEnd}
+use Rattle.views.specs.declared.work.Work.{Work}
+use Rattle.views.specs.Numbers.{is_carried}
+use Rattle.views.specs.Placed.{is_vacant}
+use Rattle.views.specs.Rebuilding.{Held}
+use Rattle.call_entries.specs.Losing.{losses_of}
+use Rattle.call_entries.proofs.CallLaws.{all-losses}
+use Rattle.call_entries.proofs.PlainLaws.{one}
+use Rattle.array_kept.specs.Calls.{AreLossesOf, IsLossBy}
+use Rattle.array_kept.proofs.NowLaws.{limit-more}
+use Rattle.grow_asked.specs.declared.window.PhasesLeft.{PhasesLeft}
+use Rattle.grow_asked.specs.Left.{phases_of, zeroed_by}
+use Rattle.kept_history.specs.Recorded.{IsCallGoing}
+use Rattle.kept_history.specs.Safe.{world_in}
+use Rattle.course_kept.specs.declared.course.Course.{Course}
+use Rattle.course_kept.specs.Laws.{closed}
+use Rattle.moving_kept.specs.Moving.{IsMoving}
+use Rattle.moving_ends.proofs.Ended.{IsPlannedTo, IsStepped}
+use Rattle.moving_ends.proofs.Ending.{length_by, grown_to, ending_events}
+use Rattle.running_words.specs.Parts.{left_in, still_left}
+use Rattle.running_words.proofs.Called.{not_254}
+use Rattle.still_laws.specs.Ready.{IsReady as IsReadyStill}
+use Rattle.moving_laws.specs.Ready.{IsReady as IsReadyMoving, bytes_in}
+use Rattle.moving_laws.proofs.Kept.{takes-before}
+use Rattle.turning.specs.Ended.{AreKeptOrFailed, ArePlansTo}
+use Rattle.turning.proofs.EndedStill.{IsFinished, plans-of, ahead-none, ended-still, ended-sized, ended-free}
+
+-- the new length is entered in the words of the law
+pub length-same : (longer : Bool) (n : ℕ) → (if longer then Resized n ∷ [] else []) ≡ length_by longer n
+length-same true n = refl
+length-same false n = refl
+
+-- an array in a reshape that has gone through the list has no window
+pub closed-moving : {tells : Type 0} {given : Given} {tape : List Operation} {scope : Scope} {first : ℕ} {entries : List Entry} {members : Members} (work : Work) (window : List ℕ) (ahead : PhasesLeft) (course : Course) (count : ℕ)
+    → course ≡ closed count → IsMoving tells given tape scope first entries members (is_carried work) course (bytes_in course.window window) (left_in members course ahead)
+    → IsMoving tells given tape scope first entries members (is_carried work) (closed count) [] (left_in members (closed count) ahead)
+closed-moving {tells = tells} {given = given} {tape = tape} {scope = scope} {first = first} {entries = entries} {members = members} work window ahead course count is was =
+    subst (λ (k : Course). IsMoving tells given tape scope first entries members (is_carried work) k (bytes_in k.window window) (left_in members k ahead)) is was
+
+-- ---- the plans
+
+pub planned-to : (tells : Type 0) (given : Given) (tape : List Operation) (scope : Scope) (first : ℕ) (entries : List Entry) (old new : Members) (work : Work) (ahead : PhasesLeft)
+    → (tells → phases_of ahead ≡ [] → ArePlansTo (world_in given tape scope first) (final_shape old.newest) entries) → tells → IsPlannedTo (world_in given tape scope first) entries old (still_left work new ahead)
+planned-to tells given tape scope first entries old new work ahead planned t none =
+    plans-of (world_in given tape scope first) (final_shape old.newest) _ (planned t (ahead-none (shape_of new.newest) new.newest.size _ (phases_of ahead) none))
+
+-- ---- what was lost
+
+lt-of : (a b : ℕ) → nat_lt a b ≡ true → a < b
+lt-of a b is = grind (arith, nat_tests, is)
+
+lt-true : (a b : ℕ) → a < b → nat_lt a b ≡ true
+lt-true a b lt = grind (arith, nat_tests, lt)
+
+-- each slot of a role that the new shape has holds it still, or has failed; and each other is a spare, or has failed
+module _ (old new : Members) (roles spares lost : ℕ) (before after : ℕ → ℕ) (failed : AreLostInEnd old new roles spares lost before after) where
+  pub kept-or-failed : AreKeptOrFailed old new before after
+  kept-or-failed role slot below held = elim (failed.held role slot held) [
+    | inl there ↦ inl there
+    | inr (inl gone) ↦ inr gone.1
+    | inr (inr (inl has)) ↦ inr (failed.lost_are slot has)
+    | inr (inr (inr past)) ↦ absurd (let most = past.0 in omega (arith, below, most))
+  ]
+
+  -- each late role had a slot that failed in the update
+  pub late-held : (first late : ℕ) → ((role : ℕ) → has_slot first role ≡ (nat_lt role (length old.roles) && is_vacant (reading_of old) role)) → (final_shape old.newest).disks ≤ length old.roles
+      → ((role : ℕ) → has_slot late role ≡ ((nat_lt role (final_shape old.newest).disks && is_vacant (reading_of new) role) && not (has_slot first role || has_slot roles role)))
+      → (role : ℕ) → has_slot late role ≡ true → (slot : ℕ) × (holder (role_state (reading_of old) role) ≡ Some slot) × IsFaulted slot before after
+  late-held first late first-is long late-is role has = of (holder (role_state (reading_of old) role)) refl
+    where
+      parts : (((nat_lt role (final_shape old.newest).disks && is_vacant (reading_of new) role) ≡ true)) × (not (has_slot first role || has_slot roles role) ≡ true)
+      parts = and_parts (nat_lt role (final_shape old.newest).disks && is_vacant (reading_of new) role) (not (has_slot first role || has_slot roles role)) (sym (late-is role) ∙ has)
+
+      here : (nat_lt role (final_shape old.newest).disks ≡ true) × (is_vacant (reading_of new) role ≡ true)
+      here = and_parts (nat_lt role (final_shape old.newest).disks) (is_vacant (reading_of new) role) parts.0
+
+      below : role < (final_shape old.newest).disks
+      below = lt-of role (final_shape old.newest).disks here.0
+
+      neither-of : (a b : Bool) → not (a || b) ≡ true → (a ≡ false) × (b ≡ false)
+      neither-of false false is = (refl, refl)
+      neither-of true b is = absurd (cc)
+      neither-of false true is = absurd (cc)
+
+      of : (o : Option ℕ) → holder (role_state (reading_of old) role) ≡ o → (slot : ℕ) × (holder (role_state (reading_of old) role) ≡ Some slot) × IsFaulted slot before after
+      of None is = absurd (
+          let was : has_slot first role ≡ true = first-is role ∙ (λ i. lt-true role (length old.roles) (omega (arith, below, long)) i && not (is_some (is i))) in
+          let both : true ≡ false = sym was ∙ (neither-of (has_slot first role) (has_slot roles role) parts.1).0 in cc)
+      of (Some slot) is = (
+        slot,
+        is,
+        elim (failed.held role slot is) [
+          | inl there ↦ absurd (let full : is_vacant (reading_of new) role ≡ false = ap (λ (o : Option ℕ). not (is_some o)) there in let both : true ≡ false = sym here.1 ∙ full in cc)
+          | inr (inl gone) ↦ gone.1
+          | inr (inr (inl has)) ↦ failed.lost_are slot has
+          | inr (inr (inr past)) ↦ absurd (let most = past.0 in omega (arith, below, most))
+        ],
+      )
+
+-- ---- the array without its reshape
+
+module _ {tells : Type 0} {given : Given} {tape tape' : List Operation} {scope : Scope} {first : ℕ} {entries : List Entry} {old new : Members} {work : Work} {course : Course} {window : List ℕ} {before after : ℕ → ℕ}
+    {steps room rows buffer far_rows far_buffer : ℕ} (ahead : PhasesLeft) (who : Who) (end first_roles roles spares lost late late_spares : ℕ)
+    (was : IsReadyMoving tells given tape scope first entries old work course ahead window before steps room rows buffer far_rows far_buffer) (at : course ≡ closed (zeroed_by old.newest))
+    (goes : IsCallGoing entries who) (caller : who.caller ≢ 254) (last : IsAtEnd old.newest) (did : IsFinished tells given tape tape' old new roles spares lost before after) (at_end : tells → end ≡ length tape')
+    (first-is : (role : ℕ) → has_slot first_roles role ≡ (nat_lt role (length old.roles) && is_vacant (reading_of old) role))
+    (late-is : (role : ℕ) → has_slot late role ≡ ((nat_lt role (shape_of new.newest).disks && is_vacant (reading_of new) role) && not (has_slot first_roles role || has_slot roles role)))
+    (stepped : IsStepped old (left_in old (closed (zeroed_by old.newest)) ahead) (still_left work new ahead) (losses_of roles spares ++ losses_of late late_spares))
+    (planned : tells → phases_of ahead ≡ [] → ArePlansTo (world_in given tape scope first) (final_shape old.newest) entries) where
+  abbrev added : List Entry
+  added = entries_of who end (ending_events roles spares (still_left work new ahead) (grown_to (list_length old.newest) (list_length new.newest)) late late_spares)
+
+  pub ended-ready : {given' : Given} {scope' : Scope} {first' : ℕ} {mid entries' : List Entry} {steps' room' : ℕ} → given' ≡ given → scope' ≡ scope → first' ≡ first → mid ≡ entries
+      → entries' ≡ mid ++ entries_of who end (ending_events roles spares (still_left work new ahead) (grown_to (list_length old.newest) (list_length new.newest)) late late_spares) → 50 * steps' < room'
+      → IsReadyStill tells given' tape' scope' first' entries' new work ahead after steps' room' rows buffer far_rows far_buffer
+  ended-ready {given' = given'} {scope' = scope'} {first' = first'} {mid = mid} {entries' = entries'} {steps' = steps'} {room' = room'} same_given scope_is first_is mid_is is room_left =
+      subst (λ (l : List Entry). IsReadyStill tells given' tape' scope' first' l new work ahead after steps' room' rows buffer far_rows far_buffer) (sym (is ∙ ap (λ (l : List Entry). l ++ added) mid_is))
+      (subst (λ (n : ℕ). IsReadyStill tells given' tape' scope' n (entries ++ added) new work ahead after steps' room' rows buffer far_rows far_buffer) (sym first_is)
+      (subst (λ (s : Scope). IsReadyStill tells given' tape' s first (entries ++ added) new work ahead after steps' room' rows buffer far_rows far_buffer) (sym scope_is)
+      (subst (λ (g : Given). IsReadyStill tells g tape' scope first (entries ++ added) new work ahead after steps' room' rows buffer far_rows far_buffer) (sym same_given)
+      (record {
+        kept = ended-still work ahead who end first_roles roles spares lost late late_spares moving goes (not_254 who.caller caller) last did at_end first-is late-is was.synced was.settled stepped
+            (planned-to tells given tape scope first entries old new work ahead planned)
+            (λ t none. was.full t (takes-before given scope first entries added did.grows (λ u. (was.kept.recorded u).ends) t none));
+        sized = ended-sized work ahead who end first_roles roles spares lost late late_spares moving goes (not_254 who.caller caller) last did at_end first-is late-is was.synced was.settled stepped
+            (planned-to tells given tape scope first entries old new work ahead planned) was.sized;
+        unlimited = limit-more entries added was.unlimited (ended-free who end roles spares (still_left work new ahead) late late_spares (list_length new.newest) (nat_lt (list_length old.newest) (list_length new.newest)));
+        planned = subst (λ (n : ℕ). AreSound (shape_of new.newest) n (phases_of ahead)) (sym did.over.size)
+            (subst (λ (s : Shape). AreSound s old.newest.size (phases_of ahead)) (sym did.over.shape) was.planned);
+        failed = λ slot lt out. let had = was.failed slot lt out in let more = did.counts slot in omega (arith, had, more);
+        room_left = room_left;
+        rows_fit = was.rows_fit;
+        buffer_fits = was.buffer_fits;
+        far_rows_fit = was.far_rows_fit;
+        far_buffer_fits = was.far_buffer_fits;
+      }))))
+    where
+      moving : IsMoving tells given tape scope first entries old (is_carried work) (closed (zeroed_by old.newest)) [] (left_in old (closed (zeroed_by old.newest)) ahead)
+      moving = closed-moving work window ahead course (zeroed_by old.newest) at was.kept
+
+-- ---- the losses of the end
+
+-- each has its cause
+module _ (old new : Members) (roles spares lost : ℕ) (before after : ℕ → ℕ) (failed : AreLostInEnd old new roles spares lost before after) (late late_spares : ℕ)
+    (held : (role : ℕ) → has_slot late role ≡ true → (slot : ℕ) × (holder (role_state (reading_of old) role) ≡ Some slot) × IsFaulted slot before after)
+    (among : (slot : ℕ) → has_slot late_spares slot ≡ true → has_slot lost slot ≡ true) where
+  pub ended-losses : (entries mid later : List Entry) (who : Who) (end left size : ℕ) (longer : Bool) → mid ≡ entries
+      → later ≡ mid ++ entries_of who end (ending_events roles spares left (length_by longer size) late late_spares) → AreLossesOf old before after entries later
+  ended-losses entries mid later who end left size longer mid_is is = record {
+    more = entries_of who end (ending_events roles spares left (length_by longer size) late late_spares);
+    grown = is ∙ ap (λ (l : List Entry). l ++ entries_of who end (ending_events roles spares left (length_by longer size) late late_spares)) mid_is;
+    failed = all-losses (λ event. IsLossBy (Held old) before after event) who end roles spares (Step Finished left ∷ (length_by longer size ++ losses_of late late_spares)) failed.gone failed.spares_are
+        (All-cons (λ e. IsLossBy (Held old) before after e.event) (one who end (Step Finished left)) (entries_of who end (length_by longer size ++ losses_of late late_spares)) tt (of longer));
+  }
+    where
+      alone : All (λ e. IsLossBy (Held old) before after e.event) (entries_of who end (losses_of late late_spares))
+      alone = subst (λ (l : List Event). All (λ e. IsLossBy (Held old) before after e.event) (entries_of who end l)) (append-nil (losses_of late late_spares))
+          (all-losses (λ event. IsLossBy (Held old) before after event) who end late late_spares [] held (λ slot has. failed.lost_are slot (among slot has)) (All-nil (λ e. IsLossBy (Held old) before after e.event)))
+
+      of : (b : Bool) → All (λ e. IsLossBy (Held old) before after e.event) (entries_of who end (length_by b size ++ losses_of late late_spares))
+      of true = All-cons (λ e. IsLossBy (Held old) before after e.event) (one who end (Resized size)) (entries_of who end (losses_of late late_spares)) tt alone
+      of false = alone

@@ -1,0 +1,196 @@
+-- What `finish` of `reshape_ends` leaves, done or refused: the array is ready, in the words of the call, and so many steps are left.
+use Rattle.std.proofs.Common.{◌≡◌, ◌≢◌, ◌⊎◌, inl, inr, ℕ, ◌+◌, ◌<◌, ◌≤◌, ◌&&◌, ◌||◌, nat_lt, max, Bool, true, false, not, Option, Some, None, List, [], ◌∷◌, ◌++◌, length, drop, refl, sym, ◌∙◌, ap, subst, arith}
+use Rattle.std.specs.List.{list_any}
+use Rattle.std.proofs.lemmas.Bool.{and_parts}
+use Rattle.std.proofs.Math.Seq.{drop-append_seam}
+use Rattle.std.proofs.lemmas.List.{get_or_past}
+use Rattle.std.proofs.lemmas.List.Folds.{list_any-append}
+use Rattle.md_base.specs.Shapes.{has_slot}
+use Rattle.md_base.specs.declared.answers.Refusal.{Refusal}
+use Rattle.md_base.specs.declared.answers.Who.{Who}
+use Rattle.md_base.specs.declared.places.Shape.{Shape}
+use Rattle.md_base.specs.declared.status.Role.TheVariants.{Missing}
+use Rattle.bank.specs.declared.bank.Operation.{Operation}
+use Rattle.bank.specs.Given.{Given}
+use Rattle.bank.specs.Tape.{disk}
+use Rattle.sb1.specs.declared.sb.Sb.{Sb}
+use Rattle.superblocks.specs.declared.members.Members.{Members}
+use Rattle.superblocks.specs.Reading.{Scope, is_clean, is_reshaping, shape_of, final_shape, role_count, role_state, holder}
+use Rattle.superblocks.proofs.SlotSets.{none_there}
+use Rattle.superblocks.proofs.ValidFields.{few-roles}
+use Rattle.row_io.specs.Rows.{reading_of, present, is_missing}
+use Rattle.flat_history.specs.declared.events.Entry.{Entry}
+use Rattle.flat_history.specs.declared.events.Event.{Event}
+use Rattle.flat_history.specs.declared.events.Event.TheVariants.{Step, Refused}
+use Rattle.flat_history.specs.declared.events.StepKind.TheVariants.{Finished}
+use Rattle.flat_history.specs.Legal.{disturbs}
+use Rattle.flat_history.specs.Plain.{entries_of}
+use Rattle.flat_history.specs.World.{World}
+use Rattle.shape_views.specs.Regions.{AreShapesFit, DoWithout}
+use Rattle.shape_views.specs.Views.{Ledger}
+use Rattle.shape_changes.specs.Marking.{AreOthersPresent}
+use Rattle.shape_changes.specs.Safety.{HasRoomLeft, IsRisen}
+use Rattle.shape_changes.specs.Steady.{IsSafeOver, KeepsSafe, AreGoneTold, IsUncleanTold}
+use Rattle.shape_ends.specs.Plans.{HasNoneRecovering}
+use Rattle.reshape_ends.specs.Finished.{AreLostInEnd, IsOver}
+use Rattle.views.specs.declared.work.Work.{Work}
+use Rattle.views.specs.Lacking.{AreLostSince, AreTooMany, HaveFailedSince}
+use Rattle.views.specs.Moving.{Grows, IsMoved}
+use Rattle.views.specs.Placed.{is_vacant, AreWhole, IsPlaced}
+use Rattle.views.specs.Rebuilding.{AreSparesFree}
+use Rattle.views.proofs.Still.{count-still}
+use Rattle.safe_updates.specs.Unused.{IsUnusedKept}
+use Rattle.window_steps.specs.Zeroing.{IsThrough}
+use Rattle.call_entries.specs.Losing.{losses_of}
+use Rattle.array_kept.specs.Calls.{TellNoLoss}
+use Rattle.grow_asked.specs.declared.window.PhasesLeft.{PhasesLeft}
+use Rattle.grow_asked.specs.Left.{zeroed_by}
+use Rattle.kept_history.specs.Recorded.{IsCallGoing}
+use Rattle.kept_history.specs.Safe.{world_in}
+use Rattle.history_calls.proofs.Behind.{IsAmong}
+use Rattle.course_kept.specs.declared.course.Course.{Course}
+use Rattle.course_kept.specs.Course.{IsCourseOf}
+use Rattle.course_kept.specs.Laws.{closed}
+use Rattle.course_kept.proofs.Courses.{courses-move}
+use Rattle.moving_kept.specs.Moving.{IsMoving}
+use Rattle.moving_kept.proofs.Staying.{refused-moves}
+use Rattle.moving_kept.proofs.Steps.{missing-since}
+use Rattle.moving_ends.proofs.Ended.{IsStepped}
+use Rattle.moving_ends.proofs.EndedCall.{ended-since}
+use Rattle.moving_ends.proofs.Ending.{length_by}
+use Rattle.moving_laws.proofs.Kept.{left-moved, live-of}
+use Rattle.moving_state.specs.Due.{due_of, IsDue}
+use Rattle.moving_state.specs.declared.stepping.Due.{Due}
+use Rattle.moving_state.specs.declared.stepping.Due.TheVariants.{Finish}
+use Rattle.moving_state.proofs.DueLaws.{due-is}
+use Rattle.moving_state.proofs.ReshapeLaws.{under-way-of}
+use Rattle.running_words.specs.Parts.{left_in, still_left}
+use Rattle.running_words.proofs.Called.{not_254, risen-told}
+use Rattle.turning.specs.Ended.{AreDroppedSpares}
+use Rattle.turning.proofs.EndedLeft.{whole-idle, whole-left, whole-new, ended-stepped}
+
+-- ---- the end is due
+
+pub end-due : (newest : Sb) (course : Course) → AreShapesFit newest → is_reshaping newest ≡ true → IsCourseOf newest course → due_of newest course ≡ Finish → (course ≡ closed (zeroed_by newest)) × IsThrough newest
+end-due newest course fit active is due = subst (λ (d : Due). IsDue newest course d) due (due-is newest course fit active is)
+
+-- ---- it is refused behind the flush
+
+-- what was lost in the flush, where no update followed
+pub flush-failed : (given : Given) (old new : Members) (roles spares lost : ℕ) (before after : ℕ → ℕ) → lost ≡ 0 → AreSparesFree given old → IsMoved given old new → AreLostInEnd old new roles spares lost before after
+    → HaveFailedSince old new spares before after
+flush-failed given old new roles spares lost before after none free moved failed = record {
+  roles = λ role slot held. elim (failed.held role slot held) [
+    | inl there ↦ inl there
+    | inr (inl gone) ↦ inr gone.1
+    | inr (inr (inl has)) ↦ inr (failed.lost_are slot has)
+    | inr (inr (inr past)) ↦ absurd ((free slot (moved.fewer slot past.1)).none role held)
+  ];
+  spares_are = failed.spares_are;
+  told = λ slot has. elim (failed.told slot has) [
+    | inl still ↦ inl still
+    | inr (inl told) ↦ inr told
+    | inr (inr gone) ↦ absurd (let both : true ≡ false = sym gone ∙ ap (λ (n : ℕ). has_slot n slot) none ∙ none_there slot in cc)
+  ];
+}
+
+-- the reshape goes on
+pub refused-behind : {tells : Type 0} {given : Given} {tape tape' : List Operation} {scope : Scope} {first : ℕ} {entries : List Entry} {old new : Members} {carried : ℕ → Bool} (course : Course) {buffer : List ℕ}
+    (ahead : PhasesLeft) (who : Who) (end roles spares : ℕ) (refusal : Refusal) {before after : ℕ → ℕ} → IsMoving tells given tape scope first entries old carried course buffer (left_in old course ahead) → DoWithout old
+    → IsCallGoing entries who → who.caller ≢ 254 → (tells → end ≡ length tape') → Grows tells tape tape' → IsMoved given old new → AreLostSince old new roles spares before after → is_clean new.newest ≡ is_clean old.newest
+    → AreTooMany new refusal → IsRisen tells old new tape tape' → (tells → IsUnusedKept old (disk given.start tape) (disk given.start tape')) → (tells → AreOthersPresent (present given tape) (present given tape'))
+    → (tells → (world : World) → (told : Ledger) → HasRoomLeft old tape tape' → AreGoneTold told new → IsUncleanTold told old → IsSafeOver world given told old tape → KeepsSafe world given told new tape tape')
+    → IsMoving tells given tape' scope first (entries ++ entries_of who end (losses_of roles spares ++ Refused refusal ∷ [])) new carried course buffer (left_in new course ahead)
+refused-behind {tells = tells} {given = given} {tape = tape} {tape' = tape'} {scope = scope} {first = first} {entries = entries} {old = old} {new = new} {carried = carried} course {buffer = buffer}
+    ahead who end roles spares refusal was does goes caller at_end grows moved since clean many rise unused others safe =
+    subst (λ (n : ℕ). IsMoving tells given tape' scope first (entries ++ entries_of who end (losses_of roles spares ++ Refused refusal ∷ [])) new carried course buffer n) (sym (left-moved given old new course ahead moved))
+    (refused-moves tells given tape tape' scope first entries old new carried course buffer (left_in old course ahead) who end roles spares refusal was (live-of was does) goes (not_254 who.caller caller) at_end grows
+    moved (few-roles new.newest moved.placed.fit.valid) (missing-since roles moved since.vacant) clean (inr many) (risen-told rise) unused
+    (λ t sound among list stands. courses-move sound among given old new course buffer (present given tape) (present given tape') list was.members_are.placed moved (others t) stands)
+    (λ t told filled more room gone unclean. safe t (world_in given tape scope first) told room gone unclean))
+
+-- ---- it is done
+
+larger : (a b : ℕ) → b ≤ max a b
+larger a b = omega arith
+
+-- the new shape has no more roles than the two have
+pub final-few : (given : Given) (old : Members) → IsPlaced given old → (final_shape old.newest).disks ≤ length old.roles
+final-few given old placed = let count = placed.roles in let most = larger (shape_of old.newest).disks (final_shape old.newest).disks in omega (arith, count, most)
+
+-- each slot of a role that the new shape hasn't is a spare, or it has failed
+pub dropped-or-failed : (given : Given) (old new : Members) (roles spares lost : ℕ) (before after : ℕ → ℕ) → IsPlaced given new → IsOver old.newest new.newest → AreLostInEnd old new roles spares lost before after
+    → AreDroppedSpares old new before after
+dropped-or-failed given old new roles spares lost before after placed over failed role slot past held = elim (failed.held role slot held) [
+  | inl there ↦ absurd (let none : ◌≡◌ {A = Option ℕ} None (Some slot) = sym (ap holder beyond) ∙ there in cc)
+  | inr (inl gone) ↦ inr gone.1
+  | inr (inr (inl has)) ↦ inr (failed.lost_are slot has)
+  | inr (inr (inr spare)) ↦ inl spare.1
+]
+  where
+    beyond : role_state (reading_of new) role ≡ Missing
+    beyond = get_or_past new.roles role Missing
+        (let count = placed.roles in let same = count-still new.newest over.still in let disks = ap (λ (s : Shape). s.disks) over.shape in omega (arith, past, count, same, disks))
+
+-- ---- the steps that are left
+
+both-quiet : (xs ys : List Event) → list_any disturbs xs ≡ false → list_any disturbs ys ≡ false → list_any disturbs (xs ++ ys) ≡ false
+both-quiet xs ys none more = list_any-append disturbs xs ys ∙ (λ i. none i || more i)
+
+no-both : (xs ys : List Event) → list_any disturbs (xs ++ ys) ≡ false → (list_any disturbs xs ≡ false) × (list_any disturbs ys ≡ false)
+no-both xs ys none = by (list_any disturbs xs) (list_any disturbs ys) (sym (list_any-append disturbs xs ys) ∙ none)
+  where
+    by : (a b : Bool) → (a || b) ≡ false → (a ≡ false) × (b ≡ false)
+    by true b is = absurd (cc)
+    by false b is = (refl, is)
+
+of-entries : (who : Who) (end : ℕ) (xs : List Event) → list_any (λ e. disturbs e.event) (entries_of who end xs) ≡ list_any disturbs xs
+of-entries who end [] = refl
+of-entries who end (x ∷ xs) = ap (λ (b : Bool). disturbs x || b) (of-entries who end xs)
+
+-- where the call tells no loss, none was lost
+pub none-lost : (entries later : List Entry) (who : Who) (end roles spares left n late late_spares : ℕ) (longer : Bool)
+    → later ≡ entries ++ entries_of who end (losses_of roles spares ++ Step Finished left ∷ (length_by longer n ++ losses_of late late_spares)) → TellNoLoss entries later
+    → list_any disturbs (losses_of roles spares ++ losses_of late late_spares) ≡ false
+none-lost entries later who end roles spares left n late late_spares longer is none =
+    both-quiet (losses_of roles spares) (losses_of late late_spares) parts.0 (of longer parts.1)
+  where
+    last : drop (length entries) later ≡ entries_of who end (losses_of roles spares ++ Step Finished left ∷ (length_by longer n ++ losses_of late late_spares))
+    last = ap (drop (length entries)) is ∙ drop-append_seam entries (entries_of who end (losses_of roles spares ++ Step Finished left ∷ (length_by longer n ++ losses_of late late_spares)))
+
+    fails : (b : Bool) → not b ≡ true → b ≡ false
+    fails true is = absurd (cc)
+    fails false is = refl
+
+    quiet : list_any disturbs (losses_of roles spares ++ Step Finished left ∷ (length_by longer n ++ losses_of late late_spares)) ≡ false
+    quiet = fails (list_any disturbs (losses_of roles spares ++ Step Finished left ∷ (length_by longer n ++ losses_of late late_spares))) (sym (ap not (ap (list_any (λ e. disturbs e.event)) last ∙ of-entries who end (losses_of roles spares ++ Step Finished left ∷ (length_by longer n ++ losses_of late late_spares)))) ∙ none)
+
+    parts : (list_any disturbs (losses_of roles spares) ≡ false) × (list_any disturbs (Step Finished left ∷ (length_by longer n ++ losses_of late late_spares)) ≡ false)
+    parts = no-both (losses_of roles spares) (Step Finished left ∷ (length_by longer n ++ losses_of late late_spares)) quiet
+
+    of : (b : Bool) → list_any disturbs (length_by b n ++ losses_of late late_spares) ≡ false → list_any disturbs (losses_of late late_spares) ≡ false
+    of true is = is
+    of false is = is
+
+module _ (given : Given) (old new : Members) (work : Work) (ahead : PhasesLeft) (course : Course) (who : Who) (end first roles spares late late_spares : ℕ) (placed : IsPlaced given old) (whole : HasNoneRecovering old)
+    (at : course ≡ closed (zeroed_by old.newest)) (through : IsThrough old.newest) (under : IsPlaced given new) (over : IsOver old.newest new.newest) (synced : work.resync ≡ None)
+    (states : (role slot : ℕ) → holder (role_state (reading_of new) role) ≡ Some slot → role_state (reading_of new) role ≡ role_state (reading_of old) role)
+    (first-is : (role : ℕ) → has_slot first role ≡ (nat_lt role (length old.roles) && is_vacant (reading_of old) role))
+    (late-is : (role : ℕ) → has_slot late role ≡ ((nat_lt role (shape_of new.newest).disks && is_vacant (reading_of new) role) && not (has_slot first role || has_slot roles role))) where
+  none-recovers : HasNoneRecovering new
+  none-recovers role slot is = whole role slot (sym (states role slot (ap holder is)) ∙ is)
+
+  since : (role : ℕ) → role < role_count new.newest → is_missing (reading_of new) role ≡ true → (is_missing (reading_of old) role ≡ true) ⊎ (IsAmong roles role ⊎ IsAmong late role)
+  since = ended-since old new first roles late over.still whole states (λ role has. (and_parts (nat_lt role (length old.roles)) (is_vacant (reading_of old) role) (sym (first-is role) ∙ has)).1) late-is
+
+  pub finish-stepped : IsStepped old (left_in old (closed (zeroed_by old.newest)) ahead) (still_left work new ahead) (losses_of roles spares ++ losses_of late late_spares)
+  finish-stepped =
+      ended-stepped old new work ahead who end roles spares late late_spares (under-way-of old.newest placed.fit through.active) through.none over synced none-recovers (few-roles new.newest under.fit.valid) since
+
+  -- one fewer is left where no role was missing, and the call tells no loss
+  pub finish-left : AreWhole old → list_any disturbs (losses_of roles spares ++ losses_of late late_spares) ≡ false → still_left work new ahead + 1 ≡ left_in old course ahead
+  finish-left all quiet =
+      whole-left old new work ahead (under-way-of old.newest placed.fit through.active) through.none over
+      (whole-idle work new synced over.still none-recovers
+      (whole-new old new work ahead who end roles spares late late_spares (under-way-of old.newest placed.fit through.active) through.none over synced none-recovers (few-roles new.newest under.fit.valid) since quiet all))
+      ∙ ap (λ (k : Course). left_in old k ahead) (sym at)

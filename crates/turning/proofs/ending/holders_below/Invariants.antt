@@ -1,0 +1,9 @@
+use Rattle.std.proofs.Common.{◌≡◌, ◌<◌, ℕ, true, Some}
+use Rattle.md_base.specs.Shapes.{has_slot}
+use Rattle.superblocks.specs.Reading.{role_state, holder}
+use Rattle.row_io.specs.Rows.{reading_of}
+use Rattle.turning.proofs.ending.holders_below.Given as goal
+
+-- those of the roles before this one are in the set
+abbrev pub invariant-loop-role : goal.invariant-loop-role
+invariant-loop-role l = (role slot : ℕ) → role < l.role → holder (role_state (reading_of l.members) role) ≡ Some slot → has_slot l.set slot ≡ true

@@ -1,0 +1,86 @@
+-- A reshape ends: what is asked of the history, and what it leaves.
+use Rattle.std.specs.Prelude.{◌≡◌, ◌⊎◌, ℕ, ◌+◌, ◌*◌, ◌≤◌, ◌++◌, nat_lt, true, List, [], ◌∷◌, Some, if◌then◌else◌}
+use Rattle.std.specs.List.{All}
+use Rattle.md_base.specs.Shapes.{data_disks}
+use Rattle.md_base.specs.declared.answers.Refusal.{Refusal}
+use Rattle.md_base.specs.declared.answers.Who.{Who}
+use Rattle.md_base.specs.declared.places.Shape.{Shape}
+use Rattle.bank.specs.declared.bank.Operation.{Operation}
+use Rattle.bank.specs.Given.{Given, IsFaulted, NeverFalls}
+use Rattle.superblocks.specs.declared.members.Members.{Members}
+use Rattle.superblocks.specs.Reading.{final_shape, list_length, role_state, holder}
+use Rattle.superblocks.specs.Reads.{has_spare}
+use Rattle.row_io.specs.Rows.{reading_of, present}
+use Rattle.flat_history.specs.declared.events.Entry.{Entry}
+use Rattle.flat_history.specs.declared.events.Event.{Event}
+use Rattle.flat_history.specs.declared.events.Event.TheVariants.{Step, Resized}
+use Rattle.flat_history.specs.declared.events.StepKind.TheVariants.{Finished}
+use Rattle.flat_history.specs.Plain.{entries_of}
+use Rattle.flat_history.specs.Reshaped.{open_plans, planned_shape}
+use Rattle.flat_history.specs.World.{World}
+use Rattle.call_entries.specs.Losing.{losses_of}
+use Rattle.shape_changes.specs.Marking.{AreOthersPresent}
+use Rattle.reshape_ends.specs.Finished.{IsOver}
+use Rattle.views.specs.Lacking.{AreTooMany}
+use Rattle.views.specs.Moving.{Grows}
+use Rattle.views.specs.Placed.{AreStillHeld, AreWhole}
+use Rattle.array_kept.specs.Calls.{AreLossesOf, IsEndOf, TellNoLoss}
+use Rattle.grow_asked.specs.Left.{phases_of}
+use Rattle.course_kept.specs.Laws.{closed}
+use Rattle.running_words.specs.Parts.{RunningParts, left_in, still_left}
+use Rattle.turning.specs.Begun.{StaysItself}
+
+-- ---- what is asked
+
+-- each plan that is open goes to this shape
+abbrev pub ArePlansTo : World → Shape → List Entry → Type 0
+ArePlansTo world shape entries = All (λ plan. planned_shape world plan.end plan.event ≡ Some shape) (open_plans entries)
+
+-- Where no phase is ahead, each plan that is open goes to the shape of the active reshape, whose end is the last of its steps.
+abbrev pub ArePlansEnding : {B : Type 0} → World → RunningParts B → Type 0
+ArePlansEnding world array = phases_of array.ahead ≡ [] → ArePlansTo world (final_shape array.parts.members.newest) array.parts.entries
+
+-- ---- what it leaves
+
+-- a reshape to more data disks makes the list longer as it ends
+abbrev pub ended_length : ℕ → ℕ → List Event
+ended_length before size = if nat_lt before size then Resized size ∷ [] else []
+
+-- a call entered what its flush lost, that the reshape ended, with so many steps left, and behind it the new length, where the list gets longer, and what its update lost
+pub record IsEndedWith (who : Who) (before size : ℕ) (old new : List Entry) (left : ℕ) : Type 0 where
+  pub roles : ℕ
+  pub spares : ℕ
+  pub late : ℕ
+  pub late_spares : ℕ
+  pub end : ℕ
+  pub is : new ≡ old ++ entries_of who end (losses_of roles spares ++ Step Finished left ∷ (ended_length before size ++ losses_of late late_spares))
+
+-- each slot that held a role which the new shape hasn't is a spare, or it has failed
+abbrev pub AreDroppedSpares : Members → Members → (ℕ → ℕ) → (ℕ → ℕ) → Type 0
+AreDroppedSpares old new before after = (role slot : ℕ) → (final_shape old.newest).disks ≤ role → holder (role_state (reading_of old) role) ≡ Some slot → (has_spare new.spares slot ≡ true) ⊎ IsFaulted slot before after
+
+-- each slot that held a role of the new shape holds it still, or it has failed
+abbrev pub AreKeptOrFailed : Members → Members → (ℕ → ℕ) → (ℕ → ℕ) → Type 0
+AreKeptOrFailed old new before after = (role slot : ℕ) → role + 1 ≤ (final_shape old.newest).disks → holder (role_state (reading_of old) role) ≡ Some slot
+    → (holder (role_state (reading_of new) role) ≡ Some slot) ⊎ IsFaulted slot before after
+
+-- The reshape has ended: no shape in force missed too many roles, and the superblocks say the new shape alone; the list is as long as it has room for, and the same phases are ahead. Each role
+-- that a slot holds is one that it held, and each slot of a dropped role is a spare, but those slots that were lost in it.
+pub record IsReshapeEnded {B : Type 0} (tells : Type 0) (given : Given) (tape tape' : List Operation) (before after : ℕ → ℕ) (who : Who) (old new : RunningParts B) : Type 0 where
+  pub could : (refusal : Refusal) → AreTooMany old.parts.members refusal → ⊥
+  pub entered : IsEndedWith who (list_length old.parts.members.newest) (list_length new.parts.members.newest) old.parts.entries new.parts.entries (still_left new.parts.work new.parts.members new.ahead)
+  pub ended : IsEndOf tells new.parts.first new.parts.entries tape'
+  pub grows : Grows tells tape tape'
+  pub over : IsOver old.parts.members.newest new.parts.members.newest
+  pub left : AreWhole old.parts.members → TellNoLoss old.parts.entries new.parts.entries → still_left new.parts.work new.parts.members new.ahead + 1 ≡ left_in old.parts.members old.course old.ahead
+  pub long : list_length new.parts.members.newest ≡ data_disks (final_shape old.parts.members.newest) * old.parts.members.newest.size
+  pub held : AreStillHeld old.parts.members new.parts.members
+  pub kept : AreKeptOrFailed old.parts.members new.parts.members before after
+  pub dropped : AreDroppedSpares old.parts.members new.parts.members before after
+  pub losses : AreLossesOf old.parts.members before after old.parts.entries new.parts.entries
+  pub never_falls : NeverFalls before after
+  pub others : tells → AreOthersPresent (present given tape) (present given tape')
+  pub course : new.course ≡ closed 0
+  pub ahead : new.ahead ≡ old.ahead
+  pub steps : new.parts.steps + 2 ≡ old.parts.steps
+  pub same : StaysItself old new
