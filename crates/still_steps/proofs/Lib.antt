@@ -1,0 +1,4 @@
+pub mod Lowest
+pub mod NextLaws
+pub mod RebuildLaws
+pub mod ResyncLaws

@@ -1,0 +1,30 @@
+use Rattle.std.proofs.Common.{true, false, ◌∙◌, sym}
+use Rattle.flat_history.specs.declared.events.StepKind.TheVariants.{ResyncStripe, ResyncEnded}
+use Rattle.superblocks.specs.Reading.{list_length}
+use Rattle.running_words.specs.Parts.{still_left}
+use Rattle.still_steps.specs.Resyncing.{is_at_end}
+use Rattle.still_steps.proofs.ResyncLaws.{kept-settled, at_end-is, caused-as, ok-so}
+use Rattle.still_steps.proofs.resyncing.resync_step.Goals as goal
+
+pub returns-then-eq-clause-list : goal.returns-then-eq-clause-list
+returns-then-eq-clause-list g c =
+    kept-settled c.args.who c.args.still.now.parts.entries c.end_resync.new.self.parts.entries ResyncEnded (still_left c.end_resync.new.self.parts.work c.end_resync.new.self.parts.members c.end_resync.new.self.ahead) c.end_resync.result c.end_resync.ensures.entered
+
+pub returns-then-eq-clause-caused : goal.returns-then-eq-clause-caused
+returns-then-eq-clause-caused g c =
+    caused-as (list_length c.args.still.now.parts.members.newest) (is_at_end c.args.still.now.parts.work.resync c.args.still.now.parts.members) true c.args.still.now.parts.members c.end_resync.new.self.parts.members c.end_resync.result
+    (at_end-is c.resync.result c.args.still.now.parts.work.resync c.stripes.result c.args.still.now.parts.members true c.resync.ensures.resync c.stripes.ensures (sym c.eq.ensures ∙ c.if-eq.true))
+    c.end_resync.ensures.caused
+
+pub returns-else-eq-clause-list : goal.returns-else-eq-clause-list
+returns-else-eq-clause-list g c =
+    kept-settled c.args.who c.args.still.now.parts.entries c.mend_stripe.new.self.parts.entries ResyncStripe (still_left c.mend_stripe.new.self.parts.work c.mend_stripe.new.self.parts.members c.mend_stripe.new.self.ahead) c.mend_stripe.result c.mend_stripe.ensures.entered
+
+pub returns-else-eq-clause-caused : goal.returns-else-eq-clause-caused
+returns-else-eq-clause-caused g c =
+    caused-as (list_length c.args.still.now.parts.members.newest) (is_at_end c.args.still.now.parts.work.resync c.args.still.now.parts.members) false c.args.still.now.parts.members c.mend_stripe.new.self.parts.members c.mend_stripe.result
+    (at_end-is c.resync.result c.args.still.now.parts.work.resync c.stripes.result c.args.still.now.parts.members false c.resync.ensures.resync c.stripes.ensures (sym c.eq.ensures ∙ c.if-eq.false))
+    c.mend_stripe.ensures.caused
+
+pub returns-then-eq-clause-good : goal.returns-then-eq-clause-good
+returns-then-eq-clause-good g c = ok-so c.end_resync.result (λ good end. good) c.end_resync.ensures.good

@@ -1,0 +1,3 @@
+pub mod Rebuilding
+pub mod Resyncing
+pub mod Stepping

@@ -1,0 +1,48 @@
+-- The next step of an array without a reshape: the resync's, where one is pending, or else a rebuild's.
+use Rattle.std.specs.Prelude.{◌≡◌, ◌⊎◌, ℕ, List, Some, MatchOption, Result, ⊤}
+use Rattle.std.specs.Option.{option_map_or}
+use Rattle.md_base.specs.declared.answers.Fault.{Fault}
+use Rattle.md_base.specs.declared.answers.Refusal.{Refusal}
+use Rattle.md_base.specs.declared.answers.Who.{Who}
+use Rattle.superblocks.specs.declared.members.Members.{Members}
+use Rattle.flat_history.specs.declared.events.Entry.{Entry}
+use Rattle.flat_history.specs.declared.events.StepKind.{StepKind}
+use Rattle.flat_history.specs.declared.events.StepKind.TheVariants.{ResyncEnded, RebuildTaken, RebuildEnded}
+use Rattle.views.specs.declared.work.Work.{Work}
+use Rattle.views.specs.Lacking.{AreTooMany}
+use Rattle.views.specs.Rebuilding.{Held}
+use Rattle.array_kept.specs.Calls.{IsRebuildStepped}
+use Rattle.running_words.specs.Calls.{IsStepTaken}
+use Rattle.still_steps.specs.Resyncing.{is_at_end, IsUnmended}
+use Rattle.still_steps.specs.Resyncing as resync
+use Rattle.still_steps.specs.Rebuilding.{first_spare, rebuilt_role, rebuild_kind, rebuild_events, after_rebuild}
+
+-- why the next step isn't done, by what was under way in the old members
+abbrev pub IsUndone : Work → Members → Members → Refusal → Type 0
+IsUndone work old members refusal = MatchOption work.resync (AreTooMany members refusal) (λ mended. IsUnmended (is_at_end work.resync old) members refusal)
+
+-- the kind of the next step: the resync's, where one is pending, or else a rebuild's
+abbrev pub next_kind : Work → Members → StepKind
+next_kind work members = option_map_or (λ mended. resync.next_kind work.resync members) work.resync (rebuild_kind work members)
+
+-- a slot held the role, or is the lowest spare, where the next step gives that one the role
+abbrev pub IsHeldOrDue : Work → Members → ℕ → ℕ → Type 0
+IsHeldOrDue work members role slot =
+    Held members role slot ⊎ ((next_kind work members ≡ RebuildTaken) × ((role ≡ rebuilt_role members) × (first_spare members ≡ Some slot)))
+
+-- what is under way after it
+abbrev pub after_step : Work → Members → Work
+after_step work members = option_map_or (λ mended. record work { resync = resync.after_step work.resync members }) work.resync
+    (after_rebuild (rebuild_kind work members) (rebuilt_role members) work)
+
+-- A step was entered, behind which so many are left, or what refused it; where the slot that is rebuilt was lost, only the losses are.
+abbrev pub IsStepEntered : {T : Type 0} → Who → List Entry → List Entry → Work → Members → Members → ℕ → Result T Fault → Type 0
+IsStepEntered who old new work members members' left result = MatchOption work.resync
+    (IsRebuildStepped who old new members' (rebuilt_role members) (rebuild_events (rebuild_kind work members) (rebuilt_role members) left) result)
+    (λ mended. IsStepTaken who old new (resync.next_kind work.resync members) left result)
+
+-- the step makes the rows fit: it is the last of the resync, or of a rebuild
+abbrev pub IsEnd : StepKind → Type 0
+IsEnd ResyncEnded = ⊤
+IsEnd RebuildEnded = ⊤
+IsEnd kind = ⊥

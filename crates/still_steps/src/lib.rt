@@ -1,0 +1,9 @@
+//! The background steps of an array without a reshape: which is the next one.
+#![tactic(auto)]
+
+mod choosing;
+mod rebuilding;
+mod resyncing;
+mod stepping;
+
+pub use stepping::still_step;
