@@ -15,7 +15,7 @@ use Rattle.flat_history.specs.declared.events.Event.{Event}
 use Rattle.flat_history.specs.declared.events.Event.TheVariants.{Lost}
 use Rattle.flat_history.specs.declared.events.LostCause.{LostCause}
 use Rattle.flat_history.specs.declared.events.LostCause.TheVariants.{Absent, Recovering as ByRecovering}
-use Rattle.flat_history.specs.Flat.{length_of, first_values, values_after, values_of}
+use Rattle.flat_history.specs.Flat.{length_of, limit_of, first_values, values_after, values_of}
 use Rattle.flat_history.specs.Legal.{IsAbsentAtFirst, level_after, left_after, told_left}
 use Rattle.flat_history.specs.Losses.{is_gone_after, is_resync_end}
 use Rattle.flat_history.specs.OneShape.{is_lost}
@@ -112,6 +112,10 @@ none-left : (who : Who) (end : ℕ) (found : List (ℕ × LostCause)) → fold (
 none-left who end [] = refl
 none-left who end (x ∷ found) = none-left who end found
 
+none-limited : (who : Who) (end : ℕ) (found : List (ℕ × LostCause)) → limit_of (entries_of who end (loss_events found)) ≡ None
+none-limited who end [] = refl
+none-limited who end (x ∷ found) = none-limited who end found
+
 length-kept : (n : ℕ) (who : Who) (end : ℕ) (found : List (ℕ × LostCause)) → length_of n (entries_of who end (loss_events found)) ≡ n
 length-kept n who end [] = refl
 length-kept n who end (x ∷ found) = length-kept n who end found
@@ -142,6 +146,9 @@ module _ (who : Who) (end : ℕ) (r : Reading) (n : ℕ) where
 
   pub no-left : told_left (entries_of who end (absent_losses r n)) ≡ None
   no-left = ap told_left (sym as-found) ∙ none-left who end (all-found r n)
+
+  pub no-limit : limit_of (entries_of who end (absent_losses r n)) ≡ None
+  no-limit = ap limit_of (sym as-found) ∙ none-limited who end (all-found r n)
 
   pub same-length : (size : ℕ) → length_of size (entries_of who end (absent_losses r n)) ≡ size
   same-length size = ap (length_of size) (sym as-found) ∙ length-kept size who end (all-found r n)

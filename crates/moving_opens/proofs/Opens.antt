@@ -296,7 +296,7 @@ module _ {tells : Type 0} {bank : Given} {tape : List Operation} {given backup :
 
       rows : IsCleanAndFit world former → RowsStand (open_by scope former.newest (header_in scope c)) former c list
       rows so x shown =
-          row-stands bank scope refl former backed opened.members_are.active does c read stored.says (λ slot k within. sectors-whole bank tape (length tape) slot k (opened.members_are.whole t) within) placed
+          row-stands bank scope refl former backed opened.members_are.active does c read stored.says (λ slot k within. sectors-whole bank tape (length tape) slot k (opened.whole t) within) placed
           ((sound-is so.fit).rows so.clean) reshape.tail x shown
 
       stands-former : StandsInCourse (IsCleanAndFit world former) AnyShape former (found_course window) buffer c list
@@ -312,7 +312,7 @@ module _ {tells : Type 0} {bank : Given} {tape : List Operation} {given backup :
       begins =
           resyncs-begin (OpensFit world) AnyShape former (found_course window) buffer c list fit (no-rows stands-former)
           (λ aside any. ends-stand bank scope refl former backed opened.members_are.active does c read stored.says placed reshape.tail)
-          (λ so. mend-whole bank scope refl former backed opened.members_are.active does c read stored.says (λ slot k within. sectors-whole bank tape (length tape) slot k (opened.members_are.whole t) within) placed
+          (λ so. mend-whole bank scope refl former backed opened.members_are.active does c read stored.says (λ slot k within. sectors-whole bank tape (length tape) slot k (opened.whole t) within) placed
           (λ span next. let reach = window-reach former.newest fit span next in let long = long-enough in omega (arith, reach, long)))
         where
           no-rows : {so : Type 0} → StandsInCourse so AnyShape former (found_course window) buffer c list → StandsInCourse ⊥ AnyShape former (found_course window) buffer c list
@@ -451,8 +451,9 @@ openings-move tells bank tape given backup lost first left former window buffer 
 -- ---- what is found
 
 pub found-windows-open : (tells : Type 0) → FoundWindowsOpen tells
-found-windows-open tells bank tape given backup members window buffer are is found sectors = record {
+found-windows-open tells bank tape given backup members window buffer are whole is found sectors = record {
   members_are = are;
+  whole = whole;
   window_is = is;
   found = λ t. found t (scope_of bank given backup members) (record {
     uuid = refl;

@@ -35,11 +35,11 @@ pub record AreOpenedMoving (tells : Type 0) (bank : Given) (tape : List Operatio
   pub active : is_reshaping members.newest ≡ true
   pub backed : backup_absent (scope_of bank given backup members) members.newest ≡ None
   pub stored : tells → AreStored bank (scope_of bank given backup members) members (present bank tape) (disk bank.start tape)
-  pub whole : tells → HasWholeSectors bank tape
 
--- So it is, and the window is the one that the backup's header tells, and these bytes are its section's.
+-- So it is, over the whole sectors that every bank has; and the window is the one that the backup's header tells, and these bytes are its section's.
 pub record IsOpenedMoving (tells : Type 0) (bank : Given) (tape : List Operation) (given backup : ℕ) (members : Members) (window : Window) (buffer : List ℕ) : Type 0 where
   pub members_are : AreOpenedMoving tells bank tape given backup members
+  pub whole : tells → HasWholeSectors bank tape
   pub window_is : IsWindowOf members.newest window
   pub found : tells → window ≡ window_for (open_by (scope_of bank given backup members) members.newest (header_in (scope_of bank given backup members) (present bank tape)))
   pub sectors : tells → IsFoundIn (present bank tape backup) window buffer
@@ -47,7 +47,7 @@ pub record IsOpenedMoving (tells : Type 0) (bank : Given) (tape : List Operation
 -- `find_window` finds it so.
 abbrev pub FoundWindowsOpen : (tells : Type 0) → Type 0
 FoundWindowsOpen tells = (bank : Given) (tape : List Operation) (given backup : ℕ) (members : Members) (window : Window) (buffer : List ℕ) → AreOpenedMoving tells bank tape given backup members
-    → IsWindowOf members.newest window
+    → (tells → HasWholeSectors bank tape) → IsWindowOf members.newest window
     → (tells → (scope : Scope) → IsLookedFor bank members.newest backup scope → window ≡ window_for (open_by scope members.newest (header_in scope (present bank tape))))
     → (tells → IsFoundIn (present bank tape backup) window (bytes_for window buffer)) → IsOpenedMoving tells bank tape given backup members window (bytes_for window buffer)
 
