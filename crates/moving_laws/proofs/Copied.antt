@@ -1,5 +1,5 @@
 -- A stripe of the open window is copied: what the array keeps, and what it answers.
-use Rattle.std.proofs.Common.{◌≡◌, ◌≢◌, inr, ℕ, ◌+◌, ◌-◌, ◌*◌, ◌<◌, ◌≤◌, ◌==◌, Bool, true, false, cond, List, [], ◌∷◌, ◌++◌, length, take, sym, ◌∙◌, ap, subst, arith, append-nil}
+use Rattle.std.proofs.Common.{◌≡◌, ◌≢◌, inr, ℕ, ◌+◌, ◌-◌, ◌*◌, ◌<◌, ◌≤◌, ◌==◌, Bool, true, false, cond, Option, Some, None, List, [], ◌∷◌, ◌++◌, length, take, refl, sym, ◌∙◌, ap, subst, arith, append-nil}
 use Rattle.std.specs.Prelude.{IsFalse, fold, ⊤}
 use Rattle.std.specs.List.{All}
 use Rattle.std.proofs.lemmas.Bool.Decides.{nat_tests}
@@ -14,6 +14,7 @@ use Rattle.bank.specs.Given.{Given}
 use Rattle.bank.specs.Tape.{disk}
 use Rattle.geometry.specs.Geometry.{beyond}
 use Rattle.grow_plan.specs.Plans.{phases_steps}
+use Rattle.sb1.specs.declared.sb.Sb.{Sb}
 use Rattle.superblocks.specs.declared.members.Members.{Members}
 use Rattle.superblocks.specs.Reading.{Scope, is_reshaping, is_backward, is_clean, final_shape, role_count}
 use Rattle.superblocks.proofs.ValidFields.{few-roles}
@@ -36,21 +37,23 @@ use Rattle.safe_updates.specs.Unused.{IsUnusedKept}
 use Rattle.call_entries.specs.Losing.{losses_of}
 use Rattle.grow_asked.specs.declared.window.Window.TheVariants.{Entered}
 use Rattle.grow_asked.specs.declared.window.PhasesLeft.{PhasesLeft}
-use Rattle.grow_asked.specs.Left.{steps_from, stripes_in, phases_of}
+use Rattle.grow_asked.specs.Left.{steps_from, stripes_in, phases_of, grow_left}
 use Rattle.grow_asked.proofs.LeftLaws.{copying}
 use Rattle.window_rows.specs.Copies.{tail_of, IsCopied}
 use Rattle.kept_history.specs.Recorded.{IsCallGoing, MayGoOn}
 use Rattle.kept_history.specs.Safe.{world_in}
 use Rattle.course_kept.specs.declared.course.Course.{Course}
 use Rattle.course_kept.specs.Laws.{entered, next_stripe}
-use Rattle.course_kept.proofs.Courses.{copies-go-on}
+use Rattle.region_mends.specs.Left.{resync_left}
+use Rattle.course_mends.proofs.Windows.{mended-copies-go-on}
 use Rattle.moving_kept.specs.Moving.{IsMoving}
+use Rattle.moving_kept.proofs.Pending.{unmended-of}
 use Rattle.moving_kept.proofs.Staying.{refused-moves}
 use Rattle.moving_kept.proofs.Steps.{AreMissingSince, able-kept, plain-of, copied-moves}
-use Rattle.running_words.specs.Parts.{RunningParts, left_in}
+use Rattle.running_words.specs.Parts.{RunningParts}
 use Rattle.moving_laws.specs.Ready.{bytes_in}
 use Rattle.running_words.specs.Calls.{IsCopyDue}
-use Rattle.moving_laws.proofs.Kept.{left-moved}
+use Rattle.moving_laws.proofs.Kept.{left_by, left-moved}
 
 -- ---- the number of a call that goes on
 
@@ -129,12 +132,17 @@ module _ (given : Given) (old new : Members) (resync : Option ℕ) (course : Cou
   pub left-falls : left_by resync new (one_more course span copied sectioned) ahead + 1 ≡ left_by resync old course ahead
   left-falls =
       ap (λ (n : ℕ). n + 1) before-more
-      ∙ one (grow_left old.newest (Entered span (copied + 1) sectioned) 0 (phases_of ahead)) (grow_left old.newest (Entered span copied sectioned) 0 (phases_of ahead)) (resync_left old.newest (Entered span copied sectioned) resync)
-      (copying old.newest span sectioned copied 0 (phases_of ahead) active more)
+      ∙ one (grow_left old.newest (Entered span (copied + 1) sectioned) 0 (phases_of ahead)) (grow_left old.newest (Entered span copied sectioned) 0 (phases_of ahead))
+      (resync_left old.newest (Entered span (copied + 1) sectioned) resync) (resync_left old.newest (Entered span copied sectioned) resync)
+      (copying old.newest span sectioned copied 0 (phases_of ahead) active more) (same old.newest resync)
       ∙ sym (ap (λ (c : Course). left_by resync old c ahead) is)
     where
-      one : (x y m : ℕ) → x + 1 ≡ y → x + m + 1 ≡ y + m
-      one x y m fewer = omega (arith, fewer)
+      one : (x y m n : ℕ) → x + 1 ≡ y → m ≡ n → x + m + 1 ≡ y + n
+      one x y m n fewer same = omega (arith, fewer, same)
+
+      same : (newest : Sb) (resync : Option ℕ) → resync_left newest (Entered span (copied + 1) sectioned) resync ≡ resync_left newest (Entered span copied sectioned) resync
+      same newest None = refl
+      same newest (Some mended) = refl
 
   pub left-some : left_by resync new (one_more course span copied sectioned) ahead ≢ 0
   left-some none = some-of (is_reshaping old.newest) (stripes_in old.newest span - (copied + 1)) (steps_from old.newest (beyond (is_backward old.newest) span) - 0)

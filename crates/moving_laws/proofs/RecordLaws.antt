@@ -88,9 +88,11 @@ past-of given old new span moved = record {
 pub record-left : (given : Given) (old new : Members) (resync : Option ℕ) (span : Span) (sectioned : Bool) (ahead : PhasesLeft) → IsMoved given (moved_past span old) new → is_reshaping old.newest ≡ true
     → left_by resync new (closed 0) ahead + 1 ≡ left_by resync old (all_copied old span sectioned) ahead
 record-left given old new resync span sectioned ahead moved active =
-    let one = recording old.newest new.newest span sectioned 0 (phases_of ahead) active (past-of given old new span moved) in
-    let same = records-leave given old new span (stripes (final_shape old.newest) span.lo span.hi) sectioned resync moved in
-    omega (arith, one, same)
+    one (grow_left new.newest Closed 0 (phases_of ahead)) (grow_left old.newest (all_copied old span sectioned).window 0 (phases_of ahead)) (resync_left new.newest Closed resync) (resync_left old.newest (all_copied old span sectioned).window resync)
+    (recording old.newest new.newest span sectioned 0 (phases_of ahead) active (past-of given old new span moved)) (records-leave given old new span (stripes (final_shape old.newest) span.lo span.hi) sectioned resync moved)
+  where
+    one : (x y m n : ℕ) → x + 1 ≡ y → m ≡ n → x + m + 1 ≡ y + n
+    one x y m n fewer same = omega (arith, fewer, same)
 
 -- the end of the reshape is left behind it
 pub record-some : (given : Given) (old new : Members) (resync : Option ℕ) (span : Span) (ahead : PhasesLeft) → IsMoved given (moved_past span old) new → is_reshaping old.newest ≡ true → left_by resync new (closed 0) ahead ≢ 0

@@ -29,7 +29,7 @@ use Rattle.flat_history.specs.Legal.{visible_at, IsRefusedRight}
 use Rattle.flat_history.specs.Plain.{entries_of}
 use Rattle.flat_history.specs.Stands.{covers, shape_for}
 use Rattle.flat_history.specs.World.{opening_list}
-use Rattle.shape_views.specs.Regions.{AreShapesFit, DoWithout}
+use Rattle.shape_views.specs.Regions.{DoWithout}
 use Rattle.shape_views.specs.Windows.{moved_past}
 use Rattle.shape_changes.specs.Safety.{HasLiveSlot}
 use Rattle.views.specs.declared.work.Work.{Work}
@@ -38,18 +38,19 @@ use Rattle.shape_changes.specs.Safety.{HasLiveSlot}
 use Rattle.views.specs.Moving.{Grows, IsMoved}
 use Rattle.views.specs.Placed.{AreWhole, IsPlaced, AreStillHeld}
 use Rattle.views.specs.Rebuilding.{Held}
+use Rattle.views.proofs.Fit.{force-disks}
 use Rattle.views.proofs.LackingLaws.{AreVacant, AreNewlyVacant, lost-since, shape-without}
 use Rattle.views.proofs.MovedLaws.{grows-then}
 use Rattle.call_entries.specs.Losing.{losses_of, failure_events}
 use Rattle.call_entries.proofs.CallLaws.{losses-are, length-losses, limit-losses}
 use Rattle.array_kept.specs.Calls.{IsRoleLossBy, IsLossBy, AreLossesOf, IsBehind, IsRefusedFor, IsCausedBy}
 use Rattle.array_kept.proofs.ReplyLaws.{IsOfMissing, unwritten-of}
-use Rattle.region_writes.specs.Runs.{IsListTorn, IsListUnwritten}
+use Rattle.region_writes.specs.Runs.{IsListUnwritten}
 use Rattle.region_writes.proofs.Together.{shape-force}
 use Rattle.grow_asked.specs.declared.window.Window.{Window}
 use Rattle.grow_asked.specs.declared.window.Window.TheVariants.{Closed, Entered, Unsure}
 use Rattle.grow_asked.specs.declared.window.PhasesLeft.{PhasesLeft}
-use Rattle.grow_asked.specs.Left.{phases_of}
+use Rattle.grow_asked.specs.Left.{stripes_in, phases_of, grow_left}
 use Rattle.grow_asked.proofs.LeftLaws.{finishing}
 use Rattle.kept_history.specs.Recorded.{IsCallGoing}
 use Rattle.kept_history.specs.Safe.{world_in, TakesNone}
@@ -58,20 +59,26 @@ use Rattle.history_calls.specs.Reliable.{IsReliable}
 use Rattle.course_kept.specs.declared.course.Course.{Course}
 use Rattle.course_kept.specs.Course.{IsWindowOf, IsCourseOf, span_in}
 use Rattle.course_kept.specs.Laws.{closed, entered}
+use Rattle.region_mends.specs.Left.{resync_left}
+use Rattle.region_mends.specs.Mends.{relied_sector}
+use Rattle.region_mends.proofs.LeftLaws.{records-leave}
+use Rattle.region_mends.proofs.ReliedLaws.{relied-reaches}
+use Rattle.course_mends.specs.Mended.{IsUnmended}
 use Rattle.moving_state.specs.Due.{open_in, unsure_in}
 use Rattle.moving_kept.specs.Moving.{IsMoving}
 use Rattle.moving_kept.proofs.NoneLeft.{shape-left}
 use Rattle.moving_kept.proofs.FinishedCall.{IsFinishedBy, finish-moves}
 use Rattle.moving_kept.proofs.Refusals.{lacking-right}
 use Rattle.moving_kept.proofs.Steps.{AreMissingSince, missing-since, missing-moved}
-use Rattle.moving_kept.proofs.Writing.{ArePut, AreWritten, AreUnwritten, unrelied-short, written-moves, unwritten-moves}
+use Rattle.moving_kept.proofs.Writing.{ArePut, AreWritten, AreUnwritten, written-moves, unwritten-moves}
 use Rattle.running_words.specs.Calls.{IsCalled, IsStepTaken}
-use Rattle.running_words.specs.Parts.{RunningParts, left_in}
+use Rattle.running_words.specs.Parts.{RunningParts}
 use Rattle.moving_laws.specs.Ready.{bytes_in, IsReady}
 use Rattle.moving_laws.specs.Writing.{IsWindowOpen, steps_in, TouchesWindow, IsWriteLacked, IsPutEntered, IsWriteEntered}
 use Rattle.running_words.proofs.Called.{not_254}
-use Rattle.moving_laws.proofs.Kept.{IsLengthKept, behind-keeps, behind-whole, takes-lost, left-moved}
-use Rattle.moving_laws.proofs.RecordLaws.{past-of, since-past, record-some, closed-bare, moved-none, moved-if}
+use Rattle.moving_laws.proofs.Kept.{IsLengthKept, behind-keeps, behind-whole, takes-lost, long-same, left_by, left-moved}
+use Rattle.moving_laws.proofs.Relied.{pending-at, unsynced-right}
+use Rattle.moving_laws.proofs.RecordLaws.{shapes-past, past-of, since-past, record-some, closed-bare, moved-none, moved-if}
 
 -- ---- the window
 
@@ -254,17 +261,17 @@ finish-left given old new resync course ahead span copied sectioned is moved act
     both : (x y m n k : ℕ) → x + (k + 1) ≡ y → m ≡ n → (x + m) + (k + 1) ≡ y + n
     both x y m n k taken same = omega (arith, taken, same)
 
+-- and parity is relied on as far as before: nothing is mended while the window is open
+pub finish-relied : (given : Given) (old new : Members) (resync : Option ℕ) (span : Span) → IsPlaced given old → IsMoved given (moved_past span old) new → ⊥ ⊎ IsUnmended resync → relied_sector new.newest resync ≡ relied_sector old.newest resync
+finish-relied given old new None span placed moved beside = long-same old.newest new.newest (shapes-past given old new span moved)
+finish-relied given old new (Some mended) span placed moved (inr none) =
+    ap (λ (n : ℕ). relied_sector new.newest (Some n)) none ∙ (relied-reaches new.newest moved.placed.fit).0
+    ∙ sym (ap (λ (n : ℕ). relied_sector old.newest (Some n)) none ∙ (relied-reaches old.newest placed.fit).0)
+finish-relied given old new (Some mended) span placed moved (inl none) = absurd none
+
 -- ---- sectors beside the window
 
--- where all rows are relied on, a write isn't done for missing members alone
-pub torn-of : (m : Members) → AreShapesFit m.newest → (relied at to : ℕ) (refusal : Refusal) → list_length m.newest ≤ relied → to ≤ list_length m.newest → IsListUnwritten relied at to m refusal → IsListTorn at to m refusal
-torn-of m fit relied at to refusal all within (inl torn) = torn
-torn-of m fit relied at to refusal all within (inr (each, there)) = absurd (
-    let lt = there.2 in
-    let less = unrelied-short m.newest fit relied there.0 (omega (arith, lt, within)) there.3 in
-    omega (arith, less, all))
-
--- and its refusal tells that members are missing
+-- a refusal tells that members are missing
 pub torn-missing : (relied at to : ℕ) (m : Members) (refusal : Refusal) → IsListUnwritten relied at to m refusal → IsOfMissing refusal
 torn-missing relied at to m refusal (inl torn) = unwritten-of (shape_for m.newest torn.0) false m refusal (inl torn.3)
 torn-missing relied at to m refusal (inr (each, there)) = unwritten-of (shape_for m.newest there.0) false m refusal (inr there.4)
@@ -278,18 +285,27 @@ module _ {tells : Type 0} {given : Given} {tape : List Operation} {scope : Scope
       ∙ (was.recorded t).sized
 
   -- why it is refused before any row is read
-  pub first-right : (at to : ℕ) (refusal : Refusal) → IsRefusedFor (list_length old.newest) to (IsListUnwritten (list_length old.newest) at to) old old refusal
+  pub first-right : (relied at to : ℕ) (refusal : Refusal) → relied ≡ relied_sector old.newest resync → IsRefusedFor (list_length old.newest) to (IsListUnwritten relied at to) old old refusal
       → tells → IsReliable (world_in given tape scope first) entries → IsRefusedRight (world_in given tape scope first) entries refusal
-  first-right at to (PastEnd told) why t right = why.0 ∙ sym (all-seen t)
-  first-right at to refusal why t right =
-      let torn = torn-of old was.members_are.placed.fit (list_length old.newest) at to refusal (omega arith) why.0 why.1 in
-      lacking-right (world_in given tape scope first) entries given old was.members_are.placed (was.gone t right) (was.levelled t right) (shape_for old.newest torn.0) refusal (shape-force old.newest torn.0) torn.3
+  first-right relied at to (PastEnd told) relies why t right = why.0 ∙ sym (all-seen t)
+  first-right relied at to refusal relies why t right = by why.0 why.1
+    where
+      by : to ≤ list_length old.newest → IsListUnwritten relied at to old refusal → IsRefusedRight (world_in given tape scope first) entries refusal
+      by within (inl torn) =
+          lacking-right (world_in given tape scope first) entries given old was.members_are.placed (was.gone t right) (was.levelled t right) (shape_for old.newest torn.0) refusal (shape-force old.newest torn.0) torn.3
+      by within (inr (each, there)) =
+          let cause = there.4 in
+          let high = there.2 in
+          let few = cause.4.0 in
+          let disks = force-disks old.newest was.members_are.placed.fit (shape_for old.newest there.0) (shape-force old.newest there.0) in
+          unsynced-right (world_in given tape scope first) entries old (was.gone t right) refusal cause.0 cause.1 (omega (arith, few, disks)) cause.3
+          (pending-at was relied relies old was.members_are.placed.fit refl there.0 (omega (arith, high, within)) there.3 t)
 
 module _ {tells : Type 0} {given : Given} {tape tape' : List Operation} {scope : Scope} {first : ℕ} {entries : List Entry} {old new : Members} {carried : ℕ → Bool} {resync : Option ℕ} (course : Course) (ahead : PhasesLeft) (buffer : List ℕ)
     (who : Who) (end roles spares at : ℕ) (from : List ℕ) (relied : ℕ) (begun : Bool)
     (was : IsMoving tells given tape scope first entries old carried resync course buffer (left_by resync old course ahead)) (goes : IsCallGoing entries who) (caller : who.caller ≢ 254)
     (at_end : tells → end ≡ length tape') (grows : Grows tells tape tape') (unlimited : limit_of entries ≡ None) (some : 0 < length from / 512)
-    (fine : (refusal : Refusal) → IsListUnwritten relied at (at + length from / 512) old refusal → ⊥) (did : ArePut tells given tape tape' old new course at from relied roles begun) where
+    (fine : (refusal : Refusal) → IsListUnwritten relied at (at + length from / 512) old refusal → ⊥) (relies : relied ≡ relied_sector old.newest resync) (did : ArePut tells given tape tape' old new course at from relied roles begun) where
   -- no shape of the write misses too many
   each-does : (x : ℕ) → at ≤ x → x < at + length from / 512 → DoesWithout (shape_for old.newest x) old
   each-does x low high = shape-without (shape_for old.newest x) old (λ refusal many. fine refusal (inl (x, low, high, many)))
@@ -306,14 +322,14 @@ module _ {tells : Type 0} {given : Given} {tape tape' : List Operation} {scope :
       → IsMoving tells given tape' scope first (entries ++ entries_of who end (losses_of roles spares ++ Wrote at (sectors_of from) ∷ [])) new carried resync course buffer (left_by resync new course ahead)
   wrote-kept done =
       subst (λ (n : ℕ). IsMoving tells given tape' scope first (entries ++ entries_of who end (losses_of roles spares ++ Wrote at (sectors_of from) ∷ [])) new carried resync course buffer n) (sym (left-moved given old new resync course ahead did.moved))
-      (written-moves tells given tape tape' scope first entries old new carried resync course buffer (left_by resync old course ahead) who end roles spares at from relied begun was live goes (not_254 who.caller caller) at_end grows each-does seen did done)
+      (written-moves tells given tape tape' scope first entries old new carried resync course buffer (left_by resync old course ahead) who end roles spares at from relied begun was live goes (not_254 who.caller caller) at_end grows each-does seen relies did done)
 
   -- it is refused
-  pub unwritten-kept : (refusal : Refusal) → AreUnwritten tells given tape tape' scope first entries old new at from relied begun refusal
+  pub unwritten-kept : (refusal : Refusal) → AreUnwritten tells given tape tape' old new at from relied begun refusal
       → IsMoving tells given tape' scope first (entries ++ entries_of who end (failure_events roles spares begun at (sectors_of from) refusal)) new carried resync course buffer (left_by resync new course ahead)
   unwritten-kept refusal undone =
       subst (λ (n : ℕ). IsMoving tells given tape' scope first (entries ++ entries_of who end (failure_events roles spares begun at (sectors_of from) refusal)) new carried resync course buffer n) (sym (left-moved given old new resync course ahead did.moved))
-      (unwritten-moves tells given tape tape' scope first entries old new carried resync course buffer (left_by resync old course ahead) who end roles spares at from relied begun was live goes (not_254 who.caller caller) at_end grows each-does seen did refusal undone)
+      (unwritten-moves tells given tape tape' scope first entries old new carried resync course buffer (left_by resync old course ahead) who end roles spares at from relied begun was live goes (not_254 who.caller caller) at_end grows each-does seen relies did refusal undone)
 
 -- ---- one call behind another
 
@@ -435,38 +451,38 @@ finish-caused visible to why old new (Err (IsRefusedWith refusal)) within fine c
 finish-caused visible to why old new (Err NoMemory) within fine caused = caused
 
 -- a write beside the window, which it doesn't touch
-pub alone-caused : {T : Type 0} (window : Window) (visible at to : ℕ) (old new : Members) (result : Result T AnyFault) → (TouchesWindow window at to → ⊥)
-    → IsCausedBy visible to (IsListUnwritten visible at to) old new result → IsCausedBy visible to (IsWriteLacked window visible at to) old new result
-alone-caused window visible at to old new (Ok x) none caused = (caused.0, λ refusal which. elim which [ inl asked ↦ caused.1 refusal asked | inr many ↦ none many.0 ])
-alone-caused window visible at to old new (Err (IsRefusedWith refusal)) none caused = by refusal caused
+pub alone-caused : {T : Type 0} (window : Window) (visible relied at to : ℕ) (old new : Members) (result : Result T AnyFault) → (TouchesWindow window at to → ⊥)
+    → IsCausedBy visible to (IsListUnwritten relied at to) old new result → IsCausedBy visible to (IsWriteLacked window relied at to) old new result
+alone-caused window visible relied at to old new (Ok x) none caused = (caused.0, λ refusal which. elim which [ inl asked ↦ caused.1 refusal asked | inr many ↦ none many.0 ])
+alone-caused window visible relied at to old new (Err (IsRefusedWith refusal)) none caused = by refusal caused
   where
-    by : (refusal : Refusal) → IsRefusedFor visible to (IsListUnwritten visible at to) old new refusal → IsRefusedFor visible to (IsWriteLacked window visible at to) old new refusal
+    by : (refusal : Refusal) → IsRefusedFor visible to (IsListUnwritten relied at to) old new refusal → IsRefusedFor visible to (IsWriteLacked window relied at to) old new refusal
     by (PastEnd told) is = is
     by refusal is = (is.0, inl is.1)
-alone-caused window visible at to old new (Err NoMemory) none caused = caused
+alone-caused window visible relied at to old new (Err NoMemory) none caused = caused
 
 -- a window that it touches isn't finished
-pub refused-caused : (T : Type 0) (window : Window) (visible at to : ℕ) (old new : Members) (fault : AnyFault) → TouchesWindow window at to
-    → IsCausedBy {T = T} visible to (λ m refusal. IsListUnwritten visible at to m refusal ⊎ AreTooMany m refusal) old new (Err fault) → IsCausedBy {T = T} visible to (IsWriteLacked window visible at to) old new (Err fault)
-refused-caused T window visible at to old new (IsRefusedWith refusal) touches caused = by refusal caused
+pub refused-caused : (T : Type 0) (window : Window) (visible relied at to : ℕ) (old new : Members) (fault : AnyFault) → TouchesWindow window at to
+    → IsCausedBy {T = T} visible to (λ m refusal. IsListUnwritten relied at to m refusal ⊎ AreTooMany m refusal) old new (Err fault) → IsCausedBy {T = T} visible to (IsWriteLacked window relied at to) old new (Err fault)
+refused-caused T window visible relied at to old new (IsRefusedWith refusal) touches caused = by refusal caused
   where
-    by : (refusal : Refusal) → IsRefusedFor visible to (λ m refusal. IsListUnwritten visible at to m refusal ⊎ AreTooMany m refusal) old new refusal → IsRefusedFor visible to (IsWriteLacked window visible at to) old new refusal
+    by : (refusal : Refusal) → IsRefusedFor visible to (λ m refusal. IsListUnwritten relied at to m refusal ⊎ AreTooMany m refusal) old new refusal → IsRefusedFor visible to (IsWriteLacked window relied at to) old new refusal
     by (PastEnd told) is = is
     by refusal is = (is.0, elim is.1 [ inl asked ↦ inl asked | inr many ↦ inr (touches, many) ])
-refused-caused T window visible at to old new NoMemory touches caused = caused
+refused-caused T window visible relied at to old new NoMemory touches caused = caused
 
 -- it is finished, and the sectors are written behind it, or aren't
-pub behind-caused : {T : Type 0} (window : Window) (visible long at to : ℕ) (old mid new : Members) (result : Result T AnyFault) (who : Who) (entries entries' : List Entry) (body : List Sector) → long ≡ visible
-    → (to ≤ visible) × ((refusal : Refusal) → IsListUnwritten visible at to old refusal ⊎ AreTooMany old refusal → ⊥) → IsPutEntered who entries entries' at body result
-    → IsCausedBy long to (IsListUnwritten long at to) mid new result → IsCausedBy visible to (IsWriteLacked window visible at to) old new result
-behind-caused window visible long at to old mid new (Ok x) who entries entries' body same before told caused =
+pub behind-caused : {T : Type 0} (window : Window) (visible long relied mended at to : ℕ) (old mid new : Members) (result : Result T AnyFault) (who : Who) (entries entries' : List Entry) (body : List Sector) → long ≡ visible → mended ≡ relied
+    → (to ≤ visible) × ((refusal : Refusal) → IsListUnwritten relied at to old refusal ⊎ AreTooMany old refusal → ⊥) → IsPutEntered who entries entries' at body result
+    → IsCausedBy long to (IsListUnwritten mended at to) mid new result → IsCausedBy visible to (IsWriteLacked window relied at to) old new result
+behind-caused window visible long relied mended at to old mid new (Ok x) who entries entries' body same relies before told caused =
     (before.0, λ refusal which. elim which [ inl asked ↦ before.1 refusal (inl asked) | inr many ↦ before.1 refusal (inr many.1) ])
-behind-caused window visible long at to old mid new (Err (IsRefusedWith refusal)) who entries entries' body same before told caused = by refusal caused
+behind-caused window visible long relied mended at to old mid new (Err (IsRefusedWith refusal)) who entries entries' body same relies before told caused = by refusal caused
   where
-    by : (refusal : Refusal) → IsRefusedFor long to (IsListUnwritten long at to) mid new refusal → IsRefusedFor visible to (IsWriteLacked window visible at to) old new refusal
+    by : (refusal : Refusal) → IsRefusedFor long to (IsListUnwritten mended at to) mid new refusal → IsRefusedFor visible to (IsWriteLacked window relied at to) old new refusal
     by (PastEnd told) is = absurd (let past = is.1 in let within = before.0 in omega (arith, past, within, same))
-    by refusal is = (before.0, inl (subst (λ (n : ℕ). IsListUnwritten n at to new refusal) same is.1))
-behind-caused window visible long at to old mid new (Err NoMemory) who entries entries' body same before told caused = absurd told
+    by refusal is = (before.0, inl (subst (λ (n : ℕ). IsListUnwritten n at to new refusal) relies is.1))
+behind-caused window visible long relied mended at to old mid new (Err NoMemory) who entries entries' body same relies before told caused = absurd told
 
 -- its entries, where it doesn't touch the window
 pub alone-entered : {T : Type 0} (window : Window) (at to : ℕ) (body : List Sector) (who : Who) (old mid new : List Entry) (left : ℕ) (result : Result T AnyFault) → mid ≡ old → (TouchesWindow window at to → ⊥)

@@ -1,5 +1,5 @@
 -- A stripe behind the list is zeroed, from what `zero` of `window_steps` says of it: what is kept, done or refused.
-use Rattle.std.proofs.Common.{◌≡◌, ◌≢◌, inr, ℕ, ◌+◌, ◌<◌, Bool, true, None, List, [], ◌∷◌, ◌++◌, length, sym, ◌∙◌, ap, subst, arith}
+use Rattle.std.proofs.Common.{◌≡◌, ◌≢◌, inr, ℕ, ◌+◌, ◌<◌, Bool, true, Option, None, List, [], ◌∷◌, ◌++◌, length, sym, ◌∙◌, ap, subst, arith}
 use Rattle.std.specs.Prelude.{⊤}
 use Rattle.md_base.specs.Sectors.{Sector}
 use Rattle.md_base.specs.declared.answers.Refusal.{Refusal}
@@ -34,18 +34,20 @@ use Rattle.grow_asked.proofs.LeftLaws.{zeroing}
 use Rattle.kept_history.specs.Recorded.{IsCallGoing}
 use Rattle.kept_history.specs.Safe.{world_in}
 use Rattle.course_kept.specs.declared.course.Course.{Course}
-use Rattle.course_kept.specs.Course.{StandsInCourse, past_stripe}
+use Rattle.course_kept.specs.Course.{past_stripe}
 use Rattle.course_kept.specs.Laws.{closed}
 use Rattle.course_kept.proofs.Courses.{zeroes-go-on}
+use Rattle.region_mends.specs.Left.{resync_left}
+use Rattle.course_mends.specs.Mended.{StandsMended}
 use Rattle.moving_state.proofs.LeftLaws.{plans-counted, some-left}
 use Rattle.moving_state.proofs.ReshapeLaws.{through-of}
 use Rattle.moving_kept.specs.Moving.{IsMoving}
 use Rattle.moving_kept.proofs.MoreSteps.{zeroed-moves}
+use Rattle.moving_kept.proofs.Pending.{none-on}
 use Rattle.moving_kept.proofs.Staying.{refused-moves}
 use Rattle.moving_kept.proofs.Steps.{AreMissingSince, missing-since}
-use Rattle.running_words.specs.Parts.{left_in}
 use Rattle.running_words.proofs.Called.{not_254}
-use Rattle.moving_laws.proofs.Kept.{left-moved}
+use Rattle.moving_laws.proofs.Kept.{left_by, left-moved}
 use Rattle.moving_laws.proofs.Settled.{risen-told}
 
 -- ---- the course

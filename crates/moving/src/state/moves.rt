@@ -166,7 +166,7 @@ impl<B: Bank> Moving<B> {
             sectioned,
         };
         let kind = StepKind::Copied;
-        let left = steps_left(&self.members, &self.course, &self.ahead);
+        let left = steps_left(&self.members, &self.work, &self.course, &self.ahead);
         let event = Event::Step { kind, left };
         enter_behind(&mut self.epoch, who, end, moved.roles, moved.spares, event);
         Ok(())

@@ -71,7 +71,7 @@ impl<B: Bank> Moving<B> {
             zeroed: 0,
         };
         let kind = StepKind::Checkpointed;
-        let left = steps_left(&self.members, &self.course, &self.ahead);
+        let left = steps_left(&self.members, &self.work, &self.course, &self.ahead);
         let event = Event::Step { kind, left };
         enter_behind(&mut self.epoch, who, end, roles, done.spares, event);
         Ok(())
