@@ -54,6 +54,7 @@ use Rattle.running_words.specs.Parts.{RunningParts}
 use Rattle.moving_laws.specs.Ready.{bytes_in}
 use Rattle.running_words.specs.Calls.{IsCopyDue}
 use Rattle.moving_laws.proofs.Kept.{left_by, left-moved}
+use Rattle.kept_history.proofs.Turned.{fills-on_course}
 
 -- ---- the number of a call that goes on
 
@@ -210,4 +211,4 @@ module _ (tells : Type 0) (given : Given) (tape tape' : List Operation) (scope :
       (mended-copies-go-on sound among given old new resync span copied sectioned bytes (present given tape) (present given tape') list was.members_are.placed did.moved (unmended-of resync opened.beside) opened.course_is.window.0 more
       (plain-of old.newest span copied sectioned opened.course_is.window) (did.others t) stands).0)
       (λ t told fills more_told room gone unclean now. did.safe t (world_in given tape scope first) told room gone unclean
-      (able-kept scope given old span copied sectioned (disk given.start tape) opened.course_is.window (opened.stored t).section) now)))
+      (able-kept scope given old span copied sectioned (disk given.start tape) opened.course_is.window (opened.stored t (fills-on_course (world_in given tape scope first) entries fills)).section) now)))

@@ -155,8 +155,8 @@ module _ {tells : Type 0} {given : Given} {tape tape' : List Operation} {scope :
 
     -- where nothing was filled in, or that was right
     filled : (t : tells) → IsFilledRight (world_in given tape' scope first) all → AreWhole new ⊎ OpensFit (world_in given tape scope first)
-    filled t (inl none) = inl (behind-whole tape' scope first entries who end roles spares event did.moved did.since none
-        (full t (takes-before given scope first entries (entries_of who end (losses_of roles spares ++ event ∷ [])) grows (λ u. (was.recorded u).ends) t none)))
+    filled t (inl none) = inl (behind-whole tape' scope first entries who end roles spares event did.moved did.since none.0
+        (full t (takes-before given scope first entries (entries_of who end (losses_of roles spares ++ event ∷ [])) grows (λ u. (was.recorded u).ends) t none.0)))
     filled t (inr fit) = inr (
         let g = grows.more t in
         fit-before (world_in given tape scope first) g.0 (was.recorded t).begun (subst (λ (l : List Operation). OpensFit (world_in given l scope first)) g.1 fit))
@@ -253,7 +253,7 @@ module _ {tells : Type 0} {given : Given} {tape tape' : List Operation} {scope :
         unclean = λ t. (leaves t).unclean;
         recorded = λ t. (leaves t).recorded;
         last_step = λ t. last-left given tape tape' scope first entries (list_length old.newest) new carried true who end (losses_of roles spares) event (leaves t) (at_end t) quiet.other long-same (was.last_step t).past;
-        stored = did.stored;
+        stored = λ t on. did.stored t;
         listed = λ t fills. listed t fills;
         safe = λ t. (leaves t).safe;
       }

@@ -78,7 +78,7 @@ use Rattle.moving_kept.proofs.BackupKept.{stored-kept}
 use Rattle.moving_kept.proofs.MembersMove.{reshaping-moved}
 use Rattle.moving_kept.proofs.NoneLeft.{shape-left}
 use Rattle.moving_kept.proofs.Pending.{HasResync, resync-of, resync-moved, pending-on, mended-later}
-use Rattle.moving_kept.proofs.Quiet.{safe-now, listed-later}
+use Rattle.moving_kept.proofs.Quiet.{safe-now, listed-later, course-earlier}
 use Rattle.moving_kept.proofs.Refusals.{quiet-refusal, lacking-right}
 use Rattle.moving_kept.proofs.Staying.{course-moved, stays-moves}
 use Rattle.moving_kept.proofs.Steps.{AreMissingSince, missing-moved}
@@ -318,7 +318,7 @@ module _ {tells : Type 0} {given : Given} {tape : List Operation} {scope : Scope
           filled : AreWhole new ⊎ OpensFit (world_in given tape scope first)
           filled = elim right_all.fills [
             | inl none ↦ inl (whole-told (world_in given tape' scope first) (entries ++ entries_of who end (losses_of roles spares)) new
-                (takes-first (world_in given tape' scope first) entries who end (losses_of roles spares) (Read at (sectors_of bytes) ∷ []) none) gone)
+                (takes-first (world_in given tape' scope first) entries who end (losses_of roles spares) (Read at (sectors_of bytes) ∷ []) none.0) gone)
             | inr fit ↦ inr (fit-earlier t fit)
           ]
 
@@ -346,7 +346,7 @@ module _ {tells : Type 0} {given : Given} {tape : List Operation} {scope : Scope
       -- where what is filled in is right by all entries
       pub holds-read : tells → IsReliable (world_in given tape' scope first) all → (i : ℕ) → i < length bytes / 512 → sector_of bytes i ≡ now (opening_list (world_in given tape scope first)) entries (at + i)
       holds-read t right = list-is t ((leaves t).right right) (elim right.fills [
-        | inl none ↦ inl (whole-told (world_in given tape' scope first) all new none ((leaves t).gone right))
+        | inl none ↦ inl (whole-told (world_in given tape' scope first) all new none.0 ((leaves t).gone right))
         | inr fit ↦ inr (fit-earlier t fit)
       ])
 
@@ -371,7 +371,7 @@ module _ {tells : Type 0} {given : Given} {tape : List Operation} {scope : Scope
         unclean = λ t. (leaves t).unclean;
         recorded = λ t. (leaves t).recorded;
         last_step = λ t. last-left given tape tape' scope first entries (list_length old.newest) new carried true who end (losses_of roles spares) (Read at (sectors_of bytes)) (leaves t) (at_end t) refl long-same (was.last_step t).past;
-        stored = λ t. stored-kept scope given old new course.window buffer (disk given.start tape) (disk given.start tape') was.members_are did.moved (did.unused t) (was.stored t);
+        stored = λ t on. stored-kept scope given old new course.window buffer (disk given.start tape) (disk given.start tape') was.members_are did.moved (did.unused t) (was.stored t (course-earlier given tape tape' scope first (leaves t).begun (leaves t).grown on));
         listed = λ t. listed-later given tape scope first entries all new carried resync course buffer tape' (now (opening_list (world_in given tape scope first)) entries) (leaves t)
             (quiet-now (opening_list (world_in given tape scope first)) entries who end (losses_of roles spares) (IsAmong roles) (Read at (sectors_of bytes)) (early-losses roles spares) quiet)
             (λ fills.

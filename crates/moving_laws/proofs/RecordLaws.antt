@@ -122,7 +122,7 @@ closed-bare count buffer left was = record {
   unclean = was.unclean;
   recorded = was.recorded;
   last_step = was.last_step;
-  stored = λ t. let stored = was.stored t in record { section = stored.section; sectors = tt; headers = stored.headers };
+  stored = λ t on. let stored = was.stored t on in record { section = stored.section; sectors = tt; headers = stored.headers };
   listed = λ t fills.
       let l = was.listed t fills in
       let stands = l.stands in
