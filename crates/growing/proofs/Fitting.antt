@@ -95,7 +95,7 @@ plan-fits world before who end a wish left number at_end told none steps =
 
 -- ---- the phases that it tells
 
-right-before : (world : World) (entries added : List Entry) → IsReliable world (entries ++ added) → IsReliable world entries
+pub right-before : (world : World) (entries added : List Entry) → IsReliable world (entries ++ added) → IsReliable world entries
 right-before world entries added right = record { fills = by right.fills; room = right.room; alike = right.alike }
   where
     by : IsFilledRight world (entries ++ added) → IsFilledRight world entries

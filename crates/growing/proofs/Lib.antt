@@ -3,3 +3,5 @@ pub mod Read
 pub mod Fitting
 pub mod Kept
 pub mod Busy
+pub mod PlanLaws
+pub mod Unbroken

@@ -1,6 +1,6 @@
 //! A request to grow is planned, or refused.
 
-ghost use Rattle.std.specs.Prelude.{◌≡◌, ◌≢◌, ◌*◌, ◌≤◌, None, Some, length, OnErr, IfOk, IfErr};
+ghost use Rattle.std.specs.Prelude.{◌≡◌, ◌≢◌, ◌*◌, ◌≤◌, None, Some, length, OnOk, OnErr, IfOk, IfErr};
 ghost use Rattle.md_base.specs.declared.answers.Fault.TheVariants.{NoMemory as WantsMemory};
 ghost use Rattle.grow_plan.specs.Plans.{largest_window, phases};
 ghost use Rattle.superblocks.specs.Reading.{shape_of};
@@ -12,6 +12,7 @@ ghost use Rattle.grow_asked.specs.Left.{phases_of};
 ghost use Rattle.running_words.specs.Parts.{still_left};
 ghost use Rattle.running_words.specs.Calls.{moving_world};
 ghost use Rattle.growing.specs.Planned.{asked_in, IsGrowJudged, IsGrowReply, IsGrowAnswered, IsAsBefore, IsGrowPlanned};
+ghost use Rattle.growing.specs.Plans.{GoesTo};
 
 use crate::judging::judge;
 use array_state::room::zeros;
@@ -73,6 +74,7 @@ fn enter_plan<B: Bank>(still: Still<B>, who: Who, wish: Wish) -> (Still<B>, u64)
     ensures ended { IsEndOf B.tells result.0.parts.first result.0.parts.entries (B.tape result.0.parts.bank) }
     ensures left { result.1 ≡ still_left result.0.parts.work result.0.parts.members result.0.ahead }
     ensures planned { IsGrowPlanned B.tells (B.given result.0.parts.bank) (moving_world (B.given result.0.parts.bank) (B.tape result.0.parts.bank) result.0) wish result.1 result.0 }
+    ensures goes { GoesTo B.tells (moving_world (B.given result.0.parts.bank) (B.tape result.0.parts.bank) result.0) still result.0 }
 {
     let mut pieces = still.take_apart();
     let plan = plan_of(&pieces.members, &wish);
@@ -104,6 +106,7 @@ pub fn plan_grow<B: Bank>(
     ensures ended { IsEndOf B.tells result.0.parts.first result.0.parts.entries (B.tape result.0.parts.bank) }
     ensures refused { OnErr result.1 (result.0.ahead ≡ still.ahead) }
     ensures planned { IfOk result.1 (λ plan. IsGrowPlanned B.tells (B.given result.0.parts.bank) (moving_world (B.given result.0.parts.bank) (B.tape result.0.parts.bank) result.0) wish plan.left result.0) }
+    ensures goes { OnOk result.1 (GoesTo B.tells (moving_world (B.given result.0.parts.bank) (B.tape result.0.parts.bank) result.0) still result.0) }
     ensures left { IfOk result.1 (λ plan. plan.left ≡ still_left result.0.parts.work result.0.parts.members result.0.ahead) }
     ensures wide { let m = still.parts.members in IfOk result.1 (λ plan. 512 * largest_window (shape_of m.newest) m.newest.size (phases_of result.0.ahead) ≤ length plan.window.items) }
 {

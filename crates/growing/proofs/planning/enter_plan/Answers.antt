@@ -2,7 +2,7 @@ use Rattle.std.proofs.Common.{◌≡◌, ◌≤◌, List, None, [], ◌∷◌, �
 use Rattle.std.specs.Prelude.{option_map}
 use Rattle.bank.specs.Given.{sizes}
 use Rattle.md_base.specs.declared.wishes.Phase.{Phase}
-use Rattle.grow_plan.specs.Plans.{AreSound, phases, phases_steps, largest_window}
+use Rattle.grow_plan.specs.Plans.{AreSound, phases, phases_steps, largest_window, last_shape}
 use Rattle.superblocks.specs.Reading.{shape_of, list_length}
 use Rattle.flat_history.specs.declared.events.Entry.{Entry}
 use Rattle.flat_history.specs.declared.events.Event.TheVariants.{Planned}
@@ -19,9 +19,11 @@ use Rattle.grow_asked.proofs.FirstLaws.{unrefused-plan}
 use Rattle.history_calls.specs.Reliable.{IsReliable}
 use Rattle.still_kept.proofs.Stood.{within-count}
 use Rattle.growing.specs.Planned.{asked_in, HasWideBackup}
+use Rattle.growing.specs.Plans.{GoTo}
 use Rattle.growing.proofs.Idle.{planned-whole, planned-idle, some-steps}
 use Rattle.growing.proofs.Fitting.{told-by, plan-fits, phases-told}
 use Rattle.growing.proofs.Kept.{planned-ready, wide-backup}
+use Rattle.growing.proofs.PlanLaws.{planned-goes}
 use Rattle.growing.proofs.planning.enter_plan.Goals as goal
 
 pub plan_of-plan-requires-clause-taken : goal.plan_of-plan-requires-clause-taken
@@ -127,3 +129,27 @@ returns-clause-planned g c =
           (subst (λ (l : List Entry). IsReliable (world_in given tape (scope_in given c.enter.new.epoch.uuid c.enter.new.epoch.given p.backup) c.enter.new.epoch.first) l) items right))
           ∙ ap (λ (l : List Phase). length l) (sym ahead);
     })
+
+pub returns-clause-goes : goal.returns-clause-goes
+returns-clause-goes g c =
+    let was = c.take_apart-pieces.ensures.ready in
+    let p = c.take_apart-pieces.result in
+    let given = g.B.Bank.given p.bank in
+    let tape = g.B.Bank.tape p.bank in
+    let who = c.args.who in
+    let end = c.ops-end.result in
+    let wish = c.args.wish in
+    let plan = c.plan_of-plan in
+    let shape = shape_of p.members.newest in
+    let a = asked_of p.members p.work.resync (length (phases_of p.ahead)) (list_length p.members.newest) (option_map (sizes given).sectors p.backup) in
+    let taken = subst (λ s. grow_refusal (asked_in (g.B.Bank.given s.parts.bank) s) wish ≡ None) c.take_apart-pieces.ensures.same c.requires.taken in
+    let ahead : phases_of c.all_left-pieces.result ≡ phases shape wish = c.all_left-pieces.ensures ∙ plan.ensures.phases in
+    let scope_is = scope-same given p.backup refl c.enter.ensures.uuid c.enter.ensures.given in
+    let world_is : ◌≡◌ {A = World} (world_in given tape (scope_in given c.enter.new.epoch.uuid c.enter.new.epoch.given p.backup) c.enter.new.epoch.first) (world_in given tape (scope_in given p.epoch.uuid p.epoch.given p.backup) p.epoch.first) =
+    λ i. world_in given tape (scope_is i) (c.enter.ensures.first i) in
+    rw (c.of_pieces.ensures.same) (rw (c.take_apart-pieces.ensures.same) (λ none t right.
+    subst (λ (w : World). GoTo w (last_shape shape (phases_of c.all_left-pieces.result)) c.enter.new.epoch.entries.items) (sym world_is)
+    (subst (λ (l : List Entry). GoTo (world_in given tape (scope_in given p.epoch.uuid p.epoch.given p.backup) p.epoch.first) (last_shape shape (phases_of c.all_left-pieces.result)) l) (sym c.enter.ensures.items)
+    (planned-goes who end wish plan.result.steps (phases_of c.all_left-pieces.result) was.kept (planned-whole a wish taken) c.ops-end.ensures.count ahead none t
+    (subst (λ (w : World). IsReliable w (p.epoch.entries.items ++ entries_of who end (Planned plan.result.steps wish ∷ []))) world_is
+    (subst (λ (l : List Entry). IsReliable (world_in given tape (scope_in given c.enter.new.epoch.uuid c.enter.new.epoch.given p.backup) c.enter.new.epoch.first) l) c.enter.ensures.items right))))))

@@ -1,4 +1,5 @@
-use Rattle.std.proofs.Common.{◌≡◌, None, sym, ◌∙◌}
+use Rattle.std.proofs.Common.{◌≡◌, None, [], sym, ◌∙◌}
+use Rattle.flat_history.specs.Reshaped.{open_plans}
 use Rattle.grow_asked.specs.Asked.{grow_refusal}
 use Rattle.growing.specs.Planned.{asked_in}
 use Rattle.growing.proofs.planning.plan_grow.Goals as goal
@@ -7,3 +8,8 @@ pub enter_plan-still-requires-clause-taken : goal.enter_plan-still-requires-clau
 enter_plan-still-requires-clause-taken g c =
     let none : grow_refusal (asked_in (g.B.Bank.given c.args.still.parts.bank) c.args.still) c.args.wish ≡ None = sym c.judge-still.ensures.first ∙ c.in_default.is in
     rw (c.in-Ok-make_room.ensures.room) (rw (c.window_for-still.ensures.same) (rw (c.judge-still.ensures.same) none))
+
+pub returns-clause-goes : goal.returns-clause-goes
+returns-clause-goes g c none =
+    let before : open_plans c.make_room-2.new.self.parts.entries ≡ [] = rw (c.in-Ok-make_room.ensures.room) (rw (c.window_for-still.ensures.same) (rw (c.judge-still.ensures.same) none)) in
+    c.enter_plan-still.ensures.goes before
