@@ -1,8 +1,7 @@
 -- What an opening found runs, with or without a reshape.
-use Rattle.std.proofs.Common.{◌≡◌, inl, inr, ℕ, ◌<◌, ◌≤◌, Bool, true, false, List, ◌++◌, length, Option, Some, None, IfSome, Result, Ok, Err, IfOk, IfErr, refl, sym, ◌∙◌, ap, subst, arith}
+use Rattle.std.proofs.Common.{◌≡◌, inl, inr, ℕ, ◌<◌, ◌≤◌, true, false, List, length, Option, Some, IfSome, Result, Ok, Err, IfOk, IfErr, sym, ◌∙◌, subst, arith}
 use Rattle.md_base.specs.declared.answers.Fault.{Fault}
 use Rattle.md_base.specs.declared.answers.Fault.TheVariants.{Refused, NoMemory}
-use Rattle.md_base.specs.declared.answers.Refusal.{Refusal}
 use Rattle.md_base.specs.declared.answers.Refusal.TheVariants.{BackupAbsent}
 use Rattle.md_base.specs.Shapes.{has_slot}
 use Rattle.bank.specs.declared.bank.Operation.{Operation}
@@ -10,24 +9,21 @@ use Rattle.bank.specs.Given.{Given, NeverFalls}
 use Rattle.bank.specs.Tape.{Contents, contents}
 use Rattle.bank.proofs.Causes.{faulted_longer}
 use Rattle.superblocks.specs.declared.members.Members.{Members}
+use Rattle.superblocks.specs.Found.{AreInSectors}
 use Rattle.superblocks.specs.Reading.{is_reshaping}
-use Rattle.row_io.specs.Rows.{present, members_without}
+use Rattle.superblocks.specs.Writing.{AreWritable}
 use Rattle.flat_history.specs.Stands.{verdict}
-use Rattle.shape_views.specs.Regions.{DoWithout, header_in, open_by}
+use Rattle.shape_views.specs.Regions.{DoWithout}
 use Rattle.views.specs.Flushing.{OnlyItsSlotsFail}
-use Rattle.grow_asked.specs.declared.window.Window.{Window}
-use Rattle.array_kept.specs.Adopting.{IsAdopted}
-use Rattle.running_words.specs.Parts.{RunningParts}
-use Rattle.reshape_openings.specs.Finding.{window_for}
 use Rattle.assemble.specs.declared.opening.Opened.{Opened}
-use Rattle.assemble.specs.Opening.{scope_of, array_of, AreGiven, IsFound, IsOpened, IsUnfound, HasFoundNone}
+use Rattle.assemble.specs.Opening.{scope_of, array_of, AreGiven, AreOfGiven, AreCounted, AreFlushed, IsFound, IsAside, IsOpened, IsUnfound, HasFoundNone}
 use Rattle.assemble.proofs.RunningLaws.{assembled}
 use Rattle.moving_opens.specs.Opening.{AreOpenedMoving}
 use Rattle.openings.specs.Adopted.{IsMovingAdopted, IsNotAdopted}
-use Rattle.openings.specs.Found.{IsStillFound, IsMovingFound, IsArrayFound, bank_of, IsStillRun, IsMovingRun}
+use Rattle.openings.specs.Found.{IsStillFound, IsArrayFound, bank_of, IsStillRun, IsMovingRun}
 use Rattle.openings.specs.declared.finding.FoundArray.{FoundArray}
 use Rattle.openings.specs.declared.finding.FoundArray.TheVariants.{Still, Moving}
-use Rattle.openings.proofs.FoundMoving.{found-does, backup-failed}
+use Rattle.openings.proofs.FoundMoving.{found-moving, found-does, backup-failed}
 use Rattle.openings.proofs.Same.{adopted-same}
 
 -- ---- results
@@ -40,6 +36,14 @@ pub err-then : {T E : Type 0} (result : Result T E) (P Q : E → Type 0) → ((e
 err-then (Ok x) P Q step p = tt
 err-then (Err e) P Q step p = step e p
 
+pub ok-both : {T E : Type 0} (P Q : T → Type 0) (result : Result T E) → IfOk result P → IfOk result Q → IfOk result (λ x. P x × Q x)
+ok-both P Q (Ok x) p q = (p, q)
+ok-both P Q (Err e) p q = tt
+
+pub err-both : {T E : Type 0} (P Q : E → Type 0) (result : Result T E) → IfErr result P → IfErr result Q → IfErr result (λ e. P e × Q e)
+err-both P Q (Ok x) p q = tt
+err-both P Q (Err e) p q = (p, q)
+
 -- ---- without a reshape
 
 pub opened-still : {tells : Type 0} (bank : Given) (c : Contents) (backup : Option ℕ) (asked : Option (List ℕ)) (opened : Opened) → IsFound tells bank c backup asked opened
@@ -47,10 +51,10 @@ pub opened-still : {tells : Type 0} (bank : Given) (c : Contents) (backup : Opti
 opened-still bank c backup asked opened is still = record { elected = is.elected; lost = is.lost; still = still; array = is.array; says = is.says; accepted = is.accepted }
 
 -- it owns the bank that it was given
-pub still-bank : {B tells : Type 0} (device : B) (tape : List Operation) (given : ℕ) (backup : Option ℕ) (members : Members) (run : FoundArray B)
+pub still-bank : {B : Type 0} (tells : Type 0) (device : B) (tape : List Operation) (given : ℕ) (backup : Option ℕ) (members : Members) (run : FoundArray B)
     → IsStillRun tells device tape given backup members run → bank_of run ≡ device
-still-bank device tape given backup members (Still made) did = did.0.bank_is
-still-bank device tape given backup members (Moving made) did = absurd did
+still-bank tells device tape given backup members (Still made) did = did.0.bank_is
+still-bank tells device tape given backup members (Moving made) did = absurd did
 
 pub still-found : {B tells : Type 0} (tape_of : B → List Operation) (faults_of : B → ℕ → ℕ) (device : B) (bank : Given) (backup : Option ℕ) (asked : Option (List ℕ)) (before : ℕ → ℕ) (opened : Opened)
     → IsOpened tells bank (contents bank.start (tape_of device) (length (tape_of device))) backup asked opened → AreGiven bank opened.given before (faults_of device)
@@ -64,6 +68,15 @@ still-found {tells = tells} tape_of faults_of device bank backup asked before op
 still-found tape_of faults_of device bank backup asked before opened is given named (Moving made) did = absurd did
 
 -- ---- in a reshape
+
+-- what was found of it, with this backup
+pub found-there : {tells : Type 0} (bank : Given) (tape : List Operation) (slot : ℕ) (backup : Option ℕ) (backup_is : backup ≡ Some slot) (asked : Option (List ℕ)) (opened : Opened) → bank.slots ≤ 32
+    → IsFound tells bank (contents bank.start tape (length tape)) backup asked opened → is_reshaping opened.members.newest ≡ true → IsAside backup opened.members.own → AreWritable bank opened.members.own
+    → AreOfGiven opened.given opened.members.own → AreCounted bank → ((s : ℕ) → has_slot opened.given s ≡ true → s < bank.slots) → (tells → AreInSectors (contents bank.start tape (length tape)) opened.members.own)
+    → (tells → AreFlushed bank.start tape opened.given) → AreOpenedMoving tells bank tape opened.given slot opened.members
+found-there {tells = tells} bank tape slot backup backup_is asked opened few is active aside =
+    found-moving bank tape asked opened slot few (subst (λ (b : Option ℕ). IsFound tells bank (contents bank.start tape (length tape)) b asked opened) backup_is is) active
+    (subst (λ (b : Option ℕ). IsAside b opened.members.own) backup_is aside)
 
 -- what a call found in a bank that has the same operations since
 found-same : {tells : Type 0} (bank : Given) (tape tape' : List Operation) (backup : Option ℕ) (asked : Option (List ℕ)) (opened : Opened) → (tells → tape' ≡ tape)
@@ -136,4 +149,4 @@ not-adopted {tells = tells} bank c slot backup backup_is asked before mid after 
 not-adopted {tells = tells} bank c slot backup backup_is asked before mid after device left opened fault few is active given rose falls (inr failed) =
     subst (λ (f : Fault). HasFoundNone tells bank c backup asked before after f) (sym failed.0)
     (subst (λ (b : Option ℕ). IsUnfound tells bank c b asked before after BackupAbsent) (sym backup_is)
-    (backup-failed bank c asked opened slot few (subst (λ (b : Option ℕ). IsFound tells bank c b asked opened) backup_is is) active given rose falls failed.1))
+    (backup-failed bank c asked opened slot few (subst (λ (b : Option ℕ). IsFound tells bank c b asked opened) backup_is is) active before mid after given rose falls failed.1))

@@ -1,26 +1,23 @@
 -- What an opening finds of an array in a reshape, before its window is read; and where the backup fails then.
-use Rattle.std.proofs.Common.{◌≡◌, inl, inr, ℕ, ◌<◌, ◌≤◌, ◌==◌, ◌&&◌, nat_lt, Bool, true, false, not, cond, List, length, Option, Some, None, refl, sym, ◌∙◌, ap, subst, arith}
-use Rattle.std.specs.Option.{option_map_or}
+use Rattle.std.proofs.Common.{◌≡◌, ℕ, ◌<◌, ◌≤◌, ◌==◌, ◌&&◌, nat_lt, Bool, true, false, not, cond, List, [], length, take, Option, Some, refl, sym, ◌∙◌, ap, subst, arith}
 use Rattle.std.proofs.lemmas.Bool.Decides.{nat_tests}
 use Rattle.md_base.specs.declared.answers.Refusal.TheVariants.{BackupAbsent}
-use Rattle.md_base.specs.declared.places.Shape.{Shape}
 use Rattle.md_base.specs.declared.status.Role.{Role}
 use Rattle.md_base.specs.declared.status.Role.TheVariants.{Whole, Recovering, Missing}
 use Rattle.md_base.specs.Search.{count_below}
 use Rattle.md_base.specs.Shapes.{has_slot, tolerance}
-use Rattle.sb1.specs.declared.sb.Sb.{Sb}
 use Rattle.bank.specs.declared.bank.Operation.{Operation}
-use Rattle.bank.specs.Given.{Given, IsFaulted, NeverFalls}
+use Rattle.bank.specs.Given.{Given, sizes, IsFaulted, NeverFalls}
 use Rattle.bank.specs.Tape.{Contents, contents}
 use Rattle.bank.proofs.Causes.{faulted_longer}
 use Rattle.superblocks.specs.declared.members.Members.{Members}
-use Rattle.superblocks.specs.Election.{seen_superblocks, uuid_for, reading_in}
+use Rattle.superblocks.specs.Election.{uuid_for, reading_in}
 use Rattle.superblocks.specs.Found.{AreInSectors}
-use Rattle.superblocks.specs.Reading.{Scope, is_backup, is_reshaping, is_whole, role_state, holder}
+use Rattle.superblocks.specs.Reading.{is_reshaping, is_whole, shape_of, final_shape, role_state, holder}
 use Rattle.superblocks.specs.Outcome.{set_of}
 use Rattle.superblocks.specs.Writing.{AreWritable}
 use Rattle.superblocks.proofs.SlotSets.{has-set_of}
-use Rattle.row_io.specs.Rows.{reading_of, present, is_missing, role_without, members_without}
+use Rattle.row_io.specs.Rows.{reading_of, is_missing, role_without, members_without}
 use Rattle.row_io.proofs.Losses.{state_after}
 use Rattle.flat_history.specs.Stands.{verdict}
 use Rattle.shape_views.specs.Regions.{DoWithout}
@@ -87,16 +84,16 @@ module _ {tells : Type 0} {bank : Given} {tape : List Operation} {given backup :
   -- so each shape does without them as before
   pub found-does : DoWithout (members_without lost former)
   found-does =
-      let does = elected-does _ _ _ former opened.elected.elected in
+      let does = elected-does (sizes bank).sectors (take bank.slots former.own) former.lost former opened.elected.elected in
       record {
-        old = subst (λ (k : ℕ). k ≤ _) (sym (count-same _)) does.old;
-        final = subst (λ (k : ℕ). k ≤ _) (sym (count-same _)) does.final;
+        old = subst (λ (k : ℕ). k ≤ tolerance (shape_of former.newest)) (sym (count-same (shape_of former.newest).disks)) does.old;
+        final = subst (λ (k : ℕ). k ≤ tolerance (final_shape former.newest)) (sym (count-same (final_shape former.newest).disks)) does.final;
       }
 
 -- ---- the backup fails
 
 module _ {tells : Type 0} (bank : Given) (c : Contents) (asked : Option (List ℕ)) (opened : Opened) (slot : ℕ) (few : bank.slots ≤ 32) (is : IsFound tells bank c (Some slot) asked opened)
-    (active : is_reshaping opened.members.newest ≡ true) {before mid after : ℕ → ℕ} (given : AreGiven bank opened.given before mid) where
+    (active : is_reshaping opened.members.newest ≡ true) (before mid after : ℕ → ℕ) (given : AreGiven bank opened.given before mid) where
   -- the slots that are left
   left : ℕ
   left = set_of 32 (λ s. has_slot opened.given s && not (slot == s))

@@ -112,9 +112,7 @@ pub fn open_array<B: Bank>(
         Ok(found) => found,
     };
     if is_reshaping(&found.members.newest) {
-        let Some(slot) = backup else {
-            unreachable!()
-        };
+        let Some(slot) = backup else { unreachable!() };
         run_moving(alloc, bank, slot, found)
     } else {
         run_still(alloc, bank, backup, found)

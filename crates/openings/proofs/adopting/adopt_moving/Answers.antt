@@ -51,7 +51,7 @@ begin_moving-moving-requires-clause-opened g c =
     let whole = λ (t : tells). subst (λ (l : List Operation). HasWholeSectors bank l) (did.tape t) (subst (λ (b : Given). HasWholeSectors b tape') did.given (c.ops-first.ensures.whole t)) in
     let opened = found-windows-open tells bank tape c.args.given c.args.backup c.args.members found buffer c.requires.opened whole did.window did.found did.sectors in
     subst (λ (b : Given). IsOpenedMoving tells b tape' c.args.given c.args.backup c.args.members found
-        (bytes_in found (take c.in-Ok-zeros.window.len (buffer ++ drop (length buffer) c.in-Ok-zeros.window.items)))) (sym did.given)
+    (bytes_in found (take c.in-Ok-zeros.window.len (buffer ++ drop (length buffer) c.in-Ok-zeros.window.items)))) (sym did.given)
     (subst (λ (l : List ℕ). IsOpenedMoving tells bank tape' c.args.given c.args.backup c.args.members found (bytes_in found l))
     (sym (written-whole c.in-Ok-zeros.window.len c.in-Ok-zeros.window.items buffer (omega (arith, did.long, c.deref_mut.ensures.len, c.in-Ok-zeros.window.ok.0)) c.in-Ok-zeros.window.ok.0))
     (subst (λ (l : List ℕ). IsOpenedMoving tells bank tape' c.args.given c.args.backup c.args.members found l) (same-bytes found buffer)

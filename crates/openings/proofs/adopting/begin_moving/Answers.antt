@@ -1,4 +1,4 @@
-use Rattle.std.proofs.Common.{◌≡◌, ◌++◌, ℕ, ◌<◌, ◌≤◌, false, List, [], length, Some, refl, sym, ◌∙◌, ap, subst, arith}
+use Rattle.std.proofs.Common.{◌≡◌, ◌++◌, ℕ, List, [], length, Some, refl, sym, ◌∙◌, ap, arith}
 use Rattle.std.proofs.lemmas.List.{length-map}
 use Rattle.bank.specs.Given.{Given}
 use Rattle.superblocks.specs.declared.members.Members.{Members}
@@ -12,7 +12,7 @@ use Rattle.array_kept.specs.Adopting.{opener, absent_losses}
 use Rattle.array_kept.proofs.ReadyLaws.{scope-same}
 use Rattle.moving_opens.specs.Opening.{AreOpenedMoving, opening_entries}
 use Rattle.moving_opens.proofs.Members.{placed-here}
-use Rattle.openings.specs.Adopted.{moving_work, IsMovingAdopted}
+use Rattle.openings.specs.Adopted.{moving_work}
 use Rattle.openings.proofs.Ready.{ready-by}
 use Rattle.openings.proofs.adopting.begin_moving.Goals as goal
 
