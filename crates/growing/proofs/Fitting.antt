@@ -1,5 +1,5 @@
 -- The reply to a request to grow fits it.
-use Rattle.std.proofs.Common.{◌≡◌, inl, inr, ℕ, Bool, true, min, take, take_all, Option, Some, None, List, [], ◌∷◌, ◌++◌, length, sym, ◌∙◌, ap, subst, arith}
+use Rattle.std.proofs.Common.{◌≤◌, append-nil, ◌≡◌, ℕ, Bool, true, min, take, take_all, Option, Some, None, List, [], ◌∷◌, ◌++◌, length, sym, ◌∙◌, ap, subst, arith}
 use Rattle.std.specs.Prelude.{IfSome, MatchBool, MatchOption, option_map, ⊤}
 use Rattle.std.specs.Option.{option_map_or}
 use Rattle.std.proofs.lemmas.List.Sums.{fold-append}
@@ -17,8 +17,8 @@ use Rattle.flat_history.specs.declared.events.Event.{Event}
 use Rattle.flat_history.specs.declared.events.Event.TheVariants.{Planned, Refused}
 use Rattle.flat_history.specs.declared.events.Request.TheVariants.{Grow as AsksGrow}
 use Rattle.flat_history.specs.Fits.{Fits, Answers, AreTornOf, WhereAsked, is_asked, phases_after, phases_left}
+use Rattle.flat_history.specs.Growing.{EndBy}
 use Rattle.flat_history.specs.Flat.{length_of, limit_of, next_number}
-use Rattle.flat_history.specs.Losses.{loses}
 use Rattle.flat_history.specs.Plain.{entries_of}
 use Rattle.flat_history.specs.World.{World, until, reading_at, opening_list}
 use Rattle.views.specs.declared.work.Work.{Work}
@@ -29,7 +29,7 @@ use Rattle.grow_asked.proofs.FirstLaws.{judged}
 use Rattle.grow_asked.proofs.FitLaws.{refusals-fit, plans-fit}
 use Rattle.kept_history.specs.Recorded.{entry_of}
 use Rattle.kept_history.specs.Safe.{world_in, IsFilledRight}
-use Rattle.kept_history.proofs.Tests.{none-before}
+use Rattle.kept_history.proofs.Turned.{filled-before}
 use Rattle.history_calls.specs.Reliable.{IsReliable}
 use Rattle.still_kept.specs.Still.{AreNoneMissing, IsStill}
 use Rattle.growing.specs.Planned.{IsReadWhereAsked, ArePhasesTold}
@@ -95,12 +95,13 @@ plan-fits world before who end a wish left number at_end told none steps =
 
 -- ---- the phases that it tells
 
-pub right-before : (world : World) (entries added : List Entry) → IsReliable world (entries ++ added) → IsReliable world entries
-right-before world entries added right = record { fills = by right.fills; room = right.room; alike = right.alike }
-  where
-    by : IsFilledRight world (entries ++ added) → IsFilledRight world entries
-    by (inl none) = inl (λ role. none-before (loses world role) entries added (none role))
-    by (inr fit) = inr fit
+pub right-before : (world : World) (entries added : List Entry) → world.first ≤ length world.tape → EndBy (length world.tape) entries → IsReliable world (entries ++ added) → IsReliable world entries
+right-before world entries added begun ends right = record {
+  fills = filled-before world [] entries added begun ends
+      (subst (λ (l : List Operation). IsFilledRight (record { start = world.start; tape = l; scope = world.scope; first = world.first }) (entries ++ added)) (sym (append-nil world.tape)) right.fills);
+  room = right.room;
+  alike = right.alike;
+}
 
 pub phases-told : {tells : Type 0} {given : Given} {tape : List Operation} {scope : Scope} {first : ℕ} {entries : List Entry} {m : Members} {work : Work} {left : ℕ} (who : Who) (end : ℕ) (wish : Wish) (steps : ℕ)
     → IsStill tells given tape scope first entries m work left → AreNoneMissing m → (tells → end ≡ length tape)
@@ -108,7 +109,8 @@ pub phases-told : {tells : Type 0} {given : Given} {tape : List Operation} {scop
     → phases_left (world_in given tape scope first) (entries ++ entries_of who end (Planned steps wish ∷ [])) ≡ length (phases (shape_of m.newest) wish)
 phases-told {given = given} {tape = tape} {scope = scope} {first = first} {entries = entries} {m = m} who end wish steps was whole at_end t right =
     let world = world_in given tape scope first in
-    let found = read-whole was t (right-before world entries (entries_of who end (Planned steps wish ∷ [])) right) whole in
+    let recorded = was.recorded t in
+    let found = read-whole was t (right-before world entries (entries_of who end (Planned steps wish ∷ [])) recorded.begun recorded.ends right) whole in
     fold-append (λ n e. phases_after world n e e.event) 0 entries (entries_of who end (Planned steps wish ∷ []))
     ∙ ap (λ (n : ℕ). option_map_or (λ r. length (phases (shape_of r.newest) wish)) (reading_at world n) 0) (at_end t)
     ∙ ap (λ (o : Option Reading). option_map_or (λ r. length (phases (shape_of r.newest) wish)) o 0) found.1

@@ -1,6 +1,7 @@
 -- What an array without a reshape keeps behind the reply to a request to grow.
-use Rattle.std.proofs.Common.{◌≡◌, ◌≢◌, inl, inr, ℕ, ◌+◌, ◌*◌, ◌<◌, ◌≤◌, length, Option, Some, None, List, [], ◌∷◌, ◌++◌, refl, sym, ◌∙◌, subst, arith}
+use Rattle.std.proofs.Common.{◌≡◌, ◌≢◌, inl, inr, ℕ, ◌+◌, ◌*◌, ◌<◌, ◌≤◌, length, Option, Some, None, List, [], ◌∷◌, ◌++◌, refl, sym, ◌∙◌, ap, subst, arith, min}
 use Rattle.std.specs.Prelude.{Bool, true, false, nat_lt, if◌then◌else◌, IfSome, IfOk, Result, Ok, Err, option_map}
+use Rattle.std.specs.Option.{option_map_or}
 use Rattle.std.proofs.lemmas.Bool.{cases_lt}
 use Rattle.std.proofs.lemmas.Bool.Decides.{nat_tests}
 use Rattle.md_base.specs.declared.answers.Refusal.TheVariants.{NeedBackup, BackupTooSmall}
@@ -13,7 +14,7 @@ use Rattle.superblocks.specs.declared.members.Members.{Members}
 use Rattle.superblocks.specs.Reading.{Scope, shape_of, list_length}
 use Rattle.flat_history.specs.declared.events.Entry.{Entry}
 use Rattle.flat_history.specs.declared.events.Event.TheVariants.{Planned}
-use Rattle.flat_history.specs.Flat.{next_number}
+use Rattle.flat_history.specs.Flat.{next_number, length_of, limit_of, visible_of}
 use Rattle.flat_history.specs.Plain.{entries_of}
 use Rattle.views.specs.declared.work.Work.{Work}
 use Rattle.call_entries.proofs.LeftLaws.{fold-left}
@@ -99,3 +100,9 @@ wide-backup given backup a wish same none some = by backup a.backup refl same
 pub ok-map : {T E : Type 0} (r : Result T E) (P Q : T → Type 0) → ((v : T) → P v → Q v) → IfOk r P → IfOk r Q
 ok-map (Ok v) P Q f is = f v is
 ok-map (Err e) P Q f is = tt
+
+-- ---- the list
+
+-- all of a list that nothing limits can be seen
+pub all-visible : (n : ℕ) (entries : List Entry) → limit_of entries ≡ None → length_of n entries ≡ n → visible_of n entries ≡ n
+all-visible n entries unlimited sized = ap (λ (o : Option ℕ). option_map_or (λ limit. min limit (length_of n entries)) o (length_of n entries)) unlimited ∙ sized

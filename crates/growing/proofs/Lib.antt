@@ -5,3 +5,4 @@ pub mod Kept
 pub mod Busy
 pub mod PlanLaws
 pub mod Unbroken
+pub mod Aside

@@ -34,8 +34,9 @@ use Rattle.call_entries.proofs.CallLaws.{AreLossEvents, losses-are}
 use Rattle.call_entries.proofs.LosingLaws.{entries-both}
 use Rattle.array_kept.specs.Calls.{IsEntered, StandsInside, IsReplied, IsAnswered, IsBehind, IsBehindAll}
 use Rattle.kept_history.specs.Recorded.{entry_of}
-use Rattle.kept_history.specs.Safe.{world_in, IsFilledRight}
-use Rattle.kept_history.proofs.Growing.{reading-grown, fit-grown, alike-before, room-before, takes-grown}
+use Rattle.kept_history.specs.Safe.{world_in}
+use Rattle.kept_history.proofs.Growing.{reading-grown, alike-before, room-before}
+use Rattle.kept_history.proofs.Turned.{filled-before}
 use Rattle.kept_history.proofs.Tests.{neither}
 use Rattle.history_calls.specs.Reliable.{IsReliable}
 use Rattle.still_kept.specs.Still.{AreNoneMissing, IsStill}
@@ -189,14 +190,10 @@ go-grown world ops shape entries ends goes =
 -- what can be relied on later could be so before
 pub reliable-before : (world : World) (ops : List Operation) (entries added : List Entry) → world.first ≤ length world.tape → EndBy (length world.tape) entries → IsReliable (grown world ops) (entries ++ added) → IsReliable world entries
 reliable-before world ops entries added begun ends right = record {
-  fills = by (right-before (grown world ops) entries added right).fills;
+  fills = filled-before world ops entries added begun ends right.fills;
   room = room-before world ops begun right.room;
   alike = alike-before world ops begun right.alike;
 }
-  where
-    by : IsFilledRight (grown world ops) entries → IsFilledRight world entries
-    by (inl none) = inl (λ role. sym (takes-grown world ops entries role ends) ∙ none role)
-    by (inr fit) = inr (subst (λ (t : Type 0). t) (fit-grown world ops begun) fit)
 
 -- ---- what is kept
 
@@ -245,7 +242,8 @@ pub planned-goes : {tells : Type 0} {given : Given} {tape : List Operation} {sco
     → GoTo (world_in given tape scope first) (last_shape (shape_of m.newest) ahead) (entries ++ entries_of who end (Planned left wish ∷ []))
 planned-goes {given = given} {tape = tape} {scope = scope} {first = first} {entries = entries} {m = m} who end wish left ahead was whole at_end is none t right =
     let world = world_in given tape scope first in
-    let found = read-whole was t (right-before world entries (entries_of who end (Planned left wish ∷ [])) right) whole in
+    let recorded = was.recorded t in
+    let found = read-whole was t (right-before world entries (entries_of who end (Planned left wish ∷ [])) recorded.begun recorded.ends right) whole in
     let goes : planned_shape world end (Planned left wish) ≡ Some (last_shape (shape_of m.newest) ahead) =
     ap (λ (n : ℕ). option_map (λ r. target (shape_of r.newest) wish) (reading_at world n)) (at_end t)
     ∙ ap (λ (o : Option Reading). option_map (λ r. target (shape_of r.newest) wish) o) found.1

@@ -1,14 +1,18 @@
 -- What is kept of an array's plans while phases of them are ahead, and which calls leave them.
-use Rattle.std.specs.Prelude.{◌≡◌, ◌++◌, false, ℕ, List, [], Option, Some}
+use Rattle.std.specs.Prelude.{◌≡◌, ◌++◌, true, false, ℕ, List, [], Option, Some}
 use Rattle.std.specs.List.{list_any, All}
+use Rattle.md_base.specs.Shapes.{has_slot}
 use Rattle.md_base.specs.declared.places.Shape.{Shape}
 use Rattle.md_base.specs.declared.wishes.Phase.{Phase}
 use Rattle.bank.specs.Given.{Given}
 use Rattle.grow_plan.specs.Plans.{largest_window, last_shape}
+use Rattle.superblocks.specs.declared.members.Members.{Members}
 use Rattle.superblocks.specs.Reading.{shape_of}
+use Rattle.superblocks.specs.Reads.{has_spare}
 use Rattle.flat_history.specs.declared.events.Entry.{Entry}
 use Rattle.flat_history.specs.Reshaped.{is_planned, open_plans, planned_shape}
 use Rattle.flat_history.specs.World.{World}
+use Rattle.views.specs.Rebuilding.{Held}
 use Rattle.grow_asked.specs.Left.{phases_of}
 use Rattle.history_calls.specs.Reliable.{IsReliable}
 use Rattle.running_words.specs.Parts.{RunningParts}
@@ -41,3 +45,9 @@ AreNoneOpen ahead entries = ahead ≡ [] → open_plans entries ≡ []
 abbrev pub GoesTo : {B : Type 0} → Type 0 → World → RunningParts B → RunningParts B → Type 0
 GoesTo tells world old new = open_plans old.parts.entries ≡ [] → tells → IsReliable world new.parts.entries
     → GoTo world (last_shape (shape_of new.parts.members.newest) (phases_of new.ahead)) new.parts.entries
+
+-- the slot was found sound, holds no role and is no spare: it can be the backup
+pub record IsAside (slots : ℕ) (members : Members) (slot : ℕ) : Type 0 where
+  pub sound : has_slot slots slot ≡ true
+  pub apart : has_spare members.spares slot ≡ false
+  pub own : (role : ℕ) → Held members role slot → ⊥

@@ -5,6 +5,7 @@ ghost use Rattle.bank.specs.Given.{sizes};
 ghost use Rattle.geometry.specs.Geometry.{is_size};
 ghost use Rattle.superblocks.specs.Reading.{is_reshaping, shape_of, list_length, role_count};
 ghost use Rattle.superblocks.specs.Verdict.{AreValidShapes};
+ghost use Rattle.flat_history.specs.Flat.{visible_of};
 ghost use Rattle.grow_asked.specs.Asked.{asked_of, grow_refusal};
 ghost use Rattle.grow_asked.specs.Left.{phases_of};
 ghost use Rattle.growing.specs.Planned.{asked_in};
@@ -67,6 +68,7 @@ fn unplanned<B: Bank>(
 pub fn judge<B: Bank>(still: Still<B>, wish: &Wish) -> (Still<B>, Option<Refusal>)
     ensures same { result.0 ≡ still }
     ensures first { result.1 ≡ grow_refusal (asked_in (B.given still.parts.bank) still) wish.now }
+    ensures visible { visible_of (list_length still.parts.members.newest) still.parts.entries ≡ list_length still.parts.members.newest }
 {
     let pieces = still.take_apart();
     let resync = pieces.work.resync;

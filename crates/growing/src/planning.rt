@@ -3,8 +3,8 @@
 ghost use Rattle.std.specs.Prelude.{◌≡◌, ◌≢◌, ◌*◌, ◌≤◌, None, Some, length, OnOk, OnErr, IfOk, IfErr};
 ghost use Rattle.md_base.specs.declared.answers.Fault.TheVariants.{NoMemory as WantsMemory};
 ghost use Rattle.grow_plan.specs.Plans.{largest_window, phases};
-ghost use Rattle.superblocks.specs.Reading.{shape_of};
-ghost use Rattle.flat_history.specs.Flat.{next_number};
+ghost use Rattle.superblocks.specs.Reading.{shape_of, list_length};
+ghost use Rattle.flat_history.specs.Flat.{next_number, visible_of};
 ghost use Rattle.flat_history.specs.declared.events.Event.TheVariants.{Planned, Refused};
 ghost use Rattle.array_kept.specs.Calls.{OnNoMemory, IsEndOf};
 ghost use Rattle.grow_asked.specs.Asked.{grow_refusal};
@@ -100,6 +100,7 @@ pub fn plan_grow<B: Bank>(
     requires caller { who.caller ≢ 254 }
     ensures answered { IsGrowAnswered B.tells (moving_world (B.given still.parts.bank) (B.tape still.parts.bank) still) (asked_in (B.given still.parts.bank) still) wish who still.parts.entries result.0.parts.entries
         (Planned (still_left result.0.parts.work result.0.parts.members result.0.ahead) wish) result.1 }
+    ensures visible { visible_of (list_length still.parts.members.newest) still.parts.entries ≡ list_length still.parts.members.newest }
     ensures judged { IsGrowJudged (asked_in (B.given still.parts.bank) still) wish result.1 }
     ensures unchanged { OnNoMemory result.1 (result.0 ≡ still) }
     ensures as_before { IsAsBefore still result.0 }

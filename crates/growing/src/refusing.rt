@@ -3,7 +3,8 @@
 ghost use Rattle.std.specs.Prelude.{◌≡◌, ◌≢◌, ◌+◌, ◌≤◌, Some};
 ghost use Rattle.md_base.specs.declared.answers.Refusal.TheVariants.{Busy};
 ghost use Rattle.md_base.specs.declared.answers.BusyKind.TheVariants.{Reshape};
-ghost use Rattle.flat_history.specs.Flat.{next_number};
+ghost use Rattle.superblocks.specs.Reading.{list_length};
+ghost use Rattle.flat_history.specs.Flat.{next_number, visible_of};
 ghost use Rattle.flat_history.specs.declared.events.Event.TheVariants.{Refused};
 ghost use Rattle.array_kept.specs.Calls.{OnNoMemory, IsEndOf};
 ghost use Rattle.running_words.specs.Calls.{moving_world};
@@ -27,6 +28,7 @@ pub fn refuse_grow<B: Bank>(
     requires caller { who.caller ≢ 254 }
     ensures answered { IsGrowAnswered B.tells (moving_world (B.given moving.parts.bank) (B.tape moving.parts.bank) moving) (asked_in (B.given moving.parts.bank) moving) wish.now who moving.parts.entries result.0.parts.entries
         (Refused (Busy Reshape)) result.1 }
+    ensures visible { visible_of (list_length moving.parts.members.newest) moving.parts.entries ≡ list_length moving.parts.members.newest }
     ensures judged { IsGrowJudged (asked_in (B.given moving.parts.bank) moving) wish.now result.1 }
     ensures unchanged { OnNoMemory result.1 (result.0 ≡ moving) }
     ensures as_before { IsAsBefore moving result.0 }

@@ -1,6 +1,7 @@
 use Rattle.std.proofs.Common.{◌≡◌, [], ◌∷◌, ◌++◌, List, refl, ◌∙◌, ap, subst, arith}
 use Rattle.md_base.specs.declared.answers.Refusal.TheVariants.{Busy}
 use Rattle.md_base.specs.declared.answers.BusyKind.TheVariants.{Reshape}
+use Rattle.superblocks.specs.Reading.{list_length}
 use Rattle.flat_history.specs.declared.events.Entry.{Entry}
 use Rattle.flat_history.specs.declared.events.Event.TheVariants.{Refused}
 use Rattle.flat_history.specs.Flat.{next_number}
@@ -10,6 +11,7 @@ use Rattle.array_kept.specs.Kept.{scope_in, world_in}
 use Rattle.array_kept.proofs.LossLaws.{ended-behind}
 use Rattle.array_kept.proofs.ReadyLaws.{scope-same}
 use Rattle.moving_laws.proofs.Kept.{ready, roomier, shapes-same, alone-keeps}
+use Rattle.growing.proofs.Kept.{all-visible}
 use Rattle.growing.proofs.Busy.{busy-fits, busy-moves}
 use Rattle.growing.proofs.refusing.refuse_grow.Goals as goal
 
@@ -51,3 +53,9 @@ returns-clause-ended g c =
     let p = c.take_apart-pieces.result.0 in
     rw (c.of_pieces-moving-2.ensures.same)
     (ended-behind (g.B.Bank.tape p.bank) c.enter.new.epoch.first c.make_room.new.self.items c.args.who c.ops-end.result [] (Refused (Busy Reshape)) c.enter.ensures.items c.ops-end.ensures.count)
+
+pub returns-clause-visible : goal.returns-clause-visible
+returns-clause-visible g c =
+    let was = c.take_apart-pieces.ensures.ready in
+    let p = c.take_apart-pieces.result.0 in
+    rw (c.take_apart-pieces.ensures.same) (all-visible (list_length p.members.newest) p.epoch.entries.items was.unlimited was.sized)
