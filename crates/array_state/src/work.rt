@@ -67,8 +67,8 @@ fn is_number(members: &Members, number: u32) -> bool
     false
 }
 
-// Which of the first 128 device numbers the superblocks bear.
-fn found_numbers(members: &Members) -> [bool; 128]
+/// Which of the first 128 device numbers the superblocks bear.
+pub fn found_numbers(members: &Members) -> [bool; 128]
     ensures numbers { result ≡ tabulate 128 (is_number_of members.now.own) }
     ensures slots { length members.now.own ≡ 32 }
 {

@@ -92,7 +92,7 @@ good-at false m c list stands row mended below = absurd (none (shape_of m.newest
 -- ---- what it has under way
 
 -- it bears the number of each superblock
-found-kept : (own : List (Option Sb)) (slot : ℕ) (sb : Sb) → length own ≡ 32 → own_in own slot ≡ Some sb → slice_index_or (tabulate 128 (is_number_of own)) sb.dev_number true ≡ true
+pub found-kept : (own : List (Option Sb)) (slot : ℕ) (sb : Sb) → length own ≡ 32 → own_in own slot ≡ Some sb → slice_index_or (tabulate 128 (is_number_of own)) sb.dev_number true ≡ true
 found-kept own slot sb long is = elim (cases_lt sb.dev_number 128) [
   | inl below ↦
       get_or-tabulate 128 (is_number_of own) sb.dev_number true below

@@ -27,7 +27,7 @@ use Rattle.call_entries.proofs.CallLaws.{AreLossEvents, losses-are, told-losses,
 use Rattle.call_entries.proofs.StepLaws.{faults-are}
 use Rattle.kept_history.specs.Recorded.{IsHistoryKept, IsLegalCall, entry_of, ends_reshape, gives_some}
 use Rattle.kept_history.specs.Safe.{world_in, IsFilledRight}
-use Rattle.kept_history.proofs.Growing.{reading-grown, opening-grown, fit-grown, gone-grown, takes-grown, alike-before, room-before}
+use Rattle.kept_history.proofs.Growing.{reading-grown, opening-grown, fit-grown, course-before, gone-grown, takes-grown, alike-before, room-before}
 use Rattle.kept_history.proofs.Tests.{none-before}
 use Rattle.kept_history.proofs.Ledgers.{any-gone}
 use Rattle.kept_history.proofs.Longer.{regains-none}
@@ -209,7 +209,8 @@ module _ (given : Given) (tape : List Operation) (scope : Scope) (first : ℕ) (
   gives-all = are.gives who end tail gives
 
   fills-before : IsFilledRight later (entries ++ added) → IsFilledRight world entries
-  fills-before (inl none) = inl (λ role. sym (takes-grown world ops entries role recorded.ends) ∙ none-before (loses later role) entries added (none role))
+  fills-before (inl none) =
+      inl (λ role. sym (takes-grown world ops entries role recorded.ends) ∙ none-before (loses later role) entries added (none.0 role), course-before world ops recorded.begun none.1)
   fills-before (inr fit) = inr (subst (λ (p : Type 0). p) (fit-grown world ops recorded.begun) fit)
 
   right-before : IsReliable later (entries ++ added) → IsReliable world entries

@@ -125,8 +125,11 @@ module _ (given : Given) (tape : List Operation) (scope : Scope) (first : ℕ) (
 
   -- it can be relied on without the last entry, and before the call
   fills-early : IsFilledRight later all → IsFilledRight (world_in given (tape ++ ops) scope first) (entries ++ entries_of who (length (tape ++ ops)) (early ++ []))
-  fills-early (inl none) = inl (λ r. subst (λ (l : List Entry). list_any (loses later r) l ≡ false) (sym none-nil)
-      (none-before (loses later r) (entries ++ more) (given_at ∷ []) (subst (λ (l : List Entry). list_any (loses later r) l ≡ false) whole (none r))))
+  fills-early (inl none) = inl (
+    λ r. subst (λ (l : List Entry). list_any (loses later r) l ≡ false) (sym none-nil)
+        (none-before (loses later r) (entries ++ more) (given_at ∷ []) (subst (λ (l : List Entry). list_any (loses later r) l ≡ false) whole (none.0 r))),
+    none.1,
+  )
   fills-early (inr fit) = inr fit
 
   right-early : IsReliable later all → IsReliable (world_in given (tape ++ ops) scope first) (entries ++ entries_of who (length (tape ++ ops)) (early ++ []))

@@ -1,6 +1,6 @@
 -- What is told of a history stays so as the tape grows.
 use Rattle.std.proofs.Common.{◌≡◌, ℕ, ◌+◌, ◌-◌, ◌<◌, ◌≤◌, ◌&&◌, ◌||◌, Bool, true, false, not, Option, Some, None, List, [], ◌∷◌, ◌++◌, length, fold, refl, sym, ◌∙◌, ap, ap₂, subst, arith, length-append}
-use Rattle.std.specs.Prelude.{◌^◌, IfSome}
+use Rattle.std.specs.Prelude.{◌^◌, IfSome, IsTrue}
 use Rattle.std.specs.Option.{option_map_or}
 use Rattle.std.specs.List.{list_any, list_all}
 use Rattle.bank.specs.declared.bank.Operation.{Operation}
@@ -8,7 +8,7 @@ use Rattle.bank.specs.Tape.{Contents}
 use Rattle.bank.proofs.Laws.{contents-earlier}
 use Rattle.superblocks.specs.declared.members.Members.{Members}
 use Rattle.superblocks.specs.Found.{AreLikeNewest}
-use Rattle.superblocks.specs.Reading.{Reading, reading, is_clean}
+use Rattle.superblocks.specs.Reading.{Reading, reading, is_clean, is_reshaping}
 use Rattle.flat_history.specs.declared.events.Entry.{Entry}
 use Rattle.flat_history.specs.declared.events.Event.{Event}
 use Rattle.flat_history.specs.declared.events.Event.TheVariants.{Lost, Rebuilt, Step}
@@ -24,7 +24,7 @@ use Rattle.flat_history.specs.Sound.{OpensFit}
 use Rattle.flat_history.specs.Stands.{stands}
 use Rattle.flat_history.specs.World.{World, contents_at, reading_at, opening_list}
 use Rattle.shape_changes.specs.Safety.{HasLiveSlot, HasRoomLeft}
-use Rattle.kept_history.specs.Safe.{IsCounted}
+use Rattle.kept_history.specs.Safe.{IsCounted, IsReshapeFit, OpensOnCourse}
 use Rattle.kept_history.specs.Told.{told_now, told_by}
 
 -- ---- the bank
@@ -47,6 +47,15 @@ module _ (world : World) (ops : List Operation) where
   pub fit-grown : world.first ≤ length world.tape → OpensFit (grown world ops) ≡ OpensFit world
   unfolding reading_at
   fit-grown within = λ i. IfSome (reading world.scope (contents-grown world.first within i)) (IsSound world.scope (contents-grown world.first within i))
+
+  pub course-grown : world.first ≤ length world.tape → OpensOnCourse (grown world ops) ≡ OpensOnCourse world
+  unfolding reading_at
+  course-grown within = λ i. IfSome (reading world.scope (contents-grown world.first within i))
+      (λ r. IsTrue (is_reshaping r.newest) → IsReshapeFit world.scope (contents-grown world.first within i) r)
+
+  -- what the opening found of a reshape it found before more was done
+  pub course-before : world.first ≤ length world.tape → OpensOnCourse (grown world ops) → OpensOnCourse world
+  course-before within on = subst (λ (p : Type 0). p) (course-grown within) on
 
   -- it found alike superblocks before it does afterwards
   pub alike-before : world.first ≤ length world.tape → OpensAlike (grown world ops) → OpensAlike world

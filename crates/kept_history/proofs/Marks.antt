@@ -106,7 +106,7 @@ module _ (given : Given) (tape : List Operation) (scope : Scope) (first : ℕ) (
   longer = longer-by tape ops
 
   fills-at : (k j : ℕ) → ((role : ℕ) → is_gone later all k j role ≡ false) ⊎ OpensFit later
-  fills-at k j = elim fills [ inl none ↦ inl (λ role. none-gone later all none k j role) | inr fit ↦ inr fit ]
+  fills-at k j = elim fills [ inl none ↦ inl (λ role. none-gone later all none.0 k j role) | inr fit ↦ inr fit ]
 
   -- ---- a mark before its end
 

@@ -1,5 +1,6 @@
 -- Which roles are gone behind a step that turns the shape, and when what is filled in is right.
-use Rattle.std.proofs.Common.{◌≡◌, inl, inr, ℕ, ◌==◌, ◌<◌, ◌≤◌, ◌&&◌, ◌||◌, Bool, true, false, not, Option, Some, List, [], ◌∷◌, ◌++◌, length, nat_le, refl, sym, ◌∙◌, ap, ap₂, subst, arith, append_assoc}
+use Rattle.std.proofs.Common.{◌≡◌, inl, inr, ℕ, ◌==◌, ◌<◌, ◌≤◌, ◌&&◌, ◌||◌, Bool, true, false, not, Option, Some, None, List, [], ◌∷◌, ◌++◌, length, nat_le, refl, sym, ◌∙◌, ap, ap₂, subst, arith, append_assoc}
+use Rattle.std.specs.Prelude.{IfSome, IsTrue}
 use Rattle.std.specs.List.{list_any}
 use Rattle.std.proofs.lemmas.Bool.Decides.{nat_tests}
 use Rattle.std.proofs.lemmas.List.Folds.{list_any-append}
@@ -7,7 +8,7 @@ use Rattle.md_base.specs.Search.{count_below}
 use Rattle.md_base.specs.Shapes.{tolerance_of}
 use Rattle.bank.specs.declared.bank.Operation.{Operation}
 use Rattle.bank.specs.Tape.{IsIn}
-use Rattle.superblocks.specs.Reading.{Reading, shape_of}
+use Rattle.superblocks.specs.Reading.{Reading, reading, is_reshaping, shape_of}
 use Rattle.flat_history.specs.declared.events.Entry.{Entry}
 use Rattle.flat_history.specs.declared.events.Event.{Event}
 use Rattle.flat_history.specs.declared.events.Event.TheVariants.{Lost, Rebuilt, Step}
@@ -17,18 +18,19 @@ use Rattle.flat_history.specs.Legal.{level_at, IsTooManyMissing}
 use Rattle.flat_history.specs.Flat.{length_of, values_of}
 use Rattle.flat_history.specs.Losses.{takes, gives_back, loses, settles, unsettles, is_gone_after, is_unsynced}
 use Rattle.flat_history.specs.OneShape.{is_lost, is_unsettled}
+use Rattle.flat_history.specs.Opened.{IsSound}
 use Rattle.flat_history.specs.Plain.{loses_role}
-use Rattle.flat_history.specs.Sound.{FillsRight}
-use Rattle.flat_history.specs.World.{World, reading_at, opening_list}
+use Rattle.flat_history.specs.Sound.{FillsRight, OpensFit}
+use Rattle.flat_history.specs.World.{World, contents_at, reading_at, opening_list}
 use Rattle.flat_history.proofs.GoneCounts.{few_missing}
 use Rattle.flat_history.proofs.SoundLaws.{fit-before}
 use Rattle.shape_changes.specs.Steady.{IsMoreTold, given_back}
 use Rattle.kept_history.specs.Recorded.{gives_some}
-use Rattle.kept_history.specs.Safe.{IsFilledRight}
+use Rattle.kept_history.specs.Safe.{IsReshapeFit, OpensOnCourse, IsFilledRight}
 use Rattle.kept_history.specs.Told.{told_now, told_by}
 use Rattle.kept_history.proofs.Entered.{adds_only, AreAdding, length-adding, values-adding, settle-none}
 use Rattle.kept_history.proofs.Longer.{regains-none}
-use Rattle.kept_history.proofs.Growing.{takes-grown}
+use Rattle.kept_history.proofs.Growing.{course-before, takes-grown}
 use Rattle.kept_history.proofs.Ledgers.{any-gone, gone-behind, unclean-now}
 use Rattle.kept_history.proofs.Tests.{neither, none-before}
 
@@ -112,9 +114,25 @@ told-rebuilt world carried reshaping entries more e role is adds none = record {
 
 -- ---- what is filled in
 
+-- a sound opening finds a reshape on its course
+pub fit-on_course : (world : World) → OpensFit world → OpensOnCourse world
+unfolding reading_at
+fit-on_course world fit = by (reading world.scope (contents_at world world.first)) fit
+  where
+    by : (found : Option Reading) → IfSome found (IsSound world.scope (contents_at world world.first))
+        → IfSome found (λ r. IsTrue (is_reshaping r.newest) → IsReshapeFit world.scope (contents_at world world.first) r)
+    by (Some r) sound = λ active. record { sections = sound.sections active; tail = sound.tail active }
+    by None sound = tt
+
+-- so does one whose fills are right
+pub fills-on_course : (world : World) (entries : List Entry) → IsFilledRight world entries → OpensOnCourse world
+fills-on_course world entries (inl none) = none.1
+fills-on_course world entries (inr fit) = fit-on_course world fit
+
 -- it is right before more entries
 pub filled-before : (world : World) (ops : List Operation) (entries added : List Entry) → world.first ≤ length world.tape → EndBy (length world.tape) entries → IsFilledRight (grown world ops) (entries ++ added) → IsFilledRight world entries
-filled-before world ops entries added within ends (inl none) = inl (λ role. sym (takes-grown world ops entries role ends) ∙ none-before (loses (grown world ops) role) entries added (none role))
+filled-before world ops entries added within ends (inl none) =
+    inl (λ role. sym (takes-grown world ops entries role ends) ∙ none-before (loses (grown world ops) role) entries added (none.0 role), course-before world ops within none.1)
 filled-before world ops entries added within ends (inr fit) = inr (fit-before world ops within fit)
 
 abbrev pub is_taken_over : Event → Bool
@@ -132,10 +150,10 @@ told-only world role (x ∷ xs) none =
     let parts = neither (is_taken_over x.event) (list_any (λ e. is_taken_over e.event) xs) none in
     ap₂ (λ (a b : Bool). a || b) (takes-told (reading_at world x.end) role x.event parts.0) (told-only world role xs parts.1)
 
--- where no level is taken over it is so where no role is told lost, or the epoch opened fit
-pub filled-told : (world : World) (entries : List Entry) → list_any (λ e. is_taken_over e.event) entries ≡ false → FillsRight world entries → IsFilledRight world entries
-filled-told world entries none (inl whole) = inl (λ role. told-only world role entries none ∙ whole role)
-filled-told world entries none (inr fit) = inr fit
+-- where no level is taken over it is so where no role is told lost and a reshape is found on its course, or the epoch opened fit
+pub filled-told : (world : World) (entries : List Entry) → list_any (λ e. is_taken_over e.event) entries ≡ false → OpensOnCourse world → FillsRight world entries → IsFilledRight world entries
+filled-told world entries none on (inl whole) = inl (λ role. told-only world role entries none ∙ whole role, on)
+filled-told world entries none on (inr fit) = inr fit
 
 -- ---- a refusal
 

@@ -1,18 +1,19 @@
 -- When the marks of an epoch are safe, and what a stop may leave now, whether the array is reshaped or not.
-use Rattle.std.specs.Prelude.{◌≡◌, ◌⊎◌, ℕ, ◌+◌, ◌≤◌, ◌||◌, Bool, true, false, List, length, remove, Some}
+use Rattle.std.specs.Prelude.{◌≡◌, ◌⊎◌, ℕ, ◌+◌, ◌≤◌, ◌||◌, Bool, true, false, List, length, remove, Some, IfSome, IsTrue}
 use Rattle.std.specs.List.{list_any}
 use Rattle.bank.specs.declared.bank.Operation.{Operation}
 use Rattle.bank.specs.Given.{Given}
-use Rattle.bank.specs.Tape.{disk}
+use Rattle.bank.specs.Tape.{Contents, disk}
 use Rattle.superblocks.specs.declared.members.Members.{Members}
-use Rattle.superblocks.specs.Reading.{Scope, Reading}
+use Rattle.superblocks.specs.Reading.{Scope, Reading, is_reshaping}
 use Rattle.flat_history.specs.declared.events.Entry.{Entry}
-use Rattle.flat_history.specs.World.{World, opening_list, reading_at}
+use Rattle.flat_history.specs.World.{World, contents_at, opening_list, reading_at}
 use Rattle.flat_history.specs.Flat.{length_of, values_of}
 use Rattle.flat_history.specs.Losses.{loses, is_gone_after, is_unsynced}
 use Rattle.flat_history.specs.OneShape.{is_unsettled}
 use Rattle.flat_history.specs.CrashSafe.{MayBeLeftOut}
 use Rattle.flat_history.specs.Growing.{IsSafeThroughout}
+use Rattle.flat_history.specs.Opened.{HasFittingSections, HasZeroTail}
 use Rattle.flat_history.specs.Sound.{OpensFit, LeavesSoundThroughout}
 use Rattle.shape_views.specs.Views.{Ledger}
 use Rattle.shape_changes.specs.Changing.{IsSpentByEither}
@@ -28,9 +29,18 @@ world_in given tape scope first = record { start = given.start; tape = tape; sco
 abbrev pub TakesNone : World → List Entry → Type 0
 TakesNone world entries = (role : ℕ) → list_any (loses world role) entries ≡ false
 
--- What is filled in is right: there is nothing to fill in, or the epoch opened fit.
+-- What a sound opening finds of a reshape itself: each section that the header names is that of the next window, or lies in the new region, and the tail is zero.
+pub record IsReshapeFit (scope : Scope) (c : Contents) (r : Reading) : Type 0 where
+  pub sections : HasFittingSections scope c r.newest
+  pub tail : HasZeroTail c r
+
+-- a reshape that is active at the opening is found so, whatever is found of rows
+abbrev pub OpensOnCourse : World → Type 0
+OpensOnCourse world = IfSome (reading_at world world.first) (λ r. IsTrue (is_reshaping r.newest) → IsReshapeFit world.scope (contents_at world world.first) r)
+
+-- What is filled in is right: there is nothing to fill in, and a reshape is found on its course, or the epoch opened fit.
 abbrev pub IsFilledRight : World → List Entry → Type 0
-IsFilledRight world entries = TakesNone world entries ⊎ OpensFit world
+IsFilledRight world entries = (TakesNone world entries × OpensOnCourse world) ⊎ OpensFit world
 
 -- the event count rose by no more than the operations since the opening
 pub record IsCounted (world : World) (members : Members) : Type 0 where

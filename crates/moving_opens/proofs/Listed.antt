@@ -1,23 +1,29 @@
 -- The list of an array in a reshape that an opening finds stands in its course: nothing of the window is copied, and its section's sectors are in the buffer.
-use Rattle.std.proofs.Common.{◌≡◌, inl, inr, ℕ, ◌+◌, ◌-◌, ◌/◌, ◌<◌, ◌≤◌, nat_lt, nat_le, ◌&&◌, Bool, true, false, cond, List, [], Option, Some, None, unwrap_or, refl, sym, ◌∙◌, ap, ap₂, subst, arith}
+use Rattle.std.proofs.Common.{◌≡◌, inl, inr, ℕ, zero, suc, ◌+◌, ◌-◌, ◌*◌, ◌/◌, ◌<◌, ◌≤◌, nat_lt, nat_le, ◌&&◌, Bool, true, false, cond, List, [], Option, Some, None, unwrap_or, refl, sym, ◌∙◌, ap, ap₂, subst, arith}
 use Rattle.std.specs.Prelude.{slice_index_or}
 use Rattle.std.proofs.lemmas.Bool.{cases_lt}
 use Rattle.std.proofs.lemmas.Bool.Decides.{nat_tests}
+use Rattle.std.proofs.lemmas.Nat.{mul-le}
+use Rattle.std.proofs.Math.Nat.{div-mul-le_self}
 use Rattle.md_base.specs.declared.places.Shape.{Shape}
+use Rattle.md_base.specs.declared.places.Side.{Side}
+use Rattle.md_base.specs.declared.places.Side.TheVariants.{Old, New}
 use Rattle.md_base.specs.declared.places.Span.{Span}
 use Rattle.md_base.specs.Sectors.{Sector, zero_sector}
 use Rattle.md_base.specs.Shapes.{stripe_sectors}
 use Rattle.bank.specs.Given.{Given, sizes}
 use Rattle.bank.specs.Tape.{Contents}
 use Rattle.layout.specs.Layout.{place, row_roles}
+use Rattle.layout.proofs.Places.{chunk_some, place-role_below}
 use Rattle.parity.specs.Parity.{Row, fill}
 use Rattle.parity.specs.Rows.{IsSector}
 use Rattle.parity.proofs.Columns.{tabulate-same}
 use Rattle.geometry.specs.Geometry as geometry
+use Rattle.geometry.specs.Geometry.{side}
 use Rattle.superblocks.specs.declared.members.Members.{Members}
-use Rattle.superblocks.specs.Reading.{Scope, Reading, reading, is_reshaping, is_backward, shape_of, final_shape, list_length, next_window}
+use Rattle.superblocks.specs.Reading.{Scope, Reading, reading, is_reshaping, is_backward, shape_of, final_shape, list_length, next_window, data_offset_of}
 use Rattle.superblocks.specs.Election.{reading_in}
-use Rattle.row_io.specs.Rows.{reading_of, held_sector, held_row, standing_sector, IsTolerated}
+use Rattle.row_io.specs.Rows.{reading_of, held_sector, held_row, held_slot, standing_sector, IsTolerated}
 use Rattle.list_io.specs.Full.{RowStands}
 use Rattle.flat_history.specs.Opened.{HasGoodRows, HasZeroTail}
 use Rattle.flat_history.specs.Reshaped.{IsGoodRow}
@@ -27,15 +33,20 @@ use Rattle.shape_views.specs.Views.{IsTail}
 use Rattle.shape_views.specs.Windows.{IsShown, ListStands, RowsStand, AreTailsStanding}
 use Rattle.shape_views.proofs.Alike.{for-both, valid-for, row-below}
 use Rattle.shape_views.proofs.Standing.{standing_at, section-here, held-same, read-covered, read-placed}
+use Rattle.shape_views.proofs.UnderWay.{shape-on, side-or}
 use Rattle.shape_views.proofs.WindowLaws.{open-window}
 use Rattle.grow_asked.specs.declared.window.Window.{Window}
 use Rattle.views.specs.Placed.{IsPlaced}
+use Rattle.region_mends.specs.Mends.{low_shape, low_stripes, AreEndsStanding}
+use Rattle.region_writes.proofs.Sides.{low-valid, low-is, low-before, low-few}
 use Rattle.course_kept.specs.Course.{hidden_in, HasWindowIn, IsCopiedRow, past_stripe, AnyShape, StandsInCourse}
 use Rattle.course_kept.proofs.Courses.{none-of-none}
+use Rattle.course_mends.specs.Mended.{IsMendSector}
+use Rattle.course_mends.proofs.Ends.{tails-are-ends}
 use Rattle.reshape_openings.specs.Finding.{window_for, IsFoundIn}
 use Rattle.moving_opens.specs.Opening.{found_course}
 use Rattle.moving_opens.proofs.Regions.{for-same, beside-window, past-tail, past-old}
-use Rattle.moving_opens.proofs.Rows.{standing-held, good-stands}
+use Rattle.moving_opens.proofs.Rows.{zero-is_sector, standing-held, standing-whole, good-stands}
 
 is-less : (a b : ℕ) → a < b → nat_lt a b ≡ true
 is-less a b lt = grind (arith, nat_tests, lt)
@@ -48,6 +59,19 @@ is-covered span x (low, high) = of span.lo span.hi low high
   where
     of : (lo hi : ℕ) → lo ≤ x → x < hi → ◌≡◌ {A = Bool} (nat_le lo x && nat_lt x hi) true
     of lo hi low high = grind (arith, nat_tests, low, high)
+
+-- backward, the first sector is new only at the last position
+at-first : (back : Bool) (p : ℕ) → back ≡ true → side back p 0 ≡ New → p ≡ 0
+at-first false p is new = absurd (cc)
+at-first true p is new = of (nat_le p 0) refl new
+  where
+    of : (b : Bool) → nat_le p 0 ≡ b → ◌≡◌ {A = Side} (cond b New Old) New → p ≡ 0
+    of true e is = grind (arith, nat_tests, e)
+    of false e is = absurd (cc)
+
+more : (n k below : ℕ) → below < n * k → 0 < n
+more zero k below lt = absurd (let none : 0 * k ≡ 0 = omega arith in omega (arith, lt, none))
+more (suc n) k below lt = omega arith
 
 -- what is hidden is what the header makes active
 hidden-is : (o : Option Span) → hidden_in (window_for o) ≡ o
@@ -178,6 +202,90 @@ module _ (bank : Given) (scope : Scope) (sizes_are : scope.sizes ≡ sizes bank)
     row-stands =
         good-stands bank m placed scope sizes_are c whole shape (valid-for m.newest placed.fit x) (for-both (λ (s : Shape). IsTolerated (reading_of m) s) m.newest does.old does.final x) row row-in list listed
         r (held-row-same shape row) good-here
+
+  -- ---- behind the list's end, in the last stripe below the position
+
+  module _ (placed : IsPlaced bank m) (x : ℕ) (past-it : list_length m.newest ≤ x) (under : (place (low_shape m.newest) x).row < low_stripes m.newest * (low_shape m.newest).chunk) where
+    -- backward, the old shape places it
+    low-old : is_backward m.newest ≡ true → low_shape m.newest ≡ shape_of m.newest
+    low-old back = elim (side-or (is_backward m.newest) m.newest.reshape_position 0) [
+      | inl is ↦ shape-on m.newest active 0 Old is
+      | inr is ↦ absurd (
+          let none = at-first (is_backward m.newest) m.newest.reshape_position back is in
+          let some = more (low_stripes m.newest) (low_shape m.newest).chunk (place (low_shape m.newest) x).row under in
+          let reach = low-before m.newest placed.fit 0 some in
+          let end = low-is m.newest placed.fit active in
+          let chunk = chunk_some (low_shape m.newest) (low-valid m.newest placed.fit) in
+          let first : 0 * stripe_sectors (low_shape m.newest) ≡ 0 = omega arith in
+          omega (arith, none, reach, end, chunk, first))
+    ]
+
+    -- in a row that members have
+    low-row : (place (low_shape m.newest) x).row < m.newest.size
+    low-row =
+        let few = low-few m.newest placed.fit in
+        let all = mul-le (low_stripes m.newest) (low_shape m.newest).chunk (m.newest.size / (low_shape m.newest).chunk) (low_shape m.newest).chunk few (omega arith) in
+        let most = div-mul-le_self m.newest.size (low_shape m.newest).chunk in
+        omega (arith, under, all, most)
+
+  -- what slots hold there is the list's too
+  pub ends-stand : IsPlaced bank m → HasZeroTail c r → AreEndsStanding m c list
+  ends-stand placed zeros = of (is_backward m.newest) refl
+    where
+      of : (back : Bool) → is_backward m.newest ≡ back → AreEndsStanding m c list
+      of false forth = tails-are-ends m c list placed.fit active (inl forth) (tails-stand zeros)
+      of true back = λ x slot past-it under held.
+          subst (λ (s : Shape). held_slot (reading_of m) (place s x).role (place s x).row ≡ Some slot → c slot (data_offset_of (reading_of m) slot + (place s x).row) ≡ list x) (sym (low-old placed x past-it under back))
+          (λ here. sym (list-old back x past-it ∙ standing-held m c (shape_of m.newest) (place (shape_of m.newest) x).row (place (shape_of m.newest) x).role slot here)) held
+
+  -- ---- the sectors that a resync reads are whole
+
+  module _ (whole : (slot k : ℕ) → k < scope.sizes.sectors slot → IsSector (c slot k)) (placed : IsPlaced bank m)
+      (room : (span : Span) → next_window m.newest ≡ Some span → 8 + (span.hi - span.lo) ≤ scope.sizes.sectors (backup_of scope)) where
+    whole-shown : (x : ℕ) → IsShown hidden m.newest x → IsSector (list x)
+    whole-shown x shown =
+        subst IsSector (sym (list-shown x shown))
+        (standing-whole bank m placed scope sizes_are c whole (shape_for m.newest x) (valid-for m.newest placed.fit x) (for-both (λ (s : Shape). IsTolerated (reading_of m) s) m.newest does.old does.final x)
+        (place_by m.newest x).row (row-below m.newest placed.fit x shown.within) (place_by m.newest x).role (place-role_below (shape_for m.newest x) (valid-for m.newest placed.fit x) x))
+
+    whole-hidden : (span : Span) → hidden ≡ Some span → (x : ℕ) → geometry.IsIn x span → x < list_length m.newest → IsSector (list x)
+    whole-hidden span is x within lt =
+        subst IsSector (sym (list-hidden span is x within lt))
+        (whole (backup_of scope) (8 + (x - span.lo))
+        (let fits = room span (open-window scope m.newest (header_in scope c) span is) in let low = within.0 in let high = within.1 in omega (arith, fits, low, high)))
+
+    whole-in : (x : ℕ) → x < list_length m.newest → IsSector (list x)
+    whole-in x lt = of hidden refl
+      where
+        inside : (lo hi : ℕ) → ◌≡◌ {A = Bool} (nat_le lo x && nat_lt x hi) true → (lo ≤ x) × (x < hi)
+        inside lo hi is = (grind (arith, nat_tests, is), grind (arith, nat_tests, is))
+
+        by : (o : Option Span) → open_by scope m.newest (header_in scope c) ≡ o → (b : Bool) → covers o x ≡ b → IsSector (list x)
+        by (Some span) is true at = whole-hidden span is x (inside span.lo span.hi at) lt
+        by None is true at = absurd (cc)
+        by o is false out = whole-shown x (record { within = lt; outside = ap (λ (o : Option Span). covers o x) is ∙ out })
+
+        of : (o : Option Span) → open_by scope m.newest (header_in scope c) ≡ o → IsSector (list x)
+        of o is = by o is (covers o x) refl
+
+    whole-past : (x : ℕ) → list_length m.newest ≤ x → (place (low_shape m.newest) x).row < low_stripes m.newest * (low_shape m.newest).chunk → IsSector (list x)
+    whole-past x past-it under = of (is_backward m.newest) refl
+      where
+        of : (back : Bool) → is_backward m.newest ≡ back → IsSector (list x)
+        of false forth = subst IsSector (sym (list-zero forth x past-it)) zero-is_sector
+        of true back =
+            let old = low-old placed x past-it under back in
+            subst IsSector (sym (list-old back x past-it))
+            (standing-whole bank m placed scope sizes_are c whole (shape_of m.newest) placed.fit.valid.old does.old (place (shape_of m.newest) x).row
+            (subst (λ (s : Shape). (place s x).row < m.newest.size) old (low-row placed x past-it under)) (place (shape_of m.newest) x).role
+            (place-role_below (shape_of m.newest) placed.fit.valid.old x))
+
+    pub mend-whole : (x : ℕ) → IsMendSector m.newest x → IsSector (list x)
+    mend-whole x (inl lt) = whole-in x lt
+    mend-whole x (inr under) = elim (cases_lt x (list_length m.newest)) [
+      | inl lt ↦ whole-in x lt
+      | inr past-it ↦ whole-past x past-it under
+    ]
 
   -- ---- the course
 

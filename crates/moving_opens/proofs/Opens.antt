@@ -1,7 +1,8 @@
--- What an opening finds of a clean array in a reshape that fits is what such an array keeps.
-use Rattle.std.proofs.Common.{◌≡◌, inl, inr, ℕ, ◌+◌, ◌<◌, ◌&&◌, ◌||◌, nat_le, Bool, true, false, not, cond, if◌then◌else◌, List, [], ◌∷◌, length, take, drop, MatchOption, Option, Some, None, IfSome, refl, sym, ◌∙◌, ap, subst, arith}
-use Rattle.std.specs.Prelude.{slice_index_or, ⊤}
+-- What an opening finds of an array in a reshape is what such an array keeps.
+use Rattle.std.proofs.Common.{◌≡◌, inl, inr, ℕ, ◌+◌, ◌<◌, ◌≤◌, ◌&&◌, ◌||◌, nat_le, Bool, true, false, not, cond, if◌then◌else◌, List, [], ◌∷◌, length, take, drop, MatchOption, Option, Some, None, IfSome, refl, sym, ◌∙◌, ap, subst, arith}
+use Rattle.std.specs.Prelude.{slice_index_or, is_some, IsSome, IsTrue, ⊤}
 use Rattle.std.specs.Option.{option_map_or}
+use Rattle.std.proofs.lemmas.Bool.Decides.{nat_tests}
 use Rattle.md_base.specs.declared.answers.Refusal.{Refusal}
 use Rattle.md_base.specs.declared.answers.Refusal.TheVariants.{BackupAbsent}
 use Rattle.md_base.specs.declared.places.Span.{Span}
@@ -39,6 +40,7 @@ use Rattle.shape_views.proofs.Standing.{read-length}
 use Rattle.shape_views.proofs.Stands.{window-inside}
 use Rattle.shape_changes.specs.Safety.{HasLiveSlot}
 use Rattle.shape_changes.specs.Steady.{IsSafeOver}
+use Rattle.views.specs.Lacking.{DoesWithout}
 use Rattle.views.specs.Moving.{IsMoved}
 use Rattle.views.specs.Placed.{IsPlaced}
 use Rattle.views.specs.Under.{StandsUnder, RowsStandUnder}
@@ -46,17 +48,22 @@ use Rattle.views.proofs.HeldRows.{missing-moved}
 use Rattle.views.proofs.SoundViews.{leaves-now}
 use Rattle.array_kept.specs.Adopting.{opener, absent_losses}
 use Rattle.kept_history.specs.Recorded.{IsHistoryKept}
-use Rattle.kept_history.specs.Safe.{world_in, IsFilledRight, IsCounted, IsSafeHistory}
+use Rattle.kept_history.specs.Safe.{world_in, IsReshapeFit, OpensOnCourse, IsFilledRight, IsCounted, IsSafeHistory}
 use Rattle.kept_history.specs.Told.{told_now}
 use Rattle.kept_history.proofs.Opened.{opened-kept, opened-safe}
+use Rattle.kept_history.proofs.Turned.{fills-on_course}
 use Rattle.history_calls.specs.Reliable.{IsReliable, AreToldGone, HasLastStep}
 use Rattle.history_calls.proofs.LastStep.{opened-last}
 use Rattle.grow_asked.specs.declared.window.Window.{Window}
-use Rattle.course_kept.specs.declared.course.Course.{Course}
 use Rattle.course_kept.specs.Course.{IsStoredAs, HasSection, IsStored, AnyShape, StandsInCourse}
 use Rattle.course_kept.proofs.Frames.{stands-without}
 use Rattle.course_kept.proofs.Courses.{courses-move}
 use Rattle.course_kept.proofs.Under.{courses-stand-under}
+use Rattle.region_mends.specs.Mends.{mend_stripes}
+use Rattle.course_mends.specs.Mended.{IsUnmended, StandsMended}
+use Rattle.course_mends.proofs.Mended.{none-pending, mended-courses-move}
+use Rattle.course_mends.proofs.Windows.{resyncs-begin}
+use Rattle.moving_state.proofs.ReshapeLaws.{window-reach}
 use Rattle.moving_kept.specs.Moving.{HasListInCourse}
 use Rattle.found_members.specs.Found.{AreStored}
 use Rattle.found_members.proofs.Elected.{elected-does}
@@ -64,8 +71,8 @@ use Rattle.found_members.proofs.Held.{found-numbers, found-is-held}
 use Rattle.found_members.proofs.Read.{found-read}
 use Rattle.reshape_openings.specs.Finding.{window_for, IsFoundIn}
 use Rattle.reshape_openings.specs.Recovering.{AreRecovering}
-use Rattle.moving_opens.specs.Opening.{scope_of, IsOpenedMoving, opening_entries, AreAmong, found_course, IsReshapeFit, IsCleanAndFit, FoundWindowsOpen, OpeningsMove, OpeningsStand, SoundReshapesFit}
-use Rattle.moving_opens.proofs.Listed.{found-list, list-in, tails-stand, row-stands, found-stands}
+use Rattle.moving_opens.specs.Opening.{scope_of, IsOpenedMoving, opening_entries, AreAmong, found_course, found_resync, FoundWindowsOpen, OpeningsMove}
+use Rattle.moving_opens.proofs.Listed.{found-list, list-in, tails-stand, row-stands, ends-stand, mend-whole, found-stands}
 use Rattle.moving_opens.proofs.Losses.{all-found, events-are, all-absent, all-gone, no-resync, same-level, no-left, same-length, same-values}
 use Rattle.moving_opens.proofs.Members.{fit-here, placed-here, backed-here, moved-here, reshaping-here}
 use Rattle.moving_opens.proofs.Right.{first-in, first-now, found-right, found-flushed, found-carried}
@@ -78,6 +85,13 @@ first : (a b : Bool) → (a && b) ≡ true → a ≡ true
 first true b is = refl
 first false b is = absurd (cc)
 
+second : (a b : Bool) → (a && b) ≡ true → b ≡ true
+second true b is = is
+second false b is = absurd (cc)
+
+is-most : (a b : ℕ) → nat_le a b ≡ true → a ≤ b
+is-most a b is = grind (arith, nat_tests, is)
+
 -- an active reshape has room in its backup where that isn't refused
 roomy : (a b : Bool) → a ≡ true → ◌≡◌ {A = Option Refusal} (cond (not a || b) None (Some BackupAbsent)) None → b ≡ true
 roomy true true is none = refl
@@ -88,6 +102,11 @@ roomy false b is none = absurd (cc)
 found-sound : (bank : Given) (tape : List Operation) (scope : Scope) (r : Reading) → reading scope (present bank tape) ≡ Some r → OpensFit (world_in bank tape scope (length tape)) → IsSound scope (present bank tape) r
 unfolding reading_at
 found-sound bank tape scope r says fits = subst (λ (o : Option Reading). IfSome o (IsSound scope (present bank tape))) says fits
+
+-- the array was found clean, by a sound opening: only then is the parity of its rows relied on
+record IsCleanAndFit (world : World) (members : Members) : Type 0 where
+  clean : is_clean members.newest ≡ true
+  fit : OpensFit world
 
 module _ {tells : Type 0} {bank : Given} {tape : List Operation} {given backup : ℕ} {former : Members} {window : Window} {buffer : List ℕ} (opened : IsOpenedMoving tells bank tape given backup former window buffer)
     (lost : ℕ) (recovering : AreRecovering former lost) where
@@ -178,14 +197,22 @@ module _ {tells : Type 0} {bank : Given} {tape : List Operation} {given backup :
     gone : AreToldGone world entries m
     gone role lt miss = all-gone opener (length tape) (reading_of m) n world role lt miss
 
-    dirty : is_clean former.newest ≡ false → was_dirty world ≡ true
-    dirty unclean = ap (λ (o : Option Reading). option_map_or (λ q. not (is_clean q.newest)) o false) reading-is ∙ ap not unclean
+    dirty : was_dirty world ≡ not (is_clean former.newest)
+    dirty = ap (λ (o : Option Reading). option_map_or (λ q. not (is_clean q.newest)) o false) reading-is
+
+    unsynced : is_unsynced world entries ≡ (not (is_clean former.newest) && true)
+    unsynced = λ i. dirty i && not (no-resync opener (length tape) (reading_of m) n i)
 
     unclean : is_clean former.newest ≡ false → (is_unsynced world entries || is_unsettled entries) ≡ true
-    unclean is = ap (λ (b : Bool). b || is_unsettled entries) unsynced
+    unclean is = ap (λ (b : Bool). b || is_unsettled entries) (unsynced ∙ ap (λ (b : Bool). not b && true) is)
+
+    -- a resync is owed where the array was found dirty
+    pending : is_unsynced world entries ≡ is_some (found_resync former)
+    pending = unsynced ∙ of (is_clean former.newest)
       where
-        unsynced : is_unsynced world entries ≡ true
-        unsynced = λ i. dirty is i && not (no-resync opener (length tape) (reading_of m) n i)
+        of : (b : Bool) → (not b && true) ≡ is_some {T = ℕ} (if b then None else Some 0)
+        of true = refl
+        of false = refl
 
     absent : (role : ℕ) → role < n → is_missing (reading_of m) role ≡ true → IsAbsentAtFirst world role
     absent role lt miss = subst (λ (o : Option Reading). MatchOption o ⊥ (λ q. (role < role_count q.newest) × (is_whole (role_state q role) ≡ false))) (sym reading-is) (lt, was-missing role miss)
@@ -204,9 +231,15 @@ module _ {tells : Type 0} {bank : Given} {tape : List Operation} {given backup :
 
     -- ---- the backup
 
-    -- it is a given slot
+    -- it is a given slot, with room for each window
+    room-there : (has_slot given backup && nat_le (8 + reach_of former.newest) (scope.sizes.sectors backup)) ≡ true
+    room-there = roomy (is_reshaping former.newest) (has_slot given backup && nat_le (8 + reach_of former.newest) (scope.sizes.sectors backup)) opened.members_are.active opened.members_are.backed
+
     backup-given : has_slot given backup ≡ true
-    backup-given = first (has_slot given backup) (nat_le (8 + reach_of former.newest) (scope.sizes.sectors backup)) (roomy (is_reshaping former.newest) (has_slot given backup && nat_le (8 + reach_of former.newest) (scope.sizes.sectors backup)) opened.members_are.active opened.members_are.backed)
+    backup-given = first (has_slot given backup) (nat_le (8 + reach_of former.newest) (scope.sizes.sectors backup)) room-there
+
+    long-enough : 8 + reach_of former.newest ≤ scope.sizes.sectors backup
+    long-enough = is-most (8 + reach_of former.newest) (scope.sizes.sectors backup) (second (has_slot given backup) (nat_le (8 + reach_of former.newest) (scope.sizes.sectors backup)) room-there)
 
     header-is : (header : Sector) → IsIn (disk bank.start tape backup 0) header → header ≡ header_in scope c
     header-is header may = only header (c backup 0) (subst (λ (l : List Sector). IsIn l header) (stored.flushed backup 0 backup-given) may)
@@ -225,6 +258,11 @@ module _ {tells : Type 0} {bank : Given} {tape : List Operation} {given backup :
 
     sound-is : OpensFit world → IsSound scope c r
     sound-is fits = found-sound bank tape scope r stored.says fits
+
+    -- the reshape is found on its course
+    reshape-fit : OpensOnCourse world → IsReshapeFit (scope_of bank given backup former) (present bank tape) (reading_in bank.slots former)
+    unfolding reading_at
+    reshape-fit on = subst (λ (o : Option Reading). IfSome o (λ q. IsTrue (is_reshaping q.newest) → IsReshapeFit (scope_of bank given backup former) (present bank tape) q)) stored.says on opened.members_are.active
 
     module _ (reshape : IsReshapeFit (scope_of bank given backup former) (present bank tape) (reading_in bank.slots former)) where
       -- the headers fit
@@ -269,11 +307,49 @@ module _ {tells : Type 0} {bank : Given} {tape : List Operation} {given backup :
       stands-here : StandsInCourse (IsCleanAndFit world former) AnyShape m (found_course window) buffer c list
       stands-here = courses-move (IsCleanAndFit world former) AnyShape bank former m (found_course window) buffer c c list placed moved (λ slot k other. refl) stands-former
 
-      listed : HasListInCourse (IsCleanAndFit world former) m (found_course window) buffer c (now (opening_list world) entries)
+      -- of a dirty array no row is asked yet, and what its resync reads is whole
+      begins : StandsMended (OpensFit world) AnyShape (Some 0) former (found_course window) buffer c list
+      begins =
+          resyncs-begin (OpensFit world) AnyShape former (found_course window) buffer c list fit (no-rows stands-former)
+          (λ aside any. ends-stand bank scope refl former backed opened.members_are.active does c read stored.says placed reshape.tail)
+          (λ so. mend-whole bank scope refl former backed opened.members_are.active does c read stored.says (λ slot k within. sectors-whole bank tape (length tape) slot k (opened.members_are.whole t) within) placed
+          (λ span next. let reach = window-reach former.newest fit span next in let long = long-enough in omega (arith, reach, long)))
+        where
+          no-rows : {so : Type 0} → StandsInCourse so AnyShape former (found_course window) buffer c list → StandsInCourse ⊥ AnyShape former (found_course window) buffer c list
+          no-rows was = record { stands = was.stands; window = was.window; zeros = was.zeros; copied = was.copied; tail = was.tail; zeroed = was.zeroed; rows = λ so. absurd so }
+
+      stands-mended : (clean : Bool) → is_clean former.newest ≡ clean
+          → StandsMended (OpensFit world) (λ shape. DoesWithout shape m) (if clean then None else Some 0) m (found_course window) buffer c list
+      stands-mended true is =
+          (none-pending (OpensFit world) (λ shape. DoesWithout shape m) m (found_course window) buffer c list).0
+          (stands-without (OpensFit world) m (found_course window) buffer c list (of-clean stands-here))
+        where
+          of-clean : StandsInCourse (IsCleanAndFit world former) AnyShape m (found_course window) buffer c list → StandsInCourse (OpensFit world) AnyShape m (found_course window) buffer c list
+          of-clean was = record {
+            stands = was.stands;
+            window = was.window;
+            zeros = was.zeros;
+            copied = was.copied;
+            tail = was.tail;
+            zeroed = was.zeroed;
+            rows = λ so. was.rows (record { clean = is; fit = so });
+          }
+      stands-mended false is =
+          fewer (mended-courses-move (OpensFit world) AnyShape bank former m (Some 0) (found_course window) buffer c c list placed moved (λ slot k other. refl) begins)
+        where
+          fewer : StandsMended (OpensFit world) AnyShape (Some 0) m (found_course window) buffer c list → StandsMended (OpensFit world) (λ shape. DoesWithout shape m) (Some 0) m (found_course window) buffer c list
+          fewer was = record {
+            in_course = stands-without ⊥ m (found_course window) buffer c list was.in_course;
+            ends = λ some aside own. was.ends some aside tt;
+            whole = was.whole;
+            rows = λ so x below own. was.rows so x below tt;
+          }
+
+      listed : HasListInCourse (OpensFit world) m (found_resync former) (found_course window) buffer c (now (opening_list world) entries)
       listed = record {
         list = list;
         is = λ x lt. list-now x lt ∙ sym (ap (λ (l : List Sector). slice_index_or l 0 []) (same-values opener (length tape) (reading_of m) n (opening_list world) x) ∙ first-now (opening_list world) x);
-        stands = stands-without (IsCleanAndFit world former) m (found_course window) buffer c list stands-here;
+        stands = stands-mended (is_clean former.newest) refl;
       }
 
       -- ---- what a stop may leave
@@ -320,47 +396,57 @@ module _ {tells : Type 0} {bank : Given} {tape : List Operation} {given backup :
             opened-safe ⊤ bank tape scope m carried true opener (absent_losses (reading_of m) n) refl right (safe-now alike)
             (λ claimed so. leaves-now world bank told m refl (safe-now alike) so) counted
 
+abbrev Opening : Given → List Operation → ℕ → ℕ → Members → ℕ → World
+Opening bank tape given backup former k = world_in bank tape (scope_of bank given backup former) k
+
+-- the resync that is owed has mended nothing
+none-mended : (clean : Bool) (most : ℕ) → IfSome {T = ℕ} (if clean then None else Some 0) (λ mended. mended ≤ most)
+none-mended true most = tt
+none-mended false most = omega arith
+
+unmended : (clean : Bool) → IsUnmended (if clean then None else Some 0)
+unmended true = tt
+unmended false = refl
+
+owed : (clean : Bool) → IsSome {T = ℕ} (if clean then None else Some 0) → clean ≡ false
+owed true some = absurd (cc)
+owed false some = refl
+
 pub openings-move : (tells : Type 0) → OpeningsMove tells
-openings-move tells bank tape given backup lost first left former window buffer carried opened recovering clean among first_is reshape = record {
+openings-move tells bank tape given backup lost first left former window buffer carried opened recovering among first_is = record {
   slots = opened.members_are.elected.few;
   members_are = reshaping-here bank given backup former opened.members_are.elected opened.members_are.aside opened.members_are.active opened.members_are.backed lost recovering;
   course_is = record { window = opened.window_is; through = λ some. absurd (omega (arith, some)); few = omega arith };
   sizes_are = refl;
   left_told = subst (λ (o : Option ℕ). IfSome o (λ k. k ≡ left)) (sym (no-left opener first (reading_of (members_without lost former)) (role_count former.newest))) tt;
-  levelled = λ t. at t (λ (k : ℕ). IsReliable (world_in bank tape (scope_of bank given backup former) k) (opening_entries k (members_without lost former)) → tolerance_of (level_at (world_in bank tape (scope_of bank given backup former) k) (opening_entries k (members_without lost former))) ≡ tolerance (shape_of former.newest))
-      (λ right. level opened lost recovering t);
-  gone = λ t. at t (λ (k : ℕ). IsReliable (world_in bank tape (scope_of bank given backup former) k) (opening_entries k (members_without lost former)) → AreToldGone (world_in bank tape (scope_of bank given backup former) k) (opening_entries k (members_without lost former)) (members_without lost former)) (λ right. gone opened lost recovering t);
-  unclean = λ t. at t (λ (k : ℕ). is_clean former.newest ≡ false → (is_unsynced (world_in bank tape (scope_of bank given backup former) k) (opening_entries k (members_without lost former)) || is_unsettled (opening_entries k (members_without lost former))) ≡ true) (unclean opened lost recovering t);
-  recorded = λ t. at t (λ (k : ℕ). IsHistoryKept (IsReliable (world_in bank tape (scope_of bank given backup former) k) (opening_entries k (members_without lost former))) (world_in bank tape (scope_of bank given backup former) k) (list_length former.newest) (opening_entries k (members_without lost former)))
+  progress = none-mended (is_clean former.newest) (mend_stripes former.newest);
+  beside = inr (unmended (is_clean former.newest));
+  pending = λ t. at t (λ (k : ℕ). is_unsynced (Opening bank tape given backup former k) (opening_entries k (members_without lost former)) ≡ is_some (found_resync former)) (pending opened lost recovering t);
+  dirty = λ does. owed (is_clean former.newest);
+  levelled = λ t. at t (λ (k : ℕ). IsReliable (Opening bank tape given backup former k) (opening_entries k (members_without lost former))
+      → tolerance_of (level_at (Opening bank tape given backup former k) (opening_entries k (members_without lost former))) ≡ tolerance (shape_of former.newest)) (λ right. level opened lost recovering t);
+  gone = λ t. at t (λ (k : ℕ). IsReliable (Opening bank tape given backup former k) (opening_entries k (members_without lost former))
+      → AreToldGone (Opening bank tape given backup former k) (opening_entries k (members_without lost former)) (members_without lost former)) (λ right. gone opened lost recovering t);
+  unclean = λ t. at t (λ (k : ℕ). is_clean former.newest ≡ false → (is_unsynced (Opening bank tape given backup former k) (opening_entries k (members_without lost former)) || is_unsettled (opening_entries k (members_without lost former))) ≡ true)
+      (unclean opened lost recovering t);
+  recorded = λ t. at t (λ (k : ℕ). IsHistoryKept (IsReliable (Opening bank tape given backup former k) (opening_entries k (members_without lost former))) (Opening bank tape given backup former k) (list_length former.newest) (opening_entries k (members_without lost former)))
       (recorded opened lost recovering t);
-  last_step = λ t. at t (λ (k : ℕ). HasLastStep (world_in bank tape (scope_of bank given backup former) k) (opening_entries k (members_without lost former)) (list_length former.newest)) (last-step opened lost recovering t);
-  stored = λ t. is-stored opened lost recovering t (reshape t);
-  listed = λ t. at t (λ (k : ℕ). IsFilledRight (world_in bank tape (scope_of bank given backup former) k) (opening_entries k (members_without lost former))
-      → HasListInCourse (OpensFit (world_in bank tape (scope_of bank given backup former) k)) (members_without lost former) (found_course window) buffer (present bank tape) (now (opening_list (world_in bank tape (scope_of bank given backup former) k)) (opening_entries k (members_without lost former))))
-      (λ right. listed-clean (listed opened lost recovering t (reshape t)));
-  safe = λ t. at t (λ (k : ℕ). IsFilledRight (world_in bank tape (scope_of bank given backup former) k) (opening_entries k (members_without lost former)) → HasRoomForEvents (world_in bank tape (scope_of bank given backup former) k) → OpensAlike (world_in bank tape (scope_of bank given backup former) k)
-      → IsSafeHistory ⊤ (world_in bank tape (scope_of bank given backup former) k) bank (members_without lost former) carried true (opening_entries k (members_without lost former)))
-      (λ right room alike. safe opened lost recovering t (reshape t) carried among right alike);
+  last_step = λ t. at t (λ (k : ℕ). HasLastStep (Opening bank tape given backup former k) (opening_entries k (members_without lost former)) (list_length former.newest)) (last-step opened lost recovering t);
+  stored = λ t. at t (λ (k : ℕ). OpensOnCourse (Opening bank tape given backup former k) → IsStored (scope_of bank given backup former) (members_without lost former) window buffer (disk bank.start tape))
+      (λ on. is-stored opened lost recovering t (reshape-fit opened lost recovering t on));
+  listed = λ t. at t (λ (k : ℕ). IsFilledRight (Opening bank tape given backup former k) (opening_entries k (members_without lost former))
+      → HasListInCourse (OpensFit (Opening bank tape given backup former k)) (members_without lost former) (found_resync former) (found_course window) buffer (present bank tape)
+      (now (opening_list (Opening bank tape given backup former k)) (opening_entries k (members_without lost former))))
+      (λ right. listed opened lost recovering t (reshape-fit opened lost recovering t
+      (fills-on_course (Opening bank tape given backup former (length tape)) (opening_entries (length tape) (members_without lost former)) right)));
+  safe = λ t. at t (λ (k : ℕ). IsFilledRight (Opening bank tape given backup former k) (opening_entries k (members_without lost former)) → HasRoomForEvents (Opening bank tape given backup former k) → OpensAlike (Opening bank tape given backup former k)
+      → IsSafeHistory ⊤ (Opening bank tape given backup former k) bank (members_without lost former) carried true (opening_entries k (members_without lost former)))
+      (λ right room alike. safe opened lost recovering t (reshape-fit opened lost recovering t
+      (fills-on_course (Opening bank tape given backup former (length tape)) (opening_entries (length tape) (members_without lost former)) right)) carried among right alike);
 }
   where
     at : tells → (P : ℕ → Type 0) → P (length tape) → P first
     at t P holds = subst P (sym (first_is t)) holds
-
-    listed-clean : {world : World} {m : Members} {course : Course} {sectors : List ℕ} {c : Contents} {current : ℕ → Sector}
-        → HasListInCourse (IsCleanAndFit world former) m course sectors c current → HasListInCourse (OpensFit world) m course sectors c current
-    listed-clean {world} was = record {
-      list = was.list;
-      is = was.is;
-      stands = record {
-        stands = was.stands.stands;
-        window = was.stands.window;
-        zeros = was.stands.zeros;
-        copied = was.stands.copied;
-        tail = was.stands.tail;
-        zeroed = was.stands.zeroed;
-        rows = λ so. was.stands.rows (record { clean = clean; fit = so });
-      };
-    }
 
 -- ---- what is found
 
@@ -377,16 +463,3 @@ found-windows-open tells bank tape given backup members window buffer are is fou
   });
   sectors = sectors;
 }
-
--- ---- a dirty one
-
-pub openings-stand : (tells : Type 0) → OpeningsStand tells
-openings-stand tells bank tape given backup lost former window buffer carried opened recovering among t reshape = record {
-  listed = listed opened lost recovering t reshape;
-  safe = λ right alike. safe opened lost recovering t reshape carried among right alike;
-}
-
-pub sound-reshapes-fit : (tells : Type 0) → SoundReshapesFit tells
-sound-reshapes-fit tells bank tape given backup former window buffer opened t fits =
-    let sound = found-sound bank tape (scope_of bank given backup former) (reading_in bank.slots former) (opened.members_are.stored t).says fits in
-    record { sections = sound.sections opened.members_are.active; tail = sound.tail opened.members_are.active }

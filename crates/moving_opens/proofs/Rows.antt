@@ -31,7 +31,7 @@ use Rattle.flat_history.specs.Reshaped.{IsGoodRow}
 use Rattle.flat_history.specs.Stands.{held_row as found_row}
 use Rattle.views.specs.Placed.{IsPlaced}
 
-zero-is_sector : IsSector zero_sector
+pub zero-is_sector : IsSector zero_sector
 unfolding zero_sector
 zero-is_sector = record {
   whole = length-replicate {A = ℕ} 512 0;
@@ -53,8 +53,7 @@ standing-held m c shape row role slot held =
     (fill (row_roles shape row) (held_row c (reading_of m) shape row) role) slot held
 
 module _ (bank : Given) (m : Members) (placed : IsPlaced bank m) (scope : Scope) (sizes_are : scope.sizes ≡ sizes bank) (c : Contents) (whole : (slot k : ℕ) → k < scope.sizes.sectors slot → IsSector (c slot k))
-    (shape : Shape) (valid : is_valid_shape shape ≡ true) (does : IsTolerated (reading_of m) shape) (row : ℕ) (below : row < m.newest.size) (list : ℕ → Sector)
-    (listed : (x : ℕ) → (place shape x).row ≡ row → list x ≡ standing_sector c (reading_of m) shape row (place shape x).role) where
+    (shape : Shape) (valid : is_valid_shape shape ≡ true) (does : IsTolerated (reading_of m) shape) (row : ℕ) (below : row < m.newest.size) where
   abbrev own : Reading
   own = reading_of m
 
@@ -111,43 +110,48 @@ module _ (bank : Given) (m : Members) (placed : IsPlaced bank m) (scope : Scope)
       (λ other l held. ap (λ (b : Bool). cond (not b) (fill roles (row_without lacks shape.disks there) other) (there other)) held)
       (λ other l none. ap (λ (b : Bool). cond (not b) (fill roles (row_without lacks shape.disks there) other) (there other)) none) role lt
 
-  -- a sector that has its place in the row is that of its role
-  full-listed : (x : ℕ) → (place shape x).row ≡ row → list x ≡ full (place shape x).role
-  full-listed x at = listed x at ∙ sym (full-stands (place shape x).role (place-role_below shape valid x))
+  -- so each sector of it stands whole
+  pub standing-whole : (role : ℕ) → role < shape.disks → IsSector (standing_sector c (reading_of m) shape row role)
+  standing-whole role lt = subst IsSector (full-stands role lt) (full-whole role lt)
 
-  -- and so is whole
-  row-whole : AreWholeIn shape list row
-  row-whole x at = subst IsSector (sym (full-listed x at)) (full-whole (place shape x).role (place-role_below shape valid x))
+  module _ (list : ℕ → Sector) (listed : (x : ℕ) → (place shape x).row ≡ row → list x ≡ standing_sector c (reading_of m) shape row (place shape x).role) where
+    -- a sector that has its place in the row is that of its role
+    full-listed : (x : ℕ) → (place shape x).row ≡ row → list x ≡ full (place shape x).role
+    full-listed x at = listed x at ∙ sym (full-stands (place shape x).role (place-role_below shape valid x))
 
-  list-there : (role x : ℕ) → place shape x ≡ record { role = role; row = row } → list x ≡ standing_sector c own shape row role
-  list-there role x at = listed x (ap (λ (p : Place). p.row) at) ∙ ap (λ (p : Place). standing_sector c own shape row p.role) at
+    -- and so is whole
+    row-whole : AreWholeIn shape list row
+    row-whole x at = subst IsSector (sym (full-listed x at)) (full-whole (place shape x).role (place-role_below shape valid x))
 
-  module _ (found : Reading) (same : found_row c found shape row ≡ held_row c own shape row) (good : IsGoodRow c found shape row) where
-    row-there : found_row c found shape row ≡ row_without lacks shape.disks there
-    row-there = same ∙ sym (row_is c own shape row there there (λ role slot lt held. there-is role slot held))
+    list-there : (role x : ℕ) → place shape x ≡ record { role = role; row = row } → list x ≡ standing_sector c own shape row role
+    list-there role x at = listed x (ap (λ (p : Place). p.row) at) ∙ ap (λ (p : Place). standing_sector c own shape row p.role) at
 
-    full-good : AreEquationsMet roles (whole_row shape.disks full)
-    full-good = good-filled roles there there-whole lacks few (subst (λ (l : Row). AreEquationsMet roles l) row-there good.parity)
+    module _ (found : Reading) (same : found_row c found shape row ≡ held_row c own shape row) (good : IsGoodRow c found shape row) where
+      row-there : found_row c found shape row ≡ row_without lacks shape.disks there
+      row-there = same ∙ sym (row_is c own shape row there there (λ role slot lt held. there-is role slot held))
 
-    full-data_is : (role : ℕ) → role < shape.disks → is_parity roles role ≡ false → full role ≡ list (listed_at shape row role)
-    full-data_is role lt here =
-        let at = sector_there shape role row valid lt here in
-        full-stands role lt ∙ sym (ap list (listed-is shape role row at.0 valid at.1) ∙ list-there role at.0 at.1)
+      full-good : AreEquationsMet roles (whole_row shape.disks full)
+      full-good = good-filled roles there there-whole lacks few (subst (λ (l : Row). AreEquationsMet roles l) row-there good.parity)
 
-    full-parity_is : (role : ℕ) → role < shape.disks → is_parity roles role ≡ true → full role ≡ full_sector shape list row role
-    full-parity_is role lt here =
-        let but : IsGoodBut roles full (is_parity roles) =
-        record { valid = row_roles-valid shape row valid; whole = full-whole; good = full-good; tolerated = parity_few roles full } in
-        sym (ap (λ (b : Bool). cond b (fill roles (row_without (is_parity roles) shape.disks full) role) (full role)) here
-        ∙ fills-are-own roles full (is_parity roles) role but lt)
-        ∙ filled-same roles shape.disks full (λ other. list (listed_at shape row other)) full-data_is role lt
-
-    -- the row stands as the list
-    pub good-stands : RowStands (reading_of m) c shape list row
-    good-stands = record {
-      whole = row-whole;
-      sectors = λ role slot lt here held.
+      full-data_is : (role : ℕ) → role < shape.disks → is_parity roles role ≡ false → full role ≡ list (listed_at shape row role)
+      full-data_is role lt here =
           let at = sector_there shape role row valid lt here in
-          sym (full-data shape list role row at.0 valid at.1 ∙ list-there role at.0 at.1 ∙ standing-held m c shape row role slot held);
-      parity = λ role slot lt here held. sym (standing-held m c shape row role slot held) ∙ sym (full-stands role lt) ∙ full-parity_is role lt here;
-    }
+          full-stands role lt ∙ sym (ap list (listed-is shape role row at.0 valid at.1) ∙ list-there role at.0 at.1)
+
+      full-parity_is : (role : ℕ) → role < shape.disks → is_parity roles role ≡ true → full role ≡ full_sector shape list row role
+      full-parity_is role lt here =
+          let but : IsGoodBut roles full (is_parity roles) =
+          record { valid = row_roles-valid shape row valid; whole = full-whole; good = full-good; tolerated = parity_few roles full } in
+          sym (ap (λ (b : Bool). cond b (fill roles (row_without (is_parity roles) shape.disks full) role) (full role)) here
+          ∙ fills-are-own roles full (is_parity roles) role but lt)
+          ∙ filled-same roles shape.disks full (λ other. list (listed_at shape row other)) full-data_is role lt
+
+      -- the row stands as the list
+      pub good-stands : RowStands (reading_of m) c shape list row
+      good-stands = record {
+        whole = row-whole;
+        sectors = λ role slot lt here held.
+            let at = sector_there shape role row valid lt here in
+            sym (full-data shape list role row at.0 valid at.1 ∙ list-there role at.0 at.1 ∙ standing-held m c shape row role slot held);
+        parity = λ role slot lt here held. sym (standing-held m c shape row role slot held) ∙ sym (full-stands role lt) ∙ full-parity_is role lt here;
+      }

@@ -1,31 +1,24 @@
 -- What an opening finds of an array in a reshape, and that this is what such an array keeps.
-use Rattle.std.specs.Prelude.{◌≡◌, ℕ, Bool, true, List, length, Some, None, ⊤}
+use Rattle.std.specs.Prelude.{◌≡◌, ℕ, Bool, true, List, length, if◌then◌else◌, Option, Some, None}
 use Rattle.sb1.specs.declared.sb.Sb.{Sb}
 use Rattle.bank.specs.declared.bank.Operation.{Operation}
 use Rattle.bank.specs.Given.{Given}
-use Rattle.bank.specs.Tape.{Contents, disk}
+use Rattle.bank.specs.Tape.{disk}
 use Rattle.bank.specs.Whole.{HasWholeSectors}
 use Rattle.superblocks.specs.declared.members.Members.{Members}
-use Rattle.superblocks.specs.Election.{reading_in}
-use Rattle.superblocks.specs.Reading.{Scope, Reading, is_reshaping, is_clean, role_count}
+use Rattle.superblocks.specs.Reading.{Scope, is_reshaping, is_clean, role_count}
 use Rattle.superblocks.specs.Update.{own_in}
 use Rattle.row_io.specs.Rows.{reading_of, present, members_without}
 use Rattle.flat_history.specs.declared.events.Entry.{Entry}
-use Rattle.flat_history.specs.Epochs.{OpensAlike}
-use Rattle.flat_history.specs.Flat.{now}
-use Rattle.flat_history.specs.Opened.{HasFittingSections, HasZeroTail}
 use Rattle.flat_history.specs.Plain.{entries_of}
-use Rattle.flat_history.specs.Sound.{OpensFit}
 use Rattle.flat_history.specs.Stands.{backup_absent}
-use Rattle.flat_history.specs.World.{World, opening_list}
 use Rattle.shape_views.specs.Regions.{header_in, open_by}
 use Rattle.array_kept.specs.Kept.{scope_in}
 use Rattle.array_kept.specs.Adopting.{opener, absent_losses}
-use Rattle.kept_history.specs.Safe.{world_in, IsFilledRight, IsSafeHistory}
 use Rattle.grow_asked.specs.declared.window.Window.{Window}
 use Rattle.course_kept.specs.Course.{IsWindowOf}
 use Rattle.course_kept.specs.declared.course.Course.{Course}
-use Rattle.moving_kept.specs.Moving.{HasListInCourse, IsMoving}
+use Rattle.moving_kept.specs.Moving.{IsMoving}
 use Rattle.found_members.specs.Found.{AreElected, AreStored}
 use Rattle.reshape_openings.specs.Finding.{IsLookedFor, window_for, bytes_for, IsFoundIn}
 use Rattle.reshape_openings.specs.Recovering.{AreRecovering}
@@ -70,38 +63,13 @@ AreAmong carried members = (slot : ℕ) (sb : Sb) → own_in members.own slot �
 abbrev pub found_course : Window → Course
 found_course window = record { window = window; zeroed = 0 }
 
--- What a sound opening finds of the reshape itself: each section that the header names is that of the next window, or lies in the new region, and the tail is zero.
-pub record IsReshapeFit (scope : Scope) (c : Contents) (r : Reading) : Type 0 where
-  pub sections : HasFittingSections scope c r.newest
-  pub tail : HasZeroTail c r
+-- the resync that such an array owes: of one that was found dirty, with nothing mended
+abbrev pub found_resync : Members → Option ℕ
+found_resync members = if is_clean members.newest then None else Some 0
 
--- A clean array whose reshape is found so keeps, without the slots that recover a role, what an array in a reshape keeps, whatever number of steps is left.
+-- What was opened keeps, without the slots that recover a role, what an array in a reshape keeps, whatever number of steps is left.
 abbrev pub OpeningsMove : (tells : Type 0) → Type 0
 OpeningsMove tells = (bank : Given) (tape : List Operation) (given backup recovering first left : ℕ) (former : Members) (window : Window) (buffer : List ℕ) (carried : ℕ → Bool)
-    → IsOpenedMoving tells bank tape given backup former window buffer → AreRecovering former recovering → is_clean former.newest ≡ true → AreAmong carried former
-    → (tells → first ≡ length tape) → (tells → IsReshapeFit (scope_of bank given backup former) (present bank tape) (reading_in bank.slots former))
+    → IsOpenedMoving tells bank tape given backup former window buffer → AreRecovering former recovering → AreAmong carried former → (tells → first ≡ length tape)
     → IsMoving tells bank tape (scope_of bank given backup former) first (opening_entries first (members_without recovering former)) (members_without recovering former) carried
-    (found_course window) buffer left
-
--- the array was found clean, by a sound opening: only then is the parity of its rows relied on
-pub record IsCleanAndFit (world : World) (members : Members) : Type 0 where
-  pub clean : is_clean members.newest ≡ true
-  pub fit : OpensFit world
-
--- Clean or not: the list of such an opening stands in its course, but for what is said of rows, and each mark so far is safe.
-pub record IsFoundInCourse (bank : Given) (tape : List Operation) (scope : Scope) (former members : Members) (window : Window) (buffer : List ℕ) (carried : ℕ → Bool) : Type 0 where
-  pub listed : HasListInCourse (IsCleanAndFit (world_in bank tape scope (length tape)) former) members (found_course window) buffer (present bank tape)
-      (now (opening_list (world_in bank tape scope (length tape))) (opening_entries (length tape) members))
-  pub safe : IsFilledRight (world_in bank tape scope (length tape)) (opening_entries (length tape) members) → OpensAlike (world_in bank tape scope (length tape))
-      → IsSafeHistory ⊤ (world_in bank tape scope (length tape)) bank members carried true (opening_entries (length tape) members)
-
-abbrev pub OpeningsStand : (tells : Type 0) → Type 0
-OpeningsStand tells = (bank : Given) (tape : List Operation) (given backup recovering : ℕ) (former : Members) (window : Window) (buffer : List ℕ) (carried : ℕ → Bool)
-    → IsOpenedMoving tells bank tape given backup former window buffer → AreRecovering former recovering → AreAmong carried former → tells
-    → IsReshapeFit (scope_of bank given backup former) (present bank tape) (reading_in bank.slots former)
-    → IsFoundInCourse bank tape (scope_of bank given backup former) former (members_without recovering former) window buffer carried
-
--- A sound opening finds the reshape so.
-abbrev pub SoundReshapesFit : (tells : Type 0) → Type 0
-SoundReshapesFit tells = (bank : Given) (tape : List Operation) (given backup : ℕ) (former : Members) (window : Window) (buffer : List ℕ) → IsOpenedMoving tells bank tape given backup former window buffer → tells
-    → OpensFit (world_in bank tape (scope_of bank given backup former) (length tape)) → IsReshapeFit (scope_of bank given backup former) (present bank tape) (reading_in bank.slots former)
+    (found_resync former) (found_course window) buffer left

@@ -1,19 +1,21 @@
--- The step of a reshape that is next, and what is true there.
+-- The step that is next in a reshape, and what is true there.
 use Rattle.std.proofs.Common.{◌≡◌, inl, inr, ℕ, ◌<◌, ◌≤◌, nat_lt, Bool, true, false, if◌then◌else◌, is_some, Option, Some, None, refl, sym, ◌∙◌, ap, arith}
+use Rattle.std.specs.Prelude.{IfSome}
 use Rattle.std.proofs.lemmas.Bool.{cases_lt}
 use Rattle.std.proofs.lemmas.Bool.Decides.{nat_tests}
 use Rattle.md_base.specs.declared.places.Span.{Span}
 use Rattle.sb1.specs.declared.sb.Sb.{Sb}
 use Rattle.superblocks.specs.Reading.{is_reshaping, next_window}
 use Rattle.shape_views.specs.Regions.{AreShapesFit}
+use Rattle.region_mends.specs.Mends.{mend_stripes}
 use Rattle.grow_asked.specs.declared.window.Window.{Window}
 use Rattle.grow_asked.specs.declared.window.Window.TheVariants.{Closed, Entered, Unsure}
 use Rattle.grow_asked.specs.Left.{stripes_in, zeroed_by}
 use Rattle.course_kept.specs.declared.course.Course.{Course}
 use Rattle.course_kept.specs.Course.{IsCourseOf}
 use Rattle.moving_state.specs.declared.stepping.Due.{Due}
-use Rattle.moving_state.specs.declared.stepping.Due.TheVariants.{Copy, Record, Enter, Zero, Finish}
-use Rattle.moving_state.specs.Due.{due_in, due_of, IsDue}
+use Rattle.moving_state.specs.declared.stepping.Due.TheVariants.{Copy, Record, Mend, EndResync, Enter, Zero, Finish}
+use Rattle.moving_state.specs.Due.{open_in, due_aside, due_in, due_of, IsDue}
 use Rattle.moving_state.proofs.ReshapeLaws.{through-of}
 
 below : (a b : ℕ) → nat_lt a b ≡ true → a < b
@@ -48,30 +50,48 @@ none-zeroed newest course span is next = elim (cases_lt 0 course.zeroed) [
   | inr few ↦ omega (arith, few)
 ]
 
+both-ways : (a b : ℕ) → a ≤ b → b ≤ a → a ≡ b
+both-ways a b most all = omega (arith, most, all)
+
 module _ (newest : Sb) (fit : AreShapesFit newest) (active : is_reshaping newest ≡ true) (zeroed : ℕ) where
   -- behind the last window
-  ended : IsCourseOf newest (course-at Closed zeroed) → next_window newest ≡ None → (b : Bool) → nat_lt zeroed (zeroed_by newest) ≡ b → IsDue newest (course-at Closed zeroed) (if b then Zero else Finish)
-  ended is none true lt = (refl, below zeroed (zeroed_by newest) lt, through-of newest fit active none)
+  ended : IsCourseOf newest (course-at Closed zeroed) → next_window newest ≡ None → (b : Bool) → nat_lt zeroed (zeroed_by newest) ≡ b → IsDue newest (course-at Closed zeroed) None (if b then Zero else Finish)
+  ended is none true lt = (refl, below zeroed (zeroed_by newest) lt, through-of newest fit active none, refl)
   ended is none false ge =
-      (ap (λ (n : ℕ). course-at Closed n) (let few = is.few in let all = above zeroed (zeroed_by newest) ge in omega (arith, few, all)), through-of newest fit active none)
+      (ap (λ (n : ℕ). course-at Closed n) (let few = is.few in let all = above zeroed (zeroed_by newest) ge in omega (arith, few, all)), through-of newest fit active none, refl)
 
   between : IsCourseOf newest (course-at Closed zeroed) → (found : Option Span) → next_window newest ≡ found
-      → IsDue newest (course-at Closed zeroed) (if is_some found then Enter else if nat_lt zeroed (zeroed_by newest) then Zero else Finish)
-  between is (Some span) next = (span, inl (ap (λ (n : ℕ). course-at Closed n) (none-zeroed newest (course-at Closed zeroed) span is next)), next)
+      → IsDue newest (course-at Closed zeroed) None (if is_some found then Enter else if nat_lt zeroed (zeroed_by newest) then Zero else Finish)
+  between is (Some span) next = (span, inl (ap (λ (n : ℕ). course-at Closed n) (none-zeroed newest (course-at Closed zeroed) span is next)), next, refl)
   between is None none = ended is none (nat_lt zeroed (zeroed_by newest)) refl
 
   -- of a window that is unsure
   again : (span : Span) → IsCourseOf newest (course-at (Unsure span) zeroed) → (found : Option Span) → next_window newest ≡ found
-      → IsDue newest (course-at (Unsure span) zeroed) (if is_some found then Enter else if nat_lt zeroed (zeroed_by newest) then Zero else Finish)
+      → IsDue newest (course-at (Unsure span) zeroed) None (if is_some found then Enter else if nat_lt zeroed (zeroed_by newest) then Zero else Finish)
   again span is None none = absurd (let next : next_window newest ≡ Some span = is.window in let e = sym none ∙ next in cc)
   again span is (Some found) here =
       let next : next_window newest ≡ Some span = is.window in
-      (span, inr (ap (λ (n : ℕ). course-at (Unsure span) n) (none-zeroed newest (course-at (Unsure span) zeroed) span is next)), next)
+      (span, inr (ap (λ (n : ℕ). course-at (Unsure span) n) (none-zeroed newest (course-at (Unsure span) zeroed) span is next)), next, refl)
 
-  -- in an entered one
-  inside : (span : Span) (copied : ℕ) (sectioned : Bool) → IsCourseOf newest (course-at (Entered span copied sectioned) zeroed) → (b : Bool) → nat_lt copied (stripes_in newest span) ≡ b
-      → IsDue newest (course-at (Entered span copied sectioned) zeroed) (if b then Copy else Record)
-  inside span copied sectioned is true lt =
+  -- while a resync is pending
+  mending : (window : Window) → open_in window ≡ None → (mended : ℕ) → mended ≤ mend_stripes newest → (b : Bool) → nat_lt mended (mend_stripes newest) ≡ b
+      → IsDue newest (course-at window zeroed) (Some mended) (if b then Mend else EndResync)
+  mending window aside mended most true lt = (mended, refl, below mended (mend_stripes newest) lt, aside)
+  mending window aside mended most false ge = (ap (λ (n : ℕ). Some n) (both-ways mended (mend_stripes newest) most (above mended (mend_stripes newest) ge)), aside)
+
+  closed-due : IsCourseOf newest (course-at Closed zeroed) → (resync : Option ℕ) → IfSome resync (λ mended. mended ≤ mend_stripes newest) → IsDue newest (course-at Closed zeroed) resync (due_aside newest zeroed resync)
+  closed-due is None most = between is (next_window newest) refl
+  closed-due is (Some mended) most = mending Closed refl mended most (nat_lt mended (mend_stripes newest)) refl
+
+  unsure-due : (span : Span) → IsCourseOf newest (course-at (Unsure span) zeroed) → (resync : Option ℕ) → IfSome resync (λ mended. mended ≤ mend_stripes newest)
+      → IsDue newest (course-at (Unsure span) zeroed) resync (due_aside newest zeroed resync)
+  unsure-due span is None most = again span is (next_window newest) refl
+  unsure-due span is (Some mended) most = mending (Unsure span) refl mended most (nat_lt mended (mend_stripes newest)) refl
+
+  -- in an entered window
+  inside : (span : Span) (copied : ℕ) (sectioned : Bool) (resync : Option ℕ) → IsCourseOf newest (course-at (Entered span copied sectioned) zeroed) → (b : Bool) → nat_lt copied (stripes_in newest span) ≡ b
+      → IsDue newest (course-at (Entered span copied sectioned) zeroed) resync (if b then Copy else Record)
+  inside span copied sectioned resync is true lt =
       let next : next_window newest ≡ Some span = is.window.0 in (
         span,
         copied,
@@ -80,7 +100,7 @@ module _ (newest : Sb) (fit : AreShapesFit newest) (active : is_reshaping newest
         next,
         below copied (stripes_in newest span) lt,
       )
-  inside span copied sectioned is false ge =
+  inside span copied sectioned resync is false ge =
       let next : next_window newest ≡ Some span = is.window.0 in
       let most : copied ≤ stripes_in newest span = is.window.1 in
       let all : copied ≡ stripes_in newest span = (let more = above copied (stripes_in newest span) ge in omega (arith, most, more)) in (
@@ -91,10 +111,11 @@ module _ (newest : Sb) (fit : AreShapesFit newest) (active : is_reshaping newest
         next,
       )
 
-  window-due : (window : Window) → IsCourseOf newest (course-at window zeroed) → IsDue newest (course-at window zeroed) (due_in newest window zeroed)
-  window-due Closed is = between is (next_window newest) refl
-  window-due (Entered span copied sectioned) is = inside span copied sectioned is (nat_lt copied (stripes_in newest span)) refl
-  window-due (Unsure span) is = again span is (next_window newest) refl
+  window-due : (window : Window) (resync : Option ℕ) → IsCourseOf newest (course-at window zeroed) → IfSome resync (λ mended. mended ≤ mend_stripes newest) → IsDue newest (course-at window zeroed) resync (due_in newest window zeroed resync)
+  window-due Closed resync is most = closed-due is resync most
+  window-due (Entered span copied sectioned) resync is most = inside span copied sectioned resync is (nat_lt copied (stripes_in newest span)) refl
+  window-due (Unsure span) resync is most = unsure-due span is resync most
 
-pub due-is : (newest : Sb) (course : Course) → AreShapesFit newest → is_reshaping newest ≡ true → IsCourseOf newest course → IsDue newest course (due_of newest course)
-due-is newest course fit active is = window-due newest fit active course.zeroed course.window is
+pub due-is : (newest : Sb) (course : Course) (resync : Option ℕ) → AreShapesFit newest → is_reshaping newest ≡ true → IsCourseOf newest course → IfSome resync (λ mended. mended ≤ mend_stripes newest)
+    → IsDue newest course resync (due_of newest course resync)
+due-is newest course resync fit active is most = window-due newest fit active course.zeroed course.window resync is most

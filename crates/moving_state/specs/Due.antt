@@ -7,10 +7,11 @@ use Rattle.grow_asked.specs.declared.window.Window.{Window}
 use Rattle.grow_asked.specs.declared.window.Window.TheVariants.{Closed, Entered, Unsure}
 use Rattle.grow_asked.specs.Left.{stripes_in, zeroed_by}
 use Rattle.window_steps.specs.Zeroing.{IsThrough}
+use Rattle.region_mends.specs.Mends.{mend_stripes}
 use Rattle.course_kept.specs.declared.course.Course.{Course}
 use Rattle.course_kept.specs.Laws.{entered, closed, unsure}
 use Rattle.moving_state.specs.declared.stepping.Due.{Due}
-use Rattle.moving_state.specs.declared.stepping.Due.TheVariants.{Copy, Record, Enter, Zero, Finish}
+use Rattle.moving_state.specs.declared.stepping.Due.TheVariants.{Copy, Record, Mend, EndResync, Enter, Zero, Finish}
 
 -- ---- the window
 
@@ -32,20 +33,27 @@ unsure_in (Unsure span) = Some span
 abbrev pub due_between : Sb → ℕ → Due
 due_between newest zeroed = if is_some (next_window newest) then Enter else if nat_lt zeroed (zeroed_by newest) then Zero else Finish
 
--- In an entered window each stripe is copied, and then it is recorded.
-abbrev pub due_in : Sb → Window → ℕ → Due
-due_in newest Closed cleared = due_between newest cleared
-due_in newest (Entered span copied sectioned) cleared = if nat_lt copied (stripes_in newest span) then Copy else Record
-due_in newest (Unsure span) cleared = due_between newest cleared
+-- But while a resync is pending, each stripe that it hasn't mended is, and then it ends.
+abbrev pub due_aside : Sb → ℕ → Option ℕ → Due
+due_aside newest zeroed None = due_between newest zeroed
+due_aside newest zeroed (Some mended) = if nat_lt mended (mend_stripes newest) then Mend else EndResync
 
-abbrev pub due_of : Sb → Course → Due
-due_of newest course = due_in newest course.window course.zeroed
+-- In an entered window each stripe is copied, and then it is recorded, whether a resync is pending or not.
+abbrev pub due_in : Sb → Window → ℕ → Option ℕ → Due
+due_in newest Closed zeroed resync = due_aside newest zeroed resync
+due_in newest (Entered span copied sectioned) zeroed resync = if nat_lt copied (stripes_in newest span) then Copy else Record
+due_in newest (Unsure span) zeroed resync = due_aside newest zeroed resync
 
--- What is true where a step is next: of the window and of how far the reshape has come.
-abbrev pub IsDue : Sb → Course → Due → Type 0
-IsDue newest course Copy = (span : Span) × (copied : ℕ) × (sectioned : Bool)
+abbrev pub due_of : Sb → Course → Option ℕ → Due
+due_of newest course resync = due_in newest course.window course.zeroed resync
+
+-- What is true where a step is next: of the window, of how far the reshape has come, and of a pending resync.
+abbrev pub IsDue : Sb → Course → Option ℕ → Due → Type 0
+IsDue newest course resync Copy = (span : Span) × (copied : ℕ) × (sectioned : Bool)
     × (course ≡ entered span copied sectioned) × (next_window newest ≡ Some span) × (copied < stripes_in newest span)
-IsDue newest course Record = (span : Span) × (sectioned : Bool) × (course ≡ entered span (stripes_in newest span) sectioned) × (next_window newest ≡ Some span)
-IsDue newest course Enter = (span : Span) × ((course ≡ closed 0) ⊎ (course ≡ unsure span)) × (next_window newest ≡ Some span)
-IsDue newest course Zero = (course ≡ closed course.zeroed) × (course.zeroed < zeroed_by newest) × IsThrough newest
-IsDue newest course Finish = (course ≡ closed (zeroed_by newest)) × IsThrough newest
+IsDue newest course resync Record = (span : Span) × (sectioned : Bool) × (course ≡ entered span (stripes_in newest span) sectioned) × (next_window newest ≡ Some span)
+IsDue newest course resync Mend = (mended : ℕ) × (resync ≡ Some mended) × (mended < mend_stripes newest) × (open_in course.window ≡ None)
+IsDue newest course resync EndResync = (resync ≡ Some (mend_stripes newest)) × (open_in course.window ≡ None)
+IsDue newest course resync Enter = (span : Span) × ((course ≡ closed 0) ⊎ (course ≡ unsure span)) × (next_window newest ≡ Some span) × (resync ≡ None)
+IsDue newest course resync Zero = (course ≡ closed course.zeroed) × (course.zeroed < zeroed_by newest) × IsThrough newest × (resync ≡ None)
+IsDue newest course resync Finish = (course ≡ closed (zeroed_by newest)) × IsThrough newest × (resync ≡ None)

@@ -1,8 +1,10 @@
 //! The stripes of a resync over both regions, worked out by hand from the shapes.
 
+use crate::courses::course_of;
 use crate::members::{Made, are_fit, members_of};
 use grow_asked::Window;
 use moving_state::reshape::next_window_of;
+use moving_state::stepping::{Due, due_step};
 use region_mends::counting::{mends_at, resync_left};
 use region_mends::stripes::{mend_stripes, next_mend, relied_sector};
 use std::test::Fail;
@@ -56,6 +58,38 @@ fn stripes_of_a_resync(rt: HostRuntime) -> Result<(), Fail> {
             None => None,
         };
         assert!(rt; next == *wanted);
+    }
+    Ok(())
+}
+
+/// The members, how many stripes of an entered window are copied, how many the resync has mended, and the step that is next.
+type Pending = (Made, Option<u64>, Option<u64>, Due);
+
+const PENDING: [Pending; 9] = [
+    // The entered window comes first, and then the resync.
+    ((5, 128, (5, 1), 0, 0), Some(2), Some(0), Due::Copy),
+    ((5, 128, (5, 1), 0, 0), Some(3), Some(0), Due::Record),
+    ((5, 128, (5, 1), 0, 0), None, Some(15), Due::Mend),
+    ((5, 128, (5, 1), 0, 0), None, Some(16), Due::EndResync),
+    ((5, 128, (5, 1), 0, 0), None, None, Due::Enter),
+    ((5, 128, (5, 1), 384, 0), None, Some(11), Due::Mend),
+    ((5, 128, (5, 1), 384, 0), None, Some(12), Due::EndResync),
+    ((5, 128, (5, 1), 384, 0), None, None, Due::Zero),
+    ((5, 128, (4, -1), 0, 0), None, Some(16), Due::EndResync),
+];
+
+#[test]
+fn steps_of_a_resync(rt: HostRuntime) -> Result<(), Fail> {
+    for (made, copied, resync, wanted) in &PENDING {
+        let members = members_of(rt.alloc(), *made)?;
+        assert!(rt; are_fit(&members));
+        let course = course_of(&members, *copied, 0);
+        assert!(rt; course.is_some());
+        if let Some(course) = course {
+            let mended = resync.unwrap_or(0);
+            assert!(rt; mended <= mend_stripes(&members));
+            assert!(rt; due_step(&members, &course, *resync) == *wanted);
+        }
     }
     Ok(())
 }

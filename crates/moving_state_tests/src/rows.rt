@@ -133,7 +133,7 @@ fn told(
     match course {
         None => Ok((Due::Finish, 0)),
         Some(course) => Ok((
-            due_step(&members, &course),
+            due_step(&members, &course, None),
             steps_left(&members, &course, 0),
         )),
     }

@@ -20,7 +20,7 @@ use Rattle.call_entries.proofs.CallLaws.{GivesNone}
 use Rattle.array_kept.specs.Kept.{ledger_now, AreTold, AreFillsRight, IsRecorded, IsCounted, IsSafe}
 use Rattle.array_kept.proofs.LedgerLaws.{told_by}
 use Rattle.kept_history.specs.Recorded.{IsHistoryKept}
-use Rattle.kept_history.specs.Safe.{IsFilledRight, IsSafeHistory}
+use Rattle.kept_history.specs.Safe.{OpensOnCourse, IsFilledRight, IsSafeHistory}
 use Rattle.kept_history.specs.Safe as history
 use Rattle.kept_history.specs.Told.{told_now}
 use Rattle.kept_history.specs.Told as history_told
@@ -63,12 +63,12 @@ gone-told world carried reshaping members entries keep told role lt missing = af
 
 -- ---- what is filled in
 
-pub filled-alike : (world : World) (entries : List Entry) → KeepShape entries → FillsRight world entries → IsFilledRight world entries
-filled-alike world entries keep (inl none) = inl (λ role. takes-lost world role entries keep ∙ none role)
-filled-alike world entries keep (inr fit) = inr fit
+pub filled-alike : (world : World) (entries : List Entry) → KeepShape entries → OpensOnCourse world → FillsRight world entries → IsFilledRight world entries
+filled-alike world entries keep on (inl none) = inl (λ role. takes-lost world role entries keep ∙ none role, on)
+filled-alike world entries keep on (inr fit) = inr fit
 
 pub fills-alike : (world : World) (entries : List Entry) → KeepShape entries → IsFilledRight world entries → FillsRight world entries
-fills-alike world entries keep (inl none) = inl (λ role. sym (takes-lost world role entries keep) ∙ none role)
+fills-alike world entries keep (inl none) = inl (λ role. sym (takes-lost world role entries keep) ∙ none.0 role)
 fills-alike world entries keep (inr fit) = inr fit
 
 -- ---- the record, and what is safe

@@ -160,7 +160,7 @@ module _ (tells : Type 0) (given : Given) (tape tape' : List Operation) (scope :
 
   -- so the epoch opened fit
   fit : tells → IsFilledRight (world_in given tape scope first) entries → OpensFit (world_in given tape scope first)
-  fit t (inl none) = absurd (let clash : true ≡ false = sym gone-before ∙ was.full t none role counted in cc)
+  fit t (inl none) = absurd (let clash : true ≡ false = sym gone-before ∙ was.full t none.0 role counted in cc)
   fit t (inr is) = is
 
   -- all rows stand, and the slot has each of the role

@@ -76,7 +76,7 @@ module _ {tells : Type 0} {given : Given} {tape : List Operation} {scope : Scope
   world = world_in given tape scope first
 
   fills : IsFilledRight world entries → FillsRight world entries
-  fills (inl none) = inl (λ role. none-lost world role entries (none role))
+  fills (inl none) = inl (λ role. none-lost world role entries (none.0 role))
   fills (inr fit) = inr fit
 
   keep : tells → IsFilledRight world entries → KeepShape entries
@@ -101,7 +101,7 @@ module _ {tells : Type 0} {given : Given} {tape : List Operation} {scope : Scope
       past-none world entries legal x (let n = (recorded t).sized in omega (arith, le, n))
 
   rebuilds : IsFilledRight world entries → AreRebuildsRight world entries
-  rebuilds (inl none) = inl (was.built (λ role. none-lost world role entries (none role)))
+  rebuilds (inl none) = inl (was.built (λ role. none-lost world role entries (none.0 role)))
   rebuilds (inr fit) = inr fit
 
   listed : tells → DoWithout members → IsFilledRight world entries → HasListStood (OpensFit world) work members (present given tape) (now (opening_list world) entries)

@@ -153,7 +153,7 @@ module _ (tells : Type 0) (given : Given) (tape tape' : List Operation) (scope :
           → AreWhole new ⊎ RowsStandBelow (mended_rows work.resync old) old (present given tape) (now (opening_list (world_in given tape scope first)) entries)
       filled t all gone l = elim all.fills [
         | inl none ↦ inl (whole-told (world_in given tape' scope first) (entries ++ entries_of who end (losses_of roles spares)) new
-            (takes-first (world_in given tape' scope first) entries who end (losses_of roles spares) (Read at (sectors_of bytes) ∷ []) none) gone)
+            (takes-first (world_in given tape' scope first) entries who end (losses_of roles spares) (Read at (sectors_of bytes) ∷ []) none.0) gone)
         | inr fit ↦ inr (l.rows (fit-earlier given scope first named.grows (λ u. (was.recorded u).begun) t fit))
       ]
 

@@ -161,7 +161,7 @@ module _ (tells : Type 0) (given : Given) (tape tape' : List Operation) (scope :
       → HasListStood (OpensFit (world_in given tape scope first)) work old (present given tape) (now (opening_list (world_in given tape scope first)) entries)
       → AreWhole new ⊎ RowsStandBelow (mended_rows work.resync old) old (present given tape) (now (opening_list (world_in given tape scope first)) entries)
   filled t all right gone l = elim right.fills [
-    | inl none ↦ inl (whole-told (world_in given tape' scope first) all new none gone)
+    | inl none ↦ inl (whole-told (world_in given tape' scope first) all new none.0 gone)
     | inr fit ↦ inr (l.rows (fit-earlier given scope first did.grows begins t fit))
   ]
 

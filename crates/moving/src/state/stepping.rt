@@ -1,15 +1,16 @@
-//! The step of a reshape that is due.
+//! The step that is due.
 
 ghost use Rattle.std.specs.Prelude.{◌≡◌, ◌≢◌, ◌⊎◌, ◌+◌, ◌≤◌, OnOk, OnErr};
 ghost use Rattle.md_base.specs.declared.places.Span.{Span};
-ghost use Rattle.superblocks.specs.Reading.{is_clean};
+ghost use Rattle.array_kept.specs.Calls.{by_answer};
 ghost use Rattle.course_kept.specs.Laws.{unsure};
 ghost use Rattle.kept_history.specs.Recorded.{IsCallGoing};
 ghost use Rattle.moving_state.specs.Due.{due_of};
 ghost use Rattle.moving_state.specs.declared.stepping.Due.TheVariants.{Finish as EndsReshape};
 ghost use Rattle.running_words.specs.Parts.{left_in};
-ghost use Rattle.running_words.specs.Calls.{IsCalled, IsStepTaken, IsNextUnsure};
-ghost use Rattle.moving_laws.specs.Steps.{kind_of, IsStepCaused};
+ghost use Rattle.running_words.specs.Calls.{IsStepTaken, IsNextUnsure};
+ghost use Rattle.moving_laws.specs.Mending.{IsMendCalled};
+ghost use Rattle.moving_laws.specs.Steps.{kind_of, resync_behind, IsMarkedBehind, IsStepCaused};
 
 use crate::state::Moving;
 use bank::Bank;
@@ -17,26 +18,32 @@ use md_base::{Fault, Who};
 use moving_state::stepping::{Due, due_step};
 
 impl<B: Bank> Moving<B> {
-    // The step of the reshape that is due, but for its end, while no window is unsure: a window is entered, a stripe of it is copied, it is recorded, or a stripe behind
-    // the list is zeroed. Refusals: `TooManyMissing`, and `BackupFault` where a window is to be entered. It takes no memory.
+    // The step that is due, but for the end of the reshape, while no window is unsure: a stripe of the entered window is copied, or it is recorded; of a pending resync
+    // the next stripe is mended, or it ends; the next window is entered, or a stripe behind the list is zeroed. Refusals: `TooManyMissing`, `NotResynced` where a stripe is
+    // to be mended, and `BackupFault` where a window is to be entered. It takes no memory.
     pub(crate) fn step(&mut self, who: Who) -> Result<(), Fault>
         requires open { IsCallGoing self.old.parts.entries who }
         requires caller { who.caller ≢ 254 }
         requires room { 1 ≤ self.old.parts.steps }
-        requires due { due_of self.old.parts.members.newest self.old.course ≢ EndsReshape }
+        requires due { due_of self.old.parts.members.newest self.old.course self.old.parts.work.resync ≢ EndsReshape }
         requires sure { (span : Span) → self.old.course ≡ unsure span → ⊥ }
-        ensures entered { IsStepTaken who self.old.parts.entries self.new.parts.entries (kind_of (due_of self.old.parts.members.newest self.old.course)) (left_in self.new.parts.members self.new.course self.new.ahead) result }
-        ensures called { IsCalled B.tells (B.given self.old.parts.bank) (B.tape self.old.parts.bank) (B.tape self.new.parts.bank) (B.faults_of self.old.parts.bank) (B.faults_of self.new.parts.bank) self.old self.new }
-        ensures clean { is_clean self.new.parts.members.newest ≡ is_clean self.old.parts.members.newest }
-        ensures caused { IsStepCaused (due_of self.old.parts.members.newest self.old.course) self.old.parts.backup self.old.parts.members self.new.parts.members (B.faults_of self.old.parts.bank) (B.faults_of self.new.parts.bank) result }
-        ensures left { OnOk result (left_in self.new.parts.members self.new.course self.new.ahead + 1 ≡ left_in self.old.parts.members self.old.course self.old.ahead) }
+        ensures entered { IsStepTaken who self.old.parts.entries self.new.parts.entries (kind_of (due_of self.old.parts.members.newest self.old.course self.old.parts.work.resync)) (left_in self.new.parts.work self.new.parts.members self.new.course self.new.ahead) result }
+        ensures called { IsMendCalled B.tells (B.given self.old.parts.bank) (B.tape self.old.parts.bank) (B.tape self.new.parts.bank) (B.faults_of self.old.parts.bank) (B.faults_of self.new.parts.bank) self.old self.new }
+        ensures work { self.new.parts.work ≡ record self.old.parts.work {
+          resync = by_answer result (resync_behind (due_of self.old.parts.members.newest self.old.course self.old.parts.work.resync) self.old.parts.work.resync) self.old.parts.work.resync;
+        } }
+        ensures clean { IsMarkedBehind (due_of self.old.parts.members.newest self.old.course self.old.parts.work.resync) self.old.parts.members self.new.parts.members result }
+        ensures caused { IsStepCaused (due_of self.old.parts.members.newest self.old.course self.old.parts.work.resync) self.old.parts.work.resync self.old.parts.backup self.old.parts.members self.new.parts.members (B.faults_of self.old.parts.bank) (B.faults_of self.new.parts.bank) result }
+        ensures left { OnOk result (left_in self.new.parts.work self.new.parts.members self.new.course self.new.ahead + 1 ≡ left_in self.old.parts.work self.old.parts.members self.old.course self.old.ahead) }
         ensures course { OnErr result ((self.new.course ≡ self.old.course) ⊎ IsNextUnsure self.old.parts.members self.new.course) }
         ensures room { self.new.parts.steps + 1 ≡ self.old.parts.steps }
         ensures given { B.given self.new.parts.bank ≡ B.given self.old.parts.bank }
     {
-        match due_step(&self.members, &self.course) {
+        match due_step(&self.members, &self.course, self.work.resync) {
             Due::Copy => self.copy(who),
             Due::Record => self.record(who),
+            Due::Mend => self.mend_stripe(who),
+            Due::EndResync => self.end_resync(who),
             Due::Enter => self.enter(who),
             Due::Zero => self.zero(who),
             Due::Finish => unreachable!(),

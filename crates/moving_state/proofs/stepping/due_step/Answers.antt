@@ -8,4 +8,5 @@ pub returns-clause-ready : goal.returns-clause-ready
 returns-clause-ready c =
     let newest = c.args.members.now.newest in
     let course = c.args.course.now in
-    subst (λ (due : Due). IsDue newest course due) (sym c.due_at.ensures) (due-is newest course c.requires.fit c.requires.active c.requires.course)
+    subst (λ (due : Due). IsDue newest course c.args.resync due) (sym c.due_at.ensures)
+    (due-is newest course c.args.resync c.requires.fit c.requires.active c.requires.course c.requires.progress)

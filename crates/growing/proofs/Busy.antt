@@ -1,0 +1,50 @@
+-- A request to grow an array in a reshape is refused for that.
+use Rattle.std.proofs.Common.{◌≡◌, ◌≢◌, ℕ, Bool, true, Some, List, [], ◌∷◌, ◌++◌, length, ◌∙◌, arith}
+use Rattle.std.specs.Prelude.{IsTrue}
+use Rattle.md_base.specs.declared.answers.Refusal.TheVariants.{Busy}
+use Rattle.md_base.specs.declared.answers.BusyKind.TheVariants.{Reshape}
+use Rattle.md_base.specs.declared.answers.Who.{Who}
+use Rattle.md_base.specs.declared.wishes.Wish.{Wish}
+use Rattle.bank.specs.declared.bank.Operation.{Operation}
+use Rattle.bank.specs.Given.{Given}
+use Rattle.superblocks.specs.declared.members.Members.{Members}
+use Rattle.superblocks.specs.Reading.{Scope, is_reshaping}
+use Rattle.flat_history.specs.declared.events.Entry.{Entry}
+use Rattle.flat_history.specs.declared.events.Event.TheVariants.{Refused}
+use Rattle.flat_history.specs.declared.events.Request.TheVariants.{Grow as AsksGrow}
+use Rattle.flat_history.specs.Fits.{Fits}
+use Rattle.flat_history.specs.Flat.{next_number}
+use Rattle.flat_history.specs.Plain.{entries_of}
+use Rattle.flat_history.specs.World.{World}
+use Rattle.flat_history.proofs.OneShapeReplies.{where-asked}
+use Rattle.grow_asked.specs.Asked.{Asked, grow_refusal}
+use Rattle.grow_asked.specs.Fitting.{IsReadLike}
+use Rattle.grow_asked.proofs.FirstLaws.{judged, exactly}
+use Rattle.kept_history.specs.Recorded.{entry_of}
+use Rattle.kept_history.proofs.Records.{begins-going}
+use Rattle.course_kept.specs.declared.course.Course.{Course}
+use Rattle.moving_kept.specs.Moving.{IsMoving}
+use Rattle.moving_kept.proofs.Refusals.{quiet-refusal}
+use Rattle.moving_kept.proofs.Resting.{resting-moves}
+use Rattle.running_words.proofs.Called.{not_254}
+use Rattle.growing.specs.Planned.{IsReadWhereAsked}
+use Rattle.growing.proofs.Fitting.{where-is, reply-fits}
+
+-- it is the first reason
+pub busy-first : (a : Asked) (wish : Wish) → is_reshaping a.members.newest ≡ true → grow_refusal a wish ≡ Some (Busy Reshape)
+busy-first a wish active =
+    (exactly a wish (grow_refusal a wish) (judged a wish) (Busy Reshape)).1 (record { holds = active; first = λ other lt is. absurd (omega (arith, lt)) })
+
+pub busy-fits : (world : World) (before : List Entry) (who : Who) (end : ℕ) (wish : Wish) (m : Members) → who.number ≡ next_number who.caller before → end ≡ length world.tape → is_reshaping m.newest ≡ true
+    → IsReadWhereAsked world before end m → Fits world before (entry_of who end (Refused (Busy Reshape))) (AsksGrow wish)
+busy-fits world before who end wish m number at_end active read =
+    reply-fits world before who end wish (Refused (Busy Reshape)) number at_end
+    (where-asked world before end (λ r. IsTrue (is_reshaping r.newest)) (λ r is asked. (where-is world before end (λ r. IsReadLike r m) read r is asked).array.reshaping ∙ active))
+
+-- the array keeps its record behind it
+pub busy-moves : {tells : Type 0} {given : Given} {tape : List Operation} {scope : Scope} {first : ℕ} {entries : List Entry} {m : Members} {carried : ℕ → Bool} {course : Course} {buffer : List ℕ} {left : ℕ} (who : Who) (end : ℕ)
+    → IsMoving tells given tape scope first entries m carried course buffer left → who.number ≡ next_number who.caller entries → who.caller ≢ 254 → (tells → end ≡ length tape)
+    → IsMoving tells given tape scope first (entries ++ entries_of who end (Refused (Busy Reshape) ∷ [])) m carried course buffer left
+busy-moves {tells = tells} {given = given} {tape = tape} {scope = scope} {first = first} {entries = entries} {m = m} {carried = carried} {course = course} {buffer = buffer} {left = left} who end was number caller at_end =
+    resting-moves tells given tape scope first entries m carried course buffer left who end (Refused (Busy Reshape)) was (begins-going entries who number) (not_254 who.caller caller) at_end
+    (quiet-refusal (Busy Reshape)) (λ told is. is) (λ t right. tt)

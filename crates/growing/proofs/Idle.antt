@@ -1,0 +1,126 @@
+-- Where nothing speaks against a plan, no role is missing, and nothing is left to do before it.
+use Rattle.std.proofs.Common.{◌≡◌, inl, inr, ℕ, zero, suc, ◌+◌, ◌*◌, ◌<◌, Bool, true, false, not, cond, min, Option, Some, None, List, ◌∷◌, refl, sym, ◌∙◌, ap, subst, arith, eq-or-lt_of_le, le_of_suc-le-suc}
+use Rattle.std.specs.Prelude.{◌⊎◌, is_some}
+use Rattle.std.specs.Option.{option_or}
+use Rattle.std.proofs.Math.Nat.{min-le_left}
+use Rattle.md_base.specs.Search.{least_below, count_below}
+use Rattle.md_base.specs.declared.answers.Refusal.{Refusal}
+use Rattle.md_base.specs.declared.answers.Refusal.TheVariants.{Busy, Degraded, PastEnd, TooManyMissing, NotResynced}
+use Rattle.md_base.specs.declared.answers.BusyKind.TheVariants.{Resync}
+use Rattle.md_base.specs.declared.places.Shape.{Shape}
+use Rattle.md_base.specs.declared.status.Role.{Role}
+use Rattle.md_base.specs.declared.status.Role.TheVariants.{Whole, Recovering, Missing}
+use Rattle.md_base.specs.declared.wishes.Phase.{Phase}
+use Rattle.md_base.specs.declared.wishes.Phase.TheVariants.{Reshape, UpTo6, DownTo5}
+use Rattle.md_base.specs.declared.wishes.Wish.{Wish}
+use Rattle.grow_plan.specs.Plans.{phases_steps, phase_steps}
+use Rattle.superblocks.specs.declared.members.Members.{Members}
+use Rattle.superblocks.specs.Reading.{is_whole, shape_of, role_count, role_state, holder}
+use Rattle.row_io.specs.Rows.{reading_of, is_missing}
+use Rattle.views.specs.declared.work.Work.{Work}
+use Rattle.views.specs.Placed.{is_vacant}
+use Rattle.views.specs.Status.{stripes_of, rebuilt_of, vacant_count, spare_count, resync_left, role_left, recovery_left, left_of}
+use Rattle.grow_asked.specs.Asked.{Asked, lowest_missing, IsUngrowable, grow_refusal}
+use Rattle.grow_asked.proofs.FirstLaws.{judged, none-exactly}
+use Rattle.still_kept.specs.Still.{AreNoneMissing}
+use Rattle.still_kept.proofs.Refusals.{IsRefusedStill}
+
+-- ---- what speaks against it
+
+pub nothing-against : (a : Asked) (wish : Wish) → grow_refusal a wish ≡ None → (refusal : Refusal) → IsUngrowable a wish refusal → ⊥
+nothing-against a wish none = (none-exactly a wish (grow_refusal a wish) (judged a wish)).0 none
+
+-- a refusal of a grow says nothing of what was entered before it
+pub grow-plain : (a : Asked) (wish : Wish) (resync : Option ℕ) (m : Members) (refusal : Refusal) → IsUngrowable a wish refusal → IsRefusedStill resync m refusal
+grow-plain a wish resync m (PastEnd visible) is = absurd is
+grow-plain a wish resync m (TooManyMissing count most) is = absurd is
+grow-plain a wish resync m (NotResynced role) is = absurd is
+grow-plain a wish resync m refusal is = tt
+
+-- ---- no role is missing
+
+lowest-fails : (n : ℕ) (test : ℕ → Bool) → least_below n test ≡ None → (k : ℕ) → k < n → test k ≡ false
+unfolding least_below
+lowest-fails zero test none k lt = absurd (omega (arith, lt))
+lowest-fails (suc n) test none k lt = by (least_below n test) (test n) refl none (λ found. lowest-fails n test found k) (eq-or-lt_of_le (le_of_suc-le-suc lt))
+  where
+    by : (o : Option ℕ) (b : Bool) → test n ≡ b → option_or o (cond b (Some n) None) ≡ None → (o ≡ None → k < n → test k ≡ false) → (k ≡ n) ⊎ (k < n) → test k ≡ false
+    by (Some j) b here none lesser at_place = absurd cc
+    by None true here none lesser at_place = absurd cc
+    by None false here none lesser (inr below) = lesser refl below
+    by None false here none lesser (inl same) = ap test same ∙ here
+
+-- none is where each role is whole
+none-lowest : (m : Members) → ((role : ℕ) → lowest_missing m ≡ Some role → ⊥) → AreNoneMissing m
+none-lowest m none = by (lowest_missing m) refl
+  where
+    by : (o : Option ℕ) → lowest_missing m ≡ o → AreNoneMissing m
+    by (Some role) is = absurd (none role is)
+    by None is = λ role below. lowest-fails (role_count m.newest) (is_missing (reading_of m)) is role below
+
+pub planned-whole : (a : Asked) (wish : Wish) → grow_refusal a wish ≡ None → AreNoneMissing a.members
+planned-whole a wish none = none-lowest a.members (λ role is. nothing-against a wish none (Degraded role) is)
+
+-- ---- nothing is left to do
+
+none-pending : (o : Option ℕ) → (is_some o ≡ true → ⊥) → o ≡ None
+none-pending None none = refl
+none-pending (Some mended) none = absurd (none refl)
+
+whole-left : (stripes rebuilt : ℕ) (state : Role) → not (is_whole state) ≡ false → role_left stripes rebuilt state ≡ 0
+whole-left stripes rebuilt (Whole slot) is = refl
+whole-left stripes rebuilt (Recovering slot) is = absurd (cc)
+whole-left stripes rebuilt Missing is = absurd (cc)
+
+whole-held : (state : Role) → not (is_whole state) ≡ false → not (is_some (holder state)) ≡ false
+whole-held (Whole slot) is = refl
+whole-held (Recovering slot) is = absurd (cc)
+whole-held Missing is = absurd (cc)
+
+counted-none : (n : ℕ) (test : ℕ → Bool) → ((k : ℕ) → k < n → test k ≡ false) → count_below n test ≡ 0
+unfolding count_below
+counted-none zero test none = refl
+counted-none (suc n) test none =
+    let before : count_below n test ≡ 0 = counted-none n test (λ k lt. none k (omega (arith, lt))) in
+    let last : ◌≡◌ {A = ℕ} (cond (test n) 1 0) 0 = ap (λ (b : Bool). cond b 1 0) (none n (omega arith)) in
+    omega (arith, before, last)
+
+module _ (work : Work) (m : Members) (whole : (role : ℕ) → role < (shape_of m.newest).disks → is_missing (reading_of m) role ≡ false) where
+  none-recovers : (n : ℕ) → ((role : ℕ) → role < n → role < (shape_of m.newest).disks) → recovery_left work m n ≡ 0
+  unfolding recovery_left
+  none-recovers zero below = refl
+  none-recovers (suc n) below =
+      let before : recovery_left work m n ≡ 0 = none-recovers n (λ role lt. below role (omega (arith, lt))) in
+      let last : role_left (stripes_of m) (rebuilt_of work n) (role_state (reading_of m) n) ≡ 0 = whole-left (stripes_of m) (rebuilt_of work n) (role_state (reading_of m) n) (whole n (below n (omega arith))) in
+      omega (arith, before, last)
+
+  none-vacant : vacant_count m ≡ 0
+  none-vacant = counted-none (shape_of m.newest).disks (is_vacant (reading_of m)) (λ role lt. whole-held (role_state (reading_of m) role) (whole role lt))
+
+  pub none-left : work.resync ≡ None → left_of work m ≡ 0
+  none-left synced =
+      let resync : resync_left work.resync m ≡ 0 = ap (λ (o : Option ℕ). resync_left o m) synced in
+      let recovers = none-recovers (shape_of m.newest).disks (λ role lt. lt) in
+      let vacant = none-vacant in
+      let least = min-le_left (vacant_count m) (spare_count m) in
+      let none : min (vacant_count m) (spare_count m) ≡ 0 = omega (arith, vacant, least) in
+      let given = ap (λ (n : ℕ). n * (stripes_of m + 2)) none in
+      omega (arith, resync, recovers, given)
+
+pub planned-idle : (a : Asked) (wish : Wish) (work : Work) → a.resync ≡ work.resync → ((role : ℕ) → role < (shape_of a.members.newest).disks → role < role_count a.members.newest) → grow_refusal a wish ≡ None
+    → left_of work a.members ≡ 0
+planned-idle a wish work same within none =
+    none-left work a.members (λ role lt. planned-whole a wish none role (within role lt))
+    (sym same ∙ none-pending a.resync (λ is. nothing-against a wish none (Busy Resync) is))
+
+-- ---- the steps of its plan
+
+one-step : (now : Shape) (size : ℕ) (phase : Phase) → 0 < phase_steps now size phase
+one-step now size (Reshape to) = omega arith
+one-step now size (UpTo6 to) = omega arith
+one-step now size (DownTo5 to) = omega arith
+
+pub some-steps : (now : Shape) (size : ℕ) (all rest : List Phase) (phase : Phase) → phase ∷ rest ≡ all → 0 < phases_steps now size all
+some-steps now size all rest phase is =
+    subst (λ (l : List Phase). 0 < phases_steps now size l) is
+    (let one = one-step now size phase in omega (arith, one))

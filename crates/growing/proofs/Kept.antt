@@ -1,0 +1,101 @@
+-- What an array without a reshape keeps behind the reply to a request to grow.
+use Rattle.std.proofs.Common.{◌≡◌, ◌≢◌, inl, inr, ℕ, ◌+◌, ◌*◌, ◌<◌, ◌≤◌, length, Option, Some, None, List, [], ◌∷◌, ◌++◌, refl, sym, ◌∙◌, subst, arith}
+use Rattle.std.specs.Prelude.{Bool, true, false, nat_lt, if◌then◌else◌, IfSome, IfOk, Result, Ok, Err, option_map}
+use Rattle.std.proofs.lemmas.Bool.{cases_lt}
+use Rattle.std.proofs.lemmas.Bool.Decides.{nat_tests}
+use Rattle.md_base.specs.declared.answers.Refusal.TheVariants.{NeedBackup, BackupTooSmall}
+use Rattle.md_base.specs.declared.answers.Who.{Who}
+use Rattle.md_base.specs.declared.wishes.Wish.{Wish}
+use Rattle.bank.specs.declared.bank.Operation.{Operation}
+use Rattle.bank.specs.Given.{Given, sizes}
+use Rattle.grow_plan.specs.Plans.{AreSound}
+use Rattle.superblocks.specs.declared.members.Members.{Members}
+use Rattle.superblocks.specs.Reading.{Scope, shape_of, list_length}
+use Rattle.flat_history.specs.declared.events.Entry.{Entry}
+use Rattle.flat_history.specs.declared.events.Event.TheVariants.{Planned}
+use Rattle.flat_history.specs.Flat.{next_number}
+use Rattle.flat_history.specs.Plain.{entries_of}
+use Rattle.views.specs.declared.work.Work.{Work}
+use Rattle.call_entries.proofs.LeftLaws.{fold-left}
+use Rattle.array_kept.proofs.NowLaws.{length-more, limit-more}
+use Rattle.grow_asked.specs.declared.window.PhasesLeft.{PhasesLeft}
+use Rattle.grow_asked.specs.Asked.{Asked, window_for, grow_refusal}
+use Rattle.grow_asked.specs.Left.{phases_of}
+use Rattle.kept_history.proofs.Records.{begins-going}
+use Rattle.still_kept.specs.Still.{IsStill}
+use Rattle.still_kept.proofs.Resting.{resting-stands}
+use Rattle.running_words.specs.Parts.{still_left}
+use Rattle.running_words.proofs.Called.{not_254}
+use Rattle.still_laws.specs.Ready.{IsReady}
+use Rattle.growing.specs.Planned.{HasWideBackup}
+use Rattle.growing.proofs.Idle.{nothing-against}
+
+-- ---- the plan is entered
+
+pub planned-stands : {tells : Type 0} {given : Given} {tape : List Operation} {scope : Scope} {first : ℕ} {entries : List Entry} {m : Members} {work : Work} {before : ℕ} (who : Who) (end : ℕ) (wish : Wish) (left : ℕ)
+    → IsStill tells given tape scope first entries m work before → who.number ≡ next_number who.caller entries → who.caller ≢ 254 → (tells → end ≡ length tape)
+    → IsStill tells given tape scope first (entries ++ entries_of who end (Planned left wish ∷ [])) m work left
+planned-stands {tells = tells} {given = given} {tape = tape} {scope = scope} {first = first} {entries = entries} {m = m} {work = work} {before = before} who end wish left was number caller at_end =
+    resting-stands tells given tape scope first entries m work before left who end (Planned left wish) was (begins-going entries who number) (not_254 who.caller caller) at_end
+    (record { adds = refl; gives = refl; still = λ x values. refl; level = λ n. refl }) (inl refl)
+    (subst (λ (o : Option ℕ). IfSome o (λ n. n ≡ left)) (sym (fold-left None entries (entries_of who end (Planned left wish ∷ [])))) refl)
+    (λ t right. tt)
+
+pub planned-ready : {tells : Type 0} {given : Given} {tape : List Operation} {scope scope' : Scope} {first first' : ℕ} {entries entries' : List Entry} {m : Members} {work : Work} {ahead ahead' : PhasesLeft}
+    {faults : ℕ → ℕ} {steps steps' room room' rows buffer far_rows far_buffer : ℕ} (who : Who) (end : ℕ) (wish : Wish) (left : ℕ)
+    → IsReady tells given tape scope first entries m work ahead faults steps room rows buffer far_rows far_buffer
+    → who.number ≡ next_number who.caller entries → who.caller ≢ 254 → (tells → end ≡ length tape)
+    → AreSound (shape_of m.newest) m.newest.size (phases_of ahead') → left ≡ still_left work m ahead'
+    → scope' ≡ scope → first' ≡ first → entries' ≡ entries ++ entries_of who end (Planned left wish ∷ []) → 50 * steps' < room'
+    → IsReady tells given tape scope' first' entries' m work ahead' faults steps' room' rows buffer far_rows far_buffer
+planned-ready {tells = tells} {given = given} {tape = tape} {scope = scope} {scope' = scope'} {first = first} {first' = first'} {entries = entries} {entries' = entries'} {m = m} {work = work} {ahead' = ahead'}
+    {faults = faults} {steps' = steps'} {room' = room'} {rows = rows} {buffer = buffer} {far_rows = far_rows} {far_buffer = far_buffer} who end wish left was number caller at_end sound left_is scope_is first_is is room_left =
+    subst (λ (l : List Entry). IsReady tells given tape scope' first' l m work ahead' faults steps' room' rows buffer far_rows far_buffer) (sym is)
+    (subst (λ (n : ℕ). IsReady tells given tape scope' n (entries ++ entries_of who end (Planned left wish ∷ [])) m work ahead' faults steps' room' rows buffer far_rows far_buffer) (sym first_is)
+    (subst (λ (s : Scope). IsReady tells given tape s first (entries ++ entries_of who end (Planned left wish ∷ [])) m work ahead' faults steps' room' rows buffer far_rows far_buffer) (sym scope_is)
+    (record {
+      kept = subst (λ (n : ℕ). IsStill tells given tape scope first (entries ++ entries_of who end (Planned left wish ∷ [])) m work n) left_is (planned-stands who end wish left was.kept number caller at_end);
+      sized = length-more (list_length m.newest) entries (entries_of who end (Planned left wish ∷ [])) was.sized refl;
+      unlimited = limit-more entries (entries_of who end (Planned left wish ∷ [])) was.unlimited refl;
+      planned = sound;
+      failed = was.failed;
+      room_left = room_left;
+      rows_fit = was.rows_fit;
+      buffer_fits = was.buffer_fits;
+      far_rows_fit = was.far_rows_fit;
+      far_buffer_fits = was.far_buffer_fits;
+    })))
+
+-- ---- its backup
+
+lesser : (a b : ℕ) → (a < b → ⊥) → b ≤ a
+lesser a b none = elim (cases_lt a b) [
+  | inl lt ↦ absurd (none lt)
+  | inr ge ↦ ge
+]
+
+known : (slots sectors want : ℕ) (b : Bool) → 0 < want → want ≤ (if b then sectors else 0) → (b ≡ true) × (want ≤ sectors)
+known slots sectors want true some le = (refl, le)
+known slots sectors want false some le = absurd (omega (arith, some, le))
+
+is-below : (a b : ℕ) → nat_lt a b ≡ true → a < b
+is-below a b e = grind (arith, nat_tests, e)
+
+pub wide-backup : (given : Given) (backup : Option ℕ) (a : Asked) (wish : Wish) → a.backup ≡ option_map (sizes given).sectors backup → grow_refusal a wish ≡ None → HasWideBackup given backup (window_for a wish)
+wide-backup given backup a wish same none some = by backup a.backup refl same
+  where
+    by : (o have : Option ℕ) → a.backup ≡ have → have ≡ option_map (sizes given).sectors o → (slot : ℕ) × (o ≡ Some slot) × (slot < given.slots) × (8 + window_for a wish ≤ given.sectors slot)
+    by None have is e = absurd (nothing-against a wish none NeedBackup (is ∙ e, some))
+    by (Some slot) None is e = absurd (cc)
+    by (Some slot) (Some n) is e =
+        let long : n ≡ (if nat_lt slot given.slots then given.sectors slot else 0) = cc in
+        let enough : 8 + window_for a wish ≤ n = lesser n (8 + window_for a wish) (λ short. nothing-against a wish none (BackupTooSmall n (8 + window_for a wish)) (is, refl, short)) in
+        let there = known given.slots (given.sectors slot) (8 + window_for a wish) (nat_lt slot given.slots) (omega arith) (omega (arith, enough, long)) in
+        (slot, refl, is-below slot given.slots there.0, there.1)
+
+-- ---- an answer
+
+-- what follows of the value of an Ok
+pub ok-map : {T E : Type 0} (r : Result T E) (P Q : T → Type 0) → ((v : T) → P v → Q v) → IfOk r P → IfOk r Q
+ok-map (Ok v) P Q f is = f v is
+ok-map (Err e) P Q f is = tt

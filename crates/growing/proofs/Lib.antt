@@ -1,0 +1,5 @@
+pub mod Idle
+pub mod Read
+pub mod Fitting
+pub mod Kept
+pub mod Busy

@@ -1,0 +1,49 @@
+-- What stored superblocks say of an array without a reshape, none of whose roles is missing: its shape and its size.
+use Rattle.std.proofs.Common.{◌≡◌, ℕ, Some, List, length, sym, ◌∙◌, ap, arith}
+use Rattle.layout.proofs.Limits.{limited}
+use Rattle.bank.specs.declared.bank.Operation.{Operation}
+use Rattle.bank.specs.Given.{Given}
+use Rattle.sb1.specs.declared.sb.Sb.{Sb}
+use Rattle.superblocks.specs.declared.members.Members.{Members}
+use Rattle.superblocks.specs.Reading.{Scope, Reading, is_reshaping, shape_of}
+use Rattle.row_io.specs.Rows.{present}
+use Rattle.flat_history.specs.declared.events.Entry.{Entry}
+use Rattle.flat_history.specs.World.{reading_at}
+use Rattle.shape_views.proofs.Alike.{shape-alike}
+use Rattle.shape_changes.specs.Safety.{HasLiveSlot}
+use Rattle.shape_changes.proofs.Steady.{held-read}
+use Rattle.views.specs.declared.work.Work.{Work}
+use Rattle.views.proofs.LiveLeft.{holder-left, left-steady}
+use Rattle.views.proofs.MemberLaws.{holder-is}
+use Rattle.grow_asked.specs.Fitting.{SaysSameShape}
+use Rattle.kept_history.specs.Safe.{world_in}
+use Rattle.kept_history.proofs.Lengths.{now-drawn}
+use Rattle.history_calls.specs.Reliable.{IsReliable}
+use Rattle.still_kept.specs.Still.{AreNoneMissing, AreAtRest, IsStill}
+use Rattle.still_kept.proofs.Leaving.{safe-now}
+use Rattle.still_kept.proofs.Stood.{within-count}
+
+-- some slot is live
+pub whole-live : (given : Given) (m : Members) → AreAtRest given m → AreNoneMissing m → HasLiveSlot m
+whole-live given m rest whole =
+    let least = (limited (shape_of m.newest) rest.placed.fit.valid.old).least in
+    let held = holder-is given m rest.placed whole 0 (within-count given m rest.placed 0 (omega (arith, least))) in
+    holder-left given m 0 _ rest.placed rest.unlost held
+
+pub read-whole : {tells : Type 0} {given : Given} {tape : List Operation} {scope : Scope} {first : ℕ} {entries : List Entry} {m : Members} {work : Work} {left : ℕ}
+    → IsStill tells given tape scope first entries m work left → tells → IsReliable (world_in given tape scope first) entries → AreNoneMissing m
+    → (r : Reading) × (reading_at (world_in given tape scope first) (length tape) ≡ Some r) × SaysSameShape r.newest m.newest
+unfolding reading_at
+read-whole {given = given} {tape = tape} {scope = scope} {m = m} was t right whole =
+    let live = whole-live given m was.members_are whole in
+    let steady = left-steady live (safe-now was live t right.fills right.room right.alike) in
+    let said = held-read scope given steady.former tape steady.since.held (present given tape) (record { eighth = λ slot seen. now-drawn given tape slot 8; ninth = λ slot seen. now-drawn given tape slot 9 }) in
+    let same : m.newest ≡ steady.former.newest = ap (λ (k : Members). k.newest) steady.since.since in (
+      said.0,
+      said.1,
+      record {
+        shape = sym (shape-alike steady.former.newest said.0.newest said.2.array) ∙ sym (ap shape_of same);
+        size = sym said.2.array.size ∙ sym (ap (λ (sb : Sb). sb.size) same);
+        reshaping = sym said.2.array.reshaping ∙ sym (ap is_reshaping same);
+      },
+    )

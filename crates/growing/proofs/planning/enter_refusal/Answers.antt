@@ -1,0 +1,63 @@
+use Rattle.std.proofs.Common.{◌≡◌, ◌≤◌, Some, [], ◌∷◌, length, refl, subst, arith}
+use Rattle.std.specs.Prelude.{option_map}
+use Rattle.bank.specs.Given.{sizes}
+use Rattle.superblocks.specs.Reading.{list_length}
+use Rattle.flat_history.specs.declared.events.Event.TheVariants.{Refused}
+use Rattle.flat_history.specs.Flat.{next_number}
+use Rattle.flat_history.specs.Plain.{entries_of}
+use Rattle.array_kept.specs.Kept.{scope_in, world_in}
+use Rattle.array_kept.proofs.ReadyLaws.{scope-same}
+use Rattle.grow_asked.specs.Asked.{asked_of, grow_refusal}
+use Rattle.grow_asked.specs.Left.{phases_of}
+use Rattle.kept_history.proofs.Records.{begins-going}
+use Rattle.running_words.proofs.Lengths.{alone-keeps}
+use Rattle.still_laws.proofs.Kept.{ready, rows-same}
+use Rattle.still_laws.proofs.StepLaws.{refused-going}
+use Rattle.growing.specs.Planned.{asked_in}
+use Rattle.growing.proofs.Idle.{grow-plain}
+use Rattle.growing.proofs.Fitting.{told-by, first-of, refusal-fits}
+use Rattle.growing.proofs.planning.enter_refusal.Goals as goal
+
+pub of_pieces-requires : goal.of_pieces-requires
+of_pieces-requires g c =
+    let was = c.take_apart-pieces.ensures.ready in
+    let p = c.take_apart-pieces.result in
+    let same = c.take_apart-pieces.ensures.same in
+    let given = g.B.Bank.given p.bank in
+    let who = c.args.who in
+    let end = c.ops-end.result in
+    let refusal = c.args.refusal in
+    let wish = c.args.wish.now in
+    let a = asked_of p.members p.work.resync (length (phases_of p.ahead)) (list_length p.members.newest) (option_map (sizes given).sectors p.backup) in
+    let number = subst (λ s. who.number ≡ next_number who.caller s.parts.entries) same c.requires.next in
+    let some : 1 ≤ p.steps = subst (λ s. 1 ≤ s.parts.steps) same c.requires.room in
+    let why = subst (λ s. grow_refusal (asked_in (g.B.Bank.given s.parts.bank) s) wish ≡ Some refusal) same c.requires.why in
+    record {
+      ready = ready {scope' = scope_in given c.enter.new.epoch.uuid c.enter.new.epoch.given p.backup} (entries_of who end (Refused refusal ∷ [])) was (rows-same p.members.newest)
+          (refused-going who end refusal was.kept (begins-going p.epoch.entries.items who number) c.requires.caller c.ops-end.ensures.count
+          (grow-plain a wish p.work.resync p.members refusal (first-of a wish refusal why).holds))
+          (λ slot. omega arith) (alone-keeps who end (Refused refusal) (λ n. refl) refl) refl (scope-same given p.backup refl c.enter.ensures.uuid c.enter.ensures.given) c.enter.ensures.first refl c.enter.ensures.items
+          (let had = was.room_left in let room = c.enter.ensures.room in omega (arith, had, room, some));
+    }
+
+pub returns-clause-reply : goal.returns-clause-reply
+returns-clause-reply g c =
+    let was = c.take_apart-pieces.ensures.ready in
+    let p = c.take_apart-pieces.result in
+    let same = c.take_apart-pieces.ensures.same in
+    let given = g.B.Bank.given p.bank in
+    let tape = g.B.Bank.tape p.bank in
+    let who = c.args.who in
+    let end = c.ops-end.result in
+    let refusal = c.args.refusal in
+    let wish = c.args.wish.now in
+    let a = asked_of p.members p.work.resync (length (phases_of p.ahead)) (list_length p.members.newest) (option_map (sizes given).sectors p.backup) in
+    let number = subst (λ s. who.number ≡ next_number who.caller s.parts.entries) same c.requires.next in
+    let why = subst (λ s. grow_refusal (asked_in (g.B.Bank.given s.parts.bank) s) wish ≡ Some refusal) same c.requires.why in
+    rw (c.of_pieces.ensures.same) (rw (c.take_apart-pieces.ensures.same) (record {
+      end = end;
+      at_end = c.ops-end.ensures.count;
+      is = c.enter.ensures.items;
+      fits = λ t right ahead read. refusal-fits (world_in given tape (scope_in given p.epoch.uuid p.epoch.given p.backup) p.epoch.first) p.epoch.entries.items who end a wish refusal number (c.ops-end.ensures.count t)
+          (told-by (length (phases_of p.ahead)) end was.kept was.unlimited t right (c.ops-end.ensures.count t) ahead read) why;
+    }))

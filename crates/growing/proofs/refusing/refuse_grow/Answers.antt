@@ -1,0 +1,53 @@
+use Rattle.std.proofs.Common.{◌≡◌, [], ◌∷◌, ◌++◌, List, refl, ◌∙◌, ap, subst, arith}
+use Rattle.md_base.specs.declared.answers.Refusal.TheVariants.{Busy}
+use Rattle.md_base.specs.declared.answers.BusyKind.TheVariants.{Reshape}
+use Rattle.flat_history.specs.declared.events.Entry.{Entry}
+use Rattle.flat_history.specs.declared.events.Event.TheVariants.{Refused}
+use Rattle.flat_history.specs.Flat.{next_number}
+use Rattle.flat_history.specs.Plain.{entries_of}
+use Rattle.views.proofs.MovedLaws.{grows-none}
+use Rattle.array_kept.specs.Kept.{scope_in, world_in}
+use Rattle.array_kept.proofs.LossLaws.{ended-behind}
+use Rattle.array_kept.proofs.ReadyLaws.{scope-same}
+use Rattle.moving_laws.proofs.Kept.{ready, roomier, shapes-same, alone-keeps}
+use Rattle.growing.proofs.Busy.{busy-fits, busy-moves}
+use Rattle.growing.proofs.refusing.refuse_grow.Goals as goal
+
+pub of_pieces-moving-requires-clause-ready : goal.of_pieces-moving-requires-clause-ready
+of_pieces-moving-requires-clause-ready g c = roomier c.take_apart-pieces.ensures.ready c.make_room.ensures.items c.make_room.ensures.keeps
+
+pub of_pieces-moving-requires-2-clause-ready : goal.of_pieces-moving-requires-2-clause-ready
+of_pieces-moving-requires-2-clause-ready g c =
+    let was = c.take_apart-pieces.ensures.ready in
+    let p = c.take_apart-pieces.result.0 in
+    let given = g.B.Bank.given p.bank in
+    let who = c.args.who in
+    let end = c.ops-end.result in
+    let number = subst (λ s. who.number ≡ next_number who.caller s.parts.entries) c.take_apart-pieces.ensures.same c.requires.next in
+    ready (entries_of who end (Refused (Busy Reshape) ∷ [])) was (grows-none (λ t. refl)) (shapes-same p.members.newest)
+    (busy-moves who end was.kept number c.requires.caller c.ops-end.ensures.count)
+    refl (λ slot. omega arith) (alone-keeps who end (Refused (Busy Reshape)) (λ n. refl) refl) (λ none whole. whole) refl (scope-same given p.backup refl c.enter.ensures.uuid c.enter.ensures.given) c.enter.ensures.first c.make_room.ensures.items c.enter.ensures.items
+    (omega (arith, c.enter.ensures.room, c.in-Ok.ensures.ok))
+
+pub returns-clause-answered : goal.returns-clause-answered
+returns-clause-answered g c =
+    let was = c.take_apart-pieces.ensures.ready in
+    let p = c.take_apart-pieces.result.0 in
+    let given = g.B.Bank.given p.bank in
+    let tape = g.B.Bank.tape p.bank in
+    let who = c.args.who in
+    let end = c.ops-end.result in
+    let number = subst (λ s. who.number ≡ next_number who.caller s.parts.entries) c.take_apart-pieces.ensures.same c.requires.next in
+    rw (c.of_pieces-moving-2.ensures.same) (rw (c.take_apart-pieces.ensures.same) (record {
+      end = end;
+      at_end = c.ops-end.ensures.count;
+      is = c.enter.ensures.items ∙ ap (λ (l : List Entry). l ++ entries_of who end (Refused (Busy Reshape) ∷ [])) c.make_room.ensures.items;
+      fits = λ t right ahead read. busy-fits (world_in given tape (scope_in given p.epoch.uuid p.epoch.given p.backup) p.epoch.first) p.epoch.entries.items who end c.args.wish.now p.members number (c.ops-end.ensures.count t)
+          was.kept.members_are.active read;
+    }))
+
+pub returns-clause-ended : goal.returns-clause-ended
+returns-clause-ended g c =
+    let p = c.take_apart-pieces.result.0 in
+    rw (c.of_pieces-moving-2.ensures.same)
+    (ended-behind (g.B.Bank.tape p.bank) c.enter.new.epoch.first c.make_room.new.self.items c.args.who c.ops-end.result [] (Refused (Busy Reshape)) c.enter.ensures.items c.ops-end.ensures.count)

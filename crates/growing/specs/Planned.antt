@@ -1,0 +1,88 @@
+-- A request to grow an array without a reshape: what is asked, what is answered, and what a plan leaves.
+use Rattle.std.specs.Prelude.{◌≡◌, ℕ, ◌+◌, ◌<◌, ◌≤◌, ◌++◌, List, [], ◌∷◌, length, Option, Some, None, option_map, Result, Ok, Err, ⊤}
+use Rattle.md_base.specs.declared.answers.Fault.{Fault}
+use Rattle.md_base.specs.declared.answers.Fault.TheVariants.{Refused as IsRefusedWith, NoMemory}
+use Rattle.md_base.specs.declared.answers.Who.{Who}
+use Rattle.md_base.specs.declared.wishes.Wish.{Wish}
+use Rattle.bank.specs.Given.{Given, sizes}
+use Rattle.grow_plan.specs.Plans.{phases, phases_steps, largest_window}
+use Rattle.superblocks.specs.declared.members.Members.{Members}
+use Rattle.superblocks.specs.Reading.{shape_of, list_length}
+use Rattle.flat_history.specs.declared.events.Entry.{Entry}
+use Rattle.flat_history.specs.declared.events.Event.{Event}
+use Rattle.flat_history.specs.declared.events.Event.TheVariants.{Refused}
+use Rattle.flat_history.specs.declared.events.Request.TheVariants.{Grow as AsksGrow}
+use Rattle.flat_history.specs.Fits.{Fits, WhereAsked, phases_left}
+use Rattle.flat_history.specs.Plain.{entries_of}
+use Rattle.flat_history.specs.World.{World}
+use Rattle.views.specs.Status.{left_of}
+use Rattle.grow_asked.specs.Asked.{Asked, asked_of, grow_refusal}
+use Rattle.grow_asked.specs.Fitting.{IsReadLike}
+use Rattle.grow_asked.specs.Left.{phases_of}
+use Rattle.kept_history.specs.Recorded.{entry_of}
+use Rattle.history_calls.specs.Reliable.{IsReliable}
+use Rattle.still_kept.specs.Still.{AreNoneMissing}
+use Rattle.running_words.specs.Parts.{RunningParts}
+
+-- ---- what is asked
+
+-- what is asked to grow of an array without a reshape, all of whose list can be seen
+abbrev pub asked_in : {B : Type 0} → Given → RunningParts B → Asked
+asked_in given array = asked_of array.parts.members array.parts.work.resync (length (phases_of array.ahead)) (list_length array.parts.members.newest) (option_map (sizes given).sectors array.parts.backup)
+
+-- It is planned exactly where nothing speaks against it, and refused for the first that does; memory may be short for either.
+abbrev pub IsGrowJudged : {T : Type 0} → Asked → Wish → Result T Fault → Type 0
+IsGrowJudged a wish (Ok x) = grow_refusal a wish ≡ None
+IsGrowJudged a wish (Err (IsRefusedWith refusal)) = grow_refusal a wish ≡ Some refusal
+IsGrowJudged a wish (Err NoMemory) = ⊤
+
+-- ---- what is answered
+
+-- where roles and spares of the superblocks are asked for, they say at this end what the members do
+abbrev pub IsReadWhereAsked : World → List Entry → ℕ → Members → Type 0
+IsReadWhereAsked world before end members = WhereAsked world before end (λ r. IsReadLike r members)
+
+-- where so many phases are ahead, the history tells some that haven't ended
+abbrev pub ArePhasesTold : World → List Entry → ℕ → Type 0
+ArePhasesTold world entries phases = 0 < phases → 0 < phases_left world entries
+
+-- The reply to a request to grow is entered where the tape ends. It fits the request, where what the history says can be relied on and it tells the phases that are ahead, and where the superblocks
+-- say what the members do as far as they are asked.
+pub record IsGrowReply (tells : Type 0) (world : World) (a : Asked) (wish : Wish) (who : Who) (old new : List Entry) (event : Event) : Type 0 where
+  pub end : ℕ
+  pub at_end : tells → end ≡ length world.tape
+  pub is : new ≡ old ++ entries_of who end (event ∷ [])
+  pub fits : tells → IsReliable world old → ArePhasesTold world old a.phases → IsReadWhereAsked world old end a.members → Fits world old (entry_of who end event) (AsksGrow wish)
+
+-- the reply by the answer, with the event of an Ok
+abbrev pub IsGrowAnswered : {T : Type 0} → Type 0 → World → Asked → Wish → Who → List Entry → List Entry → Event → Result T Fault → Type 0
+IsGrowAnswered tells world a wish who old new event (Ok x) = IsGrowReply tells world a wish who old new event
+IsGrowAnswered tells world a wish who old new event (Err (IsRefusedWith refusal)) = IsGrowReply tells world a wish who old new (Refused refusal)
+IsGrowAnswered tells world a wish who old new event (Err NoMemory) = new ≡ old
+
+-- ---- what it leaves
+
+-- the array is as it was, but for its history and its plan
+pub record IsAsBefore {B : Type 0} (old new : RunningParts B) : Type 0 where
+  pub bank : new.parts.bank ≡ old.parts.bank
+  pub uuid : new.parts.uuid ≡ old.parts.uuid
+  pub given : new.parts.given ≡ old.parts.given
+  pub first : new.parts.first ≡ old.parts.first
+  pub backup : new.parts.backup ≡ old.parts.backup
+  pub members : new.parts.members ≡ old.parts.members
+  pub work : new.parts.work ≡ old.parts.work
+  pub course : new.course ≡ old.course
+
+-- where the largest window of a plan has so many sectors, it has a backup, with room for its header and for them
+abbrev pub HasWideBackup : Given → Option ℕ → ℕ → Type 0
+HasWideBackup given backup window = 0 < window → (slot : ℕ) × (backup ≡ Some slot) × (slot < given.slots) × (8 + window ≤ given.sectors slot)
+
+-- The phases of the wish are ahead and nothing else is left to do, no role is missing, the backup has room for each window, and the history tells as many phases that haven't ended.
+pub record IsGrowPlanned {B : Type 0} (tells : Type 0) (given : Given) (world : World) (wish : Wish) (left : ℕ) (new : RunningParts B) : Type 0 where
+  pub ahead : phases_of new.ahead ≡ phases (shape_of new.parts.members.newest) wish
+  pub left_is : left ≡ phases_steps (shape_of new.parts.members.newest) new.parts.members.newest.size (phases_of new.ahead)
+  pub some : 0 < left
+  pub idle : left_of new.parts.work new.parts.members ≡ 0
+  pub whole : AreNoneMissing new.parts.members
+  pub backed : HasWideBackup given new.parts.backup (largest_window (shape_of new.parts.members.newest) new.parts.members.newest.size (phases_of new.ahead))
+  pub told : tells → IsReliable world new.parts.entries → phases_left world new.parts.entries ≡ length (phases_of new.ahead)

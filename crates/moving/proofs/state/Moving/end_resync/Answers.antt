@@ -1,0 +1,259 @@
+use Rattle.std.proofs.Common.{◌≡◌, ◌≤◌, [], ◌∷◌, ◌++◌, false, Some, refl, sym, ◌∙◌, subst, arith}
+use Rattle.superblocks.specs.Reading.{list_length}
+use Rattle.superblocks.proofs.ValidFields.{few-roles}
+use Rattle.flat_history.specs.declared.events.Event.TheVariants.{Refused, Step}
+use Rattle.flat_history.specs.declared.events.StepKind.TheVariants.{ResyncEnded as EndsResync}
+use Rattle.flat_history.specs.Plain.{entries_of}
+use Rattle.views.specs.Lacking.{AreTooMany}
+use Rattle.views.specs.Numbers.{is_carried}
+use Rattle.views.proofs.LackingLaws.{lost-since, never-both}
+use Rattle.views.proofs.MovedLaws.{grows-none, moved-same}
+use Rattle.call_entries.specs.Losing.{losses_of}
+use Rattle.array_kept.specs.Kept.{scope_in}
+use Rattle.array_kept.proofs.LossLaws.{losses-behind, ended-behind, behind-alone}
+use Rattle.array_kept.proofs.ReadyLaws.{scope-same}
+use Rattle.array_kept.proofs.ReplyLaws.{refused-for, too-many-of}
+use Rattle.kept_history.specs.Recorded.{IsCallGoing}
+use Rattle.kept_history.specs.Safe.{world_in}
+use Rattle.moving_kept.proofs.Flushing.{AreFlushed, AreSettled}
+use Rattle.moving_kept.proofs.Refusals.{quiet-refusal, refused-right}
+use Rattle.moving_kept.proofs.Resting.{resting-moves}
+use Rattle.moving_kept.proofs.Steps.{missing-since}
+use Rattle.running_words.specs.Parts.{left_in}
+use Rattle.running_words.proofs.Called.{not_254, called, alone-lossless, risen-told, many-of}
+use Rattle.moving_laws.specs.Mending.{IsResyncEndDue}
+use Rattle.moving_laws.specs.Ready.{bytes_in}
+use Rattle.moving_laws.proofs.Kept.{ready, ready-with, shapes-same, shapes-moved, alone-keeps, behind-keeps, behind-whole}
+use Rattle.moving_laws.proofs.MendLaws.{aside-right, aside-within, end-refused, end-done, end-left, rows-good}
+use Rattle.moving.proofs.state.Moving.end_resync.Goals as goal
+
+-- ---- refused before anything is done
+
+pub invariant_of-self : goal.invariant_of-self
+invariant_of-self g c =
+    let was = c.self.invariant in
+    let a = c.self.inside in
+    let given = g.B.Bank.given a.bank in
+    let scope = scope_in given a.epoch.uuid a.epoch.given (Some a.backup) in
+    let goes : IsCallGoing a.epoch.entries.items c.args.who = subst (λ p. IsCallGoing p.parts.entries c.args.who) (sym c.self.view_is) c.requires.open in
+    let some : 1 ≤ a.steps = subst (λ p. 1 ≤ p.parts.steps) (sym c.self.view_is) c.requires.room in
+    let tape = g.B.Bank.tape a.bank in
+    let end = c.ops-end.result in
+    let refusal = c.in-Some.refusal in
+    let kept = resting-moves g.B.Bank.tells given tape scope a.epoch.first a.epoch.entries.items a.members (is_carried a.work) a.work.resync a.course (bytes_in a.course.window a.window.items) (left_in a.work a.members a.course a.ahead)
+    c.args.who end (Refused refusal) was.kept goes (not_254 c.args.who.caller c.requires.caller) c.ops-end.ensures.count (quiet-refusal refusal) (λ told is. is)
+    (λ t right. refused-right (world_in given tape scope a.epoch.first) a.epoch.entries.items given a.members was.kept.members_are.placed (was.kept.gone t right) (was.kept.levelled t right) refusal c.in-Some.ensures) in
+    ready (entries_of c.args.who end (Refused refusal ∷ [])) was (grows-none (λ t. refl)) (shapes-same a.members.newest) kept
+    refl (λ slot. omega arith) (alone-keeps c.args.who end (Refused refusal) (λ n. refl) refl) (λ none whole. whole) refl (scope-same given (Some a.backup) refl c.enter.ensures.uuid c.enter.ensures.given) c.enter.ensures.first refl c.enter.ensures.items
+    (omega (arith, c.enter.ensures.room, was.room_left, some))
+
+pub returns-in-Some-clause-entered : goal.returns-in-Some-clause-entered
+returns-in-Some-clause-entered g c =
+    rw (← c.self.view_is) (behind-alone c.args.who c.ops-end.result (Refused c.in-Some.refusal) refl c.enter.ensures.items)
+
+pub returns-in-Some-clause-called : goal.returns-in-Some-clause-called
+returns-in-Some-clause-called g c =
+    let was = c.self.invariant in
+    let a = c.self.inside in
+    let given = g.B.Bank.given a.bank in
+    let faults = g.B.Bank.faults_of a.bank in
+    let end = c.ops-end.result in
+    let refusal = c.in-Some.refusal in
+    rw (← c.self.view_is) (called (grows-none (λ t. refl)) (moved-same given given a.members a.members refl refl was.kept.members_are.placed was.kept.members_are.unlost)
+    (ended-behind (g.B.Bank.tape a.bank) c.enter.new.epoch.first a.epoch.entries.items c.args.who end [] (Refused refusal) c.enter.ensures.items c.ops-end.ensures.count)
+    (alone-lossless a.members faults faults a.epoch.entries.items a.epoch.entries.items c.enter.new.epoch.entries.items c.args.who end (Refused refusal) tt refl c.enter.ensures.items)
+    (λ slot. omega arith)
+    (record { uuid = c.enter.ensures.uuid; given = c.enter.ensures.given; first = c.enter.ensures.first; backup = refl; work = refl; ahead = refl })
+    (λ t. (was.kept.recorded t).begun))
+
+-- ---- the roles
+
+pub overflow_cast-count : goal.overflow_cast-count
+overflow_cast-count g c =
+    let members = c.self.invariant.kept.members_are in
+    let few = few-roles c.self.inside.members.newest members.placed.fit.valid in
+    let roles = members.backed.roles in
+    let long = c.len-count.ensures in
+    omega (arith, few, roles, long)
+
+pub vacant_roles-before-requires-clause-few : goal.vacant_roles-before-requires-clause-few
+vacant_roles-before-requires-clause-few g c =
+    let members = c.self.invariant.kept.members_are in
+    let few = few-roles c.self.inside.members.newest members.placed.fit.valid in
+    let roles = members.backed.roles in
+    let long = c.len-count.ensures in
+    omega (arith, few, roles, long)
+
+pub newly_vacant-lost-requires-clause-few : goal.newly_vacant-lost-requires-clause-few
+newly_vacant-lost-requires-clause-few g c =
+    let members = c.self.invariant.kept.members_are in
+    let few = few-roles c.self.inside.members.newest members.placed.fit.valid in
+    let roles = members.backed.roles in
+    let long = c.len-count.ensures in
+    omega (arith, few, roles, long)
+
+-- ---- it is refused
+
+pub invariant_of-self-in-Some-refusal : goal.invariant_of-self-in-Some-refusal
+invariant_of-self-in-Some-refusal g c =
+    let was = c.self.invariant in
+    let here = was.kept.members_are in
+    let a = c.self.inside in
+    let given = g.B.Bank.given a.bank in
+    let goes : IsCallGoing a.epoch.entries.items c.args.who = subst (λ p. IsCallGoing p.parts.entries c.args.who) (sym c.self.view_is) c.requires.open in
+    let some : 1 ≤ a.steps = subst (λ p. 1 ≤ p.parts.steps) (sym c.self.view_is) c.requires.room in
+    let due = subst (λ p. IsResyncEndDue p) (sym c.self.view_is) c.requires.due in
+    let m = c.settle-settled.new.members in
+    let did = c.settle-settled.ensures in
+    let tape = g.B.Bank.tape a.bank in
+    let tape' = g.B.Bank.tape c.settle-settled.new.bank in
+    let before = g.B.Bank.faults_of a.bank in
+    let after = g.B.Bank.faults_of c.settle-settled.new.bank in
+    let roles = c.newly_vacant-lost.result in
+    let spares = c.settle-settled.result.spares in
+    let end = c.ops-end-2.result in
+    let refusal = c.in-Some-refusal.refusal in
+    let since = lost-since given a.members m c.len-count.result c.vacant_roles-before.result roles spares before after here.placed did.moved did.failed
+    (c.len-count.ensures ∙ here.backed.roles) c.vacant_roles-before.ensures c.newly_vacant-lost.ensures in
+    let flushed : AreFlushed g.B.Bank.tells given tape tape' a.members m roles false = record {
+      moved = did.moved;
+      few = few-roles m.newest did.moved.placed.fit.valid;
+      since = missing-since roles did.moved since.vacant;
+      stays = did.stays;
+      rise = risen-told did.rise;
+      others = did.others;
+      unused = did.unused;
+      safe = did.safe;
+    } in
+    let kept = end-refused a.work a.course a.ahead c.args.who end roles spares due.is due.aside was.kept c.in_default.ensures goes c.requires.caller c.ops-end-2.ensures.count did.grows flushed refusal
+    (many-of m c.settle-settled.result.refusal refusal c.in-Some-refusal.is did.refused) in
+    ready (entries_of c.args.who end (losses_of roles spares ++ Refused refusal ∷ [])) was did.grows (shapes-moved given a.members m did.moved) kept
+    refl did.counts (behind-keeps c.args.who end roles spares (Refused refusal) (λ n. refl) refl) (behind-whole tape' (scope_in given a.epoch.uuid a.epoch.given (Some a.backup)) a.epoch.first a.epoch.entries.items c.args.who end roles spares (Refused refusal) did.moved (missing-since roles did.moved since.vacant)) did.given (scope-same given (Some a.backup) did.given c.enter_behind.ensures.uuid c.enter_behind.ensures.given) c.enter_behind.ensures.first refl c.enter_behind.ensures.items
+    (omega (arith, c.enter_behind.ensures.room, was.room_left, some))
+
+pub returns-in-Some-refusal-clause-called : goal.returns-in-Some-refusal-clause-called
+returns-in-Some-refusal-clause-called g c =
+    let was = c.self.invariant in
+    let here = was.kept.members_are in
+    let a = c.self.inside in
+    let given = g.B.Bank.given a.bank in
+    let m = c.settle-settled.new.members in
+    let did = c.settle-settled.ensures in
+    let before = g.B.Bank.faults_of a.bank in
+    let after = g.B.Bank.faults_of c.settle-settled.new.bank in
+    let roles = c.newly_vacant-lost.result in
+    let spares = c.settle-settled.result.spares in
+    let end = c.ops-end-2.result in
+    let refusal = c.in-Some-refusal.refusal in
+    let since = lost-since given a.members m c.len-count.result c.vacant_roles-before.result roles spares before after here.placed did.moved did.failed
+    (c.len-count.ensures ∙ here.backed.roles) c.vacant_roles-before.ensures c.newly_vacant-lost.ensures in
+    rw (← c.self.view_is) (called did.grows did.moved
+    (ended-behind (g.B.Bank.tape c.settle-settled.new.bank) c.enter_behind.new.epoch.first a.epoch.entries.items c.args.who end (losses_of roles spares) (Refused refusal) c.enter_behind.ensures.items c.ops-end-2.ensures.count)
+    (losses-behind a.members m before after a.epoch.entries.items a.epoch.entries.items c.enter_behind.new.epoch.entries.items c.args.who end roles spares (Refused refusal) since tt refl c.enter_behind.ensures.items)
+    did.counts
+    (record { uuid = c.enter_behind.ensures.uuid; given = c.enter_behind.ensures.given; first = c.enter_behind.ensures.first; backup = refl; work = refl; ahead = refl })
+    (λ t. (was.kept.recorded t).begun))
+
+pub returns-in-Some-refusal-clause-caused : goal.returns-in-Some-refusal-clause-caused
+returns-in-Some-refusal-clause-caused g c =
+    let a = c.self.inside in
+    let m = c.settle-settled.new.members in
+    let refusal = c.in-Some-refusal.refusal in
+    let many = many-of m c.settle-settled.result.refusal refusal c.in-Some-refusal.is c.settle-settled.ensures.refused in
+    rw (← c.self.view_is) (refused-for (list_length a.members.newest) 0 AreTooMany a.members m refusal (too-many-of m refusal many) (omega arith) many)
+
+-- ---- it is done
+
+pub steps_left-left-requires-clause-open : goal.steps_left-left-requires-clause-open
+steps_left-left-requires-clause-open g c =
+    let a = c.self.inside in
+    let due = subst (λ p. IsResyncEndDue p) (sym c.self.view_is) c.requires.due in
+    aside-right c.settle-settled.new.members.newest a.course.window due.aside
+
+pub steps_left-left-requires-clause-within : goal.steps_left-left-requires-clause-within
+steps_left-left-requires-clause-within g c =
+    let was = c.self.invariant in
+    let due = subst (λ p. IsResyncEndDue p) (sym c.self.view_is) c.requires.due in
+    let moved = c.settle-settled.ensures.moved in
+    aside-within c.settle-settled.new.members.newest c.self.inside.course.window due.aside moved.placed.fit (moved.reshape.reshaping ∙ was.kept.members_are.active)
+
+pub invariant_of-self-2 : goal.invariant_of-self-2
+invariant_of-self-2 g c =
+    let was = c.self.invariant in
+    let here = was.kept.members_are in
+    let a = c.self.inside in
+    let given = g.B.Bank.given a.bank in
+    let goes : IsCallGoing a.epoch.entries.items c.args.who = subst (λ p. IsCallGoing p.parts.entries c.args.who) (sym c.self.view_is) c.requires.open in
+    let some : 1 ≤ a.steps = subst (λ p. 1 ≤ p.parts.steps) (sym c.self.view_is) c.requires.room in
+    let due = subst (λ p. IsResyncEndDue p) (sym c.self.view_is) c.requires.due in
+    let m = c.settle-settled.new.members in
+    let did = c.settle-settled.ensures in
+    let tape = g.B.Bank.tape a.bank in
+    let tape' = g.B.Bank.tape c.settle-settled.new.bank in
+    let before = g.B.Bank.faults_of a.bank in
+    let after = g.B.Bank.faults_of c.settle-settled.new.bank in
+    let roles = c.newly_vacant-lost.result in
+    let spares = c.settle-settled.result.spares in
+    let end = c.ops-end-2.result in
+    let left = c.steps_left-left.result in
+    let since = lost-since given a.members m c.len-count.result c.vacant_roles-before.result roles spares before after here.placed did.moved did.failed
+    (c.len-count.ensures ∙ here.backed.roles) c.vacant_roles-before.ensures c.newly_vacant-lost.ensures in
+    let flushed : AreFlushed g.B.Bank.tells given tape tape' a.members m roles false = record {
+      moved = did.moved;
+      few = few-roles m.newest did.moved.placed.fit.valid;
+      since = missing-since roles did.moved since.vacant;
+      stays = did.stays;
+      rise = risen-told did.rise;
+      others = did.others;
+      unused = did.unused;
+      safe = did.safe;
+    } in
+    let done : AreSettled g.B.Bank.tells given tape tape' a.members m false = record { clean = did.clean c.in_default-refusal.is; settled = did.settled c.in_default-refusal.is } in
+    let kept = end-done a.work a.course a.ahead c.args.who end roles spares due.is due.aside was.kept c.in_default.ensures goes c.requires.caller c.ops-end-2.ensures.count did.grows flushed left c.steps_left-left.ensures done in
+    ready-with (entries_of c.args.who end (losses_of roles spares ++ Step EndsResync left ∷ [])) was did.grows (shapes-moved given a.members m did.moved) kept
+    refl did.counts (behind-keeps c.args.who end roles spares (Step EndsResync left) (λ n. refl) refl) (behind-whole tape' (scope_in given a.epoch.uuid a.epoch.given (Some a.backup)) a.epoch.first a.epoch.entries.items c.args.who end roles spares (Step EndsResync left) did.moved (missing-since roles did.moved since.vacant)) did.given (scope-same given (Some a.backup) did.given c.enter_behind-2.ensures.uuid c.enter_behind-2.ensures.given) c.enter_behind-2.ensures.first refl c.enter_behind-2.ensures.items
+    (omega (arith, c.enter_behind-2.ensures.room, was.room_left, some))
+
+pub returns-clause-called : goal.returns-clause-called
+returns-clause-called g c =
+    let was = c.self.invariant in
+    let here = was.kept.members_are in
+    let a = c.self.inside in
+    let given = g.B.Bank.given a.bank in
+    let m = c.settle-settled.new.members in
+    let did = c.settle-settled.ensures in
+    let before = g.B.Bank.faults_of a.bank in
+    let after = g.B.Bank.faults_of c.settle-settled.new.bank in
+    let roles = c.newly_vacant-lost.result in
+    let spares = c.settle-settled.result.spares in
+    let end = c.ops-end-2.result in
+    let event = Step EndsResync c.steps_left-left.result in
+    let since = lost-since given a.members m c.len-count.result c.vacant_roles-before.result roles spares before after here.placed did.moved did.failed
+    (c.len-count.ensures ∙ here.backed.roles) c.vacant_roles-before.ensures c.newly_vacant-lost.ensures in
+    rw (← c.self.view_is) (called did.grows did.moved
+    (ended-behind (g.B.Bank.tape c.settle-settled.new.bank) c.enter_behind-2.new.epoch.first a.epoch.entries.items c.args.who end (losses_of roles spares) event c.enter_behind-2.ensures.items c.ops-end-2.ensures.count)
+    (losses-behind a.members m before after a.epoch.entries.items a.epoch.entries.items c.enter_behind-2.new.epoch.entries.items c.args.who end roles spares event since tt refl c.enter_behind-2.ensures.items)
+    did.counts
+    (record { uuid = c.enter_behind-2.ensures.uuid; given = c.enter_behind-2.ensures.given; first = c.enter_behind-2.ensures.first; backup = refl; work = refl; ahead = refl })
+    (λ t. (was.kept.recorded t).begun))
+
+pub returns-clause-left : goal.returns-clause-left
+returns-clause-left g c =
+    let was = c.self.invariant in
+    let a = c.self.inside in
+    let due = subst (λ p. IsResyncEndDue p) (sym c.self.view_is) c.requires.due in
+    rw (← c.self.view_is) (end-left (g.B.Bank.given a.bank) a.members c.settle-settled.new.members a.work a.course a.ahead was.kept.members_are.placed.fit was.kept.members_are.active due.is c.settle-settled.ensures.moved due.aside)
+
+pub returns-clause-caused : goal.returns-clause-caused
+returns-clause-caused g c = rw (← c.self.view_is) (omega arith, λ refusal many. never-both c.self.inside.members refusal c.in_default.ensures many)
+
+pub returns-clause-clean : goal.returns-clause-clean
+returns-clause-clean g c = c.settle-settled.ensures.clean c.in_default-refusal.is refl
+
+pub returns-clause-good : goal.returns-clause-good
+returns-clause-good g c =
+    let due = subst (λ p. IsResyncEndDue p) (sym c.self.view_is) c.requires.due in
+    λ t fit. rows-good c.self.inside.course due.aside (invariant_of-self-2 g c).kept t fit
+
+pub returns-clause-flushed : goal.returns-clause-flushed
+returns-clause-flushed g c = rw (← c.self.view_is) c.settle-settled.ensures.flushed

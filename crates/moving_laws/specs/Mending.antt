@@ -1,0 +1,36 @@
+-- The steps of a pending resync of an array in a reshape: when they are due, and what they leave.
+use Rattle.std.specs.Prelude.{◌≡◌, ℕ, ◌<◌, List, None, Some}
+use Rattle.md_base.specs.Sectors.{Sector}
+use Rattle.bank.specs.declared.bank.Operation.{Operation}
+use Rattle.bank.specs.Given.{Given}
+use Rattle.bank.specs.Tape.{Contents}
+use Rattle.superblocks.specs.declared.members.Members.{Members}
+use Rattle.superblocks.specs.Reading.{list_length}
+use Rattle.views.specs.Lacking.{DoesWithout}
+use Rattle.region_rows.specs.Stretches.{RowsStandIn}
+use Rattle.region_mends.specs.Mends.{mend_stripes}
+use Rattle.course_mends.specs.Mended.{IsAside}
+use Rattle.running_words.specs.Parts.{RunningParts}
+use Rattle.running_words.specs.Calls.{IsCalled}
+
+-- no window is entered, and the next stripe of the resync is to be mended
+pub record IsMendDue {B : Type 0} (array : RunningParts B) : Type 0 where
+  pub mended : ℕ
+  pub is : array.parts.work.resync ≡ Some mended
+  pub more : mended < mend_stripes array.parts.members.newest
+  pub aside : IsAside array.course.window
+
+-- no window is entered, and all its stripes are mended
+pub record IsResyncEndDue {B : Type 0} (array : RunningParts B) : Type 0 where
+  pub is : array.parts.work.resync ≡ Some (mend_stripes array.parts.members.newest)
+  pub aside : IsAside array.course.window
+
+-- What a step leaves, done or refused: all that each call does (`IsCalled`), but that the work may be another.
+abbrev pub IsMendCalled : {B : Type 0} → Type 0 → Given → List Operation → List Operation → (ℕ → ℕ) → (ℕ → ℕ) → RunningParts B → RunningParts B → Type 0
+IsMendCalled tells given tape tape' before after old new =
+    IsCalled tells given tape tape' before after old (record new { parts = record new.parts { work = old.parts.work } })
+
+-- The list, which is this one as far as it goes, stands on the members by each shape that does without what is missing of it, with the rows of all its sectors.
+abbrev pub AreRowsGood : Members → Contents → (ℕ → Sector) → Type 0
+AreRowsGood m c current = (list : ℕ → Sector) × ((x : ℕ) → x < list_length m.newest → list x ≡ current x)
+    × RowsStandIn (λ shape. DoesWithout shape m) None (list_length m.newest) m c list

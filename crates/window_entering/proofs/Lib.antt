@@ -1,0 +1,4 @@
+pub mod SectionLaws
+pub mod StoredLaws
+pub mod TriedLaws
+pub mod WindowReads

@@ -1,0 +1,68 @@
+use Rattle.std.proofs.Common.{ℕ, List, length, sym, ◌∙◌, ap, subst}
+use Rattle.bank.specs.declared.bank.Operation.{Operation}
+use Rattle.bank.specs.Given.{Given}
+use Rattle.bank.specs.Tape.{EachMark, disk}
+use Rattle.bank.proofs.Marks.{each_mark-told}
+use Rattle.row_io.proofs.RowBytes.{on_ok}
+use Rattle.backup.specs.Written.{cleared_header}
+use Rattle.backup.specs.Storing.{IsHeading, IsHeaded}
+use Rattle.flat_history.specs.Sound.{OpensFit}
+use Rattle.shape_views.specs.Views.{Disk}
+use Rattle.shape_views.proofs.BackupLaws.{cleared-closed}
+use Rattle.shape_changes.specs.Steady.{KeepsSafe}
+use Rattle.views.proofs.SafeStretch.{safe-none}
+use Rattle.window_entering.proofs.SectionLaws.{unsure-still, marks-by, cleared-safe, at-end, on-err}
+use Rattle.window_entering.proofs.clearing.clear_window.Given.{Over}
+use Rattle.window_entering.proofs.clearing.clear_window.Goals.{After-clear_section}
+use Rattle.window_entering.proofs.clearing.clear_window.Goals as goal
+
+-- ---- the slot failed at the read
+
+pub returns-in-Err-clause-safe : goal.returns-in-Err-clause-safe
+returns-in-Err-clause-safe g c = λ told world ledger m header live there array held shut safe.
+    let before = g.B.Bank.tape c.args.bank.now in
+    subst (λ (l : List Operation). KeepsSafe world (g.B.Bank.given c.args.bank.now) ledger m before l) (sym (c.in-Err.ensures.tape told))
+    (safe-none (OpensFit world) world.scope (g.B.Bank.given c.args.bank.now) ledger m before safe)
+
+-- ---- the header is written
+
+module _ (g : Over) (c : After-clear_section g) where
+  abbrev given : Given
+  given = g.B.Bank.given c.args.bank.now
+
+  abbrev before : List Operation
+  before = g.B.Bank.tape c.args.bank.now
+
+  abbrev mid : List Operation
+  mid = g.B.Bank.tape c.read.new.self
+
+  abbrev after : List Operation
+  after = g.B.Bank.tape c.clear_section.new.bank
+
+  abbrev start : Disk
+  start = disk given.start before
+
+  marks : EachMark g.B.Bank.tells given.start before after (IsHeading c.args.backup (cleared_header c.args.uuid.now) start)
+  marks = each_mark-told (λ told.
+      subst (λ (l : List Operation). EachMark g.B.Bank.tells given.start l after (IsHeading c.args.backup (cleared_header c.args.uuid.now) (disk given.start l))) (c.read.ensures.tape told)
+      (subst (λ (b : Given). EachMark g.B.Bank.tells b.start mid after (IsHeading c.args.backup (cleared_header c.args.uuid.now) (disk b.start mid))) c.read.ensures.given c.clear_section.ensures.each_mark))
+
+pub returns-clause-each_mark : goal.returns-clause-each_mark
+returns-clause-each_mark g c = marks g c
+
+pub returns-clause-plain : goal.returns-clause-plain
+returns-clause-plain g c = on_ok c.clear_section.result (λ headed told scope m there array.
+    cleared-closed scope m c.args.backup (disk (g.B.Bank.given c.read.new.self).start (mid g c)) (disk (given g c).start (after g c)) there (ap (λ (u : List ℕ). length u) array ∙ c.told-uuid)
+    (subst (λ (u : List ℕ). IsHeaded c.args.backup (cleared_header u) (disk (g.B.Bank.given c.read.new.self).start (mid g c)) (disk (given g c).start (after g c))) (sym array)
+    (subst (λ (b : Given). IsHeaded c.args.backup (cleared_header c.args.uuid.now) (disk (g.B.Bank.given c.read.new.self).start (mid g c)) (disk b.start (after g c))) c.read.ensures.given (headed told))))
+    c.clear_section.ensures.stored
+
+pub returns-clause-unsure : goal.returns-clause-unsure
+returns-clause-unsure g c = on-err c.clear_section.result (λ told scope m span there array was.
+    unsure-still scope m c.args.backup span (start g c) (disk (given g c).start (after g c)) there (ap (λ (u : List ℕ). length u) array ∙ c.told-uuid)
+    (subst (λ (u : List ℕ). IsHeading c.args.backup (cleared_header u) (start g c) (disk (given g c).start (after g c))) (sym array) (at-end (marks g c) told)) was)
+
+pub returns-clause-safe : goal.returns-clause-safe
+returns-clause-safe g c = λ told world ledger m header live there array held shut safe.
+    cleared-safe (OpensFit world) world.scope (given g c) ledger m (before g c) (after g c) c.args.backup there (ap (λ (u : List ℕ). length u) array ∙ c.told-uuid) live safe header held shut
+    (marks-by (λ u. IsHeading c.args.backup (cleared_header u) (start g c)) world.scope.uuid c.args.uuid.now told array (marks g c))

@@ -1,0 +1,37 @@
+use Rattle.std.proofs.Common.{ℕ, List, length, ◌∙◌, ap}
+use Rattle.bank.specs.Tape.{disk}
+use Rattle.row_io.proofs.RowBytes.{on_ok}
+use Rattle.backup.specs.Written.{header_of}
+use Rattle.backup.specs.Storing.{IsStoringOrNaming}
+use Rattle.flat_history.specs.Sound.{OpensFit}
+use Rattle.shape_views.specs.Views.{Disk}
+use Rattle.shape_views.proofs.BackupLaws.{stored-closed}
+use Rattle.window_entering.proofs.SectionLaws.{opened, unsure, marks-by, saved-safe}
+use Rattle.window_entering.proofs.storing.store_window.Given.{Over}
+use Rattle.window_entering.proofs.storing.store_window.Goals.{After-write_section}
+use Rattle.window_entering.proofs.storing.store_window.Goals as goal
+
+module _ (g : Over) (c : After-write_section g) where
+  abbrev start : Disk
+  start = disk (g.B.Bank.given c.args.bank.now).start (g.B.Bank.tape c.args.bank.now)
+
+  abbrev last : Disk
+  last = disk (g.B.Bank.given c.args.bank.now).start (g.B.Bank.tape c.write_section.new.bank)
+
+pub returns-clause-active : goal.returns-clause-active
+returns-clause-active g c = on_ok c.write_section.result (λ named told scope m fit next its.
+    opened scope m c.args.backup c.args.uuid.now c.args.span.now c.args.buffer.now (start g c) (last g c) c.told-uuid fit next its (named told)) c.write_section.ensures.stored
+
+pub returns-clause-untouched : goal.returns-clause-untouched
+returns-clause-untouched g c = λ is told scope m its none.
+    stored-closed scope m c.args.backup c.args.buffer.now (start g c) (last g c) its.backup none (c.write_section.ensures.untouched is told)
+
+pub returns-clause-unsure : goal.returns-clause-unsure
+returns-clause-unsure g c = λ is told scope m fit next its none.
+    unsure scope m c.args.backup c.args.uuid.now c.args.span.now c.args.buffer.now (start g c) (last g c) c.told-uuid fit next its none (c.write_section.ensures.unsure is told)
+
+pub returns-clause-safe : goal.returns-clause-safe
+returns-clause-safe g c = λ told world ledger m live its none section safe.
+    saved-safe (OpensFit world) world.scope (g.B.Bank.given c.args.bank.now) ledger m (g.B.Bank.tape c.args.bank.now) (g.B.Bank.tape c.write_section.new.bank) c.args.backup its.backup
+    (ap (λ (u : List ℕ). length u) its.array ∙ c.told-uuid) live safe c.args.span.now c.args.buffer.now none section
+    (marks-by (λ u. IsStoringOrNaming c.args.backup (header_of u c.args.span.now) c.args.buffer.now (start g c)) world.scope.uuid c.args.uuid.now told its.array c.write_section.ensures.each_mark)
