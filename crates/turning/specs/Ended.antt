@@ -77,7 +77,7 @@ pub record IsReshapeEnded {B : Type 0} (tells : Type 0) (given : Given) (tape ta
   pub ended : IsEndOf tells new.parts.first new.parts.entries tape'
   pub grows : Grows tells tape tape'
   pub over : IsOver old.parts.members.newest new.parts.members.newest
-  pub left : AreWhole old.parts.members → TellNoLoss old.parts.entries new.parts.entries → still_left new.parts.work new.parts.members new.ahead + 1 ≡ left_in old.parts.members old.course old.ahead
+  pub left : AreWhole old.parts.members → TellNoLoss old.parts.entries new.parts.entries → still_left new.parts.work new.parts.members new.ahead + 1 ≡ left_in old.parts.work old.parts.members old.course old.ahead
   pub long : list_length new.parts.members.newest ≡ data_disks (final_shape old.parts.members.newest) * old.parts.members.newest.size
   pub held : AreStillHeld old.parts.members new.parts.members
   pub kept : AreKeptOrFailed old.parts.members new.parts.members before after

@@ -190,7 +190,7 @@ pub fn finish_reshape<B: Bank>(
     requires open { IsCallGoing moving.parts.entries who }
     requires caller { who.caller ≢ 254 }
     requires room { 2 ≤ moving.parts.steps }
-    requires due { due_of moving.parts.members.newest moving.course ≡ Finish }
+    requires due { due_of moving.parts.members.newest moving.course moving.parts.work.resync ≡ Finish }
     requires planned { B.tells → ArePlansEnding (moving_world (B.given moving.parts.bank) (B.tape moving.parts.bank) moving) moving }
     ensures ended { IfOk result (λ r. IsReshapeEnded B.tells (B.given moving.parts.bank) (B.tape moving.parts.bank) (B.tape r.parts.bank) (B.faults_of moving.parts.bank) (B.faults_of r.parts.bank) who moving r) }
     ensures given { IfOk result (λ r. B.given r.parts.bank ≡ B.given moving.parts.bank) }
