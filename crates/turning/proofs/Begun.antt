@@ -55,7 +55,7 @@ use Rattle.views.specs.Status.{left_of, resync_left}
 use Rattle.views.proofs.MarkLaws.{few-planned}
 use Rattle.views.proofs.Still.{placed-two, backup-still}
 use Rattle.call_entries.specs.Losing.{losses_of}
-use Rattle.call_entries.proofs.CallLaws.{losses-are, all-losses, ends-losses}
+use Rattle.call_entries.proofs.CallLaws.{all-losses}
 use Rattle.call_entries.proofs.PlainLaws.{one}
 use Rattle.array_kept.specs.Calls.{AreLossesOf, IsLossBy}
 use Rattle.array_kept.specs.Kept.{scope_in}
@@ -67,7 +67,6 @@ use Rattle.grow_asked.proofs.LeftLaws.{beginning as beginning-left}
 use Rattle.kept_history.specs.Recorded.{IsOpenBehind, IsLengthKept as IsResizeKept}
 use Rattle.kept_history.specs.Safe.{world_in, TakesNone}
 use Rattle.kept_history.proofs.Entered.{lost-taken}
-use Rattle.kept_history.proofs.Ledgers.{unsynced-still}
 use Rattle.kept_history.proofs.Tests.{neither}
 use Rattle.history_calls.proofs.Behind.{IsAmong, early-losses}
 use Rattle.course_kept.specs.Laws.{closed}
@@ -76,7 +75,6 @@ use Rattle.moving_kept.proofs.BegunCall.{IsBegunBy}
 use Rattle.moving_kept.proofs.BegunMembers.{array-begins}
 use Rattle.moving_kept.proofs.Shortened.{array-shortens}
 use Rattle.still_kept.proofs.Bridges.{stands-kept}
-use Rattle.still_kept.proofs.Leaving.{unsynced-later}
 use Rattle.running_words.specs.Parts.{still_left}
 use Rattle.running_words.proofs.Called.{not_254}
 use Rattle.running_words.proofs.Lengths.{IsLengthKept, behind-keeps}
