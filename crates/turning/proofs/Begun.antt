@@ -20,7 +20,7 @@ use Rattle.sb1.specs.declared.sb.Sb.{Sb}
 use Rattle.geometry.specs.Geometry.{AreInForce, list_end}
 use Rattle.grow_plan.specs.Plans.{AreSound, phase_window, phases_steps}
 use Rattle.superblocks.specs.declared.members.Members.{Members}
-use Rattle.superblocks.specs.Reading.{Scope, is_reshaping, is_backward, shape_of, final_shape, list_length}
+use Rattle.superblocks.specs.Reading.{Scope, is_reshaping, is_backward, shape_of, final_shape, list_length, role_count}
 use Rattle.superblocks.proofs.ValidFields.{few-roles}
 use Rattle.row_io.specs.Rows.{reading_of, present, is_missing}
 use Rattle.flat_history.specs.declared.events.Entry.{Entry}
@@ -225,6 +225,11 @@ begun-tells who end left roles spares n role back lt has = of back
     of : (b : Bool) → is_lost (entries_of who end (Step Begun left ∷ begun_length b n ++ losses_of roles spares)) role ≡ true
     of true = told
     of false = told
+
+-- each role that no slot holds is told
+pub since-told : (new : Members) (roles : ℕ) → length new.roles ≡ role_count new.newest → ((role : ℕ) → has_slot roles role ≡ (nat_lt role (length new.roles) && is_vacant (reading_of new) role))
+    → (role : ℕ) → role < role_count new.newest → is_vacant (reading_of new) role ≡ true → has_slot roles role ≡ true
+since-told new roles count is role lt vacant = is role ∙ (λ i. is-below role (length new.roles) (omega (arith, count, lt)) i && vacant i)
 
 -- each loss has its cause: the slot held the role by the plan, and has failed
 pub begun-losses : (plan new : Members) (before after : ℕ → ℕ) (entries mid later : List Entry) (who : Who) (end left n roles spares : ℕ) (back : Bool) → AreLostSince plan new roles spares before after → mid ≡ entries

@@ -3,6 +3,7 @@ use Rattle.std.proofs.Common.{◌≡◌, ◌≢◌, ◌⊎◌, inl, inr, ℕ, �
 use Rattle.std.specs.Prelude.{IfSome}
 use Rattle.std.specs.List.{list_any}
 use Rattle.std.proofs.lemmas.Bool.{and_parts}
+use Rattle.std.proofs.lemmas.Bool.Decides.{nat_tests}
 use Rattle.std.proofs.Math.Seq.{drop-append_seam}
 use Rattle.std.proofs.lemmas.List.{get_or_past, get_or-drop}
 use Rattle.std.proofs.lemmas.List.Folds.{list_any-append}
@@ -131,19 +132,21 @@ larger a b = omega arith
 pub final-few : (given : Given) (old : Members) → IsPlaced given old → (final_shape old.newest).disks ≤ length old.roles
 final-few given old placed = let count = placed.roles in let most = larger (shape_of old.newest).disks (final_shape old.newest).disks in omega (arith, count, most)
 
+-- no slot holds a role that the new shape hasn't
+role-beyond : (given : Given) (old new : Members) (role : ℕ) → IsPlaced given new → IsOver old.newest new.newest → (final_shape old.newest).disks ≤ role → role_state (reading_of new) role ≡ Missing
+role-beyond given old new role placed over past =
+    get_or_past new.roles role Missing
+    (let count = placed.roles in let same = count-still new.newest over.still in let disks = ap (λ (s : Shape). s.disks) over.shape in omega (arith, past, count, same, disks))
+
 -- each slot of a role that the new shape hasn't is a spare, or it has failed
 pub dropped-or-failed : (given : Given) (old new : Members) (roles spares lost : ℕ) (before after : ℕ → ℕ) → IsPlaced given new → IsOver old.newest new.newest → AreLostInEnd old new roles spares lost before after
     → AreDroppedSpares old new before after
 dropped-or-failed given old new roles spares lost before after placed over failed role slot past held = elim (failed.held role slot held) [
-  | inl there ↦ absurd (let none : ◌≡◌ {A = Option ℕ} None (Some slot) = sym (ap holder beyond) ∙ there in cc)
+  | inl there ↦ absurd (let none : ◌≡◌ {A = Option ℕ} None (Some slot) = sym (ap holder (role-beyond given old new role placed over past)) ∙ there in cc)
   | inr (inl gone) ↦ inr gone.1
   | inr (inr (inl has)) ↦ inr (failed.lost_are slot has)
   | inr (inr (inr spare)) ↦ inl spare.1
 ]
-  where
-    beyond : role_state (reading_of new) role ≡ Missing
-    beyond = get_or_past new.roles role Missing
-        (let count = placed.roles in let same = count-still new.newest over.still in let disks = ap (λ (s : Shape). s.disks) over.shape in omega (arith, past, count, same, disks))
 
 same-spare : (spares : List ℕ) (slot : ℕ) (give : Give) → give ≡ Same → is_planned_spare spares None give slot ≡ true → has_spare spares slot ≡ true
 same-spare spares slot give same is = or-none (has_spare spares slot) (sym (ap (λ (g : Give). is_planned_spare spares None g slot) same) ∙ is)
@@ -187,6 +190,35 @@ spares-kept old new roles spares lost before after failed slot was = elim (faile
   | inr (inl has) ↦ inr (failed.spares_are slot has)
   | inr (inr has) ↦ inr (failed.lost_are slot has)
 ]
+
+-- ---- what is told
+
+not-in : (a b : Bool) → a ≡ true → (b ≡ true → ⊥) → (a && not b) ≡ true
+not-in true false has none = refl
+not-in true true has none = absurd (none refl)
+not-in false b has none = absurd (cc)
+
+module _ (given : Given) (old new : Members) (held roles spares lost late_spares : ℕ) (before after : ℕ → ℕ) (was : IsPlaced given old) (free : AreSparesFree given old) (placed : IsPlaced given new) (over : IsOver old.newest new.newest)
+    (failed : AreLostInEnd old new roles spares lost before after) (late-is : (slot : ℕ) → has_slot late_spares slot ≡ (has_slot lost slot && not (has_slot held slot)))
+    (only : (slot : ℕ) → has_slot held slot ≡ true → (role : ℕ) × (role < (final_shape old.newest).disks) × (holder (role_state (reading_of old) role) ≡ Some slot)) where
+  -- of a spare
+  pub spares-told : (slot : ℕ) → has_spare old.spares slot ≡ true → (has_spare new.spares slot ≡ true) ⊎ ((has_slot spares slot ≡ true) ⊎ (has_slot late_spares slot ≡ true))
+  spares-told slot spare = elim (failed.told slot spare) [
+    | inl still ↦ inl still
+    | inr (inl has) ↦ inr (inl has)
+    | inr (inr has) ↦ inr (inr (late-is slot ∙ not-in (has_slot lost slot) (has_slot held slot) has (λ there. let of = only slot there in (free slot spare).none of.0 of.2)))
+  ]
+
+  -- and of a slot whose role the new shape hasn't
+  pub dropped-told : (role slot : ℕ) → (final_shape old.newest).disks ≤ role → holder (role_state (reading_of old) role) ≡ Some slot
+      → (has_spare new.spares slot ≡ true) ⊎ ((has_slot roles role ≡ true) ⊎ (has_slot late_spares slot ≡ true))
+  dropped-told role slot past had = elim (failed.held role slot had) [
+    | inl there ↦ absurd (let none : ◌≡◌ {A = Option ℕ} None (Some slot) = sym (ap holder (role-beyond given old new role placed over past)) ∙ there in cc)
+    | inr (inl gone) ↦ inr (inl gone.0)
+    | inr (inr (inl has)) ↦ inr (inr (late-is slot ∙ not-in (has_slot lost slot) (has_slot held slot) has
+        (λ there. let of = only slot there in let same : of.0 ≡ role = was.apart of.0 role slot of.2 had in let lt = of.1 in omega (arith, past, same, lt))))
+    | inr (inr (inr spare)) ↦ inl spare.1
+  ]
 
 -- ---- the steps that are left
 
@@ -238,6 +270,18 @@ module _ (given : Given) (old new : Members) (work : Work) (ahead : PhasesLeft) 
 
   since : (role : ℕ) → role < role_count new.newest → is_missing (reading_of new) role ≡ true → (is_missing (reading_of old) role ≡ true) ⊎ (IsAmong roles role ⊎ IsAmong late role)
   since = ended-since old new first roles late over.still whole states (λ role has. (and_parts (nat_lt role (length old.roles)) (is_vacant (reading_of old) role) (sym (first-is role) ∙ has)).1) late-is
+
+  -- each role of the new shape that no slot holds had none before, or is told
+  pub roles-told : (role : ℕ) → role < (shape_of new.newest).disks → is_vacant (reading_of new) role ≡ true → (is_vacant (reading_of old) role ≡ true) ⊎ ((has_slot roles role ≡ true) ⊎ (has_slot late role ≡ true))
+  roles-told role lt vacant = of (has_slot first role) (has_slot roles role) refl refl
+    where
+      is-less : (a b : ℕ) → a < b → nat_lt a b ≡ true
+      is-less a b lt = grind (arith, nat_tests, lt)
+
+      of : (a b : Bool) → has_slot first role ≡ a → has_slot roles role ≡ b → (is_vacant (reading_of old) role ≡ true) ⊎ ((has_slot roles role ≡ true) ⊎ (has_slot late role ≡ true))
+      of true b none has = inl (and_parts (nat_lt role (length old.roles)) (is_vacant (reading_of old) role) (sym (first-is role) ∙ none)).1
+      of false true none has = inr (inl has)
+      of false false none has = inr (inr (late-is role ∙ (λ i. (is-less role (shape_of new.newest).disks lt i && vacant i) && not (none i || has i))))
 
   pub finish-stepped : IsStepped old (left_by None old (closed (zeroed_by old.newest)) ahead) (still_left work new ahead) (losses_of roles spares ++ losses_of late late_spares)
   finish-stepped =

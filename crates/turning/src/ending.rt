@@ -44,7 +44,8 @@ use views::Work;
 fn holders_below(members: &Members, disks: u32) -> u32
     requires few { disks ≤ length members.now.roles }
     requires small { (role slot : ℕ) → holder (role_state (reading_of members.now) role) ≡ Some slot → slot < 32 }
-    ensures { (role slot : ℕ) → role < disks → holder (role_state (reading_of members.now) role) ≡ Some slot → has_slot result slot ≡ true }
+    ensures all { (role slot : ℕ) → role < disks → holder (role_state (reading_of members.now) role) ≡ Some slot → has_slot result slot ≡ true }
+    ensures only { (slot : ℕ) → has_slot result slot ≡ true → (role : ℕ) × (role < disks) × (holder (role_state (reading_of members.now) role) ≡ Some slot) }
 {
     let mut set = 0;
     for role in 0..disks {
@@ -111,6 +112,7 @@ fn before_end(members: &Members) -> Before
     ensures count { result.count ≡ length members.now.roles }
     ensures vacant { (role : ℕ) → has_slot result.vacant role ≡ (nat_lt role (length members.now.roles) && is_vacant (reading_of members.now) role) }
     ensures held { (role slot : ℕ) → role < (final_shape members.now.newest).disks → holder (role_state (reading_of members.now) role) ≡ Some slot → has_slot result.held slot ≡ true }
+    ensures only { (slot : ℕ) → has_slot result.held slot ≡ true → (role : ℕ) × (role < (final_shape members.now.newest).disks) × (holder (role_state (reading_of members.now) role) ≡ Some slot) }
     ensures size { result.size ≡ list_length members.now.newest }
 {
     let count = members.roles.len() as u32;

@@ -35,7 +35,7 @@ use Rattle.still_laws.specs.Ready.{IsReady}
 use Rattle.still_laws.proofs.Kept.{ready, rows-same}
 use Rattle.moving_laws.proofs.Kept.{left_by}
 use Rattle.turning.specs.Begun.{begun_length, HasKeptLength, IsBackupAt}
-use Rattle.turning.proofs.Begun.{none-pending, plus-none, others-of, IsUpdated, next-sound, backup-here, begun-under, begun-left, begun-start, begun-losses, begun-ready}
+use Rattle.turning.proofs.Begun.{none-pending, plus-none, others-of, since-told, IsUpdated, next-sound, backup-here, begun-under, begun-left, begun-start, begun-losses, begun-ready}
 use Rattle.turning.proofs.GivenBack.{fault-stands}
 use Rattle.turning.proofs.Planned.{none-recovering, begin-live, lost-since}
 use Rattle.turning.proofs.beginning.begin_reshape.Goals as goal
@@ -241,7 +241,7 @@ returns-clause-begun g c =
     (did.moved none) (did.failed none) c.told_of-told.ensures.roles in
     rw (c.of_pieces-2.ensures.same) (rw (c.take_apart-pieces.ensures.same) (record {
       could = c.in_default.ensures;
-      entered = record { roles = roles; spares = spares; end = end; is = items };
+      entered = record { roles = roles; spares = spares; end = end; roles_told = since-told new roles (did.moved none).placed.roles c.told_of-told.ensures.roles; spares_told = (did.failed none).told; is = items };
       ended = λ t. ap (λ (l : List Entry). last_end_from c.enter_begun.new.epoch.first l) items
           ∙ last_end-call c.enter_begun.new.epoch.first p.epoch.entries.items who end (Step Begun (left_in p.work new (closed 0) behind))
           (begun_length (goes_back (shape_of p.members.newest) to) (list_length new.newest) ++ losses_of roles spares) ∙ c.ops-end.ensures.count t;

@@ -40,7 +40,7 @@ use Rattle.moving_laws.proofs.Kept.{ready, shapes-same, shapes-moved, alone-keep
 use Rattle.turning.specs.Ended.{ended_length, ArePlansEnding}
 use Rattle.turning.proofs.Ended.{kept-or-failed, late-held, length-same, ended-ready, ended-losses}
 use Rattle.turning.proofs.EndedStill.{IsFinished, ended-long}
-use Rattle.turning.proofs.Finishing.{end-due, flush-failed, refused-behind, final-few, dropped-or-failed, spare-or-dropped, spares-kept, none-lost, finish-stepped, finish-left}
+use Rattle.turning.proofs.Finishing.{end-due, flush-failed, refused-behind, final-few, dropped-or-failed, spare-or-dropped, spares-kept, spares-told, dropped-told, none-lost, roles-told, finish-stepped, finish-left}
 use Rattle.turning.proofs.ending.finish_reshape.Goals as goal
 
 -- ---- refused before anything is done
@@ -299,7 +299,18 @@ returns-clause-ended g c =
     (length-same (nat_lt (list_length p.members.newest) (list_length m.newest)) (list_length m.newest)) in
     rw (c.of_pieces-2.ensures.same) (rw (c.take_apart-pieces.ensures.same) (record {
       could = λ refusal many. never-both p.members refusal c.in_default-too_many.ensures many;
-      entered = record { roles = roles; spares = spares; late = told.late; late_spares = told.late_spares; end = end; is = entered };
+      entered = record {
+        roles = roles;
+        spares = spares;
+        late = told.late;
+        late_spares = told.late_spares;
+        end = end;
+        roles_told = roles-told given p.members m p.work p.ahead c.take_apart-pieces.result.1 who end vacant roles spares told.late told.late_spares here.placed here.whole at.0 at.1 did.placed over at.2
+            did.states c.before_end-was.ensures.vacant tell.late;
+        spares_told = spares-told given p.members m c.before_end-was.result.held roles spares lost told.late_spares before after here.placed here.free did.placed over did.failed tell.late_spares c.before_end-was.ensures.only;
+        dropped_told = dropped-told given p.members m c.before_end-was.result.held roles spares lost told.late_spares before after here.placed here.free did.placed over did.failed tell.late_spares c.before_end-was.ensures.only;
+        is = entered;
+      };
       ended = λ t. ap (last_end_from c.enter_ended.new.epoch.first) items
           ∙ ending-last who end roles spares left longer long told.late told.late_spares c.enter_ended.new.epoch.first p.epoch.entries.items ∙ c.ops-end-2.ensures.count t;
       grows = did.grows;
