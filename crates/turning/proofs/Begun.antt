@@ -20,7 +20,7 @@ use Rattle.sb1.specs.declared.sb.Sb.{Sb}
 use Rattle.geometry.specs.Geometry.{AreInForce, list_end}
 use Rattle.grow_plan.specs.Plans.{AreSound, phase_window, phases_steps}
 use Rattle.superblocks.specs.declared.members.Members.{Members}
-use Rattle.superblocks.specs.Reading.{Scope, is_reshaping, is_backward, shape_of, final_shape, list_length}
+use Rattle.superblocks.specs.Reading.{Scope, is_reshaping, is_backward, shape_of, final_shape, list_length, role_count}
 use Rattle.superblocks.proofs.ValidFields.{few-roles}
 use Rattle.row_io.specs.Rows.{reading_of, present, is_missing}
 use Rattle.flat_history.specs.declared.events.Entry.{Entry}
@@ -29,7 +29,7 @@ use Rattle.flat_history.specs.declared.events.Event.TheVariants.{Step, Resized}
 use Rattle.flat_history.specs.declared.events.StepKind.TheVariants.{Begun}
 use Rattle.flat_history.specs.Flat.{length_of, length_after, limit_after}
 use Rattle.flat_history.specs.Legal.{told_left}
-use Rattle.flat_history.specs.Losses.{is_resync_end, loses}
+use Rattle.flat_history.specs.Losses.{is_unsynced, loses}
 use Rattle.flat_history.specs.OneShape.{is_lost}
 use Rattle.flat_history.specs.Plain.{entries_of}
 use Rattle.flat_history.specs.Sound.{OpensFit}
@@ -55,19 +55,18 @@ use Rattle.views.specs.Status.{left_of, resync_left}
 use Rattle.views.proofs.MarkLaws.{few-planned}
 use Rattle.views.proofs.Still.{placed-two, backup-still}
 use Rattle.call_entries.specs.Losing.{losses_of}
-use Rattle.call_entries.proofs.CallLaws.{losses-are, all-losses, ends-losses}
+use Rattle.call_entries.proofs.CallLaws.{all-losses}
 use Rattle.call_entries.proofs.PlainLaws.{one}
 use Rattle.array_kept.specs.Calls.{AreLossesOf, IsLossBy}
 use Rattle.array_kept.specs.Kept.{scope_in}
 use Rattle.array_kept.proofs.NowLaws.{length-more, limit-more}
 use Rattle.grow_asked.specs.declared.window.PhasesLeft.{PhasesLeft}
 use Rattle.grow_asked.specs.declared.window.Window.TheVariants.{Closed}
-use Rattle.grow_asked.specs.Left.{IsAtStartOf, IsReshapeUnderWay, phases_of, reshape_left, steps_from}
+use Rattle.grow_asked.specs.Left.{IsAtStartOf, IsReshapeUnderWay, phases_of, grow_left, reshape_left, steps_from}
 use Rattle.grow_asked.proofs.LeftLaws.{beginning as beginning-left}
 use Rattle.kept_history.specs.Recorded.{IsOpenBehind, IsLengthKept as IsResizeKept}
 use Rattle.kept_history.specs.Safe.{world_in, TakesNone}
 use Rattle.kept_history.proofs.Entered.{lost-taken}
-use Rattle.kept_history.proofs.Ledgers.{unsynced-still}
 use Rattle.kept_history.proofs.Tests.{neither}
 use Rattle.history_calls.proofs.Behind.{IsAmong, early-losses}
 use Rattle.course_kept.specs.Laws.{closed}
@@ -76,12 +75,12 @@ use Rattle.moving_kept.proofs.BegunCall.{IsBegunBy}
 use Rattle.moving_kept.proofs.BegunMembers.{array-begins}
 use Rattle.moving_kept.proofs.Shortened.{array-shortens}
 use Rattle.still_kept.proofs.Bridges.{stands-kept}
-use Rattle.still_kept.proofs.Leaving.{unsynced-later}
-use Rattle.running_words.specs.Parts.{left_in, still_left}
+use Rattle.running_words.specs.Parts.{still_left}
 use Rattle.running_words.proofs.Called.{not_254}
 use Rattle.running_words.proofs.Lengths.{IsLengthKept, behind-keeps}
 use Rattle.still_laws.specs.Ready.{IsReady as IsReadyStill}
 use Rattle.moving_laws.specs.Ready.{IsReady as IsReadyMoving}
+use Rattle.moving_laws.proofs.Kept.{left_by}
 use Rattle.turning.specs.Begun.{begun_length, is_resize, HasKeptLength, IsBackupAt, CanBegin}
 use Rattle.turning.proofs.Planned.{none-recovering, begin-live, lost-missing}
 
@@ -175,26 +174,30 @@ begun-under former newest to has forced within = record {
   within = within has.active;
 }
 
+-- no resync is among them
+pub plus-none : (n : ℕ) → n ≡ n + 0
+plus-none n = omega arith
+
 -- its steps are those that were left, but one
 pub begun-left : (old new : Members) (work : Work) (ahead behind : PhasesLeft) (to : Shape) → HasBegun old.newest to new.newest → is_reshaping old.newest ≡ false → left_of work old ≡ 0
-    → phases_of ahead ≡ Reshape to ∷ phases_of behind → left_in new (closed 0) behind + 1 ≡ still_left work old ahead
+    → phases_of ahead ≡ Reshape to ∷ phases_of behind → left_by None new (closed 0) behind + 1 ≡ still_left work old ahead
 begun-left old new work ahead behind to has still idle next =
-    beginning-left old.newest new.newest to (phases_of behind) still (begun-start old.newest new.newest to has)
+    ap (λ (n : ℕ). n + 1) (sym (plus-none (grow_left new.newest Closed 0 (phases_of behind)))) ∙ beginning-left old.newest new.newest to (phases_of behind) still (begun-start old.newest new.newest to has)
     ∙ ap (λ (b : Bool). cond b (reshape_left old.newest Closed 0) 0 + phases_steps (final_shape old.newest) old.newest.size (Reshape to ∷ phases_of behind)) still
     ∙ (λ i. 0 + phases_steps (final-still old.newest still i) old.newest.size (sym next i))
     ∙ ap (λ (n : ℕ). n + phases_steps (shape_of old.newest) old.newest.size (phases_of ahead)) (sym idle)
 
 -- and these are some: its end is among them
-begun-some : (new : Members) (behind : PhasesLeft) → is_reshaping new.newest ≡ true → left_in new (closed 0) behind ≢ 0
+begun-some : (new : Members) (behind : PhasesLeft) → is_reshaping new.newest ≡ true → left_by None new (closed 0) behind ≢ 0
 begun-some new behind active none = absurd (
-    let is : left_in new (closed 0) behind ≡ (steps_from new.newest new.newest.reshape_position - 0) + phases_steps (final_shape new.newest) new.newest.size (phases_of behind) =
-    ap (λ (b : Bool). cond b (reshape_left new.newest Closed 0) 0 + phases_steps (final_shape new.newest) new.newest.size (phases_of behind)) active in
+    let is : left_by None new (closed 0) behind ≡ (steps_from new.newest new.newest.reshape_position - 0) + phases_steps (final_shape new.newest) new.newest.size (phases_of behind) =
+    sym (plus-none (grow_left new.newest Closed 0 (phases_of behind))) ∙ ap (λ (b : Bool). cond b (reshape_left new.newest Closed 0) 0 + phases_steps (final_shape new.newest) new.newest.size (phases_of behind)) active in
     omega (arith, is, none)
     )
 
 -- the steps as they are counted
 pub begun-counted : (new : Members) (behind : PhasesLeft) (to : Shape) (moved planned left : ℕ) → is_reshaping new.newest ≡ true → final_shape new.newest ≡ to → moved ≡ reshape_left new.newest Closed 0
-    → planned ≡ phases_steps to new.newest.size (phases_of behind) → left ≡ moved + planned → left ≡ left_in new (closed 0) behind
+    → planned ≡ phases_steps to new.newest.size (phases_of behind) → left ≡ moved + planned → left ≡ grow_left new.newest Closed 0 (phases_of behind)
 begun-counted new behind to moved planned left active final moved_is planned_is is =
     is ∙ (λ i. moved_is i + planned_is i) ∙ (λ i. reshape_left new.newest Closed 0 + phases_steps (sym final i) new.newest.size (phases_of behind))
     ∙ ap (λ (b : Bool). cond b (reshape_left new.newest Closed 0) 0 + phases_steps (final_shape new.newest) new.newest.size (phases_of behind)) (sym active)
@@ -223,16 +226,10 @@ begun-tells who end left roles spares n role back lt has = of back
     of true = told
     of false = told
 
--- and of no end of a resync
-begun-ends : (who : Who) (end left roles spares n : ℕ) (back : Bool) → list_any (λ e. is_resync_end e.event) (entries_of who end (Step Begun left ∷ begun_length back n ++ losses_of roles spares)) ≡ false
-begun-ends who end left roles spares n back = of back
-  where
-    none : list_any (λ e. is_resync_end e.event) (entries_of who end (losses_of roles spares)) ≡ false
-    none = subst (λ (l : List Event). list_any (λ e. is_resync_end e.event) (entries_of who end l) ≡ false) (append-nil (losses_of roles spares)) (ends-losses who end (losses_of roles spares) [] (losses-are roles spares))
-
-    of : (b : Bool) → list_any (λ e. is_resync_end e.event) (entries_of who end (Step Begun left ∷ begun_length b n ++ losses_of roles spares)) ≡ false
-    of true = none
-    of false = none
+-- each role that no slot holds is told
+pub since-told : (new : Members) (roles : ℕ) → length new.roles ≡ role_count new.newest → ((role : ℕ) → has_slot roles role ≡ (nat_lt role (length new.roles) && is_vacant (reading_of new) role))
+    → (role : ℕ) → role < role_count new.newest → is_vacant (reading_of new) role ≡ true → has_slot roles role ≡ true
+since-told new roles count is role lt vacant = is role ∙ (λ i. is-below role (length new.roles) (omega (arith, count, lt)) i && vacant i)
 
 -- each loss has its cause: the slot held the role by the plan, and has failed
 pub begun-losses : (plan new : Members) (before after : ℕ → ℕ) (entries mid later : List Entry) (who : Who) (end left n roles spares : ℕ) (back : Bool) → AreLostSince plan new roles spares before after → mid ≡ entries
@@ -279,10 +276,10 @@ module _ {tells : Type 0} {given : Given} {tape tape' : List Operation} {first :
   scope = scope_in given uuid slots (Some backup)
 
   abbrev left : ℕ
-  left = left_in new (closed 0) behind
+  left = left_by None new (closed 0) behind
 
   abbrev added : List Entry
-  added = entries_of who end (Step Begun (left_in new (closed 0) behind) ∷ begun_length back (list_length new.newest) ++ losses_of roles spares)
+  added = entries_of who end (Step Begun (left_by None new (closed 0) behind) ∷ begun_length back (list_length new.newest) ++ losses_of roles spares)
 
   still : is_reshaping old.newest ≡ false
   still = was.kept.members_are.still
@@ -292,6 +289,9 @@ module _ {tells : Type 0} {given : Given} {tape tape' : List Operation} {first :
 
   synced : work.resync ≡ None
   synced = none-pending old work.resync _ _ idle
+
+  settled : tells → is_unsynced (world_in given tape (scope_in given uuid slots (Some backup)) first) entries ≡ false
+  settled t = was.kept.pending t ∙ ap (λ (o : Option ℕ). is_some o) synced
 
   backed : IsBackupOf (scope_in given uuid slots (Some backup)) old to backup uuid
   backed = record {
@@ -325,41 +325,41 @@ module _ {tells : Type 0} {given : Given} {tape tape' : List Operation} {first :
     safe = did.safe;
   }
 
-  one-fewer : left_in new (closed 0) behind + 1 ≡ still_left work old ahead
+  one-fewer : left_by None new (closed 0) behind + 1 ≡ still_left work old ahead
   one-fewer = begun-left old new work ahead behind to did.newest still idle next
 
   keeps : (b : Bool) → goes_back (shape_of old.newest) to ≡ b
-      → IsMoving tells given tape' (scope_in given uuid slots (Some backup)) first (entries ++ entries_of who end (Step Begun (left_in new (closed 0) behind) ∷ begun_length b (list_length new.newest) ++ losses_of roles spares)) new
-      (is_carried work) (closed 0) [] (left_in new (closed 0) behind)
+      → IsMoving tells given tape' (scope_in given uuid slots (Some backup)) first (entries ++ entries_of who end (Step Begun (left_by None new (closed 0) behind) ∷ begun_length b (list_length new.newest) ++ losses_of roles spares)) new
+      (is_carried work) None (closed 0) [] (left_by None new (closed 0) behind)
   keeps false forward =
       array-begins tells given tape tape' scope first entries backup uuid to old new (is_carried work) (is_carried work) roles (stands-kept tells given tape scope first entries old work (still_left work old ahead) was.kept synced)
-      begun-by (none-recovering given old was.kept.members_are.placed can.0) was.kept.members_are.free long did.free (did.moved.spares (few-planned old (beginning old to) old.lost)) [] left who end spares forward turned.goes
+      begun-by (none-recovering given old was.kept.members_are.placed can.0) was.kept.members_are.free long did.free (did.moved.spares (few-planned old (beginning old to) old.lost)) [] left who end spares forward settled turned.goes
       (not_254 who.caller caller) at_end did.grows (subst (λ (n : ℕ). IfSome (told_left entries) (λ m. m ≡ n)) (sym one-fewer) was.kept.left_told) (begun-some new behind did.newest.active) (λ number is. is)
       (λ t. did.plain t scope refl refl) did.others (λ t. unturned-open (world_in given tape' scope first) entries who turned)
   keeps true backward =
       array-shortens tells given scope first entries backup uuid to old new (is_carried work) (is_carried work) roles tape (stands-kept tells given tape scope first entries old work (still_left work old ahead) was.kept synced)
-      backward tape' begun-by (none-recovering given old was.kept.members_are.placed can.0) was.kept.members_are.free long did.free (did.moved.spares (few-planned old (beginning old to) old.lost)) [] left who end spares turned.goes
+      backward tape' begun-by (none-recovering given old was.kept.members_are.placed can.0) was.kept.members_are.free long did.free (did.moved.spares (few-planned old (beginning old to) old.lost)) [] left who end spares settled turned.goes
       (not_254 who.caller caller) at_end did.grows (subst (λ (n : ℕ). IfSome (told_left entries) (λ m. m ≡ n)) (sym one-fewer) was.kept.left_told) (begun-some new behind did.newest.active) (λ number is. is)
       (λ t. did.plain t scope refl refl) did.others (λ t. unturned-open (world_in given tape' scope first) entries who turned)
 
   -- the entries tell the length of its list
   tells-length : (b : Bool) → goes_back (shape_of old.newest) to ≡ b
-      → length_of (list_length new.newest) (entries ++ entries_of who end (Step Begun (left_in new (closed 0) behind) ∷ begun_length b (list_length new.newest) ++ losses_of roles spares)) ≡ list_length new.newest
+      → length_of (list_length new.newest) (entries ++ entries_of who end (Step Begun (left_by None new (closed 0) behind) ∷ begun_length b (list_length new.newest) ++ losses_of roles spares)) ≡ list_length new.newest
   tells-length false forward =
-      subst (λ (n : ℕ). length_of n (entries ++ entries_of who end (Step Begun (left_in new (closed 0) behind) ∷ losses_of roles spares)) ≡ n) (sym (begun-long old.newest new.newest to did.newest still forward))
-      (length-more (list_length old.newest) entries (entries_of who end (Step Begun (left_in new (closed 0) behind) ∷ losses_of roles spares)) was.sized ((losses-keep who end roles spares).long (list_length old.newest)))
+      subst (λ (n : ℕ). length_of n (entries ++ entries_of who end (Step Begun (left_by None new (closed 0) behind) ∷ losses_of roles spares)) ≡ n) (sym (begun-long old.newest new.newest to did.newest still forward))
+      (length-more (list_length old.newest) entries (entries_of who end (Step Begun (left_by None new (closed 0) behind) ∷ losses_of roles spares)) was.sized ((losses-keep who end roles spares).long (list_length old.newest)))
   tells-length true backward =
-      fold-append (λ m e. length_after m e.event) (list_length new.newest) entries (entries_of who end (Step Begun (left_in new (closed 0) behind) ∷ Resized (list_length new.newest) ∷ losses_of roles spares))
+      fold-append (λ m e. length_after m e.event) (list_length new.newest) entries (entries_of who end (Step Begun (left_by None new (closed 0) behind) ∷ Resized (list_length new.newest) ∷ losses_of roles spares))
       ∙ (losses-keep who end roles spares).long (list_length new.newest)
 
   -- where no entry takes a role's holder, none is missing
-  begun-whole : tells → TakesNone (world_in given tape' (scope_in given uuid slots (Some backup)) first) (entries ++ entries_of who end (Step Begun (left_in new (closed 0) behind) ∷ begun_length back (list_length new.newest) ++ losses_of roles spares)) → AreWhole new
+  begun-whole : tells → TakesNone (world_in given tape' (scope_in given uuid slots (Some backup)) first) (entries ++ entries_of who end (Step Begun (left_by None new (closed 0) behind) ∷ begun_length back (list_length new.newest) ++ losses_of roles spares)) → AreWhole new
   begun-whole t none role lt = by (is_missing (reading_of new) role) refl
     where
       later : World
       later = world_in given tape' (scope_in given uuid slots (Some backup)) first
 
-      none-here : list_any (loses later role) (entries_of who end (Step Begun (left_in new (closed 0) behind) ∷ begun_length back (list_length new.newest) ++ losses_of roles spares)) ≡ false
+      none-here : list_any (loses later role) (entries_of who end (Step Begun (left_by None new (closed 0) behind) ∷ begun_length back (list_length new.newest) ++ losses_of roles spares)) ≡ false
       none-here = (neither (list_any (loses later role) entries) (list_any (loses later role) added) (sym (list_any-append (loses later role) entries added) ∙ none role)).1
 
       by : (b : Bool) → is_missing (reading_of new) role ≡ b → b ≡ false
@@ -370,7 +370,7 @@ module _ {tells : Type 0} {given : Given} {tape tape' : List Operation} {first :
 
   -- So the array is ready in its reshape.
   pub begun-ready : {given' : Given} {scope' : Scope} {first' : ℕ} {mid entries' : List Entry} {steps' room' : ℕ} (window : List ℕ) → 512 * phase_window (shape_of old.newest) old.newest.size (Reshape to) ≤ length window
-      → given' ≡ given → scope' ≡ scope_in given uuid slots (Some backup) → first' ≡ first → mid ≡ entries → entries' ≡ mid ++ entries_of who end (Step Begun (left_in new (closed 0) behind) ∷ begun_length back (list_length new.newest) ++ losses_of roles spares)
+      → given' ≡ given → scope' ≡ scope_in given uuid slots (Some backup) → first' ≡ first → mid ≡ entries → entries' ≡ mid ++ entries_of who end (Step Begun (left_by None new (closed 0) behind) ∷ begun_length back (list_length new.newest) ++ losses_of roles spares)
       → 50 * steps' < room' → IsReadyMoving tells given' tape' scope' first' entries' new work (closed 0) behind window after steps' room' rows buffer far_rows far_buffer
   begun-ready {given' = given'} {scope' = scope'} {first' = first'} {mid = mid} {entries' = entries'} {steps' = steps'} {room' = room'} window wide same_given scope_is first_is mid_is is room_left =
       subst (λ (l : List Entry). IsReadyMoving tells given' tape' scope' first' l new work (closed 0) behind window after steps' room' rows buffer far_rows far_buffer) (sym (is ∙ ap (λ (l : List Entry). l ++ added) mid_is))
@@ -378,14 +378,10 @@ module _ {tells : Type 0} {given : Given} {tape tape' : List Operation} {first :
       (subst (λ (s : Scope). IsReadyMoving tells given' tape' s first (entries ++ added) new work (closed 0) behind window after steps' room' rows buffer far_rows far_buffer) (sym scope_is)
       (subst (λ (g : Given). IsReadyMoving tells g tape' scope first (entries ++ added) new work (closed 0) behind window after steps' room' rows buffer far_rows far_buffer) (sym same_given)
       (record {
-        kept = keeps back way;
-        synced = synced;
+        kept = subst (λ (o : Option ℕ). IsMoving tells given tape' (scope_in given uuid slots (Some backup)) first (entries ++ added) new (is_carried work) o (closed 0) [] (left_by o new (closed 0) behind)) (sym synced) (keeps back way);
         sized = tells-length back way;
         unlimited = limit-more entries added was.unlimited (begun-free who end left roles spares (list_length new.newest) back);
         full = begun-whole;
-        settled = λ t.
-            unsynced-later given scope first (entries ++ added) did.grows (λ u. (was.kept.recorded u).begun) t ∙ unsynced-still (world_in given tape scope first) entries added (begun-ends who end left roles spares (list_length new.newest) back)
-            ∙ was.kept.pending t ∙ ap (λ (o : Option ℕ). is_some o) synced;
         planned = subst (λ (n : ℕ). AreSound (final_shape new.newest) n (phases_of behind)) (sym did.newest.size)
             (subst (λ (s : Shape). AreSound s old.newest.size (phases_of behind)) (sym did.newest.new) sound.2);
         wide = let reach = begun-reach old.newest new.newest to did.newest in omega (arith, wide, reach);

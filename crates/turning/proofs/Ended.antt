@@ -18,6 +18,7 @@ use Rattle.flat_history.specs.declared.events.Entry.{Entry}
 use Rattle.flat_history.specs.declared.events.Event.{Event}
 use Rattle.flat_history.specs.declared.events.Event.TheVariants.{Step, Resized}
 use Rattle.flat_history.specs.declared.events.StepKind.TheVariants.{Finished}
+use Rattle.flat_history.specs.Losses.{is_unsynced}
 use Rattle.flat_history.specs.Plain.{entries_of}
 use Rattle.shape_changes.specs.Updates.{IsAtEnd}
 use Rattle.reshape_ends.specs.Finished.{AreLostInEnd}
@@ -43,7 +44,7 @@ use Rattle.running_words.specs.Parts.{left_in, still_left}
 use Rattle.running_words.proofs.Called.{not_254}
 use Rattle.still_laws.specs.Ready.{IsReady as IsReadyStill}
 use Rattle.moving_laws.specs.Ready.{IsReady as IsReadyMoving, bytes_in}
-use Rattle.moving_laws.proofs.Kept.{takes-before}
+use Rattle.moving_laws.proofs.Kept.{left_by, takes-before}
 use Rattle.turning.specs.Ended.{AreKeptOrFailed, ArePlansTo}
 use Rattle.turning.proofs.EndedStill.{IsFinished, plans-of, ahead-none, ended-still, ended-sized, ended-free}
 
@@ -52,12 +53,14 @@ pub length-same : (longer : Bool) (n : ℕ) → (if longer then Resized n ∷ []
 length-same true n = refl
 length-same false n = refl
 
--- an array in a reshape that has gone through the list has no window
+-- an array in a reshape that has gone through the list has no window, and no resync is pending where its end is due
 pub closed-moving : {tells : Type 0} {given : Given} {tape : List Operation} {scope : Scope} {first : ℕ} {entries : List Entry} {members : Members} (work : Work) (window : List ℕ) (ahead : PhasesLeft) (course : Course) (count : ℕ)
-    → course ≡ closed count → IsMoving tells given tape scope first entries members (is_carried work) course (bytes_in course.window window) (left_in members course ahead)
-    → IsMoving tells given tape scope first entries members (is_carried work) (closed count) [] (left_in members (closed count) ahead)
-closed-moving {tells = tells} {given = given} {tape = tape} {scope = scope} {first = first} {entries = entries} {members = members} work window ahead course count is was =
-    subst (λ (k : Course). IsMoving tells given tape scope first entries members (is_carried work) k (bytes_in k.window window) (left_in members k ahead)) is was
+    → course ≡ closed count → work.resync ≡ None
+    → IsMoving tells given tape scope first entries members (is_carried work) work.resync course (bytes_in course.window window) (left_in work members course ahead)
+    → IsMoving tells given tape scope first entries members (is_carried work) None (closed count) [] (left_by None members (closed count) ahead)
+closed-moving {tells = tells} {given = given} {tape = tape} {scope = scope} {first = first} {entries = entries} {members = members} work window ahead course count is synced was =
+    subst (λ (o : Option ℕ). IsMoving tells given tape scope first entries members (is_carried work) o (closed count) [] (left_by o members (closed count) ahead)) synced
+    (subst (λ (k : Course). IsMoving tells given tape scope first entries members (is_carried work) work.resync k (bytes_in k.window window) (left_by work.resync members k ahead)) is was)
 
 -- ---- the plans
 
@@ -123,11 +126,11 @@ module _ (old new : Members) (roles spares lost : ℕ) (before after : ℕ → �
 
 module _ {tells : Type 0} {given : Given} {tape tape' : List Operation} {scope : Scope} {first : ℕ} {entries : List Entry} {old new : Members} {work : Work} {course : Course} {window : List ℕ} {before after : ℕ → ℕ}
     {steps room rows buffer far_rows far_buffer : ℕ} (ahead : PhasesLeft) (who : Who) (end first_roles roles spares lost late late_spares : ℕ)
-    (was : IsReadyMoving tells given tape scope first entries old work course ahead window before steps room rows buffer far_rows far_buffer) (at : course ≡ closed (zeroed_by old.newest))
+    (was : IsReadyMoving tells given tape scope first entries old work course ahead window before steps room rows buffer far_rows far_buffer) (at : course ≡ closed (zeroed_by old.newest)) (synced : work.resync ≡ None)
     (goes : IsCallGoing entries who) (caller : who.caller ≢ 254) (last : IsAtEnd old.newest) (did : IsFinished tells given tape tape' old new roles spares lost before after) (at_end : tells → end ≡ length tape')
     (first-is : (role : ℕ) → has_slot first_roles role ≡ (nat_lt role (length old.roles) && is_vacant (reading_of old) role))
     (late-is : (role : ℕ) → has_slot late role ≡ ((nat_lt role (shape_of new.newest).disks && is_vacant (reading_of new) role) && not (has_slot first_roles role || has_slot roles role)))
-    (stepped : IsStepped old (left_in old (closed (zeroed_by old.newest)) ahead) (still_left work new ahead) (losses_of roles spares ++ losses_of late late_spares))
+    (stepped : IsStepped old (left_by None old (closed (zeroed_by old.newest)) ahead) (still_left work new ahead) (losses_of roles spares ++ losses_of late late_spares))
     (planned : tells → phases_of ahead ≡ [] → ArePlansTo (world_in given tape scope first) (final_shape old.newest) entries) where
   abbrev added : List Entry
   added = entries_of who end (ending_events roles spares (still_left work new ahead) (grown_to (list_length old.newest) (list_length new.newest)) late late_spares)
@@ -141,10 +144,10 @@ module _ {tells : Type 0} {given : Given} {tape tape' : List Operation} {scope :
       (subst (λ (s : Scope). IsReadyStill tells given' tape' s first (entries ++ added) new work ahead after steps' room' rows buffer far_rows far_buffer) (sym scope_is)
       (subst (λ (g : Given). IsReadyStill tells g tape' scope first (entries ++ added) new work ahead after steps' room' rows buffer far_rows far_buffer) (sym same_given)
       (record {
-        kept = ended-still work ahead who end first_roles roles spares lost late late_spares moving goes (not_254 who.caller caller) last did at_end first-is late-is was.synced was.settled stepped
+        kept = ended-still work ahead who end first_roles roles spares lost late late_spares moving goes (not_254 who.caller caller) last did at_end first-is late-is synced settled stepped
             (planned-to tells given tape scope first entries old new work ahead planned)
             (λ t none. was.full t (takes-before given scope first entries added did.grows (λ u. (was.kept.recorded u).ends) t none));
-        sized = ended-sized work ahead who end first_roles roles spares lost late late_spares moving goes (not_254 who.caller caller) last did at_end first-is late-is was.synced was.settled stepped
+        sized = ended-sized work ahead who end first_roles roles spares lost late late_spares moving goes (not_254 who.caller caller) last did at_end first-is late-is synced settled stepped
             (planned-to tells given tape scope first entries old new work ahead planned) was.sized;
         unlimited = limit-more entries added was.unlimited (ended-free who end roles spares (still_left work new ahead) late late_spares (list_length new.newest) (nat_lt (list_length old.newest) (list_length new.newest)));
         planned = subst (λ (n : ℕ). AreSound (shape_of new.newest) n (phases_of ahead)) (sym did.over.size)
@@ -157,8 +160,11 @@ module _ {tells : Type 0} {given : Given} {tape tape' : List Operation} {scope :
         far_buffer_fits = was.far_buffer_fits;
       }))))
     where
-      moving : IsMoving tells given tape scope first entries old (is_carried work) (closed (zeroed_by old.newest)) [] (left_in old (closed (zeroed_by old.newest)) ahead)
-      moving = closed-moving work window ahead course (zeroed_by old.newest) at was.kept
+      settled : tells → is_unsynced (world_in given tape scope first) entries ≡ false
+      settled t = was.kept.pending t ∙ ap (λ (o : Option ℕ). is_some o) synced
+
+      moving : IsMoving tells given tape scope first entries old (is_carried work) None (closed (zeroed_by old.newest)) [] (left_by None old (closed (zeroed_by old.newest)) ahead)
+      moving = closed-moving work window ahead course (zeroed_by old.newest) at synced was.kept
 
 -- ---- the losses of the end
 

@@ -26,13 +26,14 @@ use Rattle.views.proofs.Still.{count-still}
 use Rattle.call_entries.specs.Losing.{losses_of}
 use Rattle.grow_asked.specs.declared.window.PhasesLeft.{PhasesLeft}
 use Rattle.grow_asked.specs.declared.window.Window.TheVariants.{Closed}
-use Rattle.grow_asked.specs.Left.{IsReshapeUnderWay, phases_of, reshape_left, zeroed_by}
+use Rattle.grow_asked.specs.Left.{IsReshapeUnderWay, phases_of, grow_left, reshape_left, zeroed_by}
 use Rattle.grow_asked.proofs.LeftLaws.{ending as ending-left}
 use Rattle.history_calls.proofs.Behind.{IsAmong}
 use Rattle.course_kept.specs.Laws.{closed}
 use Rattle.moving_ends.proofs.Ended.{IsStepped}
 use Rattle.moving_ends.proofs.Ending.{only-lost}
-use Rattle.running_words.specs.Parts.{left_in, still_left}
+use Rattle.running_words.specs.Parts.{still_left}
+use Rattle.moving_laws.proofs.Kept.{left_by}
 
 -- ---- nothing is to be rebuilt
 
@@ -79,13 +80,14 @@ whole-idle work m synced still none whole =
 -- ---- one fewer is left
 
 pub whole-left : (old new : Members) (work : Work) (ahead : PhasesLeft) → IsReshapeUnderWay old.newest → next_window old.newest ≡ None → IsOver old.newest new.newest → left_of work new ≡ 0
-    → still_left work new ahead + 1 ≡ left_in old (closed (zeroed_by old.newest)) ahead
+    → still_left work new ahead + 1 ≡ left_by None old (closed (zeroed_by old.newest)) ahead
 whole-left old new work ahead going none over idle =
     ap (λ (n : ℕ). n + 1) (sym (
     ap (λ (b : Bool). cond b (reshape_left new.newest Closed 0) 0 + phases_steps (final_shape new.newest) new.newest.size (phases_of ahead)) over.still
     ∙ (λ i. 0 + phases_steps (final-still new.newest over.still i) new.newest.size (phases_of ahead))
     ∙ ap (λ (n : ℕ). n + phases_steps (shape_of new.newest) new.newest.size (phases_of ahead)) (sym idle)))
     ∙ ending-left old.newest new.newest (phases_of ahead) going none (record { still = over.still; shape = over.shape; size = over.size })
+    ∙ (let n = grow_left old.newest Closed (zeroed_by old.newest) (phases_of ahead) in let e : n ≡ n + 0 = omega arith in e)
 
 -- ---- losses
 
@@ -151,11 +153,11 @@ module _ (old new : Members) (work : Work) (ahead : PhasesLeft) (who : Who) (end
         | inr (inr has) ↦ absurd (let both : true ≡ false = sym (lost-disturbs who end role (losses_of late late_spares) (only-lost who end late late_spares role (omega (arith, lt, small)) has)) ∙ none-lost.1 in cc)
       ]
 
-  pub ended-stepped : IsStepped old (left_in old (closed (zeroed_by old.newest)) ahead) (still_left work new ahead) (losses_of roles spares ++ losses_of late late_spares)
+  pub ended-stepped : IsStepped old (left_by None old (closed (zeroed_by old.newest)) ahead) (still_left work new ahead) (losses_of roles spares ++ losses_of late late_spares)
   ended-stepped = of (list_any disturbs lost) refl (some-or-none (role_count old.newest) (is_missing (reading_of old)))
     where
       of : (b : Bool) → list_any disturbs lost ≡ b → ((k : ℕ) × (k < role_count old.newest) × (is_missing (reading_of old) k ≡ true)) ⊎ ((k : ℕ) → k < role_count old.newest → is_missing (reading_of old) k ≡ false)
-          → IsStepped old (left_in old (closed (zeroed_by old.newest)) ahead) (still_left work new ahead) (losses_of roles spares ++ losses_of late late_spares)
+          → IsStepped old (left_by None old (closed (zeroed_by old.newest)) ahead) (still_left work new ahead) (losses_of roles spares ++ losses_of late late_spares)
       of true is found = inr (inr is)
       of false is (inl found) = inr (inl found)
       of false is (inr all) = inl (sym (whole-left old new work ahead going none over (whole-idle work new synced over.still whole (whole-new is all))))

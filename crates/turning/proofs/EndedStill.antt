@@ -70,7 +70,8 @@ use Rattle.moving_ends.proofs.Ending.{length_by, grown_to, ending_events, ending
 use Rattle.still_kept.specs.Still.{IsStill, AreNoneMissing}
 use Rattle.still_kept.proofs.Bridges.{kept-again}
 use Rattle.still_kept.proofs.Leaving.{unsynced-later}
-use Rattle.running_words.specs.Parts.{left_in, still_left}
+use Rattle.running_words.specs.Parts.{still_left}
+use Rattle.moving_laws.proofs.Kept.{left_by}
 
 -- ---- what is entered
 
@@ -177,11 +178,11 @@ pub record IsFinished (tells : Type 0) (given : Given) (tape tape' : List Operat
 
 module _ {tells : Type 0} {given : Given} {tape tape' : List Operation} {scope : Scope} {first : ℕ} {entries : List Entry} {old new : Members} {before after : ℕ → ℕ} (work : Work) (ahead : PhasesLeft)
     (who : Who) (end first_roles roles spares lost late late_spares : ℕ)
-    (was : IsMoving tells given tape scope first entries old (is_carried work) (closed (zeroed_by old.newest)) [] (left_in old (closed (zeroed_by old.newest)) ahead))
+    (was : IsMoving tells given tape scope first entries old (is_carried work) None (closed (zeroed_by old.newest)) [] (left_by None old (closed (zeroed_by old.newest)) ahead))
     (goes : IsCallGoing entries who) (caller : IsFalse (who.caller == 254)) (last : IsAtEnd old.newest) (did : IsFinished tells given tape tape' old new roles spares lost before after) (at_end : tells → end ≡ length tape')
     (first-is : (role : ℕ) → has_slot first_roles role ≡ (nat_lt role (length old.roles) && is_vacant (reading_of old) role))
     (late-is : (role : ℕ) → has_slot late role ≡ ((nat_lt role (shape_of new.newest).disks && is_vacant (reading_of new) role) && not (has_slot first_roles role || has_slot roles role)))
-    (synced : work.resync ≡ None) (settled : tells → is_unsynced (world_in given tape scope first) entries ≡ false) (stepped : IsStepped old (left_in old (closed (zeroed_by old.newest)) ahead) (still_left work new ahead) (losses_of roles spares ++ losses_of late late_spares))
+    (synced : work.resync ≡ None) (settled : tells → is_unsynced (world_in given tape scope first) entries ≡ false) (stepped : IsStepped old (left_by None old (closed (zeroed_by old.newest)) ahead) (still_left work new ahead) (losses_of roles spares ++ losses_of late late_spares))
     (planned : tells → IsPlannedTo (world_in given tape scope first) entries old (still_left work new ahead)) where
   abbrev added : List Entry
   added = entries_of who end (ending_events roles spares (still_left work new ahead) (grown_to (list_length old.newest) (list_length new.newest)) late late_spares)
@@ -207,7 +208,7 @@ module _ {tells : Type 0} {given : Given} {tape tape' : List Operation} {scope :
   }
 
   array : IsStillKept tells given tape' scope first (entries ++ entries_of who end (ending_events roles spares (still_left work new ahead) (grown_to (list_length old.newest) (list_length new.newest)) late late_spares)) new (is_carried work)
-  array = array-ends tells given tape tape' scope first entries old new (is_carried work) (is_carried work) [] (zeroed_by old.newest) (left_in old (closed (zeroed_by old.newest)) ahead) (still_left work new ahead)
+  array = array-ends tells given tape tape' scope first entries old new (is_carried work) (is_carried work) [] (zeroed_by old.newest) (left_by None old (closed (zeroed_by old.newest)) ahead) (still_left work new ahead)
       who end roles spares late late_spares was goes caller at_end did.grows refl stepped planned (λ number is. is) ended-by
 
   few-spares : length new.spares ≤ 32

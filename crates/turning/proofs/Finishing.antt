@@ -1,7 +1,9 @@
 -- What `finish` of `reshape_ends` leaves, done or refused: the array is ready, in the words of the call, and so many steps are left.
 use Rattle.std.proofs.Common.{◌≡◌, ◌≢◌, ◌⊎◌, inl, inr, ℕ, ◌+◌, ◌<◌, ◌≤◌, ◌&&◌, ◌||◌, nat_lt, max, Bool, true, false, not, cond, Option, Some, None, List, [], ◌∷◌, ◌++◌, length, drop, refl, sym, ◌∙◌, ap, subst, arith}
+use Rattle.std.specs.Prelude.{IfSome}
 use Rattle.std.specs.List.{list_any}
 use Rattle.std.proofs.lemmas.Bool.{and_parts}
+use Rattle.std.proofs.lemmas.Bool.Decides.{nat_tests}
 use Rattle.std.proofs.Math.Seq.{drop-append_seam}
 use Rattle.std.proofs.lemmas.List.{get_or_past, get_or-drop}
 use Rattle.std.proofs.lemmas.List.Folds.{list_any-append}
@@ -50,6 +52,7 @@ use Rattle.views.specs.Rebuilding.{AreSparesFree}
 use Rattle.views.proofs.Still.{count-still}
 use Rattle.safe_updates.specs.Unused.{IsUnusedKept}
 use Rattle.window_steps.specs.Zeroing.{IsThrough}
+use Rattle.region_mends.specs.Mends.{mend_stripes}
 use Rattle.call_entries.specs.Losing.{losses_of}
 use Rattle.array_kept.specs.Calls.{TellNoLoss}
 use Rattle.grow_asked.specs.declared.window.PhasesLeft.{PhasesLeft}
@@ -60,14 +63,14 @@ use Rattle.history_calls.proofs.Behind.{IsAmong}
 use Rattle.course_kept.specs.declared.course.Course.{Course}
 use Rattle.course_kept.specs.Course.{IsCourseOf}
 use Rattle.course_kept.specs.Laws.{closed}
-use Rattle.course_kept.proofs.Courses.{courses-move}
+use Rattle.course_mends.proofs.Mended.{mended-courses-move}
 use Rattle.moving_kept.specs.Moving.{IsMoving}
 use Rattle.moving_kept.proofs.Staying.{refused-moves}
 use Rattle.moving_kept.proofs.Steps.{missing-since}
 use Rattle.moving_ends.proofs.Ended.{IsStepped}
 use Rattle.moving_ends.proofs.EndedCall.{ended-since}
 use Rattle.moving_ends.proofs.Ending.{length_by}
-use Rattle.moving_laws.proofs.Kept.{left-moved, live-of}
+use Rattle.moving_laws.proofs.Kept.{left_by, left-moved, live-of}
 use Rattle.moving_state.specs.Due.{due_of, IsDue}
 use Rattle.moving_state.specs.declared.stepping.Due.{Due}
 use Rattle.moving_state.specs.declared.stepping.Due.TheVariants.{Finish}
@@ -81,8 +84,9 @@ use Rattle.turning.proofs.EndedLeft.{whole-idle, whole-left, whole-new, ended-st
 
 -- ---- the end is due
 
-pub end-due : (newest : Sb) (course : Course) → AreShapesFit newest → is_reshaping newest ≡ true → IsCourseOf newest course → due_of newest course ≡ Finish → (course ≡ closed (zeroed_by newest)) × IsThrough newest
-end-due newest course fit active is due = subst (λ (d : Due). IsDue newest course d) due (due-is newest course fit active is)
+pub end-due : (newest : Sb) (course : Course) (resync : Option ℕ) → AreShapesFit newest → is_reshaping newest ≡ true → IsCourseOf newest course → IfSome resync (λ mended. mended ≤ mend_stripes newest)
+    → due_of newest course resync ≡ Finish → (course ≡ closed (zeroed_by newest)) × IsThrough newest × (resync ≡ None)
+end-due newest course resync fit active is most due = subst (λ (d : Due). IsDue newest course resync d) due (due-is newest course resync fit active is most)
 
 -- ---- it is refused behind the flush
 
@@ -105,18 +109,18 @@ flush-failed given old new roles spares lost before after none free moved failed
 }
 
 -- the reshape goes on
-pub refused-behind : {tells : Type 0} {given : Given} {tape tape' : List Operation} {scope : Scope} {first : ℕ} {entries : List Entry} {old new : Members} {carried : ℕ → Bool} (course : Course) {buffer : List ℕ}
-    (ahead : PhasesLeft) (who : Who) (end roles spares : ℕ) (refusal : Refusal) {before after : ℕ → ℕ} → IsMoving tells given tape scope first entries old carried course buffer (left_in old course ahead) → DoWithout old
+pub refused-behind : {tells : Type 0} {given : Given} {tape tape' : List Operation} {scope : Scope} {first : ℕ} {entries : List Entry} {old new : Members} {carried : ℕ → Bool} {resync : Option ℕ} (course : Course) {buffer : List ℕ}
+    (ahead : PhasesLeft) (who : Who) (end roles spares : ℕ) (refusal : Refusal) {before after : ℕ → ℕ} → IsMoving tells given tape scope first entries old carried resync course buffer (left_by resync old course ahead) → DoWithout old
     → IsCallGoing entries who → who.caller ≢ 254 → (tells → end ≡ length tape') → Grows tells tape tape' → IsMoved given old new → AreLostSince old new roles spares before after → is_clean new.newest ≡ is_clean old.newest
     → AreTooMany new refusal → IsRisen tells old new tape tape' → (tells → IsUnusedKept old (disk given.start tape) (disk given.start tape')) → (tells → AreOthersPresent (present given tape) (present given tape'))
     → (tells → (world : World) → (told : Ledger) → HasRoomLeft old tape tape' → AreGoneTold told new → IsUncleanTold told old → IsSafeOver world given told old tape → KeepsSafe world given told new tape tape')
-    → IsMoving tells given tape' scope first (entries ++ entries_of who end (losses_of roles spares ++ Refused refusal ∷ [])) new carried course buffer (left_in new course ahead)
-refused-behind {tells = tells} {given = given} {tape = tape} {tape' = tape'} {scope = scope} {first = first} {entries = entries} {old = old} {new = new} {carried = carried} course {buffer = buffer}
+    → IsMoving tells given tape' scope first (entries ++ entries_of who end (losses_of roles spares ++ Refused refusal ∷ [])) new carried resync course buffer (left_by resync new course ahead)
+refused-behind {tells = tells} {given = given} {tape = tape} {tape' = tape'} {scope = scope} {first = first} {entries = entries} {old = old} {new = new} {carried = carried} {resync = resync} course {buffer = buffer}
     ahead who end roles spares refusal was does goes caller at_end grows moved since clean many rise unused others safe =
-    subst (λ (n : ℕ). IsMoving tells given tape' scope first (entries ++ entries_of who end (losses_of roles spares ++ Refused refusal ∷ [])) new carried course buffer n) (sym (left-moved given old new course ahead moved))
-    (refused-moves tells given tape tape' scope first entries old new carried course buffer (left_in old course ahead) who end roles spares refusal was (live-of was does) goes (not_254 who.caller caller) at_end grows
+    subst (λ (n : ℕ). IsMoving tells given tape' scope first (entries ++ entries_of who end (losses_of roles spares ++ Refused refusal ∷ [])) new carried resync course buffer n) (sym (left-moved given old new resync course ahead moved))
+    (refused-moves tells given tape tape' scope first entries old new carried resync course buffer (left_by resync old course ahead) who end roles spares refusal was (live-of was does) goes (not_254 who.caller caller) at_end grows
     moved (few-roles new.newest moved.placed.fit.valid) (missing-since roles moved since.vacant) clean (inr many) (risen-told rise) unused
-    (λ t sound among list stands. courses-move sound among given old new course buffer (present given tape) (present given tape') list was.members_are.placed moved (others t) stands)
+    (λ t sound among list stands. mended-courses-move sound among given old new resync course buffer (present given tape) (present given tape') list was.members_are.placed moved (others t) stands)
     (λ t told filled more room gone unclean. safe t (world_in given tape scope first) told room gone unclean))
 
 -- ---- it is done
@@ -128,19 +132,21 @@ larger a b = omega arith
 pub final-few : (given : Given) (old : Members) → IsPlaced given old → (final_shape old.newest).disks ≤ length old.roles
 final-few given old placed = let count = placed.roles in let most = larger (shape_of old.newest).disks (final_shape old.newest).disks in omega (arith, count, most)
 
+-- no slot holds a role that the new shape hasn't
+role-beyond : (given : Given) (old new : Members) (role : ℕ) → IsPlaced given new → IsOver old.newest new.newest → (final_shape old.newest).disks ≤ role → role_state (reading_of new) role ≡ Missing
+role-beyond given old new role placed over past =
+    get_or_past new.roles role Missing
+    (let count = placed.roles in let same = count-still new.newest over.still in let disks = ap (λ (s : Shape). s.disks) over.shape in omega (arith, past, count, same, disks))
+
 -- each slot of a role that the new shape hasn't is a spare, or it has failed
 pub dropped-or-failed : (given : Given) (old new : Members) (roles spares lost : ℕ) (before after : ℕ → ℕ) → IsPlaced given new → IsOver old.newest new.newest → AreLostInEnd old new roles spares lost before after
     → AreDroppedSpares old new before after
 dropped-or-failed given old new roles spares lost before after placed over failed role slot past held = elim (failed.held role slot held) [
-  | inl there ↦ absurd (let none : ◌≡◌ {A = Option ℕ} None (Some slot) = sym (ap holder beyond) ∙ there in cc)
+  | inl there ↦ absurd (let none : ◌≡◌ {A = Option ℕ} None (Some slot) = sym (ap holder (role-beyond given old new role placed over past)) ∙ there in cc)
   | inr (inl gone) ↦ inr gone.1
   | inr (inr (inl has)) ↦ inr (failed.lost_are slot has)
   | inr (inr (inr spare)) ↦ inl spare.1
 ]
-  where
-    beyond : role_state (reading_of new) role ≡ Missing
-    beyond = get_or_past new.roles role Missing
-        (let count = placed.roles in let same = count-still new.newest over.still in let disks = ap (λ (s : Shape). s.disks) over.shape in omega (arith, past, count, same, disks))
 
 same-spare : (spares : List ℕ) (slot : ℕ) (give : Give) → give ≡ Same → is_planned_spare spares None give slot ≡ true → has_spare spares slot ≡ true
 same-spare spares slot give same is = or-none (has_spare spares slot) (sym (ap (λ (g : Give). is_planned_spare spares None g slot) same) ∙ is)
@@ -184,6 +190,35 @@ spares-kept old new roles spares lost before after failed slot was = elim (faile
   | inr (inl has) ↦ inr (failed.spares_are slot has)
   | inr (inr has) ↦ inr (failed.lost_are slot has)
 ]
+
+-- ---- what is told
+
+not-in : (a b : Bool) → a ≡ true → (b ≡ true → ⊥) → (a && not b) ≡ true
+not-in true false has none = refl
+not-in true true has none = absurd (none refl)
+not-in false b has none = absurd (cc)
+
+module _ (given : Given) (old new : Members) (held roles spares lost late_spares : ℕ) (before after : ℕ → ℕ) (was : IsPlaced given old) (free : AreSparesFree given old) (placed : IsPlaced given new) (over : IsOver old.newest new.newest)
+    (failed : AreLostInEnd old new roles spares lost before after) (late-is : (slot : ℕ) → has_slot late_spares slot ≡ (has_slot lost slot && not (has_slot held slot)))
+    (only : (slot : ℕ) → has_slot held slot ≡ true → (role : ℕ) × (role < (final_shape old.newest).disks) × (holder (role_state (reading_of old) role) ≡ Some slot)) where
+  -- of a spare
+  pub spares-told : (slot : ℕ) → has_spare old.spares slot ≡ true → (has_spare new.spares slot ≡ true) ⊎ ((has_slot spares slot ≡ true) ⊎ (has_slot late_spares slot ≡ true))
+  spares-told slot spare = elim (failed.told slot spare) [
+    | inl still ↦ inl still
+    | inr (inl has) ↦ inr (inl has)
+    | inr (inr has) ↦ inr (inr (late-is slot ∙ not-in (has_slot lost slot) (has_slot held slot) has (λ there. let of = only slot there in (free slot spare).none of.0 of.2)))
+  ]
+
+  -- and of a slot whose role the new shape hasn't
+  pub dropped-told : (role slot : ℕ) → (final_shape old.newest).disks ≤ role → holder (role_state (reading_of old) role) ≡ Some slot
+      → (has_spare new.spares slot ≡ true) ⊎ ((has_slot roles role ≡ true) ⊎ (has_slot late_spares slot ≡ true))
+  dropped-told role slot past had = elim (failed.held role slot had) [
+    | inl there ↦ absurd (let none : ◌≡◌ {A = Option ℕ} None (Some slot) = sym (ap holder (role-beyond given old new role placed over past)) ∙ there in cc)
+    | inr (inl gone) ↦ inr (inl gone.0)
+    | inr (inr (inl has)) ↦ inr (inr (late-is slot ∙ not-in (has_slot lost slot) (has_slot held slot) has
+        (λ there. let of = only slot there in let same : of.0 ≡ role = was.apart of.0 role slot of.2 had in let lt = of.1 in omega (arith, past, same, lt))))
+    | inr (inr (inr spare)) ↦ inl spare.1
+  ]
 
 -- ---- the steps that are left
 
@@ -236,14 +271,26 @@ module _ (given : Given) (old new : Members) (work : Work) (ahead : PhasesLeft) 
   since : (role : ℕ) → role < role_count new.newest → is_missing (reading_of new) role ≡ true → (is_missing (reading_of old) role ≡ true) ⊎ (IsAmong roles role ⊎ IsAmong late role)
   since = ended-since old new first roles late over.still whole states (λ role has. (and_parts (nat_lt role (length old.roles)) (is_vacant (reading_of old) role) (sym (first-is role) ∙ has)).1) late-is
 
-  pub finish-stepped : IsStepped old (left_in old (closed (zeroed_by old.newest)) ahead) (still_left work new ahead) (losses_of roles spares ++ losses_of late late_spares)
+  -- each role of the new shape that no slot holds had none before, or is told
+  pub roles-told : (role : ℕ) → role < (shape_of new.newest).disks → is_vacant (reading_of new) role ≡ true → (is_vacant (reading_of old) role ≡ true) ⊎ ((has_slot roles role ≡ true) ⊎ (has_slot late role ≡ true))
+  roles-told role lt vacant = of (has_slot first role) (has_slot roles role) refl refl
+    where
+      is-less : (a b : ℕ) → a < b → nat_lt a b ≡ true
+      is-less a b lt = grind (arith, nat_tests, lt)
+
+      of : (a b : Bool) → has_slot first role ≡ a → has_slot roles role ≡ b → (is_vacant (reading_of old) role ≡ true) ⊎ ((has_slot roles role ≡ true) ⊎ (has_slot late role ≡ true))
+      of true b none has = inl (and_parts (nat_lt role (length old.roles)) (is_vacant (reading_of old) role) (sym (first-is role) ∙ none)).1
+      of false true none has = inr (inl has)
+      of false false none has = inr (inr (late-is role ∙ (λ i. (is-less role (shape_of new.newest).disks lt i && vacant i) && not (none i || has i))))
+
+  pub finish-stepped : IsStepped old (left_by None old (closed (zeroed_by old.newest)) ahead) (still_left work new ahead) (losses_of roles spares ++ losses_of late late_spares)
   finish-stepped =
       ended-stepped old new work ahead who end roles spares late late_spares (under-way-of old.newest placed.fit through.active) through.none over synced none-recovers (few-roles new.newest under.fit.valid) since
 
   -- one fewer is left where no role was missing, and the call tells no loss
-  pub finish-left : AreWhole old → list_any disturbs (losses_of roles spares ++ losses_of late late_spares) ≡ false → still_left work new ahead + 1 ≡ left_in old course ahead
+  pub finish-left : AreWhole old → list_any disturbs (losses_of roles spares ++ losses_of late late_spares) ≡ false → still_left work new ahead + 1 ≡ left_in work old course ahead
   finish-left all quiet =
       whole-left old new work ahead (under-way-of old.newest placed.fit through.active) through.none over
       (whole-idle work new synced over.still none-recovers
       (whole-new old new work ahead who end roles spares late late_spares (under-way-of old.newest placed.fit through.active) through.none over synced none-recovers (few-roles new.newest under.fit.valid) since quiet all))
-      ∙ ap (λ (k : Course). left_in old k ahead) (sym at)
+      ∙ ap (λ (k : Course). left_by None old k ahead) (sym at) ∙ ap (λ (o : Option ℕ). left_by o old course ahead) (sym synced)

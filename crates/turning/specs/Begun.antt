@@ -13,7 +13,7 @@ use Rattle.bank.specs.Tape.{Contents}
 use Rattle.geometry.specs.Geometry.{list_end}
 use Rattle.grow_plan.specs.Plans.{phase_window}
 use Rattle.superblocks.specs.declared.members.Members.{Members}
-use Rattle.superblocks.specs.Reading.{is_clean, shape_of, role_state, holder, list_length}
+use Rattle.superblocks.specs.Reading.{is_clean, shape_of, role_count, role_state, holder, list_length}
 use Rattle.superblocks.specs.Reads.{has_spare}
 use Rattle.row_io.specs.Rows.{reading_of, present}
 use Rattle.flat_history.specs.declared.events.Entry.{Entry}
@@ -23,7 +23,7 @@ use Rattle.flat_history.specs.declared.events.StepKind.TheVariants.{Begun}
 use Rattle.flat_history.specs.Plain.{entries_of}
 use Rattle.flat_history.specs.Reshaped.{is_done}
 use Rattle.call_entries.specs.Losing.{losses_of}
-use Rattle.views.specs.Placed.{AreStillHeld}
+use Rattle.views.specs.Placed.{is_vacant, AreStillHeld}
 use Rattle.views.specs.Lacking.{HaveRolesFailed}
 use Rattle.views.specs.Moving.{Grows}
 use Rattle.views.specs.Status.{spare_count}
@@ -100,18 +100,21 @@ AreOtherSectorsKept backup before after = (slot k : ℕ) → k ≢ 8 → (backup
 abbrev pub begun_length : Bool → ℕ → List Event
 begun_length back size = if back then Resized size ∷ [] else []
 
--- a call entered that the reshape began, with so many steps left, and behind it the new length, where the list gets shorter, and what its update lost
-pub record IsBegunWith (who : Who) (back : Bool) (size : ℕ) (old new : List Entry) (left : ℕ) : Type 0 where
+-- A call entered that the reshape began, with so many steps left, and behind it the new length, where the list gets shorter, and what its update lost: each role that no slot holds then, and each
+-- spare of the plan that is none then.
+pub record IsBegunWith (who : Who) (back : Bool) (size : ℕ) (plan later : Members) (old new : List Entry) (left : ℕ) : Type 0 where
   pub roles : ℕ
   pub spares : ℕ
   pub end : ℕ
+  pub roles_told : (role : ℕ) → role < role_count later.newest → is_vacant (reading_of later) role ≡ true → has_slot roles role ≡ true
+  pub spares_told : (slot : ℕ) → has_spare plan.spares slot ≡ true → (has_spare later.spares slot ≡ true) ⊎ (has_slot spares slot ≡ true)
   pub is : new ≡ old ++ entries_of who end (Step Begun left ∷ begun_length back size ++ losses_of roles spares)
 
 -- The reshape to this shape has begun: no role was missing, and the lowest spares have the new roles, but those slots that failed in it; the list is as long as both shapes have room
 -- for, and these phases are ahead. Nothing is changed on the slots but superblocks and the backup's header.
 pub record IsReshapeBegun {B : Type 0} (tells : Type 0) (given : Given) (tape tape' : List Operation) (before after : ℕ → ℕ) (who : Who) (to : Shape) (behind : PhasesLeft) (old new : RunningParts B) : Type 0 where
   pub could : CanBegin old.parts.members to
-  pub entered : IsBegunWith who (goes_back (shape_of old.parts.members.newest) to) (list_length new.parts.members.newest) old.parts.entries new.parts.entries (left_in new.parts.work new.parts.members new.course new.ahead)
+  pub entered : IsBegunWith who (goes_back (shape_of old.parts.members.newest) to) (list_length new.parts.members.newest) (begun_plan old.parts.members to) new.parts.members old.parts.entries new.parts.entries (left_in new.parts.work new.parts.members new.course new.ahead)
   pub ended : IsEndOf tells new.parts.first new.parts.entries tape'
   pub grows : Grows tells tape tape'
   pub left : left_in new.parts.work new.parts.members new.course new.ahead + 1 ≡ still_left old.parts.work old.parts.members old.ahead

@@ -1,14 +1,14 @@
 -- A reshape ends: what is asked of the history, and what it leaves.
-use Rattle.std.specs.Prelude.{◌≡◌, ◌⊎◌, ℕ, ◌+◌, ◌*◌, ◌≤◌, ◌++◌, nat_lt, true, List, [], ◌∷◌, Some, if◌then◌else◌}
+use Rattle.std.specs.Prelude.{◌≡◌, ◌⊎◌, ℕ, ◌+◌, ◌*◌, ◌<◌, ◌≤◌, ◌++◌, nat_lt, true, List, [], ◌∷◌, Some, if◌then◌else◌}
 use Rattle.std.specs.List.{All}
-use Rattle.md_base.specs.Shapes.{data_disks}
+use Rattle.md_base.specs.Shapes.{has_slot, data_disks}
 use Rattle.md_base.specs.declared.answers.Refusal.{Refusal}
 use Rattle.md_base.specs.declared.answers.Who.{Who}
 use Rattle.md_base.specs.declared.places.Shape.{Shape}
 use Rattle.bank.specs.declared.bank.Operation.{Operation}
 use Rattle.bank.specs.Given.{Given, IsFaulted, NeverFalls}
 use Rattle.superblocks.specs.declared.members.Members.{Members}
-use Rattle.superblocks.specs.Reading.{final_shape, list_length, role_state, holder}
+use Rattle.superblocks.specs.Reading.{shape_of, final_shape, list_length, role_state, holder}
 use Rattle.superblocks.specs.Reads.{has_spare}
 use Rattle.row_io.specs.Rows.{reading_of, present}
 use Rattle.flat_history.specs.declared.events.Entry.{Entry}
@@ -23,7 +23,7 @@ use Rattle.shape_changes.specs.Marking.{AreOthersPresent}
 use Rattle.reshape_ends.specs.Finished.{IsOver}
 use Rattle.views.specs.Lacking.{AreTooMany}
 use Rattle.views.specs.Moving.{Grows}
-use Rattle.views.specs.Placed.{AreStillHeld, AreWhole}
+use Rattle.views.specs.Placed.{is_vacant, AreStillHeld, AreWhole}
 use Rattle.array_kept.specs.Calls.{AreLossesOf, IsEndOf, TellNoLoss}
 use Rattle.grow_asked.specs.Left.{phases_of}
 use Rattle.course_kept.specs.Laws.{closed}
@@ -46,13 +46,19 @@ ArePlansEnding world array = phases_of array.ahead ≡ [] → ArePlansTo world (
 abbrev pub ended_length : ℕ → ℕ → List Event
 ended_length before size = if nat_lt before size then Resized size ∷ [] else []
 
--- a call entered what its flush lost, that the reshape ended, with so many steps left, and behind it the new length, where the list gets longer, and what its update lost
-pub record IsEndedWith (who : Who) (before size : ℕ) (old new : List Entry) (left : ℕ) : Type 0 where
+-- A call entered what its flush lost, that the reshape ended, with so many steps left, and behind it the new length, where the list gets longer, and what its update lost. Each role of the new
+-- shape that no slot holds then, but held before, is told, and of the spares and the slots of other roles each that is no spare then.
+pub record IsEndedWith (who : Who) (before size : ℕ) (was later : Members) (old new : List Entry) (left : ℕ) : Type 0 where
   pub roles : ℕ
   pub spares : ℕ
   pub late : ℕ
   pub late_spares : ℕ
   pub end : ℕ
+  pub roles_told : (role : ℕ) → role < (shape_of later.newest).disks → is_vacant (reading_of later) role ≡ true
+      → (is_vacant (reading_of was) role ≡ true) ⊎ ((has_slot roles role ≡ true) ⊎ (has_slot late role ≡ true))
+  pub spares_told : (slot : ℕ) → has_spare was.spares slot ≡ true → (has_spare later.spares slot ≡ true) ⊎ ((has_slot spares slot ≡ true) ⊎ (has_slot late_spares slot ≡ true))
+  pub dropped_told : (role slot : ℕ) → (final_shape was.newest).disks ≤ role → holder (role_state (reading_of was) role) ≡ Some slot
+      → (has_spare later.spares slot ≡ true) ⊎ ((has_slot roles role ≡ true) ⊎ (has_slot late_spares slot ≡ true))
   pub is : new ≡ old ++ entries_of who end (losses_of roles spares ++ Step Finished left ∷ (ended_length before size ++ losses_of late late_spares))
 
 -- each slot that held a role which the new shape hasn't is a spare, or it has failed
@@ -73,11 +79,11 @@ AreSparesOrDropped old new = (slot : ℕ) → has_spare new.spares slot ≡ true
 -- that a slot holds is one that it held, and each slot of a dropped role is a spare, as are the former ones, but those slots that failed in it. Nothing is changed on the slots but superblocks.
 pub record IsReshapeEnded {B : Type 0} (tells : Type 0) (given : Given) (tape tape' : List Operation) (before after : ℕ → ℕ) (who : Who) (old new : RunningParts B) : Type 0 where
   pub could : (refusal : Refusal) → AreTooMany old.parts.members refusal → ⊥
-  pub entered : IsEndedWith who (list_length old.parts.members.newest) (list_length new.parts.members.newest) old.parts.entries new.parts.entries (still_left new.parts.work new.parts.members new.ahead)
+  pub entered : IsEndedWith who (list_length old.parts.members.newest) (list_length new.parts.members.newest) old.parts.members new.parts.members old.parts.entries new.parts.entries (still_left new.parts.work new.parts.members new.ahead)
   pub ended : IsEndOf tells new.parts.first new.parts.entries tape'
   pub grows : Grows tells tape tape'
   pub over : IsOver old.parts.members.newest new.parts.members.newest
-  pub left : AreWhole old.parts.members → TellNoLoss old.parts.entries new.parts.entries → still_left new.parts.work new.parts.members new.ahead + 1 ≡ left_in old.parts.members old.course old.ahead
+  pub left : AreWhole old.parts.members → TellNoLoss old.parts.entries new.parts.entries → still_left new.parts.work new.parts.members new.ahead + 1 ≡ left_in old.parts.work old.parts.members old.course old.ahead
   pub long : list_length new.parts.members.newest ≡ data_disks (final_shape old.parts.members.newest) * old.parts.members.newest.size
   pub held : AreStillHeld old.parts.members new.parts.members
   pub kept : AreKeptOrFailed old.parts.members new.parts.members before after

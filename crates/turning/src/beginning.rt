@@ -16,10 +16,11 @@ ghost use Rattle.views.specs.Placed.{is_vacant};
 ghost use Rattle.views.specs.Status.{left_of};
 ghost use Rattle.call_entries.specs.Losing.{losses_of};
 ghost use Rattle.array_kept.specs.Kept.{scope_in};
-ghost use Rattle.grow_asked.specs.Left.{phases_of, IsReshapeUnderWay};
+ghost use Rattle.grow_asked.specs.declared.window.Window.TheVariants.{Closed};
+ghost use Rattle.grow_asked.specs.Left.{phases_of, grow_left, IsReshapeUnderWay};
 ghost use Rattle.kept_history.specs.Recorded.{IsCallGoing};
 ghost use Rattle.course_kept.specs.Laws.{closed};
-ghost use Rattle.running_words.specs.Parts.{RunningParts, left_in};
+ghost use Rattle.running_words.specs.Parts.{RunningParts};
 ghost use Rattle.still_laws.specs.Ready.{IsReady};
 ghost use Rattle.turning.specs.Begun.{begun_length, HasKeptLength, IsBackupAt, IsPlain, IsReshapeBegun, IsGivenBack, IsBeginRefused};
 
@@ -61,7 +62,7 @@ fn begun_left(members: &Members, to: &Shape, behind: &PhasesLeft) -> u64
     requires reshape { IsReshapeUnderWay members.now.newest }
     requires to { final_shape members.now.newest ≡ to.now }
     requires sound { AreSound to.now members.now.newest.size (phases_of behind.now) }
-    ensures { result ≡ left_in members.now (closed 0) behind.now }
+    ensures { result ≡ grow_left members.now.newest Closed 0 (phases_of behind.now) }
 {
     let moved = reshape_left(members, &Window::Closed, 0);
     moved + planned_left(to, members.newest.size, behind)
@@ -99,7 +100,7 @@ fn told_of(members: &Members, to: &Shape, behind: &PhasesLeft, spares: u32) -> B
     requires sound { AreSound to.now members.now.newest.size (phases_of behind.now) }
     requires fit { AreShapesFit members.now.newest }
     requires roles { length members.now.roles ≡ role_count members.now.newest }
-    ensures left { result.left ≡ left_in members.now (closed 0) behind.now }
+    ensures left { result.left ≡ grow_left members.now.newest Closed 0 (phases_of behind.now) }
     ensures back { result.back ≡ is_backward members.now.newest }
     ensures size { result.size ≡ list_length members.now.newest }
     ensures roles { (role : ℕ) → has_slot result.roles role ≡ (nat_lt role (length members.now.roles) && is_vacant (reading_of members.now) role) }

@@ -44,7 +44,8 @@ use views::Work;
 fn holders_below(members: &Members, disks: u32) -> u32
     requires few { disks ≤ length members.now.roles }
     requires small { (role slot : ℕ) → holder (role_state (reading_of members.now) role) ≡ Some slot → slot < 32 }
-    ensures { (role slot : ℕ) → role < disks → holder (role_state (reading_of members.now) role) ≡ Some slot → has_slot result slot ≡ true }
+    ensures all { (role slot : ℕ) → role < disks → holder (role_state (reading_of members.now) role) ≡ Some slot → has_slot result slot ≡ true }
+    ensures only { (slot : ℕ) → has_slot result slot ≡ true → (role : ℕ) × (role < disks) × (holder (role_state (reading_of members.now) role) ≡ Some slot) }
 {
     let mut set = 0;
     for role in 0..disks {
@@ -111,6 +112,7 @@ fn before_end(members: &Members) -> Before
     ensures count { result.count ≡ length members.now.roles }
     ensures vacant { (role : ℕ) → has_slot result.vacant role ≡ (nat_lt role (length members.now.roles) && is_vacant (reading_of members.now) role) }
     ensures held { (role slot : ℕ) → role < (final_shape members.now.newest).disks → holder (role_state (reading_of members.now) role) ≡ Some slot → has_slot result.held slot ≡ true }
+    ensures only { (slot : ℕ) → has_slot result.held slot ≡ true → (role : ℕ) × (role < (final_shape members.now.newest).disks) × (holder (role_state (reading_of members.now) role) ≡ Some slot) }
     ensures size { result.size ≡ list_length members.now.newest }
 {
     let count = members.roles.len() as u32;
@@ -190,7 +192,7 @@ pub fn finish_reshape<B: Bank>(
     requires open { IsCallGoing moving.parts.entries who }
     requires caller { who.caller ≢ 254 }
     requires room { 2 ≤ moving.parts.steps }
-    requires due { due_of moving.parts.members.newest moving.course ≡ Finish }
+    requires due { due_of moving.parts.members.newest moving.course moving.parts.work.resync ≡ Finish }
     requires planned { B.tells → ArePlansEnding (moving_world (B.given moving.parts.bank) (B.tape moving.parts.bank) moving) moving }
     ensures ended { IfOk result (λ r. IsReshapeEnded B.tells (B.given moving.parts.bank) (B.tape moving.parts.bank) (B.tape r.parts.bank) (B.faults_of moving.parts.bank) (B.faults_of r.parts.bank) who moving r) }
     ensures given { IfOk result (λ r. B.given r.parts.bank ≡ B.given moving.parts.bank) }

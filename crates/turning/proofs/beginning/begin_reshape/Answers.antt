@@ -1,4 +1,4 @@
-use Rattle.std.proofs.Common.{◌≡◌, inl, inr, ℕ, ◌-◌, ◌*◌, ◌≤◌, ◌^◌, ◌==◌, Option, Some, List, [], ◌∷◌, ◌++◌, length, vec_capacity, refl, sym, ◌∙◌, ap, subst, arith}
+use Rattle.std.proofs.Common.{◌≡◌, inl, inr, ℕ, ◌+◌, ◌-◌, ◌*◌, ◌≤◌, ◌^◌, ◌==◌, Option, Some, None, List, [], ◌∷◌, ◌++◌, length, vec_capacity, refl, sym, ◌∙◌, ap, subst, arith}
 use Rattle.std.specs.Prelude.{IfSome}
 use Rattle.md_base.specs.declared.answers.Refusal.{Refusal}
 use Rattle.md_base.specs.declared.answers.Refusal.TheVariants.{BackupFault}
@@ -26,14 +26,16 @@ use Rattle.call_entries.proofs.PlainLaws.{last_end-call}
 use Rattle.array_kept.specs.Kept.{scope_in}
 use Rattle.array_kept.proofs.LossLaws.{ended-behind}
 use Rattle.array_kept.proofs.ReadyLaws.{scope-same}
-use Rattle.grow_asked.specs.Left.{phases_of}
+use Rattle.grow_asked.specs.declared.window.Window.TheVariants.{Closed}
+use Rattle.grow_asked.specs.Left.{phases_of, grow_left}
 use Rattle.course_kept.specs.Laws.{closed}
 use Rattle.running_words.specs.Parts.{left_in}
 use Rattle.running_words.proofs.Lengths.{alone-keeps}
 use Rattle.still_laws.specs.Ready.{IsReady}
 use Rattle.still_laws.proofs.Kept.{ready, rows-same}
+use Rattle.moving_laws.proofs.Kept.{left_by}
 use Rattle.turning.specs.Begun.{begun_length, HasKeptLength, IsBackupAt}
-use Rattle.turning.proofs.Begun.{others-of, IsUpdated, next-sound, backup-here, begun-under, begun-left, begun-start, begun-losses, begun-ready}
+use Rattle.turning.proofs.Begun.{none-pending, plus-none, others-of, since-told, IsUpdated, next-sound, backup-here, begun-under, begun-left, begun-start, begun-losses, begun-ready}
 use Rattle.turning.proofs.GivenBack.{fault-stands}
 use Rattle.turning.proofs.Planned.{none-recovering, begin-live, lost-since}
 use Rattle.turning.proofs.beginning.begin_reshape.Goals as goal
@@ -196,7 +198,7 @@ of_pieces-requires-2-clause-ready g c =
       safe = did.safe none;
       counts = did.counts;
     } in
-    let left_is : c.told_of-told.result.left ≡ left_in new (closed 0) behind = c.told_of-told.ensures.left in
+    let left_is : c.told_of-told.result.left ≡ left_by None new (closed 0) behind = c.told_of-told.ensures.left ∙ plus-none (grow_left new.newest Closed 0 (phases_of behind)) in
     let back_is : c.told_of-told.result.back ≡ goes_back (shape_of p.members.newest) to = c.told_of-told.ensures.back ∙ (did.newest none).backward in
     let size_is : c.told_of-told.result.size ≡ list_length new.newest = c.told_of-told.ensures.size in
     let spares_is : c.told_of-told.result.spares ≡ spares = c.told_of-told.ensures.spares in
@@ -228,21 +230,23 @@ returns-clause-begun g c =
     let idle = subst (λ s. left_of s.parts.work s.parts.members ≡ 0) same c.requires.done in
     let next = subst (λ s. phases_of s.ahead ≡ Reshape to ∷ phases_of behind) same c.requires.next in
     let sound = next-sound (shape_of p.members.newest) p.members.newest.size (phases_of p.ahead) (phases_of behind) to was.planned next in
-    let left_is : c.told_of-told.result.left ≡ left_in new (closed 0) behind = c.told_of-told.ensures.left in
+    let left_is : c.told_of-told.result.left ≡ left_by None new (closed 0) behind = c.told_of-told.ensures.left ∙ plus-none (grow_left new.newest Closed 0 (phases_of behind)) in
+    let synced = none-pending p.members p.work.resync _ _ idle in
+    let left_in_is : c.told_of-told.result.left ≡ left_in p.work new (closed 0) behind = left_is ∙ ap (λ (o : Option ℕ). left_by o new (closed 0) behind) (sym synced) in
     let back_is : c.told_of-told.result.back ≡ goes_back (shape_of p.members.newest) to = c.told_of-told.ensures.back ∙ (did.newest none).backward in
     let size_is : c.told_of-told.result.size ≡ list_length new.newest = c.told_of-told.ensures.size in
     let spares_is : c.told_of-told.result.spares ≡ spares = c.told_of-told.ensures.spares in
-    let items = c.enter_begun.ensures.items ∙ (λ i. p.epoch.entries.items ++ entries_of who end (Step Begun (left_is i) ∷ begun_length (back_is i) (size_is i) ++ losses_of roles (spares_is i))) in
+    let items = c.enter_begun.ensures.items ∙ (λ i. p.epoch.entries.items ++ entries_of who end (Step Begun (left_in_is i) ∷ begun_length (back_is i) (size_is i) ++ losses_of roles (spares_is i))) in
     let since = lost-since given p.members to are.placed are.unlost are.free are.still sound.0 sound.1 c.in_default.ensures new roles spares (g.B.Bank.faults_of p.bank) (g.B.Bank.faults_of c.begin-begun.new.bank)
     (did.moved none) (did.failed none) c.told_of-told.ensures.roles in
     rw (c.of_pieces-2.ensures.same) (rw (c.take_apart-pieces.ensures.same) (record {
       could = c.in_default.ensures;
-      entered = record { roles = roles; spares = spares; end = end; is = items };
+      entered = record { roles = roles; spares = spares; end = end; roles_told = since-told new roles (did.moved none).placed.roles c.told_of-told.ensures.roles; spares_told = (did.failed none).told; is = items };
       ended = λ t. ap (λ (l : List Entry). last_end_from c.enter_begun.new.epoch.first l) items
-          ∙ last_end-call c.enter_begun.new.epoch.first p.epoch.entries.items who end (Step Begun (left_in new (closed 0) behind))
+          ∙ last_end-call c.enter_begun.new.epoch.first p.epoch.entries.items who end (Step Begun (left_in p.work new (closed 0) behind))
           (begun_length (goes_back (shape_of p.members.newest) to) (list_length new.newest) ++ losses_of roles spares) ∙ c.ops-end.ensures.count t;
       grows = did.grows;
-      left = begun-left p.members new p.work p.ahead behind to (did.newest none) are.still idle next;
+      left = ap (λ (o : Option ℕ). left_by o new (closed 0) behind + 1) synced ∙ begun-left p.members new p.work p.ahead behind to (did.newest none) are.still idle next;
       start = begun-start p.members.newest new.newest to (did.newest none);
       long = λ i. list_end ((did.newest none).old i) ((did.newest none).new i) ((did.newest none).size i);
       held = (did.moved none).held;
@@ -250,7 +254,7 @@ returns-clause-begun g c =
       kept = (did.failed none).roles;
       spares_kept = λ slot was. elim ((did.failed none).told slot was) [ inl still ↦ inl still | inr gone ↦ inr ((did.failed none).spares_are slot gone) ];
       losses = begun-losses (begun_plan p.members to) new (g.B.Bank.faults_of p.bank) (g.B.Bank.faults_of c.begin-begun.new.bank) p.epoch.entries.items p.epoch.entries.items c.enter_begun.new.epoch.entries.items who end
-          (left_in new (closed 0) behind) (list_length new.newest) roles spares (goes_back (shape_of p.members.newest) to) since refl items;
+          (left_in p.work new (closed 0) behind) (list_length new.newest) roles spares (goes_back (shape_of p.members.newest) to) since refl items;
       never_falls = did.counts;
       clean = ap (λ (n : ℕ). n == 2 ^ 64 - 1) (did.newest none).clean;
       others = λ t slot k far which. did.others t slot k far (others-of p.backup c.in-Some-backup.backup slot k c.in-Some-backup.is which);

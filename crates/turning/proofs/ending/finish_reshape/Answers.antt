@@ -1,5 +1,5 @@
 use Rattle.std.proofs.Common.{◌≡◌, ℕ, ◌*◌, ◌≤◌, ◌&&◌, ◌||◌, nat_lt, not, Option, List, [], ◌∷◌, ◌++◌, refl, sym, ◌∙◌, ap, subst, arith}
-use Rattle.std.specs.Prelude.{MatchOption}
+use Rattle.std.specs.Prelude.{MatchOption, IfSome}
 use Rattle.std.proofs.lemmas.Bool.{and_parts}
 use Rattle.md_base.specs.Shapes.{has_slot, data_disks}
 use Rattle.md_base.specs.declared.answers.Refusal.{Refusal}
@@ -16,6 +16,7 @@ use Rattle.reshape_ends.specs.Finished.{IsOver}
 use Rattle.views.specs.Lacking.{AreTooMany}
 use Rattle.views.specs.Numbers.{is_carried}
 use Rattle.views.specs.Placed.{is_vacant}
+use Rattle.views.specs.Status.{stripes_of}
 use Rattle.views.proofs.Fit.{count-alike, fit-short}
 use Rattle.views.proofs.LackingLaws.{lost-since, never-both}
 use Rattle.views.proofs.MovedLaws.{grows-none, moved-same}
@@ -39,7 +40,7 @@ use Rattle.moving_laws.proofs.Kept.{ready, shapes-same, shapes-moved, alone-keep
 use Rattle.turning.specs.Ended.{ended_length, ArePlansEnding}
 use Rattle.turning.proofs.Ended.{kept-or-failed, late-held, length-same, ended-ready, ended-losses}
 use Rattle.turning.proofs.EndedStill.{IsFinished, ended-long}
-use Rattle.turning.proofs.Finishing.{end-due, flush-failed, refused-behind, final-few, dropped-or-failed, spare-or-dropped, spares-kept, none-lost, finish-stepped, finish-left}
+use Rattle.turning.proofs.Finishing.{end-due, flush-failed, refused-behind, final-few, dropped-or-failed, spare-or-dropped, spares-kept, spares-told, dropped-told, none-lost, roles-told, finish-stepped, finish-left}
 use Rattle.turning.proofs.ending.finish_reshape.Goals as goal
 
 -- ---- refused before anything is done
@@ -57,7 +58,7 @@ of_pieces-requires-clause-ready g c =
     let refusal = c.in-Some-too_many.refusal in
     let goes : IsCallGoing p.epoch.entries.items who = subst (λ s. IsCallGoing s.parts.entries who) c.take_apart-pieces.ensures.same c.requires.open in
     let some : 2 ≤ p.steps = subst (λ s. 2 ≤ s.parts.steps) c.take_apart-pieces.ensures.same c.requires.room in
-    let kept = resting-moves g.B.Bank.tells given (g.B.Bank.tape p.bank) scope p.epoch.first p.epoch.entries.items p.members (is_carried p.work) course (bytes_in course.window window.items) (left_in p.members course p.ahead)
+    let kept = resting-moves g.B.Bank.tells given (g.B.Bank.tape p.bank) scope p.epoch.first p.epoch.entries.items p.members (is_carried p.work) p.work.resync course (bytes_in course.window window.items) (left_in p.work p.members course p.ahead)
     who end (Refused refusal) was.kept goes (not_254 who.caller c.requires.caller) c.ops-end.ensures.count (quiet-refusal refusal) (λ told is. is)
     (λ t right. refused-right (world_in given (g.B.Bank.tape p.bank) scope p.epoch.first) p.epoch.entries.items given p.members was.kept.members_are.placed (was.kept.gone t right) (was.kept.levelled t right) refusal c.in-Some-too_many.ensures) in
     ready (entries_of who end (Refused refusal ∷ [])) was (grows-none (λ t. refl)) (shapes-same p.members.newest) kept
@@ -97,8 +98,8 @@ pub finish-done-requires-clause-last : goal.finish-done-requires-clause-last
 finish-done-requires-clause-last g c =
     let p = c.take_apart-pieces.result.0 in
     let kept = c.take_apart-pieces.ensures.ready.kept in
-    let due = subst (λ s. due_of s.parts.members.newest s.course ≡ Finish) c.take_apart-pieces.ensures.same c.requires.due in
-    (end-due p.members.newest c.take_apart-pieces.result.1 kept.members_are.placed.fit kept.members_are.active kept.course_is due).1.last
+    let due = subst (λ s. due_of s.parts.members.newest s.course s.parts.work.resync ≡ Finish) c.take_apart-pieces.ensures.same c.requires.due in
+    (end-due p.members.newest c.take_apart-pieces.result.1 p.work.resync kept.members_are.placed.fit kept.members_are.active kept.course_is kept.progress due).1.last
 
 pub newly_vacant-roles-requires-clause-known : goal.newly_vacant-roles-requires-clause-known
 newly_vacant-roles-requires-clause-known g c =
@@ -121,6 +122,14 @@ newly_vacant-roles-requires-clause-few g c =
 
 pub ended_left-left-requires-clause-size : goal.ended_left-left-requires-clause-size
 ended_left-left-requires-clause-size g c = fit-short c.finish-done.new.members.newest c.finish-done.ensures.placed.fit
+
+pub ended_left-left-requires-clause-progress : goal.ended_left-left-requires-clause-progress
+ended_left-left-requires-clause-progress g c =
+    let p = c.take_apart-pieces.result.0 in
+    let kept = c.take_apart-pieces.ensures.ready.kept in
+    let due = subst (λ s. due_of s.parts.members.newest s.course s.parts.work.resync ≡ Finish) c.take_apart-pieces.ensures.same c.requires.due in
+    let at = end-due p.members.newest c.take_apart-pieces.result.1 p.work.resync kept.members_are.placed.fit kept.members_are.active kept.course_is kept.progress due in
+    subst (λ (o : Option ℕ). IfSome o (λ mended. mended ≤ stripes_of c.finish-done.new.members)) (sym at.2) tt
 
 pub told_of-told-requires-clause-size : goal.told_of-told-requires-clause-size
 told_of-told-requires-clause-size g c = fit-short c.finish-done.new.members.newest c.finish-done.ensures.placed.fit
@@ -210,9 +219,9 @@ of_pieces-requires-2 g c =
     let who = c.args.who in
     let goes : IsCallGoing p.epoch.entries.items who = subst (λ s. IsCallGoing s.parts.entries who) same c.requires.open in
     let some : 2 ≤ p.steps = subst (λ s. 2 ≤ s.parts.steps) same c.requires.room in
-    let due = subst (λ s. due_of s.parts.members.newest s.course ≡ Finish) same c.requires.due in
+    let due = subst (λ s. due_of s.parts.members.newest s.course s.parts.work.resync ≡ Finish) same c.requires.due in
     let planned = subst (λ s. g.B.Bank.tells → ArePlansEnding (moving_world (g.B.Bank.given s.parts.bank) (g.B.Bank.tape s.parts.bank) s) s) same c.requires.planned in
-    let at = end-due p.members.newest c.take_apart-pieces.result.1 here.placed.fit here.active was.kept.course_is due in
+    let at = end-due p.members.newest c.take_apart-pieces.result.1 p.work.resync here.placed.fit here.active was.kept.course_is was.kept.progress due in
     let m = c.finish-done.new.members in
     let did = c.finish-done.ensures in
     let none = c.in_default-refusal.is in
@@ -245,9 +254,9 @@ of_pieces-requires-2 g c =
     ∙ ap (λ (l : List Event). p.epoch.entries.items ++ entries_of who end (losses_of roles spares ++ Step Finished (still_left p.work m p.ahead) ∷ (l ++ losses_of told.late told.late_spares)))
     (length-same (nat_lt (list_length p.members.newest) (list_length m.newest)) (list_length m.newest)) in
     record {
-      ready = ended-ready p.ahead who end c.before_end-was.result.vacant roles spares c.finish-done.result.lost told.late told.late_spares was at.0 goes c.requires.caller at.1.last finished c.ops-end-2.ensures.count
+      ready = ended-ready p.ahead who end c.before_end-was.result.vacant roles spares c.finish-done.result.lost told.late told.late_spares was at.0 at.2 goes c.requires.caller at.1.last finished c.ops-end-2.ensures.count
           c.before_end-was.ensures.vacant tell.late
-          (finish-stepped given p.members m p.work p.ahead c.take_apart-pieces.result.1 who end c.before_end-was.result.vacant roles spares told.late told.late_spares here.placed here.whole at.0 at.1 did.placed over was.synced
+          (finish-stepped given p.members m p.work p.ahead c.take_apart-pieces.result.1 who end c.before_end-was.result.vacant roles spares told.late told.late_spares here.placed here.whole at.0 at.1 did.placed over at.2
           did.states c.before_end-was.ensures.vacant tell.late)
           planned did.given (scope-same given p.backup did.given c.enter_ended.ensures.uuid c.enter_ended.ensures.given) c.enter_ended.ensures.first refl items
           (let had = was.room_left in let room = c.enter_ended.ensures.room in omega (arith, had, room, some));
@@ -262,8 +271,8 @@ returns-clause-ended g c =
     let given = g.B.Bank.given p.bank in
     let who = c.args.who in
     let some : 2 ≤ p.steps = subst (λ s. 2 ≤ s.parts.steps) same c.requires.room in
-    let due = subst (λ s. due_of s.parts.members.newest s.course ≡ Finish) same c.requires.due in
-    let at = end-due p.members.newest c.take_apart-pieces.result.1 here.placed.fit here.active was.kept.course_is due in
+    let due = subst (λ s. due_of s.parts.members.newest s.course s.parts.work.resync ≡ Finish) same c.requires.due in
+    let at = end-due p.members.newest c.take_apart-pieces.result.1 p.work.resync here.placed.fit here.active was.kept.course_is was.kept.progress due in
     let m = c.finish-done.new.members in
     let did = c.finish-done.ensures in
     let none = c.in_default-refusal.is in
@@ -290,12 +299,23 @@ returns-clause-ended g c =
     (length-same (nat_lt (list_length p.members.newest) (list_length m.newest)) (list_length m.newest)) in
     rw (c.of_pieces-2.ensures.same) (rw (c.take_apart-pieces.ensures.same) (record {
       could = λ refusal many. never-both p.members refusal c.in_default-too_many.ensures many;
-      entered = record { roles = roles; spares = spares; late = told.late; late_spares = told.late_spares; end = end; is = entered };
+      entered = record {
+        roles = roles;
+        spares = spares;
+        late = told.late;
+        late_spares = told.late_spares;
+        end = end;
+        roles_told = roles-told given p.members m p.work p.ahead c.take_apart-pieces.result.1 who end vacant roles spares told.late told.late_spares here.placed here.whole at.0 at.1 did.placed over at.2
+            did.states c.before_end-was.ensures.vacant tell.late;
+        spares_told = spares-told given p.members m c.before_end-was.result.held roles spares lost told.late_spares before after here.placed here.free did.placed over did.failed tell.late_spares c.before_end-was.ensures.only;
+        dropped_told = dropped-told given p.members m c.before_end-was.result.held roles spares lost told.late_spares before after here.placed here.free did.placed over did.failed tell.late_spares c.before_end-was.ensures.only;
+        is = entered;
+      };
       ended = λ t. ap (last_end_from c.enter_ended.new.epoch.first) items
           ∙ ending-last who end roles spares left longer long told.late told.late_spares c.enter_ended.new.epoch.first p.epoch.entries.items ∙ c.ops-end-2.ensures.count t;
       grows = did.grows;
       over = over;
-      left = λ whole none_told. finish-left given p.members m p.work p.ahead c.take_apart-pieces.result.1 who end vacant roles spares told.late told.late_spares here.placed here.whole at.0 at.1 did.placed over was.synced
+      left = λ whole none_told. finish-left given p.members m p.work p.ahead c.take_apart-pieces.result.1 who end vacant roles spares told.late told.late_spares here.placed here.whole at.0 at.1 did.placed over at.2
           did.states c.before_end-was.ensures.vacant tell.late whole
           (none-lost p.epoch.entries.items c.enter_ended.new.epoch.entries.items who end roles spares left long told.late told.late_spares longer items none_told);
       long = ended-long p.members m over;

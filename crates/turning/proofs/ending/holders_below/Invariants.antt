@@ -4,6 +4,9 @@ use Rattle.superblocks.specs.Reading.{role_state, holder}
 use Rattle.row_io.specs.Rows.{reading_of}
 use Rattle.turning.proofs.ending.holders_below.Given as goal
 
--- those of the roles before this one are in the set
+-- those of the roles before this one are in the set, and no others
 abbrev pub invariant-loop-role : goal.invariant-loop-role
-invariant-loop-role l = (role slot : ℕ) → role < l.role → holder (role_state (reading_of l.members) role) ≡ Some slot → has_slot l.set slot ≡ true
+invariant-loop-role l = record {
+  all : (role slot : ℕ) → role < l.role → holder (role_state (reading_of l.members) role) ≡ Some slot → has_slot l.set slot ≡ true;
+  only : (slot : ℕ) → has_slot l.set slot ≡ true → (role : ℕ) × (role < l.role) × (holder (role_state (reading_of l.members) role) ≡ Some slot);
+}
