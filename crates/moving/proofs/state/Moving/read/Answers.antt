@@ -21,7 +21,6 @@ use Rattle.views.specs.Numbers.{is_carried}
 use Rattle.views.specs.Lacking.{AreLostSince, DoesWithout}
 use Rattle.views.proofs.LackingLaws.{lost-since}
 use Rattle.views.proofs.LackingLists.{row-sector}
-use Rattle.views.proofs.Fit.{list-alike}
 use Rattle.views.proofs.MovedLaws.{grows-none, moved-same}
 use Rattle.call_entries.specs.Losing.{losses_of}
 use Rattle.call_entries.proofs.CallLaws.{losses-are, torn-losses}
@@ -558,7 +557,7 @@ returns-clause-caused g c =
     rw (← c.self.view_is) (
       omega (arith, below, sectors),
       λ refusal why. c.in_default.ensures.why.1 refusal (subst (λ (o : Option Span). IsUnreadAround o c.relied_sector-relied.result c.args.at to a.members refusal) (sym c.hidden_span-hidden.ensures)
-      (subst (λ (n : ℕ). IsUnreadAround (hidden_in a.course.window) n c.args.at to a.members refusal) (sym c.relied_sector-relied.ensures.value) why)),
+          (subst (λ (n : ℕ). IsUnreadAround (hidden_in a.course.window) n c.args.at to a.members refusal) (sym c.relied_sector-relied.ensures.value) why)),
     )
 
 pub returns-clause-called : goal.returns-clause-called
@@ -606,5 +605,5 @@ returns-then-asked-eq0-clause-caused g c =
     rw (← c.self.view_is) (
       omega (arith, below, sectors),
       λ refusal why. c.in_default.ensures.why.1 refusal (subst (λ (o : Option Span). IsUnreadAround o c.relied_sector-relied.result c.args.at to a.members refusal) (sym c.hidden_span-hidden.ensures)
-      (subst (λ (n : ℕ). IsUnreadAround (hidden_in a.course.window) n c.args.at to a.members refusal) (sym c.relied_sector-relied.ensures.value) why)),
+          (subst (λ (n : ℕ). IsUnreadAround (hidden_in a.course.window) n c.args.at to a.members refusal) (sym c.relied_sector-relied.ensures.value) why)),
     )
