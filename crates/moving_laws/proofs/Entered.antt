@@ -48,7 +48,7 @@ use Rattle.grow_asked.specs.declared.window.PhasesLeft.{PhasesLeft}
 use Rattle.grow_asked.specs.Left.{phases_of, reshape_left, grow_left}
 use Rattle.grow_asked.proofs.LeftLaws.{entering}
 use Rattle.kept_history.specs.Recorded.{IsCallGoing, entry_of}
-use Rattle.kept_history.specs.Safe.{world_in, IsFilledRight, TakesNone}
+use Rattle.kept_history.specs.Safe.{world_in, IsFilledRight, TakesNone, OpensOnCourse}
 use Rattle.kept_history.proofs.Entered.{adds_only}
 use Rattle.kept_history.proofs.Lists.{newest-in}
 use Rattle.history_calls.specs.Reliable.{IsReliable, AreToldGone}
@@ -66,7 +66,7 @@ use Rattle.moving_state.proofs.LeftLaws.{plans-counted, some-left}
 use Rattle.moving_state.proofs.ReshapeLaws.{under-way-of}
 use Rattle.moving_kept.specs.Moving.{HasListInCourse, IsMoving}
 use Rattle.moving_kept.proofs.Pending.{HasResync, resync-of, resync-moved, pending-on, none-stands, none-on, mended-later}
-use Rattle.moving_kept.proofs.Quiet.{safe-now}
+use Rattle.moving_kept.proofs.Quiet.{safe-now, course-earlier}
 use Rattle.moving_kept.proofs.MembersMove.{reshaping-moved}
 use Rattle.moving_kept.proofs.Refusals.{quiet-refusal, refused-right}
 use Rattle.moving_kept.proofs.Steps.{AreMissingSince, missing-moved, quiet-step, step-is, told-behind, told-step}
@@ -74,6 +74,7 @@ use Rattle.moving_laws.specs.Ready.{bytes_in}
 use Rattle.running_words.proofs.Called.{not_254}
 use Rattle.moving_laws.proofs.Kept.{left_by, left-moved, behind-whole, takes-before}
 use Rattle.moving_laws.proofs.RecordLaws.{closed-bare}
+use Rattle.kept_history.proofs.Turned.{fills-on_course}
 
 -- ---- answers
 
@@ -137,8 +138,8 @@ pub record IsNextTried (tells : Type 0) (given : Given) (tape tape' : List Opera
   pub rise : tells → IsRisen ⊤ old new tape tape'
   pub kept : tells → AreOtherRowsKept (λ row. ⊥) (reading_of new) (present given tape) (present given tape')
   pub has : tells → (list : ℕ → Sector) → ListStands None old (present given tape) list → AreWhole new ⊎ RowsStand None old (present given tape) list → HasWindowIn window bytes list
-  pub stored : tells → IsStored scope new window bytes (disk given.start tape')
-  pub safe : tells → (told : Ledger) → (list : ℕ → Sector) → HasRoomLeft old tape tape' → AreGoneTold told new → IsUncleanTold told old → ListStands None old (present given tape) list
+  pub stored : tells → OpensOnCourse (world_in given tape scope first) → IsStored scope new window bytes (disk given.start tape')
+  pub safe : tells → OpensOnCourse (world_in given tape scope first) → (told : Ledger) → (list : ℕ → Sector) → HasRoomLeft old tape tape' → AreGoneTold told new → IsUncleanTold told old → ListStands None old (present given tape) list
       → AreWhole new ⊎ RowsStand None old (present given tape) list → AreWritesAllowed old told.values list
       → IsSafeOver (world_in given tape scope first) given told old tape → KeepsSafe (world_in given tape scope first) given told new tape tape'
 
@@ -200,7 +201,7 @@ module _ {tells : Type 0} {given : Given} {tape tape' : List Operation} {scope :
         rise = did.rise t;
         keeps = λ told right gone fills more values room told_gone unclean unsettled before.
             let l = was.listed t fills in
-            did.safe t told l.list room told_gone unclean (list-of l.list (plain t l.list l.stands)) (rows-of l.list (filled t right.fills) (plain t l.list l.stands))
+            did.safe t (fills-on_course (world_in given tape scope first) entries fills) told l.list room told_gone unclean (list-of l.list (plain t l.list l.stands)) (rows-of l.list (filled t right.fills) (plain t l.list l.stands))
             (current l.list l.is t told (λ x v may lt. more.values x (let sized = (was.recorded t).sized in omega (arith, lt, sized)) v may)) before;
         legal = λ right gone level. legal-losses (world_in given tape' scope first) entries who end (losses_of roles spares) (event ∷ []) (losses-are roles spares) (legal t right gone level, tt, tt);
       }
@@ -253,7 +254,7 @@ module _ {tells : Type 0} {given : Given} {tape tape' : List Operation} {scope :
         unclean = λ t. (leaves t).unclean;
         recorded = λ t. (leaves t).recorded;
         last_step = λ t. last-left given tape tape' scope first entries (list_length old.newest) new carried true who end (losses_of roles spares) event (leaves t) (at_end t) quiet.other long-same (was.last_step t).past;
-        stored = λ t on. did.stored t;
+        stored = λ t on. did.stored t (course-earlier given tape tape' scope first (leaves t).begun (leaves t).grown on);
         listed = λ t fills. listed t fills;
         safe = λ t. (leaves t).safe;
       }
