@@ -1,4 +1,4 @@
-use Rattle.std.proofs.Common.{◌≡◌, ◌≤◌, [], ◌∷◌, ◌++◌, false, Some, refl, sym, ◌∙◌, subst, arith}
+use Rattle.std.proofs.Common.{◌≤◌, [], ◌∷◌, ◌++◌, false, Some, refl, sym, ◌∙◌, subst, arith}
 use Rattle.superblocks.specs.Reading.{list_length}
 use Rattle.superblocks.proofs.ValidFields.{few-roles}
 use Rattle.flat_history.specs.declared.events.Event.TheVariants.{Refused, Step}

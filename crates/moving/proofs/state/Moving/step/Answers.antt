@@ -2,7 +2,7 @@ use Rattle.std.proofs.Common.{◌≡◌, None, sym, subst}
 use Rattle.md_base.specs.declared.places.Span.{Span}
 use Rattle.course_kept.specs.Laws.{unsure}
 use Rattle.moving_state.specs.Due.{IsDue}
-use Rattle.moving_state.specs.declared.stepping.Due.TheVariants.{Mend, EndResync, Enter, Zero}
+use Rattle.moving_state.specs.declared.stepping.Due.TheVariants.{Enter, Zero}
 use Rattle.running_words.specs.Calls.{IsEnterDue}
 use Rattle.moving_laws.specs.Mending.{IsMendDue, IsResyncEndDue}
 use Rattle.moving_laws.proofs.DueSteps.{enter-due}
