@@ -143,9 +143,9 @@ pub mendable : (shape : Shape) (m : Members) → DoWithout m → mend_refusal sh
 mendable shape m does none refusal (inl many) = never-both m refusal does many
 mendable shape m does none refusal (inr (without, lacked)) =
     absurd (
-      let parity = (write-none shape false m (none-found m (write_refusal shape false m) none)).1 refl lacked.0 lacked.4.0 lacked.3 in
-      let both = sym parity ∙ lacked.4.1 in
-      cc)
+    let parity = (write-none shape false m (none-found m (write_refusal shape false m) none)).1 refl lacked.0 lacked.4.0 lacked.3 in
+    let both = sym parity ∙ lacked.4.1 in
+    cc)
 
 pub mendable-for : (newest : Sb) (m : Members) (resync : Option ℕ) (stripes : ℕ) → resync ≡ Some stripes → DoWithout m → mend_refusal (mend_shape newest stripes) m ≡ None
     → (mended : ℕ) → resync ≡ Some mended → (refusal : Refusal) → IsNotMended (mend_shape newest mended) m refusal → ⊥

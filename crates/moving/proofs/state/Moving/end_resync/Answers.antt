@@ -1,4 +1,4 @@
-use Rattle.std.proofs.Common.{◌≡◌, ◌≤◌, [], ◌∷◌, ◌++◌, false, Some, refl, sym, ◌∙◌, subst, arith}
+use Rattle.std.proofs.Common.{◌≤◌, [], ◌∷◌, ◌++◌, false, Some, refl, sym, ◌∙◌, subst, arith}
 use Rattle.superblocks.specs.Reading.{list_length}
 use Rattle.superblocks.proofs.ValidFields.{few-roles}
 use Rattle.flat_history.specs.declared.events.Event.TheVariants.{Refused, Step}
@@ -24,7 +24,7 @@ use Rattle.running_words.proofs.Called.{not_254, called, alone-lossless, risen-t
 use Rattle.moving_laws.specs.Mending.{IsResyncEndDue}
 use Rattle.moving_laws.specs.Ready.{bytes_in}
 use Rattle.moving_laws.proofs.Kept.{ready, ready-with, shapes-same, shapes-moved, alone-keeps, behind-keeps, behind-whole}
-use Rattle.moving_laws.proofs.MendLaws.{aside-right, aside-within, end-refused, end-done, end-left, rows-good}
+use Rattle.moving_laws.proofs.MendLaws.{aside-right, end-refused, end-done, end-left, rows-good}
 use Rattle.moving.proofs.state.Moving.end_resync.Goals as goal
 
 -- ---- refused before anything is done
@@ -169,13 +169,6 @@ steps_left-left-requires-clause-open g c =
     let a = c.self.inside in
     let due = subst (λ p. IsResyncEndDue p) (sym c.self.view_is) c.requires.due in
     aside-right c.settle-settled.new.members.newest a.course.window due.aside
-
-pub steps_left-left-requires-clause-within : goal.steps_left-left-requires-clause-within
-steps_left-left-requires-clause-within g c =
-    let was = c.self.invariant in
-    let due = subst (λ p. IsResyncEndDue p) (sym c.self.view_is) c.requires.due in
-    let moved = c.settle-settled.ensures.moved in
-    aside-within c.settle-settled.new.members.newest c.self.inside.course.window due.aside moved.placed.fit (moved.reshape.reshaping ∙ was.kept.members_are.active)
 
 pub invariant_of-self-2 : goal.invariant_of-self-2
 invariant_of-self-2 g c =

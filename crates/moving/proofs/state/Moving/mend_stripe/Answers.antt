@@ -21,7 +21,7 @@ use Rattle.moving_laws.specs.Mending.{IsMendDue}
 use Rattle.moving_laws.specs.Ready.{bytes_in}
 use Rattle.running_words.proofs.Called.{not_254, called, alone-lossless}
 use Rattle.moving_laws.proofs.Kept.{ready, ready-with, shapes-same, shapes-moved, alone-keeps, behind-keeps, behind-whole}
-use Rattle.moving_laws.proofs.MendLaws.{next-of, aside-right, aside-within, with-buffers, mends-short, not-mended-for, mendable-for, first-for, one-more, refused-why, done-why, mend-step, mend-refused, mend-done, mend-left, was-dirty}
+use Rattle.moving_laws.proofs.MendLaws.{next-of, aside-right, with-buffers, mends-short, not-mended-for, mendable-for, first-for, one-more, refused-why, done-why, mend-step, mend-refused, mend-done, mend-left, was-dirty}
 use Rattle.moving.proofs.state.Moving.mend_stripe.Goals as goal
 
 -- ---- the stripe
@@ -211,13 +211,6 @@ steps_left-left-requires-clause-open g c =
     let a = c.self.inside in
     let due = subst (λ p. IsMendDue p) (sym c.self.view_is) c.requires.due in
     aside-right c.mend_list-mended.new.members.newest a.course.window due.aside
-
-pub steps_left-left-requires-clause-within : goal.steps_left-left-requires-clause-within
-steps_left-left-requires-clause-within g c =
-    let was = c.self.invariant in
-    let due = subst (λ p. IsMendDue p) (sym c.self.view_is) c.requires.due in
-    let moved = c.mend_list-mended.ensures.moved in
-    aside-within c.mend_list-mended.new.members.newest c.self.inside.course.window due.aside moved.placed.fit (moved.reshape.reshaping ∙ was.kept.members_are.active)
 
 pub invariant_of-self-2 : goal.invariant_of-self-2
 invariant_of-self-2 g c =
