@@ -1,6 +1,6 @@
 //! A request to grow an array in a reshape is refused.
 
-ghost use Rattle.std.specs.Prelude.{◌≡◌, ◌≢◌, ◌+◌, ◌≤◌, Some};
+ghost use Rattle.std.specs.Prelude.{◌≡◌, ◌≢◌, IsErr};
 ghost use Rattle.md_base.specs.declared.answers.Refusal.TheVariants.{Busy};
 ghost use Rattle.md_base.specs.declared.answers.BusyKind.TheVariants.{Reshape};
 ghost use Rattle.superblocks.specs.Reading.{list_length};
@@ -29,6 +29,7 @@ pub fn refuse_grow<B: Bank>(
     ensures answered { IsGrowAnswered B.tells (moving_world (B.given moving.parts.bank) (B.tape moving.parts.bank) moving) (asked_in (B.given moving.parts.bank) moving) wish.now who moving.parts.entries result.0.parts.entries
         (Refused (Busy Reshape)) result.1 }
     ensures visible { visible_of (list_length moving.parts.members.newest) moving.parts.entries ≡ list_length moving.parts.members.newest }
+    ensures refused { IsErr result.1 }
     ensures judged { IsGrowJudged (asked_in (B.given moving.parts.bank) moving) wish.now result.1 }
     ensures unchanged { OnNoMemory result.1 (result.0 ≡ moving) }
     ensures as_before { IsAsBefore moving result.0 }
