@@ -17,9 +17,10 @@ use md_base::{Fault, Who};
 use moving_state::stepping::{Due, due_step};
 
 impl<B: Bank> Moving<B> {
-    // The step of the reshape that is due, but for its end, while no window is unsure: a window is entered, a stripe of it is copied, it is recorded, or a stripe behind
-    // the list is zeroed. Refusals: `TooManyMissing`, and `BackupFault` where a window is to be entered. It takes no memory.
-    pub(crate) fn step(&mut self, who: Who) -> Result<(), Fault>
+    /// The step of the reshape that is due, but for its end, while no window is unsure: a window is entered, a stripe of it is copied, it
+    /// is recorded, or a stripe behind the list is zeroed. Refusals: `TooManyMissing`, and `BackupFault` where a window is to be
+    /// entered. It takes no memory.
+    pub fn step(&mut self, who: Who) -> Result<(), Fault>
         requires open { IsCallGoing self.old.parts.entries who }
         requires caller { who.caller ≢ 254 }
         requires room { 1 ≤ self.old.parts.steps }
