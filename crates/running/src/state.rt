@@ -1,16 +1,20 @@
 //! A running array, with a reshape active in it or without one.
 
-ghost use Rattle.std.specs.Prelude.{◌≡◌, true, length};
+ghost use Rattle.std.specs.Prelude.{◌≡◌, true, [], length};
 ghost use Rattle.superblocks.specs.Reading.{is_reshaping};
 ghost use Rattle.flat_history.specs.Growing.{EndBy};
-ghost use Rattle.running.specs.State.{IsAtRest};
+ghost use Rattle.grow_asked.specs.Left.{phases_of};
+ghost use Rattle.running.specs.State.{IsStillNow};
 
 mod adding;
 mod asking;
+mod beginning;
 mod ending;
 mod examining;
 mod failing;
+mod finishing;
 mod reading;
+mod rooms;
 mod settling;
 mod writing;
 
@@ -37,6 +41,7 @@ pub struct Running<B: Bank> {
 }
 
 impl<B: Bank> Model for Running<B> {
+    ghost use Rattle.std.specs.Prelude.{length};
     ghost use Rattle.running_words.specs.Parts.{RunningParts};
 
     ghost Value = { RunningParts B };
@@ -45,13 +50,13 @@ impl<B: Bank> Model for Running<B> {
 
     ghost view = { λ a. parts_in a.state };
 
-    ghost invariant = { λ a. IsAsTold a.state };
+    ghost invariant = { λ a. IsAsTold B.given (length a.window.items) a.state };
 }
 
 // The array as it is: its superblocks tell no reshape.
 fn still_again<B: Bank>(still: Still<B>, _none: ()) -> (Still<B>, ())
     ensures same { result.0 ≡ still }
-    ensures rest { IsAtRest still }
+    ensures rest { IsStillNow still }
 {
     (Still::of_pieces(still.take_apart()), ())
 }
@@ -72,7 +77,7 @@ fn moving_again<B: Bank>(moving: Moving<B>, _none: ()) -> (Moving<B>, ())
 // An array without a reshape is at rest.
 fn check_still<B: Bank>(still: &mut Still<B>)
     ensures same { still.new ≡ still.old }
-    ensures rest { IsAtRest still.old }
+    ensures rest { IsStillNow still.old }
 {
     replace_with(still, (), still_again)
 }
@@ -89,6 +94,7 @@ fn check_moving<B: Bank>(moving: &mut Moving<B>)
 impl<B: Bank> Running<B> {
     /// An array without an active reshape, which has no plan.
     pub fn of_still(alloc: Global, still: Still<B>) -> Running<B>
+        requires planless { phases_of still.ahead ≡ [] }
         ensures { result ≡ still }
     {
         let mut still = still;
@@ -99,8 +105,9 @@ impl<B: Bank> Running<B> {
         }
     }
 
-    /// An array in a reshape.
+    /// An array in a reshape, behind which no phase of a plan is ahead.
     pub fn of_moving(alloc: Global, moving: Moving<B>) -> Running<B>
+        requires last { phases_of moving.ahead ≡ [] }
         ensures { result ≡ moving }
     {
         let mut moving = moving;

@@ -3,13 +3,14 @@
 ghost use Rattle.std.specs.Prelude.{◌≡◌, ◌≢◌, [], ◌∷◌, length, IfOk, IfErr};
 ghost use Rattle.flat_history.specs.Flat.{next_number};
 ghost use Rattle.flat_history.specs.Epochs.{world_of};
+ghost use Rattle.flat_history.specs.Growing.{EndBy};
 ghost use Rattle.flat_history.specs.declared.events.Event.TheVariants.{Halted, Stopped};
 ghost use Rattle.bank.specs.Given.{NeverFalls};
 ghost use Rattle.md_base.specs.declared.answers.Refusal.{Refusal};
 ghost use Rattle.superblocks.specs.Reading.{list_length};
 ghost use Rattle.views.specs.Moving.{Grows};
-ghost use Rattle.views.specs.Lacking.{AreTooMany};
-ghost use Rattle.array_kept.specs.Calls.{IsEntered, IsBehind, IsUnsettled, IsFaultFor, AreLossesOf};
+ghost use Rattle.views.specs.Lacking.{AreTooMany, HaveRolesFailed};
+ghost use Rattle.array_kept.specs.Calls.{IsEntered, IsBehind, IsUnsettled, IsFaultFor, AreLossesOf, IsEndOf};
 ghost use Rattle.history_calls.specs.Reliable.{IsReliable};
 ghost use Rattle.running_words.specs.Calls.{IsCalled, IsEpochKept};
 
@@ -28,6 +29,7 @@ impl<B: Bank> Moving<B> {
         ensures given { result.1.given ≡ self.parts.given }
         ensures first { result.1.first ≡ self.parts.first }
         ensures last { result.1.last ≡ self.parts.last }
+        ensures ends { B.tells → EndBy (length (B.tape self.parts.bank)) result.1.entries.items }
         ensures right { B.tells → self.parts.last ≡ length (B.tape self.parts.bank) → IsReliable (world_of (B.given result.0) (B.tape result.0) self.parts.backup result.1) result.1.entries.items
             → IsEpochKept (B.given result.0) (B.tape result.0) self.parts.backup result.1 }
     {
@@ -95,6 +97,8 @@ impl<B: Bank> Moving<B> {
         ensures ready { IfOk result (λ r. (refusal : Refusal) → AreTooMany self.parts.members refusal → ⊥) }
         ensures grows { IfOk result (λ r. Grows B.tells (B.tape self.parts.bank) (B.tape r.0)) }
         ensures losses { IfOk result (λ r. AreLossesOf self.parts.members (B.faults_of self.parts.bank) (B.faults_of r.0) self.parts.entries r.1.entries.items) }
+        ensures ends { IfOk result (λ r. B.tells → EndBy (length (B.tape r.0)) r.1.entries.items) }
+        ensures ended { IfOk result (λ r. IsEndOf B.tells r.1.first r.1.entries.items (B.tape r.0)) }
         ensures right { IfOk result (λ r. B.tells → IsReliable (world_of (B.given r.0) (B.tape r.0) self.parts.backup r.1) r.1.entries.items → IsEpochKept (B.given r.0) (B.tape r.0) self.parts.backup r.1) }
         ensures uuid { IfOk result (λ r. r.1.uuid ≡ self.parts.uuid) }
         ensures slots { IfOk result (λ r. r.1.given ≡ self.parts.given) }
@@ -105,6 +109,7 @@ impl<B: Bank> Moving<B> {
         ensures refused { IfErr result (λ e. IsUnsettled who self.parts.entries e.0.parts.entries e.1) }
         ensures caused { IfErr result (λ e. IsFaultFor (list_length self.parts.members.newest) 0 AreTooMany self.parts.members e.0.parts.members e.1) }
         ensures called { IfErr result (λ e. IsCalled B.tells (B.given self.parts.bank) (B.tape self.parts.bank) (B.tape e.0.parts.bank) (B.faults_of self.parts.bank) (B.faults_of e.0.parts.bank) self e.0) }
+        ensures left_failed { IfErr result (λ e. HaveRolesFailed self.parts.members e.0.parts.members (B.faults_of self.parts.bank) (B.faults_of e.0.parts.bank)) }
         ensures left_given { IfErr result (λ e. B.given e.0.parts.bank ≡ B.given self.parts.bank) }
         ensures course { IfErr result (λ e. e.0.course ≡ self.course) }
     {

@@ -18,10 +18,11 @@ use md_base::{Fault, Who};
 use moving_state::stepping::{Due, due_step};
 
 impl<B: Bank> Moving<B> {
-    // The step that is due, but for the end of the reshape, while no window is unsure: a stripe of the entered window is copied, or it is recorded; of a pending resync
-    // the next stripe is mended, or it ends; the next window is entered, or a stripe behind the list is zeroed. Refusals: `TooManyMissing`, `NotResynced` where a stripe is
-    // to be mended, and `BackupFault` where a window is to be entered. It takes no memory.
-    pub(crate) fn step(&mut self, who: Who) -> Result<(), Fault>
+    /// The step that is due, but for the end of the reshape, while no window is unsure: a stripe of the entered window is copied, or it
+    /// is recorded; of a pending resync the next stripe is mended, or it ends; the next window is entered, or a stripe behind the list is
+    /// zeroed. Refusals: `TooManyMissing`, `NotResynced` where a stripe is to be mended, and `BackupFault` where a window is to be
+    /// entered. It takes no memory.
+    pub fn step(&mut self, who: Who) -> Result<(), Fault>
         requires open { IsCallGoing self.old.parts.entries who }
         requires caller { who.caller ≢ 254 }
         requires room { 1 ≤ self.old.parts.steps }

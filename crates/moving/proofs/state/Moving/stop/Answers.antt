@@ -1,5 +1,8 @@
-use Rattle.std.proofs.Common.{◌≤◌, ℕ, Option, sym, subst}
+use Rattle.std.proofs.Common.{◌≤◌, ℕ, Option, List, length, sym, subst}
+use Rattle.flat_history.specs.declared.events.Entry.{Entry}
 use Rattle.flat_history.specs.Epochs.{world_of}
+use Rattle.flat_history.specs.Growing.{EndBy}
+use Rattle.array_kept.specs.Calls.{IsEndOf}
 use Rattle.history_calls.specs.Reliable.{IsReliable}
 use Rattle.running_words.specs.Calls.{IsEpochKept}
 use Rattle.moving.proofs.state.Moving.stop.Goals as goal
@@ -14,3 +17,13 @@ returns-in-Ok-clause-right g c = λ t.
 pub returns-in-Ok-clause-never_falls : goal.returns-in-Ok-clause-never_falls
 returns-in-Ok-clause-never_falls g c = λ slot.
     subst (λ bank. g.B.Bank.faults_of c.args.self.parts.bank slot ≤ g.B.Bank.faults_of bank slot) (sym c.bank_and_epoch.ensures.bank) (c.in-Ok.ensures.called.never_falls slot)
+
+pub returns-in-Ok-clause-ends : goal.returns-in-Ok-clause-ends
+returns-in-Ok-clause-ends g c = λ t. subst (λ bank. EndBy (length (g.B.Bank.tape bank)) c.bank_and_epoch.result.1.entries.items) (sym c.bank_and_epoch.ensures.bank) (c.bank_and_epoch.ensures.ends t)
+
+pub returns-in-Ok-clause-ended : goal.returns-in-Ok-clause-ended
+returns-in-Ok-clause-ended g c =
+    let now = c.settle_entering.new.self.parts in
+    subst (λ bank. IsEndOf g.B.Bank.tells c.bank_and_epoch.result.1.first c.bank_and_epoch.result.1.entries.items (g.B.Bank.tape bank)) (sym c.bank_and_epoch.ensures.bank)
+    (subst (λ (l : List Entry). IsEndOf g.B.Bank.tells c.bank_and_epoch.result.1.first l (g.B.Bank.tape now.bank)) (sym c.bank_and_epoch.ensures.entries)
+    (subst (λ (n : ℕ). IsEndOf g.B.Bank.tells n now.entries (g.B.Bank.tape now.bank)) (sym c.bank_and_epoch.ensures.first) c.in-Ok.ensures.called.ended))
