@@ -8,7 +8,6 @@ use Rattle.bank.specs.declared.bank.Operation.{Operation}
 use Rattle.bank.specs.Given.{Given, NeverFalls}
 use Rattle.bank.specs.Tape.{Contents, contents}
 use Rattle.bank.proofs.Causes.{faulted_longer}
-use Rattle.superblocks.specs.declared.members.Members.{Members}
 use Rattle.superblocks.specs.Found.{AreInSectors}
 use Rattle.superblocks.specs.Reading.{is_reshaping}
 use Rattle.superblocks.specs.Writing.{AreWritable}
@@ -28,10 +27,6 @@ use Rattle.openings.proofs.Same.{adopted-same}
 
 -- ---- results
 
-pub ok-then : {T E : Type 0} (result : Result T E) (P Q : T → Type 0) → ((x : T) → P x → Q x) → IfOk result P → IfOk result Q
-ok-then (Ok x) P Q step p = step x p
-ok-then (Err e) P Q step p = tt
-
 pub err-then : {T E : Type 0} (result : Result T E) (P Q : E → Type 0) → ((e : E) → P e → Q e) → IfErr result P → IfErr result Q
 err-then (Ok x) P Q step p = tt
 err-then (Err e) P Q step p = step e p
@@ -49,12 +44,6 @@ err-both P Q (Err e) p q = (p, q)
 pub opened-still : {tells : Type 0} (bank : Given) (c : Contents) (backup : Option ℕ) (asked : Option (List ℕ)) (opened : Opened) → IsFound tells bank c backup asked opened
     → is_reshaping opened.members.newest ≡ false → IsOpened tells bank c backup asked opened
 opened-still bank c backup asked opened is still = record { elected = is.elected; lost = is.lost; still = still; array = is.array; says = is.says; accepted = is.accepted }
-
--- it owns the bank that it was given
-pub still-bank : {B : Type 0} (tells : Type 0) (device : B) (tape : List Operation) (given : ℕ) (backup : Option ℕ) (members : Members) (run : FoundArray B)
-    → IsStillRun tells device tape given backup members run → bank_of run ≡ device
-still-bank tells device tape given backup members (Still made) did = did.0.bank_is
-still-bank tells device tape given backup members (Moving made) did = absurd did
 
 pub still-found : {B tells : Type 0} (tape_of : B → List Operation) (faults_of : B → ℕ → ℕ) (device : B) (bank : Given) (backup : Option ℕ) (asked : Option (List ℕ)) (before : ℕ → ℕ) (opened : Opened)
     → IsOpened tells bank (contents bank.start (tape_of device) (length (tape_of device))) backup asked opened → AreGiven bank opened.given before (faults_of device)

@@ -10,11 +10,11 @@ use Rattle.assemble.specs.declared.opening.Opened.{Opened}
 use Rattle.assemble.specs.Opening.{scope_of, HasFoundNone}
 use Rattle.assemble.proofs.PlacedFound.{placed-found, unlost-found, free-found}
 use Rattle.assemble.proofs.Adopting.{adoptable}
-use Rattle.assemble.proofs.RunningLaws.{slots-failed}
+use Rattle.assemble.proofs.RunningLaws.{slots-failed, ok-then}
 use Rattle.moving_opens.specs.Opening.{AreOpenedMoving}
 use Rattle.openings.specs.Adopted.{IsNotAdopted}
 use Rattle.openings.specs.Found.{IsStillRun, IsMovingRun, IsArrayFound, bank_of}
-use Rattle.openings.proofs.FoundArrays.{ok-then, ok-both, err-then, err-both, opened-still, still-found, found-there, moving-found, counts-both, none-found, not-adopted}
+use Rattle.openings.proofs.FoundArrays.{ok-both, err-then, err-both, opened-still, still-found, found-there, moving-found, counts-both, none-found, not-adopted}
 use Rattle.openings.proofs.finding.open_array.Goals as goal
 
 pub run_moving-requires-clause-opened : goal.run_moving-requires-clause-opened
