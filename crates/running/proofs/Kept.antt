@@ -1,5 +1,5 @@
 -- What a running array keeps over a call.
-use Rattle.std.proofs.Common.{◌≡◌, ◌≢◌, ◌⊎◌, inl, inr, ℕ, ◌+◌, ◌*◌, ◌<◌, ◌≤◌, ◌==◌, Bool, true, false, List, [], ◌∷◌, Option, Some, refl, sym, ◌∙◌, ap, subst, arith}
+use Rattle.std.proofs.Common.{◌≡◌, ◌⊎◌, inl, inr, ℕ, ◌+◌, ◌*◌, ◌<◌, ◌≤◌, ◌==◌, Bool, true, false, List, [], ◌∷◌, Option, Some, refl, sym, ◌∙◌, ap, subst, arith}
 use Rattle.std.proofs.lemmas.Bool.{cases_lt}
 use Rattle.std.proofs.lemmas.Bool.Decides.{nat_tests}
 use Rattle.std.specs.Prelude.{Result, Ok, Err, OnOk, OnErr, IsTrue}
@@ -20,12 +20,12 @@ use Rattle.superblocks.specs.Reads.{has_spare}
 use Rattle.flat_history.specs.World.{World}
 use Rattle.views.specs.Rebuilding.{Held, MayHold}
 use Rattle.views.specs.Placed.{AreStillHeld}
-use Rattle.array_kept.specs.Calls.{AreSparesFewer, IsAddedFor, IsUnaddable}
+use Rattle.array_kept.specs.Calls.{AreHeldOrSpare, AreSparesFewer, IsAddedFor, IsUnaddable}
 use Rattle.grow_asked.specs.declared.window.PhasesLeft.{PhasesLeft}
 use Rattle.grow_asked.specs.Left.{phases_of}
 use Rattle.running_words.specs.Parts.{RunningParts}
 use Rattle.running_words.specs.Calls.{IsSameReshape}
-use Rattle.turning.specs.Begun.{IsBackupAt, IsGivenBack}
+use Rattle.turning.specs.Begun.{IsGivenBack}
 use Rattle.running.specs.State.{IsStillNow, IsOneReshape, CanBeNext, IsAtRest, IsInReshape}
 
 -- What a call leaves as it was, as far as what is ahead asks for it.
@@ -200,4 +200,19 @@ room-leaves given n old new (Err x) none same = record {
   ahead = ap (λ p. p.ahead) same;
   held = λ role slot has. inl (subst (λ p. Held p.parts.members role slot) same has);
   spares = λ slot backup is. subst (λ p. has_spare p.parts.members.spares slot ≡ true) same is;
+}
+
+-- ---- a step without a reshape
+
+-- what one leaves
+pub stepped-leaves : {B tells : Type 0} {before after : World} (given given' : Given) (old new : RunningParts B) → given' ≡ given → IsSameReshape tells old new before after → AreHeldOrSpare old.parts.members new.parts.members → LeavesAhead given given' old new
+stepped-leaves given given' old new given_is same held = record {
+  given_is = given_is;
+  backup = same.array.backup;
+  slots = same.array.given;
+  shape = same.array.shape;
+  size = same.array.size;
+  ahead = same.ahead;
+  held = held.roles;
+  spares = λ slot backup is. held.spares slot is;
 }

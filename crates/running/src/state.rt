@@ -13,6 +13,7 @@ mod ending;
 mod examining;
 mod failing;
 mod finishing;
+mod mending;
 mod reading;
 mod rooms;
 mod settling;

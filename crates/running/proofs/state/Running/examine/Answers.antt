@@ -11,7 +11,7 @@ returns-clause-found g c = elim c.match-self.branch [
 
 pub invariant_of-self : goal.invariant_of-self
 invariant_of-self g c = elim c.match-self.branch [
-    in-Still w ↦
+  | in-Still w ↦
       let was = rw w.in-Still.is at c.self.invariant in
       let old = w.in-Still.still in
       let new = w.examine-found.new.self in
@@ -22,4 +22,4 @@ invariant_of-self g c = elim c.match-self.branch [
       let was = rw w.in-Moving.is at c.self.invariant in
       let ahead = ap (λ p. p.ahead) w.examine-found-in-Moving.ensures.else_same in
       rw (w.self-inside-is, w.check_moving.ensures.same) (reshape-kept w.in-Moving.moving w.examine-found-in-Moving.new.self w.check_moving.ensures.active ahead was)
-  ]
+]

@@ -5,7 +5,7 @@ use Rattle.running.proofs.state.Running.make_room.Goals.{in-Still, in-Moving}
 
 pub invariant_of-self : goal.invariant_of-self
 invariant_of-self g c = elim c.match-self.branch [
-    in-Still w ↦
+  | in-Still w ↦
       let was = rw w.in-Still.is at c.self.invariant in
       let old = w.in-Still.still in
       let new = w.make_room-done.new.self in
@@ -17,4 +17,4 @@ invariant_of-self g c = elim c.match-self.branch [
       let did = w.replace_with-done.ensures in
       let leaves = room-leaves g.B.Bank.given c.args.steps w.in-Moving.moving w.replace_with-done.new.dest w.replace_with-done.result did.0 did.1 in
       rw (w.self-inside-is, w.check_moving.ensures.same) (reshape-kept w.in-Moving.moving w.replace_with-done.new.dest w.check_moving.ensures.active leaves.ahead was)
-  ]
+]

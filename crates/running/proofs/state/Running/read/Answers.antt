@@ -32,7 +32,7 @@ returns-clause-caused g c = elim c.match-self.branch [
 
 pub invariant_of-self : goal.invariant_of-self
 invariant_of-self g c = elim c.match-self.branch [
-    in-Still w ↦
+  | in-Still w ↦
       let was = rw w.in-Still.is at c.self.invariant in
       let old = w.in-Still.still in
       let new = w.read-done.new.self in
@@ -42,4 +42,4 @@ invariant_of-self g c = elim c.match-self.branch [
   | in-Moving w ↦
       let was = rw w.in-Moving.is at c.self.invariant in
       rw (w.self-inside-is, w.check_moving.ensures.same) (reshape-kept w.in-Moving.moving w.read-done-in-Moving.new.self w.check_moving.ensures.active w.read-done-in-Moving.ensures.called.same.ahead was)
-  ]
+]

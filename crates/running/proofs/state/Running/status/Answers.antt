@@ -5,7 +5,7 @@ use Rattle.running.proofs.state.Running.status.Goals.{in-Still, in-Moving}
 
 pub invariant_of-self : goal.invariant_of-self
 invariant_of-self g c = elim c.match-self.branch [
-    in-Still w ↦
+  | in-Still w ↦
       let was = rw w.in-Still.is at c.self.invariant in
       let old = w.in-Still.still in
       let new = w.status-status.new.self in
@@ -15,4 +15,4 @@ invariant_of-self g c = elim c.match-self.branch [
   | in-Moving w ↦
       let was = rw w.in-Moving.is at c.self.invariant in
       rw (w.self-inside-is, w.check_moving.ensures.same) (reshape-kept w.in-Moving.moving w.status-status-in-Moving.new.self w.check_moving.ensures.active w.status-status-in-Moving.ensures.same.ahead was)
-  ]
+]

@@ -48,7 +48,7 @@ returns-clause-closed g c = elim c.match-self.branch [
 
 pub invariant_of-self : goal.invariant_of-self
 invariant_of-self g c = elim c.match-self.branch [
-    in-Still w ↦
+  | in-Still w ↦
       let was = rw w.in-Still.is at c.self.invariant in
       let old = w.in-Still.still in
       let new = w.write-done.new.self in
@@ -58,4 +58,4 @@ invariant_of-self g c = elim c.match-self.branch [
   | in-Moving w ↦
       let was = rw w.in-Moving.is at c.self.invariant in
       rw (w.self-inside-is, w.check_moving.ensures.same) (reshape-kept w.in-Moving.moving w.write-done-in-Moving.new.self w.check_moving.ensures.active w.write-done-in-Moving.ensures.called.same.ahead was)
-  ]
+]
