@@ -35,14 +35,14 @@ due_between newest zeroed = if is_some (next_window newest) then Enter else if n
 
 -- But while a resync is pending, each stripe that it hasn't mended is, and then it ends.
 abbrev pub due_aside : Sb → ℕ → Option ℕ → Due
-due_aside newest zeroed None = due_between newest zeroed
-due_aside newest zeroed (Some mended) = if nat_lt mended (mend_stripes newest) then Mend else EndResync
+due_aside newest cleared None = due_between newest cleared
+due_aside newest cleared (Some mended) = if nat_lt mended (mend_stripes newest) then Mend else EndResync
 
 -- In an entered window each stripe is copied, and then it is recorded, whether a resync is pending or not.
 abbrev pub due_in : Sb → Window → ℕ → Option ℕ → Due
-due_in newest Closed zeroed resync = due_aside newest zeroed resync
-due_in newest (Entered span copied sectioned) zeroed resync = if nat_lt copied (stripes_in newest span) then Copy else Record
-due_in newest (Unsure span) zeroed resync = due_aside newest zeroed resync
+due_in newest Closed cleared resync = due_aside newest cleared resync
+due_in newest (Entered span copied sectioned) cleared resync = if nat_lt copied (stripes_in newest span) then Copy else Record
+due_in newest (Unsure span) cleared resync = due_aside newest cleared resync
 
 abbrev pub due_of : Sb → Course → Option ℕ → Due
 due_of newest course resync = due_in newest course.window course.zeroed resync
