@@ -1,5 +1,5 @@
 -- A request to grow an array in a reshape is refused for that.
-use Rattle.std.proofs.Common.{◌≡◌, ◌≢◌, ℕ, Bool, true, Some, List, [], ◌∷◌, ◌++◌, length, ◌∙◌, arith}
+use Rattle.std.proofs.Common.{◌≡◌, ◌≢◌, ℕ, Bool, true, Option, Some, List, [], ◌∷◌, ◌++◌, length, ◌∙◌, arith}
 use Rattle.std.specs.Prelude.{IsTrue}
 use Rattle.md_base.specs.declared.answers.Refusal.TheVariants.{Busy}
 use Rattle.md_base.specs.declared.answers.BusyKind.TheVariants.{Reshape}
@@ -42,9 +42,9 @@ busy-fits world before who end wish m number at_end active read =
     (where-asked world before end (λ r. IsTrue (is_reshaping r.newest)) (λ r is asked. (where-is world before end (λ r. IsReadLike r m) read r is asked).array.reshaping ∙ active))
 
 -- the array keeps its record behind it
-pub busy-moves : {tells : Type 0} {given : Given} {tape : List Operation} {scope : Scope} {first : ℕ} {entries : List Entry} {m : Members} {carried : ℕ → Bool} {course : Course} {buffer : List ℕ} {left : ℕ} (who : Who) (end : ℕ)
-    → IsMoving tells given tape scope first entries m carried course buffer left → who.number ≡ next_number who.caller entries → who.caller ≢ 254 → (tells → end ≡ length tape)
-    → IsMoving tells given tape scope first (entries ++ entries_of who end (Refused (Busy Reshape) ∷ [])) m carried course buffer left
-busy-moves {tells = tells} {given = given} {tape = tape} {scope = scope} {first = first} {entries = entries} {m = m} {carried = carried} {course = course} {buffer = buffer} {left = left} who end was number caller at_end =
-    resting-moves tells given tape scope first entries m carried course buffer left who end (Refused (Busy Reshape)) was (begins-going entries who number) (not_254 who.caller caller) at_end
+pub busy-moves : {tells : Type 0} {given : Given} {tape : List Operation} {scope : Scope} {first : ℕ} {entries : List Entry} {m : Members} {carried : ℕ → Bool} {resync : Option ℕ} {course : Course} {buffer : List ℕ} {left : ℕ} (who : Who) (end : ℕ)
+    → IsMoving tells given tape scope first entries m carried resync course buffer left → who.number ≡ next_number who.caller entries → who.caller ≢ 254 → (tells → end ≡ length tape)
+    → IsMoving tells given tape scope first (entries ++ entries_of who end (Refused (Busy Reshape) ∷ [])) m carried resync course buffer left
+busy-moves {tells = tells} {given = given} {tape = tape} {scope = scope} {first = first} {entries = entries} {m = m} {carried = carried} {resync = resync} {course = course} {buffer = buffer} {left = left} who end was number caller at_end =
+    resting-moves tells given tape scope first entries m carried resync course buffer left who end (Refused (Busy Reshape)) was (begins-going entries who number) (not_254 who.caller caller) at_end
     (quiet-refusal (Busy Reshape)) (λ told is. is) (λ t right. tt)
