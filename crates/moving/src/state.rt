@@ -3,6 +3,7 @@
 ghost use Rattle.std.specs.Prelude.{◌≡◌, ◌≤◌, length};
 ghost use Rattle.grow_plan.specs.Plans.{AreSound};
 ghost use Rattle.superblocks.specs.Reading.{final_shape};
+ghost use Rattle.shape_views.specs.Regions.{AreShapesFit};
 ghost use Rattle.flat_history.specs.Flat.{next_number};
 ghost use Rattle.grow_asked.specs.Left.{phases_of, zeroed_by, IsReshapeUnderWay, IsWindowRight};
 ghost use Rattle.running_words.specs.Parts.{left_in};
@@ -27,6 +28,7 @@ use bank::Bank;
 use course_kept::Course;
 use flat_history::Epoch;
 use grow_asked::{PhasesLeft, planned_left, reshape_left};
+use region_mends::counting::resync_left;
 use safe_updates::roles::final_in;
 use std::alloc::Global;
 use std::marker::Model;
@@ -83,16 +85,23 @@ impl<B: Bank> Model for Moving<B> {
         (vec_capacity a.rows) (length a.buffer.items) (vec_capacity a.far_rows) (length a.far_buffer.items) };
 }
 
-// The steps that are left, of the reshape and of the phases ahead of it.
-pub(crate) fn steps_left(members: &Members, course: &Course, ahead: &PhasesLeft) -> u64
+// The steps that are left, of the reshape, of a pending resync and of the phases ahead.
+pub(crate) fn steps_left(
+    members: &Members,
+    work: &Work,
+    course: &Course,
+    ahead: &PhasesLeft,
+) -> u64
+    requires fit { AreShapesFit members.now.newest }
     requires reshape { IsReshapeUnderWay members.now.newest }
     requires open { IsWindowRight members.now.newest course.now.window }
     requires zeroed { course.now.zeroed ≤ zeroed_by members.now.newest }
     requires sound { AreSound (final_shape members.now.newest) members.now.newest.size (phases_of ahead.now) }
-    ensures { result ≡ left_in members.now course.now ahead.now }
+    ensures { result ≡ left_in work.now members.now course.now ahead.now }
 {
     let moved = reshape_left(members, &course.window, course.zeroed);
-    moved + planned_left(&final_in(members), members.newest.size, ahead)
+    let planned = planned_left(&final_in(members), members.newest.size, ahead);
+    moved + planned + resync_left(members, &course.window, work.resync)
 }
 
 impl<B: Bank> Moving<B> {
@@ -135,10 +144,10 @@ impl<B: Bank> Moving<B> {
         self.course
     }
 
-    /// How many background steps are left, those of the phases behind the reshape among them.
+    /// How many background steps are left, those of a pending resync and of the phases behind the reshape among them.
     pub fn left(&self) -> u64
-        ensures { result ≡ left_in self.now.parts.members self.now.course self.now.ahead }
+        ensures { result ≡ left_in self.now.parts.work self.now.parts.members self.now.course self.now.ahead }
     {
-        steps_left(&self.members, &self.course, &self.ahead)
+        steps_left(&self.members, &self.work, &self.course, &self.ahead)
     }
 }

@@ -48,6 +48,7 @@ use Rattle.shape_changes.specs.Changing.{IsSafeChange}
 use Rattle.shape_changes.specs.Safety.{HasLiveSlot, HasRoomLeft, IsRisen}
 use Rattle.shape_changes.specs.Steady.{IsMoreTold, IsSafeNow, IsSafeOver, AreGoneTold, IsUncleanTold}
 use Rattle.shape_changes.proofs.Steady.{held-read}
+use Rattle.views.specs.Lacking.{DoesWithout}
 use Rattle.views.proofs.LiveLeft.{left-steady, without-left}
 use Rattle.views.proofs.SoundViews.{throughout-changed}
 use Rattle.views.proofs.Still.{count-still}
@@ -75,6 +76,7 @@ use Rattle.reshape_ends.specs.Finished.{IsFinishable}
 use Rattle.course_kept.specs.Course.{AnyShape, StandsInCourse}
 use Rattle.course_kept.specs.Laws.{closed}
 use Rattle.course_kept.proofs.Frames.{stands-whole, list-whole, rows-whole}
+use Rattle.course_mends.proofs.Mended.{none-pending}
 use Rattle.course_kept.proofs.Courses.{zeroes-are-all}
 use Rattle.history_calls.specs.Reliable.{IsReliable, AreToldGone, IsNonePast}
 use Rattle.history_calls.proofs.LastStep.{last-behind, last-step}
@@ -138,7 +140,7 @@ disturbs-entries who end [] = refl
 disturbs-entries who end (x ∷ xs) = ap (λ (b : Bool). disturbs x || b) (disturbs-entries who end xs)
 
 module _ (given : Given) (tape : List Operation) (scope : Scope) (first : ℕ) (entries : List Entry) (old new : Members) (carried carried' : ℕ → Bool) (buffer : List ℕ) (zeroed steps left : ℕ)
-    (who : Who) (roles spares late late_spares : ℕ) (ops : List Operation) (tells : Type 0) (was : IsMoving tells given tape scope first entries old carried (closed zeroed) buffer steps) (t : tells)
+    (who : Who) (roles spares late late_spares : ℕ) (ops : List Operation) (tells : Type 0) (was : IsMoving tells given tape scope first entries old carried None (closed zeroed) buffer steps) (t : tells)
     (few_roles : role_count old.newest ≤ 16)
     (all_zeroed : zeroed ≡ zeroed_stripes (shape_of old.newest) (final_shape old.newest) old.newest.size (is_backward old.newest))
     (stepped : IsStepped old steps left (losses_of roles spares ++ losses_of late late_spares)) (planned : IsPlannedTo (world_in given tape scope first) entries old left)
@@ -365,12 +367,12 @@ module _ (given : Given) (tape : List Operation) (scope : Scope) (first : ℕ) (
   -- ---- the list
 
   -- each sector that the list has then has its newest value
-  list-then : IsFilledRight world entries → (l : HasListInCourse (OpensFit world) old (closed zeroed) buffer (present given tape) (now (opening_list world) entries))
+  list-then : IsFilledRight world entries → (l : HasListInCourse (OpensFit world) old None (closed zeroed) buffer (present given tape) (now (opening_list world) entries))
       → (x : ℕ) → x < list_length new.newest → (l.list x ≡ now (opening_list later) all x) × IsIn (values_of (opening_list later) all x) (l.list x)
   list-then fills l x lt = elim (cases_lt x (list_length old.newest)) [
     | inl below ↦ (l.is x below ∙ sym (now-all x below), subst (IsIn (values_of (opening_list later) all x)) (sym (l.is x below)) (in-all x below))
     | inr past ↦ (
-        let none = l.stands.zeros (forward (omega (arith, past, lt))) x past in
+        let none = l.stands.in_course.zeros (forward (omega (arith, past, lt))) x past in
         let values = zero-all fills x past lt in (
           none ∙ sym (ap (λ (l : List Sector). slice_index_or l 0 []) values),
           subst (λ (vs : List Sector). IsIn vs (l.list x)) (sym values) (inl none),
@@ -378,8 +380,9 @@ module _ (given : Given) (tape : List Operation) (scope : Scope) (first : ℕ) (
   ]
 
   -- it stands by each shape in force
-  whole-list : (l : HasListInCourse (OpensFit world) old (closed zeroed) buffer (present given tape) (now (opening_list world) entries)) → StandsInCourse (OpensFit world) AnyShape old (closed zeroed) buffer (present given tape) l.list
-  whole-list l = stands-whole (OpensFit world) old (closed zeroed) buffer (present given tape) l.list call.have.enough l.stands
+  whole-list : (l : HasListInCourse (OpensFit world) old None (closed zeroed) buffer (present given tape) (now (opening_list world) entries)) → StandsInCourse (OpensFit world) AnyShape old (closed zeroed) buffer (present given tape) l.list
+  whole-list l = stands-whole (OpensFit world) old (closed zeroed) buffer (present given tape) l.list call.have.enough
+      ((none-pending (OpensFit world) (λ shape. DoesWithout shape old) old (closed zeroed) buffer (present given tape) l.list).1 l.stands)
 
   pub ended-listed : IsFilledRight later all → HasListStill (OpensFit later) new (present given (tape ++ ops)) (now (opening_list later) all)
   ended-listed fills =
@@ -415,7 +418,7 @@ module _ (given : Given) (tape : List Operation) (scope : Scope) (first : ℕ) (
     abbrev more : Ledger
     more = told_now later carried' reshaping' all
 
-    listed : HasListInCourse (OpensFit world) old (closed zeroed) buffer (present given tape) (now (opening_list world) entries)
+    listed : HasListInCourse (OpensFit world) old None (closed zeroed) buffer (present given tape) (now (opening_list world) entries)
     listed = was.listed t before.fills
 
     finishable : IsFinishable (OpensFit world) more old (present given tape) listed.list

@@ -1,5 +1,5 @@
 -- An array whose reshape ends keeps its record without it, from what `finish` leaves where it isn't refused.
-use Rattle.std.proofs.Common.{◌≡◌, inl, inr, ℕ, ◌==◌, ◌≤◌, Bool, true, false, List, ◌++◌, length, refl, sym, ◌∙◌, ap, subst, ◌||◌}
+use Rattle.std.proofs.Common.{◌≡◌, inl, inr, ℕ, ◌==◌, ◌≤◌, Bool, true, false, None, List, ◌++◌, length, refl, sym, ◌∙◌, ap, subst, ◌||◌}
 use Rattle.std.specs.Prelude.{IsFalse, ⊤}
 use Rattle.md_base.specs.Shapes.{tolerance_of}
 use Rattle.md_base.specs.declared.answers.Who.{Who}
@@ -58,7 +58,7 @@ record IsStillLeft (given : Given) (tape : List Operation) (scope : Scope) (firs
       → IsSafeHistory ⊤ (world_in given tape' scope first) given new carried' reshaping all
 
 module _ (tells : Type 0) (given : Given) (tape tape' : List Operation) (scope : Scope) (first : ℕ) (entries : List Entry) (old new : Members) (carried carried' : ℕ → Bool) (buffer : List ℕ) (zeroed steps left : ℕ)
-    (who : Who) (end roles spares late late_spares : ℕ) (was : IsMoving tells given tape scope first entries old carried (closed zeroed) buffer steps) (goes : IsCallGoing entries who) (caller : IsFalse (who.caller == 254))
+    (who : Who) (end roles spares late late_spares : ℕ) (was : IsMoving tells given tape scope first entries old carried None (closed zeroed) buffer steps) (goes : IsCallGoing entries who) (caller : IsFalse (who.caller == 254))
     (at_end : tells → end ≡ length tape') (grows : Grows tells tape tape')
     (all_zeroed : zeroed ≡ zeroed_stripes (shape_of old.newest) (final_shape old.newest) old.newest.size (is_backward old.newest))
     (stepped : IsStepped old steps left (losses_of roles spares ++ losses_of late late_spares)) (planned : tells → IsPlannedTo (world_in given tape scope first) entries old left) (numbers : (number : ℕ) → carried number ≡ true → carried' number ≡ true)

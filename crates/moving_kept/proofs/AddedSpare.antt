@@ -62,15 +62,18 @@ use Rattle.kept_history.specs.Safe.{world_in}
 use Rattle.course_kept.specs.declared.course.Course.{Course}
 use Rattle.grow_asked.specs.declared.window.Window.{Window}
 use Rattle.grow_asked.specs.declared.window.Window.TheVariants.{Closed, Entered, Unsure}
-use Rattle.course_kept.specs.Course.{IsStored, IsSectionKept, IsBackupKept, StandsInCourse}
-use Rattle.course_kept.proofs.Courses.{courses-move, stored-moves}
-use Rattle.course_kept.proofs.Frames.{stands-less}
-use Rattle.course_kept.proofs.Spares.{spares-leave, spares-without, spares-stored, differ-with}
+use Rattle.course_kept.specs.Course.{IsStored, IsSectionKept, IsBackupKept}
+use Rattle.course_kept.proofs.Courses.{stored-moves}
+use Rattle.course_kept.proofs.Spares.{spares-without, spares-stored, differ-with}
+use Rattle.course_mends.specs.Mended.{StandsMended}
+use Rattle.course_mends.proofs.Mended.{mended-courses-move}
+use Rattle.course_mends.proofs.Spares.{spares-leave-mended}
 use Rattle.history_calls.specs.Reliable.{AreToldGone}
 use Rattle.moving_kept.specs.Moving.{AreReshaping, HasListInCourse, IsMoving}
 use Rattle.history_calls.proofs.Behind.{early-losses, early-none, IsAmong, legal-losses}
 use Rattle.moving_kept.proofs.MembersMove.{reshaping-moved}
 use Rattle.history_calls.proofs.Quiet.{IsQuiet, stretch-more}
+use Rattle.moving_kept.proofs.Pending.{HasResync, resync-of, resync-moved, mended-less}
 use Rattle.moving_kept.proofs.Quiet.{carrying-moves, early-moves}
 use Rattle.moving_kept.proofs.Refusals.{quiet-refusal, refused-right}
 use Rattle.moving_kept.proofs.Resting.{resting-moves}
@@ -184,8 +187,8 @@ pub record IsSpareMade (tells : Type 0) (given : Given) (tape mid tape' : List O
       → IsSafeOver world given told old mid → KeepsSafe world given (with_number sb.dev_number told) new mid tape'
 
 module _ (tells : Type 0) (given : Given) (tape mid tape' : List Operation) (scope : Scope) (first : ℕ) (entries : List Entry) (old new : Members) (carried carried' : ℕ → Bool)
-    (course : Course) (buffer : List ℕ) (left : ℕ) (who : Who) (end slot : ℕ) (sb : Sb) (roles spares : ℕ)
-    (was : IsMoving tells given tape scope first entries old carried course buffer left) (goes : IsCallGoing entries who) (caller : IsFalse (who.caller == 254)) (at_end : tells → end ≡ length tape')
+    (resync : Option ℕ) (course : Course) (buffer : List ℕ) (left : ℕ) (who : Who) (end slot : ℕ) (sb : Sb) (roles spares : ℕ)
+    (was : IsMoving tells given tape scope first entries old carried resync course buffer left) (goes : IsCallGoing entries who) (caller : IsFalse (who.caller == 254)) (at_end : tells → end ≡ length tape')
     (did : IsSpareMade tells given tape mid tape' scope old new carried carried' slot sb roles) where
   abbrev with_it : Members
   with_it = with_spare slot sb old
@@ -225,11 +228,15 @@ module _ (tells : Type 0) (given : Given) (tape mid tape' : List Operation) (sco
   without-all : (shape : Shape) → DoesWithout shape new → DoesWithout shape old
   without-all shape does = spares-without old with_it (differ-with old slot sb unheld-it) shape (shape-without-before given with_it new did.moved shape does)
 
-  stands-all : tells → (sound : Type 0) (list : ℕ → Sector) → StandsInCourse sound (λ shape. DoesWithout shape old) old course buffer (present given tape) list
-      → StandsInCourse sound (λ shape. DoesWithout shape new) new course buffer (present given tape') list
-  stands-all t sound list stands = courses-move sound (λ shape. DoesWithout shape new) given with_it new course buffer (present given tape) (present given tape') list reshaping.placed did.moved (others-all t)
-      (spares-leave sound (λ shape. DoesWithout shape new) old with_it course buffer (present given tape) list (differ-with old slot sb unheld-it)
-      (stands-less sound (λ shape. DoesWithout shape new) (λ shape. DoesWithout shape old) old course buffer (present given tape) list without-all stands))
+  stands-all : tells → (sound : Type 0) (list : ℕ → Sector) → StandsMended sound (λ shape. DoesWithout shape old) resync old course buffer (present given tape) list
+      → StandsMended sound (λ shape. DoesWithout shape new) resync new course buffer (present given tape') list
+  stands-all t sound list stands = mended-courses-move sound (λ shape. DoesWithout shape new) given with_it new resync course buffer (present given tape) (present given tape') list reshaping.placed did.moved (others-all t)
+      (spares-leave-mended sound (λ shape. DoesWithout shape new) old with_it resync course buffer (present given tape) list (differ-with old slot sb unheld-it)
+      (mended-less sound (λ shape. DoesWithout shape new) (λ shape. DoesWithout shape old) resync old course buffer (present given tape) list without-all stands))
+
+  -- a resync is as far
+  has : HasResync new resync course
+  has = resync-moved {old = with_it} {course = course} did.moved (λ some dirty. did.clean ∙ dirty) was.beside (record { progress = was.progress; beside = was.beside; dirty = λ does. was.dirty (record { old = does.old; final = does.final }) })
 
   -- ---- each mark
 
@@ -259,10 +266,10 @@ module _ (tells : Type 0) (given : Given) (tape mid tape' : List Operation) (sco
   -- ---- what is kept
 
   module _ (event : Event) (quiet : IsQuiet event) (tell : TellLeft left who end (event ∷ [])) (legal : (world : World) (before : List Entry) (e : Entry) → IsLegalEvent world before e [] event) where
-    spare-moves : IsMoving tells given tape' scope first (entries ++ entries_of who end (losses_of roles spares ++ event ∷ [])) new carried' course buffer left
+    spare-moves : IsMoving tells given tape' scope first (entries ++ entries_of who end (losses_of roles spares ++ event ∷ [])) new carried' resync course buffer left
     spare-moves =
-        carrying-moves tells given tape tape' scope first entries old new carried carried' course course buffer buffer left left who end (losses_of roles spares) (IsAmong roles) event did.carries was live goes caller at_end
-        (grows-then (record { more = λ t. ((did.looked t).0, (did.looked t).2) }) did.grows) quiet (reshaping-moved scope given with_it new did.moved reshaping) (few-roles new.newest did.moved.placed.fit.valid)
+        carrying-moves tells given tape tape' scope first entries old new carried carried' resync course course buffer buffer left left who end (losses_of roles spares) (IsAmong roles) event did.carries was live goes caller at_end
+        (grows-then (record { more = λ t. ((did.looked t).0, (did.looked t).2) }) did.grows) quiet (reshaping-moved scope given with_it new did.moved reshaping) has (few-roles new.newest did.moved.placed.fit.valid)
         (early-losses roles spares) (missing-moved {old = with_it} roles did.moved did.since) list-same (ap (λ (s : Shape). s.level) did.moved.shape) did.clean
         (course-moved given with_it new course did.moved was.course_is) stored-all
         (left-more left entries who end (losses_of roles spares ++ event ∷ []) was.left_told (left-behind left who end (losses_of roles spares) (event ∷ []) (losses-are roles spares) tell))
@@ -274,8 +281,8 @@ module _ (tells : Type 0) (given : Given) (tape mid tape' : List Operation) (sco
               (legal (world_in given tape' scope first) (entries ++ entries_of who end (losses_of roles spares)) (entry_of who end event), tt, tt);
         })
       where
-        on : tells → HasListInCourse (OpensFit (world_in given tape scope first)) old course buffer (present given tape) (now (opening_list (world_in given tape scope first)) entries)
-            → HasListInCourse (OpensFit (world_in given tape scope first)) new course buffer (present given tape') (now (opening_list (world_in given tape scope first)) entries)
+        on : tells → HasListInCourse (OpensFit (world_in given tape scope first)) old resync course buffer (present given tape) (now (opening_list (world_in given tape scope first)) entries)
+            → HasListInCourse (OpensFit (world_in given tape scope first)) new resync course buffer (present given tape') (now (opening_list (world_in given tape scope first)) entries)
         on t l = record {
           list = l.list;
           is = λ x lt. l.is x (subst (λ (n : ℕ). x < n) list-same lt);
@@ -283,30 +290,30 @@ module _ (tells : Type 0) (given : Given) (tape mid tape' : List Operation) (sco
         }
 
   -- It is a spare: how many steps are left isn't told then.
-  pub added-moves : IsMoving tells given tape' scope first (entries ++ entries_of who end (losses_of roles spares ++ Added slot ∷ [])) new carried' course buffer left
+  pub added-moves : IsMoving tells given tape' scope first (entries ++ entries_of who end (losses_of roles spares ++ Added slot ∷ [])) new carried' resync course buffer left
   added-moves = spare-moves (Added slot) (record { adds = refl; gives = refl; ends = refl; still = λ x values. refl; level = λ n. refl; other = refl }) (λ told is. tt) (λ world before e. tt)
 
   -- It was lost in this.
-  pub added-lost-moves : IsMoving tells given tape' scope first (entries ++ entries_of who end (losses_of roles spares ++ Refused (SlotFault slot) ∷ [])) new carried' course buffer left
+  pub added-lost-moves : IsMoving tells given tape' scope first (entries ++ entries_of who end (losses_of roles spares ++ Refused (SlotFault slot) ∷ [])) new carried' resync course buffer left
   added-lost-moves = spare-moves (Refused (SlotFault slot)) (quiet-refusal (SlotFault slot)) (λ told is. is) (λ world before e. tt)
 
 -- ---- a slot that isn't made a spare
 
 -- It failed at the first look, behind flushes alone.
 pub looked-moves : (tells : Type 0) (given : Given) (tape tape' : List Operation) (scope : Scope) (first : ℕ) (entries : List Entry) (m : Members) (carried : ℕ → Bool)
-    (course : Course) (buffer : List ℕ) (left : ℕ) (who : Who) (end slot : ℕ)
-    → IsMoving tells given tape scope first entries m carried course buffer left → HasLiveSlot m → IsCallGoing entries who → IsFalse (who.caller == 254) → (tells → end ≡ length tape') → (tells → OnlyFlushesAdded tape tape')
-    → IsMoving tells given tape' scope first (entries ++ entries_of who end (Refused (SlotFault slot) ∷ [])) m carried course buffer left
-looked-moves tells given tape tape' scope first entries m carried course buffer left who end slot was live goes caller at_end looked =
-    early-moves tells given tape tape' scope first entries m m carried course course buffer buffer left left who end [] (λ role. ⊥) (Refused (SlotFault slot)) was live goes caller at_end
-    (record { more = λ t. ((looked t).0, (looked t).2) }) (quiet-refusal (SlotFault slot)) was.members_are (few-roles m.newest was.members_are.placed.fit.valid) early-none (λ role lt gone. inl (lt, gone)) refl refl refl was.course_is
+    (resync : Option ℕ) (course : Course) (buffer : List ℕ) (left : ℕ) (who : Who) (end slot : ℕ)
+    → IsMoving tells given tape scope first entries m carried resync course buffer left → HasLiveSlot m → IsCallGoing entries who → IsFalse (who.caller == 254) → (tells → end ≡ length tape') → (tells → OnlyFlushesAdded tape tape')
+    → IsMoving tells given tape' scope first (entries ++ entries_of who end (Refused (SlotFault slot) ∷ [])) m carried resync course buffer left
+looked-moves tells given tape tape' scope first entries m carried resync course buffer left who end slot was live goes caller at_end looked =
+    early-moves tells given tape tape' scope first entries m m carried resync resync course course buffer buffer left left who end [] (λ role. ⊥) (Refused (SlotFault slot)) was live goes caller at_end
+    (record { more = λ t. ((looked t).0, (looked t).2) }) (quiet-refusal (SlotFault slot)) was.members_are (resync-of was) refl (few-roles m.newest was.members_are.placed.fit.valid) early-none (λ role lt gone. inl (lt, gone)) refl refl refl was.course_is
     (λ t. stored-moves scope given m m course.window buffer (disk given.start tape) (disk given.start tape') (moved-same given given m m refl refl was.members_are.placed was.members_are.unlost)
     (fewer-backup scope course.window (disk given.start tape) (disk given.start tape') (flushed-fewer given.start tape tape' (looked t))) (was.stored t))
     (left-more left entries who end (Refused (SlotFault slot) ∷ []) was.left_told (λ told is. is))
     (λ t. record {
       rise = record { left = λ live. live; events = λ u live. let longer = added-longer tape tape' (looked t) in omega (arith, longer) };
       keeps = λ told fills more room gone unclean before. flushed-safe (OpensFit (world_in given tape scope first)) scope given told m tape tape' (looked t) before;
-      listed = λ fills. subst (λ (c : Contents). HasListInCourse (OpensFit (world_in given tape scope first)) m course buffer c (now (opening_list (world_in given tape scope first)) entries))
+      listed = λ fills. subst (λ (c : Contents). HasListInCourse (OpensFit (world_in given tape scope first)) m resync course buffer c (now (opening_list (world_in given tape scope first)) entries))
           (sym (contents-added given.start tape tape' (looked t))) (was.listed t fills);
       legal = λ fills gone level. (tt, tt, tt);
     })
@@ -320,9 +327,9 @@ unadded-right world before given backup slot m placed gone level (NotResynced ro
 unadded-right world before given backup slot m placed gone level refusal why = tt
 
 pub unadded-moves : (tells : Type 0) (given : Given) (tape : List Operation) (scope : Scope) (first : ℕ) (entries : List Entry) (m : Members) (carried : ℕ → Bool)
-    (course : Course) (buffer : List ℕ) (left : ℕ) (who : Who) (end : ℕ) (backup : Option ℕ) (slot : ℕ) (refusal : Refusal)
-    → IsMoving tells given tape scope first entries m carried course buffer left → IsCallGoing entries who → IsFalse (who.caller == 254) → (tells → end ≡ length tape) → IsUnaddable given backup slot m refusal
-    → IsMoving tells given tape scope first (entries ++ entries_of who end (Refused refusal ∷ [])) m carried course buffer left
-unadded-moves tells given tape scope first entries m carried course buffer left who end backup slot refusal was goes caller at_end why =
-    resting-moves tells given tape scope first entries m carried course buffer left who end (Refused refusal) was goes caller at_end (quiet-refusal refusal) (λ told is. is)
+    (resync : Option ℕ) (course : Course) (buffer : List ℕ) (left : ℕ) (who : Who) (end : ℕ) (backup : Option ℕ) (slot : ℕ) (refusal : Refusal)
+    → IsMoving tells given tape scope first entries m carried resync course buffer left → IsCallGoing entries who → IsFalse (who.caller == 254) → (tells → end ≡ length tape) → IsUnaddable given backup slot m refusal
+    → IsMoving tells given tape scope first (entries ++ entries_of who end (Refused refusal ∷ [])) m carried resync course buffer left
+unadded-moves tells given tape scope first entries m carried resync course buffer left who end backup slot refusal was goes caller at_end why =
+    resting-moves tells given tape scope first entries m carried resync course buffer left who end (Refused refusal) was goes caller at_end (quiet-refusal refusal) (λ told is. is)
     (λ t right. unadded-right (world_in given tape scope first) entries given backup slot m was.members_are.placed (was.gone t right) (was.levelled t right) refusal why)

@@ -1,5 +1,5 @@
 -- A call whose events add to the list's values, behind what it tells lost: a write, or one that was torn.
-use Rattle.std.proofs.Common.{◌≡◌, ◌⊎◌, ℕ, ◌<◌, ◌≤◌, ◌==◌, Bool, true, false, List, [], ◌∷◌, ◌++◌, length, refl, sym, ◌∙◌, ap, subst, inl, inr, ◌||◌, arith}
+use Rattle.std.proofs.Common.{◌≡◌, ◌⊎◌, ℕ, ◌<◌, ◌≤◌, ◌==◌, Bool, true, false, Option, List, [], ◌∷◌, ◌++◌, length, refl, sym, ◌∙◌, ap, subst, inl, inr, ◌||◌, arith}
 use Rattle.std.specs.Prelude.{IsFalse, IfSome, ⊤}
 use Rattle.md_base.specs.Shapes.{tolerance_of}
 use Rattle.md_base.specs.declared.answers.Who.{Who}
@@ -33,6 +33,7 @@ use Rattle.history_calls.proofs.LastStep.{IsWithin, AreWithin, losses-within}
 use Rattle.history_calls.proofs.Quiet.{IsLeftBehind, last-left}
 use Rattle.history_calls.proofs.Adding.{IsAdding, changing-leaves, ChangesEarly, unsettled-last}
 use Rattle.moving_kept.specs.Moving.{AreReshaping, HasListInCourse, IsMoving}
+use Rattle.moving_kept.proofs.Pending.{HasResync, pending-on}
 use Rattle.moving_kept.proofs.Quiet.{listed-later, safe-now}
 use Rattle.std.specs.List.{list_any}
 use Rattle.md_base.specs.Sectors.{Sector}
@@ -46,7 +47,7 @@ use Rattle.kept_history.proofs.Entered.{adds_only, length-adding}
 
 -- What is asked of a call, from this tape to that one with its end there, that enters these events before its last one: it may lose only what it tells, so that what is
 -- filled in is right, where it is by its entries.
-pub record IsAddingBehind (given : Given) (tape : List Operation) (scope : Scope) (first : ℕ) (entries : List Entry) (old new : Members) (carried : ℕ → Bool) (course' : Course) (buffer' : List ℕ)
+pub record IsAddingBehind (given : Given) (tape : List Operation) (scope : Scope) (first : ℕ) (entries : List Entry) (old new : Members) (carried : ℕ → Bool) (resync : Option ℕ) (course' : Course) (buffer' : List ℕ)
     (who : Who) (early : List Event) (event : Event) (tape' : List Operation) (end : ℕ) : Type 0 where
   pub within : AreWithin (list_length old.newest) (early ++ event ∷ [])
   pub rise : IsRisen ⊤ old new tape tape'
@@ -57,14 +58,14 @@ pub record IsAddingBehind (given : Given) (tape : List Operation) (scope : Scope
       → HasRoomLeft old tape tape' → AreGoneTold told new → IsUncleanTold told old → (unsettles event ≡ true → told.unclean ≡ true)
       → IsSafeOver (world_in given tape scope first) given told old tape → KeepsSafe (world_in given tape scope first) given told new tape tape'
   pub listed : IsFilledRight (world_in given tape scope first) entries
-      → HasListInCourse (OpensFit (world_in given tape scope first)) new course' buffer' (present given tape')
+      → HasListInCourse (OpensFit (world_in given tape scope first)) new resync course' buffer' (present given tape')
       (now (opening_list (world_in given tape scope first)) (entries ++ entries_of who end (early ++ event ∷ [])))
   pub legal : IsReliable (world_in given tape scope first) entries → AreToldGone (world_in given tape' scope first) (entries ++ entries_of who end early) new
       → level_at (world_in given tape' scope first) (entries ++ entries_of who end early) ≡ level_at (world_in given tape scope first) entries
       → IsLegalCall (world_in given tape' scope first) entries who end (early ++ event ∷ [])
 
 -- The same of a call that enters losses before its event.
-pub record IsAddingCall (given : Given) (tape : List Operation) (scope : Scope) (first : ℕ) (entries : List Entry) (old new : Members) (carried : ℕ → Bool) (course' : Course) (buffer' : List ℕ)
+pub record IsAddingCall (given : Given) (tape : List Operation) (scope : Scope) (first : ℕ) (entries : List Entry) (old new : Members) (carried : ℕ → Bool) (resync : Option ℕ) (course' : Course) (buffer' : List ℕ)
     (who : Who) (roles spares : ℕ) (event : Event) (tape' : List Operation) (end : ℕ) : Type 0 where
   pub within : IsWithin (list_length old.newest) event
   pub rise : IsRisen ⊤ old new tape tape'
@@ -73,7 +74,7 @@ pub record IsAddingCall (given : Given) (tape : List Operation) (scope : Scope) 
       → HasRoomLeft old tape tape' → AreGoneTold told new → IsUncleanTold told old → (unsettles event ≡ true → told.unclean ≡ true)
       → IsSafeOver (world_in given tape scope first) given told old tape → KeepsSafe (world_in given tape scope first) given told new tape tape'
   pub listed : IsFilledRight (world_in given tape scope first) entries
-      → HasListInCourse (OpensFit (world_in given tape scope first)) new course' buffer' (present given tape')
+      → HasListInCourse (OpensFit (world_in given tape scope first)) new resync course' buffer' (present given tape')
       (now (opening_list (world_in given tape scope first)) (entries ++ entries_of who end (losses_of roles spares ++ event ∷ [])))
   pub legal : IsReliable (world_in given tape scope first) entries
       → AreToldGone (world_in given tape' scope first) (entries ++ entries_of who end (losses_of roles spares)) new
@@ -86,10 +87,10 @@ unfolding is_gone_after
 not-gone world entries role none is = absurd (let any : list_any (loses world role) entries ≡ true = gone-any world role [] entries is in let both = sym none ∙ any in cc)
 
 -- Over a bank that tells its contents: what such a call says of its marks, where no more is known of what is filled in than its entries say.
-module _ (given : Given) (tape : List Operation) (scope : Scope) (first : ℕ) (entries : List Entry) (old new : Members) (carried : ℕ → Bool) (course' : Course) (buffer' : List ℕ)
+module _ (given : Given) (tape : List Operation) (scope : Scope) (first : ℕ) (entries : List Entry) (old new : Members) (carried : ℕ → Bool) (resync : Option ℕ) (course' : Course) (buffer' : List ℕ)
     (who : Who) (early : List Event) (IsTaken : ℕ → Type 0) (event : Event) (ops : List Operation) (are : AreFirst early IsTaken) (adding : IsAdding event)
     (recorded : IsHistoryKept (IsReliable (world_in given tape scope first) entries) (world_in given tape scope first) (list_length old.newest) entries)
-    (call_to : IsAddingBehind given tape scope first entries old new carried course' buffer' who early event (tape ++ ops) (length (tape ++ ops))) where
+    (call_to : IsAddingBehind given tape scope first entries old new carried resync course' buffer' who early event (tape ++ ops) (length (tape ++ ops))) where
   -- where no role is taken by an entry, none is missing
   whole : IsReliable (world_in given (tape ++ ops) scope first) (entries ++ entries_of who (length (tape ++ ops)) (early ++ event ∷ []))
       → AreToldGone (world_in given (tape ++ ops) scope first) (entries ++ entries_of who (length (tape ++ ops)) (early ++ event ∷ [])) new
@@ -126,37 +127,41 @@ module _ (given : Given) (tape : List Operation) (scope : Scope) (first : ℕ) (
 -- ---- what is kept
 
 -- The call keeps the record, by the list that it leaves.
-pub behind-moves : (tells : Type 0) (given : Given) (tape tape' : List Operation) (scope : Scope) (first : ℕ) (entries : List Entry) (old new : Members) (carried : ℕ → Bool) (course course' : Course)
+pub behind-moves : (tells : Type 0) (given : Given) (tape tape' : List Operation) (scope : Scope) (first : ℕ) (entries : List Entry) (old new : Members) (carried : ℕ → Bool) (resync : Option ℕ) (course course' : Course)
     (buffer buffer' : List ℕ) (left left' : ℕ) (who : Who) (end : ℕ) (early : List Event) (IsTaken : ℕ → Type 0) (event : Event)
-    → IsMoving tells given tape scope first entries old carried course buffer left → HasLiveSlot old → IsCallGoing entries who → IsFalse (who.caller == 254) → (tells → end ≡ length tape') → Grows tells tape tape' → IsAdding event
-    → AreReshaping scope given new → role_count new.newest ≤ 16
+    → IsMoving tells given tape scope first entries old carried resync course buffer left → HasLiveSlot old → IsCallGoing entries who → IsFalse (who.caller == 254) → (tells → end ≡ length tape') → Grows tells tape tape' → IsAdding event
+    → AreReshaping scope given new → HasResync new resync course' → role_count new.newest ≤ 16
     → AreFirst early IsTaken → AreLostOrMissing old new IsTaken
     → list_length new.newest ≡ list_length old.newest → (shape_of new.newest).level ≡ (shape_of old.newest).level
     → (tells → is_clean new.newest ≡ false → ((is_unsynced (world_in given tape scope first) entries || is_unsettled entries) ≡ true) ⊎ (unsettles event ≡ true))
     → IsCourseOf new.newest course' → (tells → IsStored scope new course'.window buffer' (disk given.start tape'))
     → IfSome (told_left (entries ++ entries_of who end (early ++ event ∷ []))) (λ n. n ≡ left')
-    → (tells → IsAddingBehind given tape scope first entries old new carried course' buffer' who early event tape' end)
-    → IsMoving tells given tape' scope first (entries ++ entries_of who end (early ++ event ∷ [])) new carried course' buffer' left'
-behind-moves tells given tape tape' scope first entries old new carried course course' buffer buffer' left left' who end early IsTaken event was live goes caller at_end grows adding members few are missing sized level clean
+    → (tells → IsAddingBehind given tape scope first entries old new carried resync course' buffer' who early event tape' end)
+    → IsMoving tells given tape' scope first (entries ++ entries_of who end (early ++ event ∷ [])) new carried resync course' buffer' left'
+behind-moves tells given tape tape' scope first entries old new carried resync course course' buffer buffer' left left' who end early IsTaken event was live goes caller at_end grows adding members has few are missing sized level clean
     course_is stored told call = record {
       slots = was.slots;
       members_are = members;
       course_is = course_is;
       sizes_are = was.sizes_are;
       left_told = told;
+      progress = has.progress;
+      beside = has.beside;
+      pending = λ t. pending-on (entries_of who end (early ++ event ∷ [])) (leaves t) (are.adds who end (event ∷ []) (and-true (adds_only event) true adding.adds refl)) ∙ was.pending t;
+      dirty = has.dirty;
       levelled = λ t fills. ap tolerance_of (leaves t).levelled ∙ was.levelled t ((leaves t).right fills) ∙ sym (ap tolerance_of level);
       gone = λ t. (leaves t).gone;
       unclean = λ t. (leaves t).unclean;
       recorded = λ t. (leaves t).recorded;
       last_step = λ t. last-left given tape tape' scope first entries (list_length old.newest) new carried true who end early event (leaves t) (at_end t) adding.other sized (was.last_step t).past;
       stored = stored;
-      listed = λ t. listed-later given tape scope first entries (entries ++ entries_of who end (early ++ event ∷ [])) new carried course' buffer' tape'
+      listed = λ t. listed-later given tape scope first entries (entries ++ entries_of who end (early ++ event ∷ [])) new carried resync course' buffer' tape'
           (now (opening_list (world_in given tape scope first)) (entries ++ entries_of who end (early ++ event ∷ []))) (leaves t) (λ x. refl) (call t).listed;
       safe = λ t. (leaves t).safe;
     }
   where
     Then : List Operation → ℕ → Type 0
-    Then l e = IsAddingBehind given tape scope first entries old new carried course' buffer' who early event l e
+    Then l e = IsAddingBehind given tape scope first entries old new carried resync course' buffer' who early event l e
         → IsLeftBehind given tape scope first entries (entries ++ entries_of who e (early ++ event ∷ [])) new carried true l
 
     leaves : tells → IsLeftBehind given tape scope first entries (entries ++ entries_of who end (early ++ event ∷ [])) new carried true tape'
@@ -169,22 +174,22 @@ behind-moves tells given tape tape' scope first entries old new carried course c
           | inl before ↦ inl before
           | inr wrote ↦ inr (unsettled-last who (length (tape ++ g.0)) early event wrote)
         ]) was.sizes_are
-        (was.gone t) (was.unclean t) (was.recorded t) (was.safe t) (safe-now was live t) (changes given tape scope first entries old new carried course' buffer' who early IsTaken event g.0 are adding (was.recorded t) call_to)))
+        (was.gone t) (was.unclean t) (was.recorded t) (was.safe t) (safe-now was live t) (changes given tape scope first entries old new carried resync course' buffer' who early IsTaken event g.0 are adding (was.recorded t) call_to)))
         (call t)
 
 -- And so does a call that enters losses before its event.
-pub adding-moves : (tells : Type 0) (given : Given) (tape tape' : List Operation) (scope : Scope) (first : ℕ) (entries : List Entry) (old new : Members) (carried : ℕ → Bool) (course course' : Course)
+pub adding-moves : (tells : Type 0) (given : Given) (tape tape' : List Operation) (scope : Scope) (first : ℕ) (entries : List Entry) (old new : Members) (carried : ℕ → Bool) (resync : Option ℕ) (course course' : Course)
     (buffer buffer' : List ℕ) (left left' : ℕ) (who : Who) (end roles spares : ℕ) (event : Event)
-    → IsMoving tells given tape scope first entries old carried course buffer left → HasLiveSlot old → IsCallGoing entries who → IsFalse (who.caller == 254) → (tells → end ≡ length tape') → Grows tells tape tape' → IsAdding event
-    → AreReshaping scope given new → role_count new.newest ≤ 16
+    → IsMoving tells given tape scope first entries old carried resync course buffer left → HasLiveSlot old → IsCallGoing entries who → IsFalse (who.caller == 254) → (tells → end ≡ length tape') → Grows tells tape tape' → IsAdding event
+    → AreReshaping scope given new → HasResync new resync course' → role_count new.newest ≤ 16
     → AreLostOrMissing old new (IsAmong roles)
     → list_length new.newest ≡ list_length old.newest → (shape_of new.newest).level ≡ (shape_of old.newest).level → (is_clean new.newest ≡ false → (is_clean old.newest ≡ false) ⊎ (unsettles event ≡ true)) → IsCourseOf new.newest course' → (tells → IsStored scope new course'.window buffer' (disk given.start tape'))
     → IfSome (told_left (entries ++ entries_of who end (losses_of roles spares ++ event ∷ []))) (λ n. n ≡ left')
-    → (tells → IsAddingCall given tape scope first entries old new carried course' buffer' who roles spares event tape' end)
-    → IsMoving tells given tape' scope first (entries ++ entries_of who end (losses_of roles spares ++ event ∷ [])) new carried course' buffer' left'
-adding-moves tells given tape tape' scope first entries old new carried course course' buffer buffer' left left' who end roles spares event was live goes caller at_end grows adding members few missing sized level clean
+    → (tells → IsAddingCall given tape scope first entries old new carried resync course' buffer' who roles spares event tape' end)
+    → IsMoving tells given tape' scope first (entries ++ entries_of who end (losses_of roles spares ++ event ∷ [])) new carried resync course' buffer' left'
+adding-moves tells given tape tape' scope first entries old new carried resync course course' buffer buffer' left left' who end roles spares event was live goes caller at_end grows adding members has few missing sized level clean
     course_is stored told call =
-    behind-moves tells given tape tape' scope first entries old new carried course course' buffer buffer' left left' who end (losses_of roles spares) (IsAmong roles) event was live goes caller at_end grows adding members few
+    behind-moves tells given tape tape' scope first entries old new carried resync course course' buffer buffer' left left' who end (losses_of roles spares) (IsAmong roles) event was live goes caller at_end grows adding members has few
     (first-of (early-losses roles spares)) missing sized level
     (λ t dirty. elim (clean dirty) [
       | inl before ↦ inl (was.unclean t before)

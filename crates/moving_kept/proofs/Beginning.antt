@@ -40,7 +40,7 @@ use Rattle.kept_history.specs.Recorded.{IsHistoryKept, IsLegalCall, IsCallGoing,
 use Rattle.kept_history.specs.Safe.{world_in, IsFilledRight, IsSafeHistory}
 use Rattle.kept_history.specs.Told.{told_now, told_by}
 use Rattle.kept_history.proofs.Growing.{reading-grown, opening-grown, gone-grown, unsynced-grown, now-grown, alike-before, room-before, room-now}
-use Rattle.kept_history.proofs.Ledgers.{more-then, any-gone, unclean-now}
+use Rattle.kept_history.proofs.Ledgers.{more-then, any-gone, unclean-now, unsynced-still, none-ends}
 use Rattle.kept_history.proofs.Longer.{regains-none}
 use Rattle.kept_history.proofs.Calls.{now-live}
 use Rattle.kept_history.proofs.Entered.{AreAdding, told-adding, settle-none, values-more, values-adding, length-adding, gone-was, gone-lost}
@@ -293,6 +293,10 @@ module _ (given : Given) (tape : List Operation) (scope : Scope) (first : ℕ) (
   -- what is told unclean stays so
   pub begun-unclean : (is_unsynced world entries || is_unsettled entries) ≡ true → (is_unsynced later all || is_unsettled all) ≡ true
   begun-unclean is = unclean-all is
+
+  -- and a resync is as pending
+  pub begun-unsynced : is_unsynced later all ≡ is_unsynced world entries
+  begun-unsynced = unsynced-grown world ops begun all ∙ unsynced-still world entries added (none-ends added (settle-none added adds-all))
 
   -- each sector of the list has the value that it had
   pub begun-values : (x : ℕ) → now (opening_list later) all x ≡ now (opening_list world) entries x

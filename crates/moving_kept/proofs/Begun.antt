@@ -19,6 +19,7 @@ use Rattle.flat_history.specs.declared.events.Event.TheVariants.{Step}
 use Rattle.flat_history.specs.declared.events.StepKind.TheVariants.{Begun}
 use Rattle.flat_history.specs.Flat.{now, values_after}
 use Rattle.flat_history.specs.Legal.{told_left, left_after}
+use Rattle.flat_history.specs.Losses.{is_unsynced}
 use Rattle.flat_history.specs.Plain.{entries_of}
 use Rattle.flat_history.specs.Sound.{OpensFit}
 use Rattle.flat_history.specs.World.{World, opening_list}
@@ -37,15 +38,16 @@ use Rattle.kept_history.specs.Recorded.{IsHistoryKept, IsCallGoing, IsOpenBehind
 use Rattle.kept_history.specs.Safe.{world_in, IsFilledRight}
 use Rattle.kept_history.proofs.Growing.{fit-grown, alike-before, room-before}
 use Rattle.kept_history.proofs.Turned.{filled-before}
-use Rattle.course_kept.specs.Course.{StandsInCourse}
 use Rattle.course_kept.specs.Laws.{closed}
 use Rattle.course_kept.proofs.Frames.{does-or}
 use Rattle.course_kept.proofs.Courses.{begins-stand}
+use Rattle.course_mends.specs.Mended.{StandsMended}
+use Rattle.course_mends.proofs.Mended.{none-pending}
 use Rattle.history_calls.specs.Reliable.{IsReliable, HasLastStep}
 use Rattle.history_calls.proofs.Behind.{early-losses}
 use Rattle.history_calls.proofs.LastStep.{keeps-last}
 use Rattle.moving_kept.specs.Moving.{AreReshaping, HasListInCourse, IsStillKept, IsMoving}
-use Rattle.moving_kept.proofs.Beginning.{IsBeginningCall, begun-gone, begun-recorded, begun-level, begun-unclean, begun-values, begun-safe, safe-over}
+use Rattle.moving_kept.proofs.Beginning.{IsBeginningCall, begun-gone, begun-recorded, begun-level, begun-unclean, begun-unsynced, begun-values, begun-safe, safe-over}
 use Rattle.moving_kept.proofs.Quiet.{IsLeftBy}
 
 -- What the members are behind it: the plan's, some of which may have been lost, in a reshape that has just begun.
@@ -57,7 +59,7 @@ pub record AreBegun (scope : Scope) (given : Given) (old plan new : Members) : T
   pub clean : is_clean new.newest ≡ is_clean old.newest
 
 module _ (given : Given) (tape : List Operation) (scope : Scope) (first : ℕ) (entries : List Entry) (old plan new : Members) (carried carried' : ℕ → Bool) (buffer : List ℕ) (who : Who) (left roles spares : ℕ)
-    (ops : List Operation) (tells : Type 0) (was : IsStillKept tells given tape scope first entries old carried) (t : tells) (goes : IsCallGoing entries who) (caller : IsFalse (who.caller == 254))
+    (ops : List Operation) (tells : Type 0) (was : IsStillKept tells given tape scope first entries old carried) (t : tells) (synced : is_unsynced (world_in given tape scope first) entries ≡ false) (goes : IsCallGoing entries who) (caller : IsFalse (who.caller == 254))
     (told : IfSome (told_left entries) (λ n. n ≡ left + 1)) (some : left ≢ 0) (are : AreBegun scope given old plan new)
     (rows : AreOtherRowsKept (λ row. ⊥) (reading_of new) (present given tape) (present given (tape ++ ops)))
     (behind : IsOpenBehind (world_in given (tape ++ ops) scope first) goes.call) (call : IsBeginningCall given tape scope first entries old plan new carried carried' roles (tape ++ ops)) where
@@ -87,16 +89,16 @@ module _ (given : Given) (tape : List Operation) (scope : Scope) (first : ℕ) (
           omega (arith, pass, most)
 
   -- the list stands by the shape in force, if that does without what is missing of it
-  listed-old : DoesWithout (shape_of new.newest) new → IsFilledRight later all → HasListInCourse (OpensFit later) new (closed 0) buffer (present given (tape ++ ops)) (now (opening_list later) all)
+  listed-old : DoesWithout (shape_of new.newest) new → IsFilledRight later all → HasListInCourse (OpensFit later) new None (closed 0) buffer (present given (tape ++ ops)) (now (opening_list later) all)
   listed-old does fills =
       let l = was.listed t (without-old does) (filled-before world ops entries (entries_of who (length (tape ++ ops)) (Step Begun left ∷ losses_of roles spares)) recorded.begun recorded.ends fills) in
       record {
         list = l.list;
         is = λ x lt. l.is x (let n = call.sized in omega (arith, lt, n))
             ∙ sym (begun-values given tape scope first entries old plan new carried carried' who left roles spares ops was.sizes_are recorded.begun recorded.ends recorded.sized (was.gone t) call x);
-        stands = subst (λ (sound : Type 0). StandsInCourse sound (λ shape. DoesWithout shape new) new (closed 0) buffer (present given (tape ++ ops)) l.list) (sym (fit-grown world ops recorded.begun))
-            (begins-stand (OpensFit world) (λ shape. DoesWithout shape new) scope given old plan new buffer (present given tape) (present given (tape ++ ops)) l.list are.begun are.backed are.moved rows
-            (λ forth x past. l.zeros x (let n = call.planned in omega (arith, past, n))) (λ own. l.stands) (λ own. l.rows));
+        stands = subst (λ (sound : Type 0). StandsMended sound (λ shape. DoesWithout shape new) None new (closed 0) buffer (present given (tape ++ ops)) l.list) (sym (fit-grown world ops recorded.begun))
+            ((none-pending (OpensFit world) (λ shape. DoesWithout shape new) new (closed 0) buffer (present given (tape ++ ops)) l.list).0 (begins-stand (OpensFit world) (λ shape. DoesWithout shape new) scope given old plan new buffer (present given tape) (present given (tape ++ ops)) l.list are.begun are.backed are.moved rows
+            (λ forth x past. l.zeros x (let n = call.planned in omega (arith, past, n))) (λ own. l.stands) (λ own. l.rows)));
       }
 
   -- the list as it is now, with zeros behind its end
@@ -104,12 +106,12 @@ module _ (given : Given) (tape : List Operation) (scope : Scope) (first : ℕ) (
   zeroed x = cond (nat_lt x (list_length plan.newest)) (now (opening_list later) all x) zero_sector
 
   -- and if it doesn't, no row is asked to stand
-  listed-none : (DoesWithout (shape_of new.newest) new → ⊥) → HasListInCourse (OpensFit later) new (closed 0) buffer (present given (tape ++ ops)) (now (opening_list later) all)
+  listed-none : (DoesWithout (shape_of new.newest) new → ⊥) → HasListInCourse (OpensFit later) new None (closed 0) buffer (present given (tape ++ ops)) (now (opening_list later) all)
   listed-none lacks = record {
     list = zeroed;
     is = λ x lt. ap (λ (b : Bool). cond b (now (opening_list later) all x) zero_sector) (below x (subst (λ (n : ℕ). x < n) (list-alike plan.newest new.newest are.moved.reshape are.moved.shape are.moved.size) lt));
-    stands = begins-stand (OpensFit later) (λ shape. DoesWithout shape new) scope given old plan new buffer (present given tape) (present given (tape ++ ops)) zeroed are.begun are.backed are.moved rows
-        (λ forth x past. ap (λ (b : Bool). cond b (now (opening_list later) all x) zero_sector) (behind-end x past)) (λ own. absurd (lacks own)) (λ own. absurd (lacks own));
+    stands = (none-pending (OpensFit later) (λ shape. DoesWithout shape new) new (closed 0) buffer (present given (tape ++ ops)) zeroed).0 (begins-stand (OpensFit later) (λ shape. DoesWithout shape new) scope given old plan new buffer (present given tape) (present given (tape ++ ops)) zeroed are.begun are.backed are.moved rows
+        (λ forth x past. ap (λ (b : Bool). cond b (now (opening_list later) all x) zero_sector) (behind-end x past)) (λ own. absurd (lacks own)) (λ own. absurd (lacks own)));
   }
     where
       below : (x : ℕ) → x < list_length plan.newest → nat_lt x (list_length plan.newest) ≡ true
@@ -118,7 +120,7 @@ module _ (given : Given) (tape : List Operation) (scope : Scope) (first : ℕ) (
       behind-end : (x : ℕ) → list_length plan.newest ≤ x → nat_lt x (list_length plan.newest) ≡ false
       behind-end x past = grind (arith, nat_tests, past)
 
-  listed : IsFilledRight later all → HasListInCourse (OpensFit later) new (closed 0) buffer (present given (tape ++ ops)) (now (opening_list later) all)
+  listed : IsFilledRight later all → HasListInCourse (OpensFit later) new None (closed 0) buffer (present given (tape ++ ops)) (now (opening_list later) all)
   listed fills = elim (does-or (shape_of new.newest) new) [
     | inl does ↦ listed-old does fills
     | inr lacks ↦ listed-none lacks
@@ -145,6 +147,7 @@ module _ (given : Given) (tape : List Operation) (scope : Scope) (first : ℕ) (
     unclean = λ dirty. begun-unclean given tape scope first entries old plan new carried carried' who left roles spares ops was.sizes_are recorded.begun recorded.ends recorded.sized (was.gone t) call (was.unclean t (sym are.clean ∙ dirty));
     recorded = begun-recorded given tape scope first entries old plan new carried carried' who left roles spares ops was.sizes_are recorded.begun recorded.ends recorded.sized (was.gone t) call recorded goes caller behind told some;
     last_step = last-step;
+    pending = begun-unsynced given tape scope first entries old plan new carried carried' who left roles spares ops was.sizes_are recorded.begun recorded.ends recorded.sized (was.gone t) call ∙ synced;
     listed = listed;
     safe = begun-safe given tape scope first entries old plan new carried carried' who left roles spares ops was.sizes_are recorded.begun recorded.ends recorded.sized (was.gone t) call (safe-over was t call.live);
   }
@@ -152,17 +155,21 @@ module _ (given : Given) (tape : List Operation) (scope : Scope) (first : ℕ) (
 -- So the array is in its reshape: no window is open, and nothing is zeroed yet.
 pub begun-moves : (tells : Type 0) (given : Given) (tape tape' : List Operation) (scope : Scope) (first : ℕ) (entries : List Entry) (old plan new : Members) (carried carried' : ℕ → Bool) (buffer : List ℕ)
     (left : ℕ) (who : Who) (end roles spares : ℕ)
-    → IsStillKept tells given tape scope first entries old carried → (goes : IsCallGoing entries who) → IsFalse (who.caller == 254) → (tells → end ≡ length tape') → Grows tells tape tape'
+    → IsStillKept tells given tape scope first entries old carried → (tells → is_unsynced (world_in given tape scope first) entries ≡ false) → (goes : IsCallGoing entries who) → IsFalse (who.caller == 254) → (tells → end ≡ length tape') → Grows tells tape tape'
     → IfSome (told_left entries) (λ n. n ≡ left + 1) → left ≢ 0 → AreBegun scope given old plan new → (tells → IsCleared scope (disk given.start tape'))
     → (tells → AreOtherRowsKept (λ row. ⊥) (reading_of new) (present given tape) (present given tape')) → (tells → IsOpenBehind (world_in given tape' scope first) goes.call)
     → (tells → IsBeginningCall given tape scope first entries old plan new carried carried' roles tape')
-    → IsMoving tells given tape' scope first (entries ++ entries_of who end (Step Begun left ∷ losses_of roles spares)) new carried' (closed 0) buffer left
-begun-moves tells given tape tape' scope first entries old plan new carried carried' buffer left who end roles spares was goes caller at_end grows told some are cleared rows behind call = record {
+    → IsMoving tells given tape' scope first (entries ++ entries_of who end (Step Begun left ∷ losses_of roles spares)) new carried' None (closed 0) buffer left
+begun-moves tells given tape tape' scope first entries old plan new carried carried' buffer left who end roles spares was synced goes caller at_end grows told some are cleared rows behind call = record {
   slots = was.slots;
   members_are = are.members_are;
   course_is = record { window = tt; through = λ some. absurd (omega (arith, some)); few = omega arith };
   sizes_are = was.sizes_are;
   left_told = left-told;
+  progress = tt;
+  beside = inl tt;
+  pending = λ t. (leaves t).pending;
+  dirty = λ does some. absurd (cc);
   levelled = λ t fills. ap tolerance_of (leaves t).levelled ∙ was.levelled t ((leaves t).right fills) ∙ ap tolerance (sym (are.moved.shape ∙ are.begun.shape));
   gone = λ t. (leaves t).gone;
   unclean = λ t. (leaves t).unclean;
@@ -189,5 +196,5 @@ begun-moves tells given tape tape' scope first entries old plan new carried carr
         let g = grows.more t in
         subst (λ (l : List Operation). Then l end) (sym g.1)
         (subst (Then (tape ++ g.0)) (sym (at_end t ∙ ap (λ (l : List Operation). length l) g.1))
-        (λ rows behind call. begun-leaves given tape scope first entries old plan new carried carried' buffer who left roles spares g.0 tells was t goes caller told some are rows behind call))
+        (λ rows behind call. begun-leaves given tape scope first entries old plan new carried carried' buffer who left roles spares g.0 tells was t (synced t) goes caller told some are rows behind call))
         (rows t) (behind t) (call t)

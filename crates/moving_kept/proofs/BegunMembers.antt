@@ -23,6 +23,7 @@ use Rattle.flat_history.specs.declared.events.Entry.{Entry}
 use Rattle.flat_history.specs.declared.events.Event.TheVariants.{Step}
 use Rattle.flat_history.specs.declared.events.StepKind.TheVariants.{Begun}
 use Rattle.flat_history.specs.Legal.{told_left}
+use Rattle.flat_history.specs.Losses.{is_unsynced}
 use Rattle.flat_history.specs.Plain.{entries_of}
 use Rattle.shape_views.specs.Regions.{backup_of, ArePlaced}
 use Rattle.shape_ends.specs.Ends.{IsCleared}
@@ -114,12 +115,12 @@ module _ (tells : Type 0) (given : Given) (tape tape' : List Operation) (scope :
       others slot (data_offset_of (reading_of new) slot + row) (λ is. absurd (omega (arith, far, is))) (inr (λ is. absurd (omega (arith, far, is))))
 
   -- So a reshape that begins in an array that keeps its record leaves one that keeps it in the reshape: from what `begin` says of its call.
-  pub array-begins : (buffer : List ℕ) (left : ℕ) (who : Who) (end lost_spares : ℕ) → goes_back (shape_of old.newest) to ≡ false → (goes : IsCallGoing entries who) → IsFalse (who.caller == 254) → (tells → end ≡ length tape') → Grows tells tape tape'
+  pub array-begins : (buffer : List ℕ) (left : ℕ) (who : Who) (end lost_spares : ℕ) → goes_back (shape_of old.newest) to ≡ false → (tells → is_unsynced (world_in given tape scope first) entries ≡ false) → (goes : IsCallGoing entries who) → IsFalse (who.caller == 254) → (tells → end ≡ length tape') → Grows tells tape tape'
       → IfSome (told_left entries) (λ n. n ≡ left + 1) → left ≢ 0 → ((number : ℕ) → carried number ≡ true → carried' number ≡ true) → (tells → IsCleared scope (disk given.start tape'))
       → (tells → (s k : ℕ) → k ≢ 8 → (s ≢ backup) ⊎ (k ≢ 0) → present given tape' s k ≡ present given tape s k) → (tells → IsOpenBehind (world_in given tape' scope first) goes.call)
-      → IsMoving tells given tape' scope first (entries ++ entries_of who end (Step Begun left ∷ losses_of roles lost_spares)) new carried' (closed 0) buffer left
-  array-begins buffer left who end lost_spares forward goes caller at_end grows told some numbers cleared others behind =
-      begun-moves tells given tape tape' scope first entries old (begun_plan old to) new carried carried' buffer left who end roles lost_spares was goes caller at_end grows told some begun-members cleared
+      → IsMoving tells given tape' scope first (entries ++ entries_of who end (Step Begun left ∷ losses_of roles lost_spares)) new carried' None (closed 0) buffer left
+  array-begins buffer left who end lost_spares forward synced goes caller at_end grows told some numbers cleared others behind =
+      begun-moves tells given tape tape' scope first entries old (begun_plan old to) new carried carried' buffer left who end roles lost_spares was synced goes caller at_end grows told some begun-members cleared
       (λ t. begun-rows t (others t)) behind (λ t. call t)
     where
       Then : List Operation → Type 0

@@ -1,5 +1,5 @@
 -- A role that is failed by command in an array in a reshape.
-use Rattle.std.proofs.Common.{◌≡◌, ◌⊎◌, inl, inr, ℕ, ◌<◌, ◌≤◌, ◌==◌, Bool, true, None, List, [], ◌∷◌, ◌++◌, length, refl, ap, subst}
+use Rattle.std.proofs.Common.{◌≡◌, ◌⊎◌, inl, inr, ℕ, ◌<◌, ◌≤◌, ◌==◌, Bool, true, Option, None, List, [], ◌∷◌, ◌++◌, length, refl, ◌∙◌, ap, subst}
 use Rattle.std.specs.Prelude.{IsFalse, ⊤}
 use Rattle.md_base.specs.declared.answers.Who.{Who}
 use Rattle.md_base.specs.declared.places.Shape.{Shape}
@@ -29,13 +29,13 @@ use Rattle.call_entries.proofs.LeftLaws.{left-behind, left-more}
 use Rattle.kept_history.specs.Recorded.{IsCallGoing}
 use Rattle.kept_history.specs.Safe.{world_in}
 use Rattle.course_kept.specs.declared.course.Course.{Course}
-use Rattle.course_kept.proofs.Frames.{stands-later}
-use Rattle.course_kept.proofs.Courses.{courses-move}
+use Rattle.course_mends.proofs.Mended.{mended-courses-move}
 use Rattle.moving_kept.specs.Moving.{IsMoving}
 use Rattle.history_calls.proofs.Behind.{AreLostOrMissing}
 use Rattle.history_calls.proofs.Failed.{IsFailedOrAmong, early-failed, legal-failed}
 use Rattle.moving_kept.proofs.BackupKept.{stored-kept}
 use Rattle.moving_kept.proofs.MembersMove.{reshaping-moved}
+use Rattle.moving_kept.proofs.Pending.{resync-of, resync-moved, mended-later}
 use Rattle.moving_kept.proofs.Quiet.{early-moves}
 use Rattle.moving_kept.proofs.Staying.{course-moved}
 
@@ -51,14 +51,14 @@ pub record IsTakenOut (tells : Type 0) (given : Given) (tape tape' : List Operat
   pub safe : tells → (world : World) → (told : Ledger) → HasRoomLeft old tape tape' → AreGoneTold told new → IsUncleanTold told old → IsSafeOver world given told old tape → KeepsSafe world given told new tape tape'
 
 pub failed-moves : (tells : Type 0) (given : Given) (tape tape' : List Operation) (scope : Scope) (first : ℕ) (entries : List Entry) (old new : Members) (carried : ℕ → Bool)
-    (course : Course) (buffer : List ℕ) (left : ℕ) (who : Who) (end role roles spares : ℕ)
-    → IsMoving tells given tape scope first entries old carried course buffer left → HasLiveSlot old → IsCallGoing entries who → IsFalse (who.caller == 254) → (tells → end ≡ length tape') → Grows tells tape tape'
+    (resync : Option ℕ) (course : Course) (buffer : List ℕ) (left : ℕ) (who : Who) (end role roles spares : ℕ)
+    → IsMoving tells given tape scope first entries old carried resync course buffer left → HasLiveSlot old → IsCallGoing entries who → IsFalse (who.caller == 254) → (tells → end ≡ length tape') → Grows tells tape tape'
     → IsTakenOut tells given tape tape' old new role roles
-    → IsMoving tells given tape' scope first (entries ++ entries_of who end ((Lost role Command ∷ losses_of roles spares) ++ Failed role ∷ [])) new carried course buffer left
-failed-moves tells given tape tape' scope first entries old new carried course buffer left who end role roles spares was live goes caller at_end grows did =
-    early-moves tells given tape tape' scope first entries old new carried course course buffer buffer left left who end (Lost role Command ∷ losses_of roles spares) (IsFailedOrAmong role roles) (Failed role)
+    → IsMoving tells given tape' scope first (entries ++ entries_of who end ((Lost role Command ∷ losses_of roles spares) ++ Failed role ∷ [])) new carried resync course buffer left
+failed-moves tells given tape tape' scope first entries old new carried resync course buffer left who end role roles spares was live goes caller at_end grows did =
+    early-moves tells given tape tape' scope first entries old new carried resync resync course course buffer buffer left left who end (Lost role Command ∷ losses_of roles spares) (IsFailedOrAmong role roles) (Failed role)
     was live goes caller at_end grows (record { adds = refl; gives = refl; ends = refl; still = λ x values. refl; level = λ n. refl; other = refl })
-    (reshaping-moved scope given old new did.moved was.members_are) did.few (early-failed role roles spares) missing list-same (ap (λ (s : Shape). s.level) did.moved.shape) did.clean
+    (reshaping-moved scope given old new did.moved was.members_are) (resync-moved did.moved (λ some dirty. did.clean ∙ dirty) was.beside (resync-of was)) refl did.few (early-failed role roles spares) missing list-same (ap (λ (s : Shape). s.level) did.moved.shape) did.clean
     (course-moved given old new course did.moved was.course_is)
     (λ t. stored-kept scope given old new course.window buffer (disk given.start tape) (disk given.start tape') was.members_are did.moved (did.unused t) (was.stored t))
     (left-more left entries who end ((Lost role Command ∷ losses_of roles spares) ++ Failed role ∷ []) was.left_told
@@ -71,8 +71,8 @@ failed-moves tells given tape tape' scope first entries old new carried course b
           record {
             list = l.list;
             is = λ x lt. l.is x (subst (λ (n : ℕ). x < n) list-same lt);
-            stands = courses-move (OpensFit (world_in given tape scope first)) (λ shape. DoesWithout shape new) given old new course buffer (present given tape) (present given tape') l.list was.members_are.placed did.moved (did.others t)
-                (stands-later (OpensFit (world_in given tape scope first)) given old new course buffer (present given tape) l.list did.moved l.stands);
+            stands = mended-courses-move (OpensFit (world_in given tape scope first)) (λ shape. DoesWithout shape new) given old new resync course buffer (present given tape) (present given tape') l.list was.members_are.placed did.moved (did.others t)
+                (mended-later (OpensFit (world_in given tape scope first)) given old new resync course buffer (present given tape) l.list did.moved l.stands);
           };
       legal = λ fills gone level. legal-failed (world_in given tape' scope first) entries who end role roles spares;
     })

@@ -79,7 +79,7 @@ pub record IsFinishedBy (tells : Type 0) (given : Given) (tape tape' : List Oper
       → IsSafeOver world given told old tape → KeepsSafe world given told new tape tape'
 
 module _ (tells : Type 0) (given : Given) (tape tape' : List Operation) (scope : Scope) (first : ℕ) (entries : List Entry) (old new : Members) (carried : ℕ → Bool)
-    (shape : Shape) (span : Span) (copied done : ℕ) (sectioned : Bool) (buffer : List ℕ) (who : Who) (end roles spares : ℕ)
+    (resync : Option ℕ) (shape : Shape) (span : Span) (copied done : ℕ) (sectioned : Bool) (buffer : List ℕ) (who : Who) (end roles spares : ℕ)
     (goes : IsCallGoing entries who) (caller : IsFalse (who.caller == 254)) (at_end : tells → end ≡ length tape') (grows : Grows tells tape tape') (enough : DoWithout old) where
   rest : (refusal : Option Refusal) → IsPlaced given new → IsFinishedBy tells given tape tape' old new shape span copied done buffer roles refusal → IsRestWritten tells given tape tape' old new span copied buffer roles
   rest refusal placed did = record {
@@ -94,17 +94,17 @@ module _ (tells : Type 0) (given : Given) (tape tape' : List Operation) (scope :
   }
 
   -- The call keeps the record, where the shapes in force did without what was missing before it.
-  pub finish-moves : (refusal : Option Refusal) (former left : ℕ) → IsMoving tells given tape scope first entries old carried (entered span copied sectioned) buffer former → left ≢ 0
+  pub finish-moves : (refusal : Option Refusal) (former left : ℕ) → IsMoving tells given tape scope first entries old carried resync (entered span copied sectioned) buffer former → left ≢ 0
       → IsFinishedBy tells given tape tape' old new shape span copied done buffer roles refusal
-      → IsMoving tells given tape' scope first (entries ++ entries_of who end (losses_of roles spares ++ finish_event refusal left ∷ [])) new carried (finish_course refusal span copied sectioned) buffer (finish_left refusal former left)
+      → IsMoving tells given tape' scope first (entries ++ entries_of who end (losses_of roles spares ++ finish_event refusal left ∷ [])) new carried resync (finish_course refusal span copied sectioned) buffer (finish_left refusal former left)
   finish-moves None former left was some did =
-      finished-moves tells given tape tape' scope first entries old new carried span copied sectioned buffer who end roles spares goes caller at_end grows (rest None did.moved.placed did) former left was some did.moved
+      finished-moves tells given tape tape' scope first entries old new carried resync span copied sectioned buffer who end roles spares goes caller at_end grows (rest None did.moved.placed did) former left was some did.moved
       (λ t list buffered written. subst (λ (s : Shape). AreStripesCopied s span (stripes s span.lo span.hi) new (present given tape') list) did.final
       (subst (λ (n : ℕ). AreStripesCopied shape span n new (present given tape') list) (did.all refl)
       (did.stands t list buffered (subst (λ (s : Shape). AreStripesCopied s span copied old (present given tape) list) (sym did.final) written))))
       (λ t headers. did.plain refl t scope was.members_are.backed headers)
   finish-moves (Some refusal) former left was some did =
-      unfinished-moves tells given tape tape' scope first entries old new carried span copied sectioned buffer who end roles spares goes caller at_end grows (rest (Some refusal) did.moved.placed did) former refusal was did.moved did.refused
+      unfinished-moves tells given tape tape' scope first entries old new carried resync span copied sectioned buffer who end roles spares goes caller at_end grows (rest (Some refusal) did.moved.placed did) former refusal was did.moved did.refused
 
   -- And it goes on behind these entries.
   pub finish-goes : (refusal : Option Refusal) (left : ℕ) → IsCallGoing (entries ++ entries_of who end (losses_of roles spares ++ finish_event refusal left ∷ [])) who

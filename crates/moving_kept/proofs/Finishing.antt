@@ -1,5 +1,5 @@
 -- A call that meets the open window finishes it first: what is left is copied, and the position behind it is recorded; or it is refused, and the window stays open.
-use Rattle.std.proofs.Common.{◌≡◌, ◌≢◌, inr, ℕ, ◌<◌, ◌≤◌, ◌==◌, Bool, true, List, [], ◌∷◌, ◌++◌, length, sym, ap, subst, arith}
+use Rattle.std.proofs.Common.{◌≡◌, ◌≢◌, inr, ℕ, ◌<◌, ◌≤◌, ◌==◌, Bool, true, Option, List, [], ◌∷◌, ◌++◌, length, refl, sym, ◌∙◌, ap, subst, arith}
 use Rattle.std.specs.Prelude.{IsFalse, ⊤}
 use Rattle.md_base.specs.Sectors.{Sector}
 use Rattle.md_base.specs.declared.answers.Refusal.{Refusal}
@@ -38,13 +38,14 @@ use Rattle.kept_history.specs.Recorded.{IsCallGoing}
 use Rattle.kept_history.specs.Safe.{world_in}
 use Rattle.kept_history.specs.Told.{told_now}
 use Rattle.kept_history.proofs.Lists.{newest-in}
-use Rattle.course_kept.specs.Course.{AnyShape, StandsInCourse}
+use Rattle.course_kept.specs.Course.{AnyShape}
 use Rattle.course_kept.specs.Laws.{closed, entered}
-use Rattle.course_kept.proofs.Frames.{stands-whole, stands-without}
 use Rattle.course_kept.proofs.Courses.{courses-copied, list-beside, rows-beside}
-use Rattle.course_kept.proofs.Finishes.{rests-go-on, finishes-close}
+use Rattle.course_mends.specs.Mended.{StandsMended}
+use Rattle.course_mends.proofs.Windows.{mended-rests-go-on, mended-finishes-close}
 use Rattle.moving_kept.specs.Moving.{HasListInCourse, IsMoving}
 use Rattle.moving_kept.proofs.MembersMove.{reshaping-past}
+use Rattle.moving_kept.proofs.Pending.{resync-of, resync-unmended, unmended-of, clean-none, none-stands, mended-whole, mended-without}
 use Rattle.moving_kept.proofs.Quiet.{quiet-moves}
 use Rattle.moving_kept.proofs.Staying.{refused-moves}
 use Rattle.moving_kept.proofs.Steps.{AreMissingSince, quiet-step, missing-moved, told-step, able-kept, plain-of}
@@ -53,24 +54,25 @@ use Rattle.moving_kept.proofs.Steps.{AreMissingSince, quiet-step, missing-moved,
 
 -- What is kept of it is what the call asks, by whatever tells more than the history does.
 pub window-open : (tells : Type 0) (given : Given) (tape : List Operation) (scope : Scope) (first : ℕ) (entries : List Entry) (old : Members) (carried : ℕ → Bool)
-    (span : Span) (copied : ℕ) (sectioned : Bool) (buffer : List ℕ) (left : ℕ) → IsMoving tells given tape scope first entries old carried (entered span copied sectioned) buffer left → tells
+    (resync : Option ℕ) (span : Span) (copied : ℕ) (sectioned : Bool) (buffer : List ℕ) (left : ℕ) → IsMoving tells given tape scope first entries old carried resync (entered span copied sectioned) buffer left → tells
     → DoWithout old → (told : Ledger) → IsMoreTold (told_now (world_in given tape scope first) carried true entries) told
-    → (l : HasListInCourse (OpensFit (world_in given tape scope first)) old (entered span copied sectioned) buffer (present given tape) (now (opening_list (world_in given tape scope first)) entries))
+    → (l : HasListInCourse (OpensFit (world_in given tape scope first)) old resync (entered span copied sectioned) buffer (present given tape) (now (opening_list (world_in given tape scope first)) entries))
     → IsOpenWindow (OpensFit (world_in given tape scope first)) scope told old span buffer copied l.list (present given tape) (disk given.start tape)
-window-open tells given tape scope first entries old carried span copied sectioned buffer left was t enough told more l = record {
+window-open tells given tape scope first entries old carried resync span copied sectioned buffer left was t enough told more l = record {
   able = able-kept scope given old span copied sectioned (disk given.start tape) was.course_is.window (was.stored t).section;
-  written = λ row at. l.stands.copied enough.final row at;
-  buffered = courses-copied (OpensFit (world_in given tape scope first)) (λ shape. DoesWithout shape old) scope given old span copied sectioned buffer (present given tape) l.list was.members_are.backed was.course_is.window.0 l.stands;
+  written = λ row at. l.stands.in_course.copied enough.final row at;
+  buffered = courses-copied ⊥ (λ shape. DoesWithout shape old) scope given old span copied sectioned buffer (present given tape) l.list was.members_are.backed was.course_is.window.0 l.stands.in_course;
   allowed = λ x lt. more.values x (within x lt) (l.list x) (subst (λ (v : Sector). IsIn (values_of (opening_list (world_in given tape scope first)) entries x) v) (sym (l.is x lt))
       (newest-in (opening_list (world_in given tape scope first)) entries x (within x lt)));
-  stands = list-beside (OpensFit (world_in given tape scope first)) old span copied sectioned buffer (present given tape) l.list whole;
-  rows_are = λ is few so. rows-beside (OpensFit (world_in given tape scope first)) old span copied sectioned buffer (present given tape) l.list whole so;
+  stands = list-beside ⊥ old span copied sectioned buffer (present given tape) l.list whole.in_course;
+  rows_are = λ is few so. rows-beside (OpensFit (world_in given tape scope first)) old span copied sectioned buffer (present given tape) l.list
+      (none-stands (OpensFit (world_in given tape scope first)) AnyShape resync old (entered span copied sectioned) buffer (present given tape) l.list (clean-none old resync (entered span copied sectioned) (resync-of was) few is) whole) so;
   headers = (was.stored t).headers;
-  zeros = λ so x tail. l.stands.zeros tail.forth x tail.past;
+  zeros = λ so x tail. l.stands.in_course.zeros tail.forth x tail.past;
 }
   where
-    whole : StandsInCourse (OpensFit (world_in given tape scope first)) AnyShape old (entered span copied sectioned) buffer (present given tape) l.list
-    whole = stands-whole (OpensFit (world_in given tape scope first)) old (entered span copied sectioned) buffer (present given tape) l.list enough l.stands
+    whole : StandsMended (OpensFit (world_in given tape scope first)) AnyShape resync old (entered span copied sectioned) buffer (present given tape) l.list
+    whole = mended-whole (OpensFit (world_in given tape scope first)) resync old (entered span copied sectioned) buffer (present given tape) l.list enough l.stands
 
     within : (x : ℕ) → x < list_length old.newest → x < length_of (length (opening_list (world_in given tape scope first))) entries
     within x lt = let size = (was.recorded t).sized in omega (arith, lt, size)
@@ -92,18 +94,19 @@ pub record IsRestWritten (tells : Type 0) (given : Given) (tape tape' : List Ope
       → IsSafeOver world given told old tape → KeepsSafe world given told new tape tape'
 
 module _ (tells : Type 0) (given : Given) (tape tape' : List Operation) (scope : Scope) (first : ℕ) (entries : List Entry) (old new : Members) (carried : ℕ → Bool)
-    (span : Span) (copied : ℕ) (sectioned : Bool) (buffer : List ℕ) (who : Who) (end roles spares : ℕ)
+    (resync : Option ℕ) (span : Span) (copied : ℕ) (sectioned : Bool) (buffer : List ℕ) (who : Who) (end roles spares : ℕ)
     (goes : IsCallGoing entries who) (caller : IsFalse (who.caller == 254)) (at_end : tells → end ≡ length tape') (grows : Grows tells tape tape')
     (did : IsRestWritten tells given tape tape' old new span copied buffer roles) where
   -- The window is finished, and none is open: so many steps are left as it tells.
-  pub finished-moves : (former left : ℕ) → IsMoving tells given tape scope first entries old carried (entered span copied sectioned) buffer former → left ≢ 0 → IsMoved given (moved_past span old) new
+  pub finished-moves : (former left : ℕ) → IsMoving tells given tape scope first entries old carried resync (entered span copied sectioned) buffer former → left ≢ 0 → IsMoved given (moved_past span old) new
       → (tells → (list : ℕ → Sector) → IsCopied span buffer (tail_of old.newest) list → AreStripesCopied (final_shape old.newest) span copied old (present given tape) list
       → AreStripesCopied (final_shape old.newest) span (stripes (final_shape old.newest) span.lo span.hi) new (present given tape') list)
       → (tells → AreHeadersFit scope old (disk given.start tape) → HasNoSection scope new (disk given.start tape') × AreHeadersFit scope new (disk given.start tape'))
-      → IsMoving tells given tape' scope first (entries ++ entries_of who end (losses_of roles spares ++ Step FinishesWindow left ∷ [])) new carried (closed 0) buffer left
+      → IsMoving tells given tape' scope first (entries ++ entries_of who end (losses_of roles spares ++ Step FinishesWindow left ∷ [])) new carried resync (closed 0) buffer left
   finished-moves former left was some moved stands plain =
-      quiet-moves tells given tape tape' scope first entries old new carried (entered span copied sectioned) (closed 0) buffer buffer former left who end roles spares (Step FinishesWindow left)
-      was (without-left given old was.members_are.placed was.members_are.unlost did.enough) goes caller at_end grows (quiet-step FinishesWindow left tt some) (reshaping-past scope given old new span was.course_is.window.0 moved was.members_are) did.few (missing-moved roles moved did.since)
+      quiet-moves tells given tape tape' scope first entries old new carried resync resync (entered span copied sectioned) (closed 0) buffer buffer former left who end roles spares (Step FinishesWindow left)
+      was (without-left given old was.members_are.placed was.members_are.unlost did.enough) goes caller at_end grows (quiet-step FinishesWindow left tt some) (reshaping-past scope given old new span was.course_is.window.0 moved was.members_are)
+      (resync-unmended new resync (closed 0) (unmended-of resync was.beside) (λ any some. did.clean ∙ was.dirty did.enough some)) refl did.few (missing-moved roles moved did.since)
       (list-alike (moved_past span old).newest new.newest moved.reshape moved.shape moved.size) (ap (λ (s : Shape). s.level) moved.shape) did.clean
       (record { window = tt; through = λ some. absurd (omega (arith, some)); few = omega arith })
       (λ t. let now = plain t (was.stored t).headers in record { section = now.0; sectors = tt; headers = now.1 })
@@ -112,31 +115,31 @@ module _ (tells : Type 0) (given : Given) (tape tape' : List Operation) (scope :
         rise = did.rise t;
         keeps = λ told fills more room gone unclean here.
             let l = was.listed t fills in
-            did.safe t (world_in given tape scope first) told room gone unclean l.list (window-open tells given tape scope first entries old carried span copied sectioned buffer former was t did.enough told more l) here;
+            did.safe t (world_in given tape scope first) told room gone unclean l.list (window-open tells given tape scope first entries old carried resync span copied sectioned buffer former was t did.enough told more l) here;
         listed = λ fills. on t (was.listed t fills);
         legal = λ fills gone level. tt;
       })
     where
-      on : tells → HasListInCourse (OpensFit (world_in given tape scope first)) old (entered span copied sectioned) buffer (present given tape) (now (opening_list (world_in given tape scope first)) entries)
-          → HasListInCourse (OpensFit (world_in given tape scope first)) new (closed 0) buffer (present given tape') (now (opening_list (world_in given tape scope first)) entries)
+      on : tells → HasListInCourse (OpensFit (world_in given tape scope first)) old resync (entered span copied sectioned) buffer (present given tape) (now (opening_list (world_in given tape scope first)) entries)
+          → HasListInCourse (OpensFit (world_in given tape scope first)) new resync (closed 0) buffer (present given tape') (now (opening_list (world_in given tape scope first)) entries)
       on t l = record {
         list = l.list;
         is = λ x lt. l.is x (subst (λ (n : ℕ). x < n) (list-alike (moved_past span old).newest new.newest moved.reshape moved.shape moved.size) lt);
-        stands = stands-without (OpensFit (world_in given tape scope first)) new (closed 0) buffer (present given tape') l.list
-            (finishes-close (OpensFit (world_in given tape scope first)) given old new span copied sectioned buffer (present given tape) (present given tape') l.list was.members_are.placed moved
+        stands = mended-without (OpensFit (world_in given tape scope first)) resync new (closed 0) buffer (present given tape') l.list
+            (mended-finishes-close (OpensFit (world_in given tape scope first)) given old new resync span copied sectioned buffer (present given tape) (present given tape') l.list was.members_are.placed (unmended-of resync was.beside) moved
             was.course_is.window.0 (plain-of old.newest span copied sectioned was.course_is.window) (did.others t)
-            (stands t l.list (courses-copied (OpensFit (world_in given tape scope first)) (λ shape. DoesWithout shape old) scope given old span copied sectioned buffer (present given tape) l.list was.members_are.backed was.course_is.window.0 l.stands)
-            (λ row at. l.stands.copied did.enough.final row at))
-            (stands-whole (OpensFit (world_in given tape scope first)) old (entered span copied sectioned) buffer (present given tape) l.list did.enough l.stands));
+            (stands t l.list (courses-copied ⊥ (λ shape. DoesWithout shape old) scope given old span copied sectioned buffer (present given tape) l.list was.members_are.backed was.course_is.window.0 l.stands.in_course)
+            (λ row at. l.stands.in_course.copied did.enough.final row at))
+            (mended-whole (OpensFit (world_in given tape scope first)) resync old (entered span copied sectioned) buffer (present given tape) l.list did.enough l.stands));
       }
 
   -- It is refused: the window is open as before, and what was copied of it in the call is copied again.
-  pub unfinished-moves : (left : ℕ) (refusal : Refusal) → IsMoving tells given tape scope first entries old carried (entered span copied sectioned) buffer left → IsMoved given old new → AreTooMany new refusal
-      → IsMoving tells given tape' scope first (entries ++ entries_of who end (losses_of roles spares ++ Refused refusal ∷ [])) new carried (entered span copied sectioned) buffer left
+  pub unfinished-moves : (left : ℕ) (refusal : Refusal) → IsMoving tells given tape scope first entries old carried resync (entered span copied sectioned) buffer left → IsMoved given old new → AreTooMany new refusal
+      → IsMoving tells given tape' scope first (entries ++ entries_of who end (losses_of roles spares ++ Refused refusal ∷ [])) new carried resync (entered span copied sectioned) buffer left
   unfinished-moves left refusal was moved many =
-      refused-moves tells given tape tape' scope first entries old new carried (entered span copied sectioned) buffer left who end roles spares refusal was (without-left given old was.members_are.placed was.members_are.unlost did.enough) goes caller at_end grows moved did.few did.since did.clean (inr many) did.rise did.unused
-      (λ t sound among list stands. (rests-go-on sound among given old new span copied sectioned buffer (present given tape) (present given tape') list was.members_are.placed moved was.course_is.window.0
+      refused-moves tells given tape tape' scope first entries old new carried resync (entered span copied sectioned) buffer left who end roles spares refusal was (without-left given old was.members_are.placed was.members_are.unlost did.enough) goes caller at_end grows moved did.few did.since did.clean (inr many) did.rise did.unused
+      (λ t sound among list stands. (mended-rests-go-on sound among given old new resync span copied sectioned buffer (present given tape) (present given tape') list was.members_are.placed moved (unmended-of resync was.beside) was.course_is.window.0
       (plain-of old.newest span copied sectioned was.course_is.window) (did.others t) stands).0)
       (λ t told fills more room gone unclean here.
       let l = was.listed t fills in
-      did.safe t (world_in given tape scope first) told room gone unclean l.list (window-open tells given tape scope first entries old carried span copied sectioned buffer left was t did.enough told more l) here)
+      did.safe t (world_in given tape scope first) told room gone unclean l.list (window-open tells given tape scope first entries old carried resync span copied sectioned buffer left was t did.enough told more l) here)

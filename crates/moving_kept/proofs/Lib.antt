@@ -1,6 +1,7 @@
 pub mod NoneLeft
 pub mod MembersMove
 pub mod BackupKept
+pub mod Pending
 pub mod Quiet
 pub mod Refusals
 pub mod Steps
@@ -10,7 +11,6 @@ pub mod Staying
 pub mod Going
 pub mod Finishing
 pub mod FinishedCall
-pub mod Entering
 pub mod Adding
 pub mod Writing
 pub mod Settling
@@ -21,7 +21,6 @@ pub mod ReadShapes
 pub mod BegunRead
 pub mod Beginning
 pub mod Begun
-pub mod KeptStill
 pub mod BegunCall
 pub mod BegunMembers
 pub mod Shortening

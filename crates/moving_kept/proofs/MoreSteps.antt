@@ -1,5 +1,5 @@
 -- More steps of a reshape under way: a stripe behind the list is zeroed, a window is recorded; and steps that are refused.
-use Rattle.std.proofs.Common.{◌≡◌, ◌≢◌, ℕ, ◌+◌, ◌<◌, ◌≤◌, ◌==◌, Bool, true, List, [], ◌∷◌, ◌++◌, length, refl, sym, ap, subst, arith}
+use Rattle.std.proofs.Common.{◌≡◌, ◌≢◌, inl, ℕ, ◌+◌, ◌<◌, ◌≤◌, ◌==◌, Bool, true, Option, None, List, [], ◌∷◌, ◌++◌, length, refl, sym, ◌∙◌, ap, subst, arith}
 use Rattle.std.specs.Prelude.{IsFalse, ⊤}
 use Rattle.md_base.specs.Sectors.{Sector, zero_sector}
 use Rattle.md_base.specs.declared.answers.Who.{Who}
@@ -42,21 +42,23 @@ use Rattle.kept_history.specs.Safe.{world_in}
 use Rattle.kept_history.specs.Told.{told_now}
 use Rattle.kept_history.proofs.Lists.{newest-in}
 use Rattle.grow_asked.specs.declared.window.Window.TheVariants.{Closed}
-use Rattle.course_kept.specs.Course.{IsCourseOf, past_stripe}
+use Rattle.course_kept.specs.Course.{AnyShape, IsCourseOf, past_stripe}
 use Rattle.course_kept.specs.Laws.{closed, entered, IsWindowCopied}
-use Rattle.course_kept.proofs.Frames.{stands-whole, stands-without, stands-later}
-use Rattle.course_kept.proofs.Courses.{zeroes-go-on, windows-copied, records-close}
+use Rattle.course_kept.proofs.Courses.{zeroes-go-on, windows-copied}
+use Rattle.course_mends.specs.Mended.{StandsMended}
+use Rattle.course_mends.proofs.Windows.{mended-records-close}
 use Rattle.moving_kept.specs.Moving.{HasListInCourse, IsMoving}
 use Rattle.moving_kept.proofs.BackupKept.{stored-kept}
 use Rattle.moving_kept.proofs.MembersMove.{reshaping-moved, reshaping-past}
+use Rattle.moving_kept.proofs.Pending.{resync-of, resync-moved, resync-unmended, unmended-of, clean-none, none-on, none-stands, mended-later, mended-whole, mended-without}
 use Rattle.moving_kept.proofs.Quiet.{quiet-moves}
 use Rattle.moving_kept.proofs.Steps.{AreMissingSince, quiet-step, missing-moved, step-is, told-behind, told-step}
 
 -- ---- a stripe behind the list is zeroed
 
 pub zeroed-moves : (tells : Type 0) (given : Given) (tape tape' : List Operation) (scope : Scope) (first : ℕ) (entries : List Entry) (old new : Members) (carried : ℕ → Bool)
-    (zeroed : ℕ) (buffer : List ℕ) (left : ℕ) (who : Who) (end roles spares : ℕ)
-    → IsMoving tells given tape scope first entries old carried (closed zeroed) buffer (left + 1) → HasLiveSlot old → IsCallGoing entries who → IsFalse (who.caller == 254) → (tells → end ≡ length tape') → Grows tells tape tape'
+    (resync : Option ℕ) (zeroed : ℕ) (buffer : List ℕ) (left : ℕ) (who : Who) (end roles spares : ℕ)
+    → IsMoving tells given tape scope first entries old carried resync (closed zeroed) buffer (left + 1) → resync ≡ None → HasLiveSlot old → IsCallGoing entries who → IsFalse (who.caller == 254) → (tells → end ≡ length tape') → Grows tells tape tape'
     → IsThrough old.newest → zeroed < zeroed_stripes (shape_of old.newest) (final_shape old.newest) old.newest.size (is_backward old.newest) → left ≢ 0
     → IsMoved given old new → role_count new.newest ≤ 16 → AreMissingSince old new roles → is_clean new.newest ≡ is_clean old.newest
     → (tells → IsRisen ⊤ old new tape tape') → (tells → IsUnusedKept old (disk given.start tape) (disk given.start tape'))
@@ -65,10 +67,10 @@ pub zeroed-moves : (tells : Type 0) (given : Given) (tape tape' : List Operation
     → RowStands (reading_of new) (present given tape') (final_shape old.newest) list row)
     → (tells → (world : World) → (told : Ledger) → HasRoomLeft old tape tape' → AreGoneTold told new → IsUncleanTold told old
     → IsSafeOver world given told old tape → KeepsSafe world given told new tape tape')
-    → IsMoving tells given tape' scope first (entries ++ entries_of who end (losses_of roles spares ++ Step ZeroesStripe left ∷ [])) new carried (closed (zeroed + 1)) buffer left
-zeroed-moves tells given tape tape' scope first entries old new carried zeroed buffer left who end roles spares was live goes caller at_end grows through more some moved few since clean rise unused others stands safe =
-    quiet-moves tells given tape tape' scope first entries old new carried (closed zeroed) (closed (zeroed + 1)) buffer buffer (left + 1) left who end roles spares (Step ZeroesStripe left)
-    was live goes caller at_end grows (quiet-step ZeroesStripe left tt some) (reshaping-moved scope given old new moved was.members_are) few (missing-moved roles moved since)
+    → IsMoving tells given tape' scope first (entries ++ entries_of who end (losses_of roles spares ++ Step ZeroesStripe left ∷ [])) new carried resync (closed (zeroed + 1)) buffer left
+zeroed-moves tells given tape tape' scope first entries old new carried resync zeroed buffer left who end roles spares was none live goes caller at_end grows through more some moved few since clean rise unused others stands safe =
+    quiet-moves tells given tape tape' scope first entries old new carried resync resync (closed zeroed) (closed (zeroed + 1)) buffer buffer (left + 1) left who end roles spares (Step ZeroesStripe left)
+    was live goes caller at_end grows (quiet-step ZeroesStripe left tt some) (reshaping-moved scope given old new moved was.members_are) (resync-moved moved (λ some dirty. clean ∙ dirty) (inl tt) (resync-of was)) refl few (missing-moved roles moved since)
     (list-alike old.newest new.newest moved.reshape moved.shape moved.size) (ap (λ (s : Shape). s.level) moved.shape) clean course_is
     (λ t. stored-kept scope given old new Closed buffer (disk given.start tape) (disk given.start tape') was.members_are moved (unused t) (was.stored t))
     (told-step entries who end (losses_of roles spares) ZeroesStripe left (losses-are roles spares))
@@ -87,21 +89,22 @@ zeroed-moves tells given tape tape' scope first entries old new carried zeroed b
       few = subst (λ (n : ℕ). zeroed + 1 ≤ n) (sym (λ i. zeroed_stripes (moved.shape i) (moved.reshape.final i) (moved.size i) (moved.reshape.backward i))) (omega (arith, more));
     }
 
-    on : tells → HasListInCourse (OpensFit (world_in given tape scope first)) old (closed zeroed) buffer (present given tape) (now (opening_list (world_in given tape scope first)) entries)
-        → HasListInCourse (OpensFit (world_in given tape scope first)) new (closed (zeroed + 1)) buffer (present given tape') (now (opening_list (world_in given tape scope first)) entries)
+    on : tells → HasListInCourse (OpensFit (world_in given tape scope first)) old resync (closed zeroed) buffer (present given tape) (now (opening_list (world_in given tape scope first)) entries)
+        → HasListInCourse (OpensFit (world_in given tape scope first)) new resync (closed (zeroed + 1)) buffer (present given tape') (now (opening_list (world_in given tape scope first)) entries)
     on t l = record {
       list = l.list;
       is = λ x lt. l.is x (subst (λ (n : ℕ). x < n) (list-alike old.newest new.newest moved.reshape moved.shape moved.size) lt);
-      stands = (zeroes-go-on (OpensFit (world_in given tape scope first)) (λ shape. DoesWithout shape new) given old new zeroed buffer (present given tape) (present given tape') l.list was.members_are.placed moved through (others t)
-          (stands-later (OpensFit (world_in given tape scope first)) given old new (closed zeroed) buffer (present given tape) l.list moved l.stands)).1
-          (λ row at. stands t (λ x. zero_sector) (λ x at. refl) row at);
+      stands = none-on (OpensFit (world_in given tape scope first)) (λ shape. DoesWithout shape new) resync old new (closed zeroed) (closed (zeroed + 1)) buffer buffer (present given tape) (present given tape') l.list none
+          (λ before. (zeroes-go-on (OpensFit (world_in given tape scope first)) (λ shape. DoesWithout shape new) given old new zeroed buffer (present given tape) (present given tape') l.list was.members_are.placed moved through (others t) before).1
+          (λ row at. stands t (λ x. zero_sector) (λ x at. refl) row at))
+          (mended-later (OpensFit (world_in given tape scope first)) given old new resync (closed zeroed) buffer (present given tape) l.list moved l.stands);
     }
 
 -- ---- a window is recorded
 
 pub recorded-moves : (tells : Type 0) (given : Given) (tape tape' : List Operation) (scope : Scope) (first : ℕ) (entries : List Entry) (old new : Members) (carried : ℕ → Bool)
-    (span : Span) (sectioned : Bool) (buffer : List ℕ) (left : ℕ) (who : Who) (end roles spares : ℕ)
-    → IsMoving tells given tape scope first entries old carried (entered span (stripes (final_shape old.newest) span.lo span.hi) sectioned) buffer (left + 1)
+    (resync : Option ℕ) (span : Span) (sectioned : Bool) (buffer : List ℕ) (left : ℕ) (who : Who) (end roles spares : ℕ)
+    → IsMoving tells given tape scope first entries old carried resync (entered span (stripes (final_shape old.newest) span.lo span.hi) sectioned) buffer (left + 1)
     → IsCallGoing entries who → IsFalse (who.caller == 254) → (tells → end ≡ length tape') → Grows tells tape tape' → left ≢ 0
     → IsMoved given (moved_past span old) new → role_count new.newest ≤ 16 → AreMissingSince old new roles → DoWithout old → is_clean new.newest ≡ is_clean old.newest
     → (tells → IsRisen ⊤ old new tape tape') → (tells → AreOthersPresent (present given tape) (present given tape'))
@@ -109,10 +112,11 @@ pub recorded-moves : (tells : Type 0) (given : Given) (tape tape' : List Operati
     → (tells → (world : World) → (told : Ledger) → HasRoomLeft old tape tape' → AreGoneTold told new → IsUncleanTold told old → (list : ℕ → Sector)
     → IsCopiedWindow (OpensFit world) world.scope told old span list (present given tape) (disk given.start tape)
     → IsSafeOver world given told old tape → KeepsSafe world given told new tape tape')
-    → IsMoving tells given tape' scope first (entries ++ entries_of who end (losses_of roles spares ++ Step RecordsWindow left ∷ [])) new carried (closed 0) buffer left
-recorded-moves tells given tape tape' scope first entries old new carried span sectioned buffer left who end roles spares was goes caller at_end grows some moved few since does clean rise others plain safe =
-    quiet-moves tells given tape tape' scope first entries old new carried (entered span (stripes (final_shape old.newest) span.lo span.hi) sectioned) (closed 0) buffer buffer (left + 1) left who end roles spares (Step RecordsWindow left)
-    was (without-left given old was.members_are.placed was.members_are.unlost does) goes caller at_end grows (quiet-step RecordsWindow left tt some) (reshaping-past scope given old new span was.course_is.window.0 moved was.members_are) few (missing-moved roles moved since)
+    → IsMoving tells given tape' scope first (entries ++ entries_of who end (losses_of roles spares ++ Step RecordsWindow left ∷ [])) new carried resync (closed 0) buffer left
+recorded-moves tells given tape tape' scope first entries old new carried resync span sectioned buffer left who end roles spares was goes caller at_end grows some moved few since does clean rise others plain safe =
+    quiet-moves tells given tape tape' scope first entries old new carried resync resync (entered span (stripes (final_shape old.newest) span.lo span.hi) sectioned) (closed 0) buffer buffer (left + 1) left who end roles spares (Step RecordsWindow left)
+    was (without-left given old was.members_are.placed was.members_are.unlost does) goes caller at_end grows (quiet-step RecordsWindow left tt some) (reshaping-past scope given old new span was.course_is.window.0 moved was.members_are)
+    (resync-unmended new resync (closed 0) (unmended-of resync was.beside) (λ any some. clean ∙ was.dirty does some)) refl few (missing-moved roles moved since)
     (list-alike (moved_past span old).newest new.newest moved.reshape moved.shape moved.size) (ap (λ (s : Shape). s.level) moved.shape) clean
     (record { window = tt; through = λ some. absurd (omega (arith, some)); few = omega arith })
     (λ t. let now = plain t (was.stored t).headers in record { section = now.0; sectors = tt; headers = now.1 })
@@ -131,31 +135,36 @@ recorded-moves tells given tape tape' scope first entries old new carried span s
     all = stripes (final_shape old.newest) span.lo span.hi
 
     copied : (t : tells) → (told : Ledger) → IsMoreTold (told_now (world_in given tape scope first) carried true entries) told
-        → (l : HasListInCourse (OpensFit (world_in given tape scope first)) old (entered span (stripes (final_shape old.newest) span.lo span.hi) sectioned) buffer (present given tape) (now (opening_list (world_in given tape scope first)) entries))
+        → (l : HasListInCourse (OpensFit (world_in given tape scope first)) old resync (entered span (stripes (final_shape old.newest) span.lo span.hi) sectioned) buffer (present given tape) (now (opening_list (world_in given tape scope first)) entries))
         → IsCopiedWindow (OpensFit (world_in given tape scope first)) scope told old span l.list (present given tape) (disk given.start tape)
     copied t told more l = record {
       allowed = λ x lt. more.values x (within x lt) (l.list x) (subst (λ (v : Sector). IsIn (values_of (opening_list (world_in given tape scope first)) entries x) v) (sym (l.is x lt))
           (newest-in (opening_list (world_in given tape scope first)) entries x (within x lt)));
       window = done.window;
       stands = done.stands;
-      rows_are = λ is enough so. done.rows_are so;
+      rows_are = λ is enough so. (windows-copied (OpensFit (world_in given tape scope first)) old span sectioned buffer (present given tape) l.list
+          (none-stands (OpensFit (world_in given tape scope first)) AnyShape resync old (entered span (stripes (final_shape old.newest) span.lo span.hi) sectioned) buffer (present given tape) l.list
+          (clean-none old resync (entered span (stripes (final_shape old.newest) span.lo span.hi) sectioned) (resync-of was) enough is) whole)).rows_are so;
       headers = (was.stored t).headers;
-      zeros = λ so x tail. l.stands.zeros tail.forth x tail.past;
+      zeros = λ so x tail. l.stands.in_course.zeros tail.forth x tail.past;
     }
       where
-        done : IsWindowCopied (OpensFit (world_in given tape scope first)) old span (present given tape) l.list
-        done = windows-copied (OpensFit (world_in given tape scope first)) old span sectioned buffer (present given tape) l.list
-            (stands-whole (OpensFit (world_in given tape scope first)) old (entered span (stripes (final_shape old.newest) span.lo span.hi) sectioned) buffer (present given tape) l.list does l.stands)
+        whole : StandsMended (OpensFit (world_in given tape scope first)) AnyShape resync old (entered span (stripes (final_shape old.newest) span.lo span.hi) sectioned) buffer (present given tape) l.list
+        whole = mended-whole (OpensFit (world_in given tape scope first)) resync old (entered span (stripes (final_shape old.newest) span.lo span.hi) sectioned) buffer (present given tape) l.list does l.stands
+
+        done : IsWindowCopied ⊥ old span (present given tape) l.list
+        done = windows-copied ⊥ old span sectioned buffer (present given tape) l.list whole.in_course
 
         within : (x : ℕ) → x < list_length old.newest → x < length_of (length (opening_list (world_in given tape scope first))) entries
         within x lt = let size = (was.recorded t).sized in omega (arith, lt, size)
 
-    on : tells → HasListInCourse (OpensFit (world_in given tape scope first)) old (entered span (stripes (final_shape old.newest) span.lo span.hi) sectioned) buffer (present given tape) (now (opening_list (world_in given tape scope first)) entries)
-        → HasListInCourse (OpensFit (world_in given tape scope first)) new (closed 0) buffer (present given tape') (now (opening_list (world_in given tape scope first)) entries)
+    on : tells → HasListInCourse (OpensFit (world_in given tape scope first)) old resync (entered span (stripes (final_shape old.newest) span.lo span.hi) sectioned) buffer (present given tape) (now (opening_list (world_in given tape scope first)) entries)
+        → HasListInCourse (OpensFit (world_in given tape scope first)) new resync (closed 0) buffer (present given tape') (now (opening_list (world_in given tape scope first)) entries)
     on t l = record {
       list = l.list;
       is = λ x lt. l.is x (subst (λ (n : ℕ). x < n) (list-alike (moved_past span old).newest new.newest moved.reshape moved.shape moved.size) lt);
-      stands = stands-without (OpensFit (world_in given tape scope first)) new (closed 0) buffer (present given tape') l.list
-          (records-close (OpensFit (world_in given tape scope first)) scope given old new span sectioned buffer (present given tape) (present given tape') l.list was.members_are.backed was.members_are.placed
-          was.course_is.window.0 moved (others t) (stands-whole (OpensFit (world_in given tape scope first)) old (entered span (stripes (final_shape old.newest) span.lo span.hi) sectioned) buffer (present given tape) l.list does l.stands));
+      stands = mended-without (OpensFit (world_in given tape scope first)) resync new (closed 0) buffer (present given tape') l.list
+          (mended-records-close (OpensFit (world_in given tape scope first)) scope given old new resync span sectioned buffer (present given tape) (present given tape') l.list was.members_are.backed was.members_are.placed
+          (unmended-of resync was.beside) was.course_is.window.0 moved (others t)
+          (mended-whole (OpensFit (world_in given tape scope first)) resync old (entered span (stripes (final_shape old.newest) span.lo span.hi) sectioned) buffer (present given tape) l.list does l.stands));
     }

@@ -1,6 +1,6 @@
 -- A call that leaves the list as it is, and enters losses and one event behind them.
-use Rattle.std.proofs.Common.{◌≡◌, ℕ, ◌≤◌, ◌==◌, ◌||◌, Bool, true, false, List, [], ◌∷◌, ◌++◌, length, refl, sym, ◌∙◌, ap, subst}
-use Rattle.std.specs.Prelude.{IsFalse, IfSome, ⊤}
+use Rattle.std.proofs.Common.{◌≡◌, ℕ, ◌≤◌, ◌==◌, ◌||◌, Bool, true, false, Option, None, List, [], ◌∷◌, ◌++◌, length, refl, sym, ◌∙◌, ap, subst}
+use Rattle.std.specs.Prelude.{IsFalse, IfSome, is_some, ⊤}
 use Rattle.md_base.specs.Sectors.{Sector}
 use Rattle.md_base.specs.Shapes.{tolerance_of}
 use Rattle.md_base.specs.declared.answers.Who.{Who}
@@ -31,19 +31,22 @@ use Rattle.kept_history.specs.Recorded.{IsHistoryKept, IsLegalCall, IsCallGoing,
 use Rattle.kept_history.specs.Safe.{world_in, IsFilledRight, IsSafeHistory}
 use Rattle.kept_history.specs.Told.{told_now}
 use Rattle.course_kept.specs.declared.course.Course.{Course}
-use Rattle.course_kept.specs.Course.{IsCourseOf, IsStored, StandsInCourse}
+use Rattle.course_kept.specs.Course.{IsCourseOf, IsStored}
+use Rattle.course_mends.specs.Mended.{StandsMended}
 use Rattle.kept_history.proofs.Calls.{now-live}
+use Rattle.kept_history.proofs.Entered.{adds_only}
 use Rattle.kept_history.proofs.Reshapes.{call-ends_none}
 use Rattle.history_calls.specs.Reliable.{IsReliable, AreToldGone, HasLastStep}
-use Rattle.history_calls.proofs.Behind.{AreEarly, AreLostOrMissing, IsAmong, early-losses, legal-losses, or-false}
+use Rattle.history_calls.proofs.Behind.{AreEarly, AreLostOrMissing, IsAmong, early-losses, legal-losses, or-false, and-true}
 use Rattle.history_calls.proofs.Quiet.{IsQuiet, IsLeftBehind, fit-later, quiet-last, last-left, stretch-more, numbers-leaves, quiet-leaves, quiet-now}
 use Rattle.moving_kept.specs.Moving.{AreReshaping, HasListInCourse, IsMoving}
+use Rattle.moving_kept.proofs.Pending.{HasResync, pending-on}
 
 -- ---- what a stop may leave now
 
 -- While a live slot is left, it is right by the whole history.
-pub safe-now : {tells : Type 0} {given : Given} {tape : List Operation} {scope : Scope} {first : ℕ} {entries : List Entry} {members : Members} {carried : ℕ → Bool} {course : Course} {buffer : List ℕ} {left : ℕ}
-    → IsMoving tells given tape scope first entries members carried course buffer left → HasLiveSlot members → tells
+pub safe-now : {tells : Type 0} {given : Given} {tape : List Operation} {scope : Scope} {first : ℕ} {entries : List Entry} {members : Members} {carried : ℕ → Bool} {resync : Option ℕ} {course : Course} {buffer : List ℕ} {left : ℕ}
+    → IsMoving tells given tape scope first entries members carried resync course buffer left → HasLiveSlot members → tells
     → IsFilledRight (world_in given tape scope first) entries → HasRoomForEvents (world_in given tape scope first) → OpensAlike (world_in given tape scope first)
     → IsSafeOver (world_in given tape scope first) given (told_now (world_in given tape scope first) carried true entries) members tape
 safe-now {given = given} {tape = tape} {scope = scope} {first = first} was live t fills room alike = now-live (world_in given tape scope first) live (was.safe t fills room alike).now
@@ -51,46 +54,46 @@ safe-now {given = given} {tape = tape} {scope = scope} {first = first} was live 
 -- ---- the call
 
 -- What is asked of a call, from this tape to that one with its end there, that enters these events before its last one.
-pub record IsEarlyCall (given : Given) (tape : List Operation) (scope : Scope) (first : ℕ) (entries : List Entry) (old new : Members) (carried : ℕ → Bool) (course' : Course) (buffer' : List ℕ)
+pub record IsEarlyCall (given : Given) (tape : List Operation) (scope : Scope) (first : ℕ) (entries : List Entry) (old new : Members) (carried : ℕ → Bool) (resync : Option ℕ) (course' : Course) (buffer' : List ℕ)
     (who : Who) (early : List Event) (event : Event) (tape' : List Operation) (end : ℕ) : Type 0 where
   pub rise : IsRisen ⊤ old new tape tape'
   pub keeps : (told : Ledger) → IsFilledRight (world_in given tape scope first) entries → IsMoreTold (told_now (world_in given tape scope first) carried true entries) told
       → HasRoomLeft old tape tape' → AreGoneTold told new → IsUncleanTold told old
       → IsSafeOver (world_in given tape scope first) given told old tape → KeepsSafe (world_in given tape scope first) given told new tape tape'
   pub listed : IsFilledRight (world_in given tape scope first) entries
-      → HasListInCourse (OpensFit (world_in given tape scope first)) new course' buffer' (present given tape') (now (opening_list (world_in given tape scope first)) entries)
+      → HasListInCourse (OpensFit (world_in given tape scope first)) new resync course' buffer' (present given tape') (now (opening_list (world_in given tape scope first)) entries)
   pub legal : IsReliable (world_in given tape scope first) entries → AreToldGone (world_in given tape' scope first) (entries ++ entries_of who end early) new
       → level_at (world_in given tape' scope first) (entries ++ entries_of who end early) ≡ level_at (world_in given tape scope first) entries
       → IsLegalCall (world_in given tape' scope first) entries who end (early ++ event ∷ [])
 
 -- The same of a call behind which superblocks may bear these numbers.
-pub record IsCarryingCall (given : Given) (tape : List Operation) (scope : Scope) (first : ℕ) (entries : List Entry) (old new : Members) (carried carried' : ℕ → Bool) (course' : Course) (buffer' : List ℕ)
+pub record IsCarryingCall (given : Given) (tape : List Operation) (scope : Scope) (first : ℕ) (entries : List Entry) (old new : Members) (carried carried' : ℕ → Bool) (resync : Option ℕ) (course' : Course) (buffer' : List ℕ)
     (who : Who) (early : List Event) (event : Event) (tape' : List Operation) (end : ℕ) : Type 0 where
   pub rise : IsRisen ⊤ old new tape tape'
   pub keeps : (told : Ledger) → told.carried ≡ carried → IsFilledRight (world_in given tape scope first) entries → IsMoreTold (told_now (world_in given tape scope first) carried true entries) told
       → HasRoomLeft old tape tape' → AreGoneTold told new → IsUncleanTold told old
       → IsSafeOver (world_in given tape scope first) given told old tape → KeepsSafe (world_in given tape scope first) given (record told { carried = carried' }) new tape tape'
   pub listed : IsFilledRight (world_in given tape scope first) entries
-      → HasListInCourse (OpensFit (world_in given tape scope first)) new course' buffer' (present given tape') (now (opening_list (world_in given tape scope first)) entries)
+      → HasListInCourse (OpensFit (world_in given tape scope first)) new resync course' buffer' (present given tape') (now (opening_list (world_in given tape scope first)) entries)
   pub legal : IsReliable (world_in given tape scope first) entries → AreToldGone (world_in given tape' scope first) (entries ++ entries_of who end early) new
       → level_at (world_in given tape' scope first) (entries ++ entries_of who end early) ≡ level_at (world_in given tape scope first) entries
       → IsLegalCall (world_in given tape' scope first) entries who end (early ++ event ∷ [])
 
 -- The same of a call that enters losses before its event.
-pub record IsQuietCall (given : Given) (tape : List Operation) (scope : Scope) (first : ℕ) (entries : List Entry) (old new : Members) (carried : ℕ → Bool) (course' : Course) (buffer' : List ℕ)
+pub record IsQuietCall (given : Given) (tape : List Operation) (scope : Scope) (first : ℕ) (entries : List Entry) (old new : Members) (carried : ℕ → Bool) (resync : Option ℕ) (course' : Course) (buffer' : List ℕ)
     (who : Who) (roles spares : ℕ) (event : Event) (tape' : List Operation) (end : ℕ) : Type 0 where
   pub rise : IsRisen ⊤ old new tape tape'
   pub keeps : (told : Ledger) → IsFilledRight (world_in given tape scope first) entries → IsMoreTold (told_now (world_in given tape scope first) carried true entries) told
       → HasRoomLeft old tape tape' → AreGoneTold told new → IsUncleanTold told old
       → IsSafeOver (world_in given tape scope first) given told old tape → KeepsSafe (world_in given tape scope first) given told new tape tape'
   pub listed : IsFilledRight (world_in given tape scope first) entries
-      → HasListInCourse (OpensFit (world_in given tape scope first)) new course' buffer' (present given tape') (now (opening_list (world_in given tape scope first)) entries)
+      → HasListInCourse (OpensFit (world_in given tape scope first)) new resync course' buffer' (present given tape') (now (opening_list (world_in given tape scope first)) entries)
   pub legal : IsReliable (world_in given tape scope first) entries
       → AreToldGone (world_in given tape' scope first) (entries ++ entries_of who end (losses_of roles spares)) new
       → level_at (world_in given tape' scope first) (entries ++ entries_of who end (losses_of roles spares)) ≡ level_at (world_in given tape scope first) entries
       → IsLegalEvent (world_in given tape' scope first) (entries ++ entries_of who end (losses_of roles spares)) (entry_of who end event) [] event
 
--- What a call leaves of the record, over a bank that tells its contents.
+-- What a call leaves of the record, over a bank that tells its contents, where no resync is pending.
 pub record IsLeftBy (given : Given) (tape : List Operation) (scope : Scope) (first : ℕ) (entries all : List Entry) (new : Members) (carried : ℕ → Bool) (course' : Course) (buffer' : List ℕ) (tape' : List Operation) : Type 0 where
   pub right : IsReliable (world_in given tape' scope first) all → IsReliable (world_in given tape scope first) entries
   pub levelled : level_at (world_in given tape' scope first) all ≡ level_at (world_in given tape scope first) entries
@@ -98,57 +101,62 @@ pub record IsLeftBy (given : Given) (tape : List Operation) (scope : Scope) (fir
   pub unclean : is_clean new.newest ≡ false → (is_unsynced (world_in given tape' scope first) all || is_unsettled all) ≡ true
   pub recorded : IsHistoryKept (IsReliable (world_in given tape' scope first) all) (world_in given tape' scope first) (list_length new.newest) all
   pub last_step : HasLastStep (world_in given tape' scope first) all (list_length new.newest)
+  pub pending : is_unsynced (world_in given tape' scope first) all ≡ false
   pub listed : IsFilledRight (world_in given tape' scope first) all
-      → HasListInCourse (OpensFit (world_in given tape' scope first)) new course' buffer' (present given tape') (now (opening_list (world_in given tape' scope first)) all)
+      → HasListInCourse (OpensFit (world_in given tape' scope first)) new None course' buffer' (present given tape') (now (opening_list (world_in given tape' scope first)) all)
   pub safe : IsFilledRight (world_in given tape' scope first) all → HasRoomForEvents (world_in given tape' scope first) → OpensAlike (world_in given tape' scope first)
       → IsSafeHistory ⊤ (world_in given tape' scope first) given new carried true all
 
 -- The list of the history that stood in the course stands so by more entries that say the same of it.
-pub listed-later : (given : Given) (tape : List Operation) (scope : Scope) (first : ℕ) (entries all : List Entry) (new : Members) (carried : ℕ → Bool) (course' : Course) (buffer' : List ℕ) (tape' : List Operation) (current : ℕ → Sector)
+pub listed-later : (given : Given) (tape : List Operation) (scope : Scope) (first : ℕ) (entries all : List Entry) (new : Members) (carried : ℕ → Bool) (resync : Option ℕ) (course' : Course) (buffer' : List ℕ) (tape' : List Operation) (current : ℕ → Sector)
     → IsLeftBehind given tape scope first entries all new carried true tape' → ((x : ℕ) → now (opening_list (world_in given tape scope first)) all x ≡ current x)
-    → (IsFilledRight (world_in given tape scope first) entries → HasListInCourse (OpensFit (world_in given tape scope first)) new course' buffer' (present given tape') current)
+    → (IsFilledRight (world_in given tape scope first) entries → HasListInCourse (OpensFit (world_in given tape scope first)) new resync course' buffer' (present given tape') current)
     → IsFilledRight (world_in given tape' scope first) all
-    → HasListInCourse (OpensFit (world_in given tape' scope first)) new course' buffer' (present given tape') (now (opening_list (world_in given tape' scope first)) all)
-listed-later given tape scope first entries all new carried course' buffer' tape' current left same listed fills =
+    → HasListInCourse (OpensFit (world_in given tape' scope first)) new resync course' buffer' (present given tape') (now (opening_list (world_in given tape' scope first)) all)
+listed-later given tape scope first entries all new carried resync course' buffer' tape' current left same listed fills =
     let l = listed (left.fills fills) in
     record {
       list = l.list;
       is = λ x lt. l.is x lt ∙ sym (same x) ∙ sym (ap (λ (o : List Sector). now o all x) left.opened);
-      stands = subst (λ (sound : Type 0). StandsInCourse sound (λ shape. DoesWithout shape new) new course' buffer' (present given tape') l.list) (sym (fit-later left)) l.stands;
+      stands = subst (λ (sound : Type 0). StandsMended sound (λ shape. DoesWithout shape new) resync new course' buffer' (present given tape') l.list) (sym (fit-later left)) l.stands;
     }
 
 -- ---- what is kept
 
 -- The call keeps the record: the array is in its reshape still, however far that has come then.
-pub early-moves : (tells : Type 0) (given : Given) (tape tape' : List Operation) (scope : Scope) (first : ℕ) (entries : List Entry) (old new : Members) (carried : ℕ → Bool) (course course' : Course)
+pub early-moves : (tells : Type 0) (given : Given) (tape tape' : List Operation) (scope : Scope) (first : ℕ) (entries : List Entry) (old new : Members) (carried : ℕ → Bool) (resync resync' : Option ℕ) (course course' : Course)
     (buffer buffer' : List ℕ) (left left' : ℕ) (who : Who) (end : ℕ) (early : List Event) (IsTaken : ℕ → Type 0) (event : Event)
-    → IsMoving tells given tape scope first entries old carried course buffer left → HasLiveSlot old → IsCallGoing entries who → IsFalse (who.caller == 254) → (tells → end ≡ length tape') → Grows tells tape tape' → IsQuiet event
-    → AreReshaping scope given new → role_count new.newest ≤ 16
+    → IsMoving tells given tape scope first entries old carried resync course buffer left → HasLiveSlot old → IsCallGoing entries who → IsFalse (who.caller == 254) → (tells → end ≡ length tape') → Grows tells tape tape' → IsQuiet event
+    → AreReshaping scope given new → HasResync new resync' course' → is_some resync' ≡ is_some resync → role_count new.newest ≤ 16
     → AreEarly early IsTaken → AreLostOrMissing old new IsTaken
     → list_length new.newest ≡ list_length old.newest → (shape_of new.newest).level ≡ (shape_of old.newest).level → is_clean new.newest ≡ is_clean old.newest → IsCourseOf new.newest course' → (tells → IsStored scope new course'.window buffer' (disk given.start tape'))
     → IfSome (told_left (entries ++ entries_of who end (early ++ event ∷ []))) (λ n. n ≡ left')
-    → (tells → IsEarlyCall given tape scope first entries old new carried course' buffer' who early event tape' end)
-    → IsMoving tells given tape' scope first (entries ++ entries_of who end (early ++ event ∷ [])) new carried course' buffer' left'
-early-moves tells given tape tape' scope first entries old new carried course course' buffer buffer' left left' who end early IsTaken event was live goes caller at_end grows quiet members few are missing sized level clean
+    → (tells → IsEarlyCall given tape scope first entries old new carried resync' course' buffer' who early event tape' end)
+    → IsMoving tells given tape' scope first (entries ++ entries_of who end (early ++ event ∷ [])) new carried resync' course' buffer' left'
+early-moves tells given tape tape' scope first entries old new carried resync resync' course course' buffer buffer' left left' who end early IsTaken event was live goes caller at_end grows quiet members has pends few are missing sized level clean
     course_is stored told call = record {
       slots = was.slots;
       members_are = members;
       course_is = course_is;
       sizes_are = was.sizes_are;
       left_told = told;
+      progress = has.progress;
+      beside = has.beside;
+      pending = λ t. pending-on (entries_of who end (early ++ event ∷ [])) (leaves t) (are.adds who end (event ∷ []) (and-true (adds_only event) true quiet.adds refl)) ∙ was.pending t ∙ sym pends;
+      dirty = has.dirty;
       levelled = λ t fills. ap tolerance_of (leaves t).levelled ∙ was.levelled t ((leaves t).right fills) ∙ sym (ap tolerance_of level);
       gone = λ t. (leaves t).gone;
       unclean = λ t. (leaves t).unclean;
       recorded = λ t. (leaves t).recorded;
       last_step = λ t. last-left given tape tape' scope first entries (list_length old.newest) new carried true who end early event (leaves t) (at_end t) quiet.other sized (was.last_step t).past;
       stored = stored;
-      listed = λ t. listed-later given tape scope first entries (entries ++ entries_of who end (early ++ event ∷ [])) new carried course' buffer' tape' (now (opening_list (world_in given tape scope first)) entries) (leaves t)
+      listed = λ t. listed-later given tape scope first entries (entries ++ entries_of who end (early ++ event ∷ [])) new carried resync' course' buffer' tape' (now (opening_list (world_in given tape scope first)) entries) (leaves t)
           (quiet-now (opening_list (world_in given tape scope first)) entries who end early IsTaken event are quiet) (call t).listed;
       safe = λ t. (leaves t).safe;
     }
   where
     Then : List Operation → ℕ → Type 0
-    Then l e = IsEarlyCall given tape scope first entries old new carried course' buffer' who early event l e
+    Then l e = IsEarlyCall given tape scope first entries old new carried resync' course' buffer' who early event l e
         → IsLeftBehind given tape scope first entries (entries ++ entries_of who e (early ++ event ∷ [])) new carried true l
 
     leaves : tells → IsLeftBehind given tape scope first entries (entries ++ entries_of who end (early ++ event ∷ [])) new carried true tape'
@@ -161,35 +169,39 @@ early-moves tells given tape tape' scope first entries old new carried course co
         (call t)
 
 -- And so does a call behind which superblocks may bear more numbers.
-pub carrying-moves : (tells : Type 0) (given : Given) (tape tape' : List Operation) (scope : Scope) (first : ℕ) (entries : List Entry) (old new : Members) (carried carried' : ℕ → Bool) (course course' : Course)
+pub carrying-moves : (tells : Type 0) (given : Given) (tape tape' : List Operation) (scope : Scope) (first : ℕ) (entries : List Entry) (old new : Members) (carried carried' : ℕ → Bool) (resync : Option ℕ) (course course' : Course)
     (buffer buffer' : List ℕ) (left left' : ℕ) (who : Who) (end : ℕ) (early : List Event) (IsTaken : ℕ → Type 0) (event : Event)
-    → ((number : ℕ) → carried number ≡ true → carried' number ≡ true) → IsMoving tells given tape scope first entries old carried course buffer left → HasLiveSlot old → IsCallGoing entries who → IsFalse (who.caller == 254) → (tells → end ≡ length tape') → Grows tells tape tape' → IsQuiet event
-    → AreReshaping scope given new → role_count new.newest ≤ 16
+    → ((number : ℕ) → carried number ≡ true → carried' number ≡ true) → IsMoving tells given tape scope first entries old carried resync course buffer left → HasLiveSlot old → IsCallGoing entries who → IsFalse (who.caller == 254) → (tells → end ≡ length tape') → Grows tells tape tape' → IsQuiet event
+    → AreReshaping scope given new → HasResync new resync course' → role_count new.newest ≤ 16
     → AreEarly early IsTaken → AreLostOrMissing old new IsTaken
     → list_length new.newest ≡ list_length old.newest → (shape_of new.newest).level ≡ (shape_of old.newest).level → is_clean new.newest ≡ is_clean old.newest → IsCourseOf new.newest course' → (tells → IsStored scope new course'.window buffer' (disk given.start tape'))
     → IfSome (told_left (entries ++ entries_of who end (early ++ event ∷ []))) (λ n. n ≡ left')
-    → (tells → IsCarryingCall given tape scope first entries old new carried carried' course' buffer' who early event tape' end)
-    → IsMoving tells given tape' scope first (entries ++ entries_of who end (early ++ event ∷ [])) new carried' course' buffer' left'
-carrying-moves tells given tape tape' scope first entries old new carried carried' course course' buffer buffer' left left' who end early IsTaken event carries was live goes caller at_end grows quiet members few are missing sized level clean
+    → (tells → IsCarryingCall given tape scope first entries old new carried carried' resync course' buffer' who early event tape' end)
+    → IsMoving tells given tape' scope first (entries ++ entries_of who end (early ++ event ∷ [])) new carried' resync course' buffer' left'
+carrying-moves tells given tape tape' scope first entries old new carried carried' resync course course' buffer buffer' left left' who end early IsTaken event carries was live goes caller at_end grows quiet members has few are missing sized level clean
     course_is stored told call = record {
       slots = was.slots;
       members_are = members;
       course_is = course_is;
       sizes_are = was.sizes_are;
       left_told = told;
+      progress = has.progress;
+      beside = has.beside;
+      pending = λ t. pending-on (entries_of who end (early ++ event ∷ [])) (leaves t) (are.adds who end (event ∷ []) (and-true (adds_only event) true quiet.adds refl)) ∙ was.pending t;
+      dirty = has.dirty;
       levelled = λ t fills. ap tolerance_of (leaves t).levelled ∙ was.levelled t ((leaves t).right fills) ∙ sym (ap tolerance_of level);
       gone = λ t. (leaves t).gone;
       unclean = λ t. (leaves t).unclean;
       recorded = λ t. (leaves t).recorded;
       last_step = λ t. last-left given tape tape' scope first entries (list_length old.newest) new carried' true who end early event (leaves t) (at_end t) quiet.other sized (was.last_step t).past;
       stored = stored;
-      listed = λ t. listed-later given tape scope first entries (entries ++ entries_of who end (early ++ event ∷ [])) new carried' course' buffer' tape' (now (opening_list (world_in given tape scope first)) entries) (leaves t)
+      listed = λ t. listed-later given tape scope first entries (entries ++ entries_of who end (early ++ event ∷ [])) new carried' resync course' buffer' tape' (now (opening_list (world_in given tape scope first)) entries) (leaves t)
           (quiet-now (opening_list (world_in given tape scope first)) entries who end early IsTaken event are quiet) (call t).listed;
       safe = λ t. (leaves t).safe;
     }
   where
     Then : List Operation → ℕ → Type 0
-    Then l e = IsCarryingCall given tape scope first entries old new carried carried' course' buffer' who early event l e
+    Then l e = IsCarryingCall given tape scope first entries old new carried carried' resync course' buffer' who early event l e
         → IsLeftBehind given tape scope first entries (entries ++ entries_of who e (early ++ event ∷ [])) new carried' true l
 
     leaves : tells → IsLeftBehind given tape scope first entries (entries ++ entries_of who end (early ++ event ∷ [])) new carried' true tape'
@@ -211,18 +223,18 @@ carrying-moves tells given tape tape' scope first entries old new carried carrie
         (call t)
 
 -- And so does a call that enters losses before its event.
-pub quiet-moves : (tells : Type 0) (given : Given) (tape tape' : List Operation) (scope : Scope) (first : ℕ) (entries : List Entry) (old new : Members) (carried : ℕ → Bool) (course course' : Course)
+pub quiet-moves : (tells : Type 0) (given : Given) (tape tape' : List Operation) (scope : Scope) (first : ℕ) (entries : List Entry) (old new : Members) (carried : ℕ → Bool) (resync resync' : Option ℕ) (course course' : Course)
     (buffer buffer' : List ℕ) (left left' : ℕ) (who : Who) (end roles spares : ℕ) (event : Event)
-    → IsMoving tells given tape scope first entries old carried course buffer left → HasLiveSlot old → IsCallGoing entries who → IsFalse (who.caller == 254) → (tells → end ≡ length tape') → Grows tells tape tape' → IsQuiet event
-    → AreReshaping scope given new → role_count new.newest ≤ 16
+    → IsMoving tells given tape scope first entries old carried resync course buffer left → HasLiveSlot old → IsCallGoing entries who → IsFalse (who.caller == 254) → (tells → end ≡ length tape') → Grows tells tape tape' → IsQuiet event
+    → AreReshaping scope given new → HasResync new resync' course' → is_some resync' ≡ is_some resync → role_count new.newest ≤ 16
     → AreLostOrMissing old new (IsAmong roles)
     → list_length new.newest ≡ list_length old.newest → (shape_of new.newest).level ≡ (shape_of old.newest).level → is_clean new.newest ≡ is_clean old.newest → IsCourseOf new.newest course' → (tells → IsStored scope new course'.window buffer' (disk given.start tape'))
     → IfSome (told_left (entries ++ entries_of who end (losses_of roles spares ++ event ∷ []))) (λ n. n ≡ left')
-    → (tells → IsQuietCall given tape scope first entries old new carried course' buffer' who roles spares event tape' end)
-    → IsMoving tells given tape' scope first (entries ++ entries_of who end (losses_of roles spares ++ event ∷ [])) new carried course' buffer' left'
-quiet-moves tells given tape tape' scope first entries old new carried course course' buffer buffer' left left' who end roles spares event was live goes caller at_end grows quiet members few missing sized level clean
+    → (tells → IsQuietCall given tape scope first entries old new carried resync' course' buffer' who roles spares event tape' end)
+    → IsMoving tells given tape' scope first (entries ++ entries_of who end (losses_of roles spares ++ event ∷ [])) new carried resync' course' buffer' left'
+quiet-moves tells given tape tape' scope first entries old new carried resync resync' course course' buffer buffer' left left' who end roles spares event was live goes caller at_end grows quiet members has pends few missing sized level clean
     course_is stored told call =
-    early-moves tells given tape tape' scope first entries old new carried course course' buffer buffer' left left' who end (losses_of roles spares) (IsAmong roles) event was live goes caller at_end grows quiet members few
+    early-moves tells given tape tape' scope first entries old new carried resync resync' course course' buffer buffer' left left' who end (losses_of roles spares) (IsAmong roles) event was live goes caller at_end grows quiet members has pends few
     (early-losses roles spares) missing sized level clean course_is stored told
     (λ t. let of = call t in record {
       rise = of.rise;

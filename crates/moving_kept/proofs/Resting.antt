@@ -1,5 +1,5 @@
 -- A call that makes no device call, and enters one event, whether a live slot is left or not.
-use Rattle.std.proofs.Common.{◌≡◌, ℕ, ◌==◌, Bool, true, List, [], ◌∷◌, ◌++◌, length, refl, sym, ◌∙◌, ap, subst}
+use Rattle.std.proofs.Common.{◌≡◌, ℕ, ◌==◌, Bool, true, Option, List, [], ◌∷◌, ◌++◌, length, refl, sym, ◌∙◌, ap, subst}
 use Rattle.std.specs.Prelude.{IsFalse}
 use Rattle.md_base.specs.Shapes.{tolerance_of}
 use Rattle.md_base.specs.declared.answers.Who.{Who}
@@ -17,32 +17,38 @@ use Rattle.flat_history.specs.World.{opening_list}
 use Rattle.call_entries.proofs.LeftLaws.{TellLeft, left-more}
 use Rattle.kept_history.specs.Recorded.{IsCallGoing, entry_of}
 use Rattle.kept_history.specs.Safe.{world_in}
+use Rattle.kept_history.proofs.Entered.{adds_only}
 use Rattle.course_kept.specs.declared.course.Course.{Course}
 use Rattle.history_calls.specs.Reliable.{IsReliable}
 use Rattle.moving_kept.specs.Moving.{IsMoving}
-use Rattle.history_calls.proofs.Behind.{early-none}
+use Rattle.history_calls.proofs.Behind.{early-none, and-true}
 use Rattle.history_calls.proofs.Quiet.{IsQuiet, IsLeftBehind, last-left, resting-leaves, quiet-now}
+use Rattle.moving_kept.proofs.Pending.{pending-on}
 use Rattle.moving_kept.proofs.Quiet.{listed-later}
 
 pub resting-moves : (tells : Type 0) (given : Given) (tape : List Operation) (scope : Scope) (first : ℕ) (entries : List Entry) (m : Members) (carried : ℕ → Bool)
-    (course : Course) (buffer : List ℕ) (left : ℕ) (who : Who) (end : ℕ) (event : Event)
-    → IsMoving tells given tape scope first entries m carried course buffer left → IsCallGoing entries who → IsFalse (who.caller == 254) → (tells → end ≡ length tape)
+    (resync : Option ℕ) (course : Course) (buffer : List ℕ) (left : ℕ) (who : Who) (end : ℕ) (event : Event)
+    → IsMoving tells given tape scope first entries m carried resync course buffer left → IsCallGoing entries who → IsFalse (who.caller == 254) → (tells → end ≡ length tape)
     → IsQuiet event → TellLeft left who end (event ∷ [])
     → (tells → IsReliable (world_in given tape scope first) entries → IsLegalEvent (world_in given tape scope first) entries (entry_of who end event) [] event)
-    → IsMoving tells given tape scope first (entries ++ entries_of who end (event ∷ [])) m carried course buffer left
-resting-moves tells given tape scope first entries m carried course buffer left who end event was goes caller at_end quiet tell legal = record {
+    → IsMoving tells given tape scope first (entries ++ entries_of who end (event ∷ [])) m carried resync course buffer left
+resting-moves tells given tape scope first entries m carried resync course buffer left who end event was goes caller at_end quiet tell legal = record {
   slots = was.slots;
   members_are = was.members_are;
   course_is = was.course_is;
   sizes_are = was.sizes_are;
   left_told = left-more left entries who end (event ∷ []) was.left_told tell;
+  progress = was.progress;
+  beside = was.beside;
+  pending = λ t. pending-on (entries_of who end (event ∷ [])) (leaves t) (and-true (adds_only event) true quiet.adds refl) ∙ was.pending t;
+  dirty = was.dirty;
   levelled = λ t right. ap tolerance_of (leaves t).levelled ∙ was.levelled t ((leaves t).right right);
   gone = λ t. (leaves t).gone;
   unclean = λ t. (leaves t).unclean;
   recorded = λ t. (leaves t).recorded;
   last_step = λ t. last-left given tape tape scope first entries (list_length m.newest) m carried true who end [] event (leaves t) (at_end t) quiet.other refl (was.last_step t).past;
   stored = was.stored;
-  listed = λ t. listed-later given tape scope first entries (entries ++ entries_of who end (event ∷ [])) m carried course buffer tape (now (opening_list (world_in given tape scope first)) entries) (leaves t)
+  listed = λ t. listed-later given tape scope first entries (entries ++ entries_of who end (event ∷ [])) m carried resync course buffer tape (now (opening_list (world_in given tape scope first)) entries) (leaves t)
       (quiet-now (opening_list (world_in given tape scope first)) entries who end [] (λ role. ⊥) event early-none quiet) (was.listed t);
   safe = λ t. (leaves t).safe;
 }

@@ -1,6 +1,8 @@
 -- A call that enters losses, and behind them an event that settles what was written: a flush or a stop.
-use Rattle.std.proofs.Common.{◌≡◌, ℕ, ◌≤◌, ◌==◌, ◌&&◌, Bool, true, false, not, List, [], ◌∷◌, ◌++◌, length, refl, sym, ◌∙◌, ap, subst}
-use Rattle.std.specs.Prelude.{IsFalse, IfSome, take, ⊤}
+use Rattle.std.proofs.Common.{◌≡◌, ℕ, ◌≤◌, ◌==◌, ◌&&◌, ◌||◌, Bool, true, false, not, Option, List, [], ◌∷◌, ◌++◌, length, refl, sym, ◌∙◌, ap, subst}
+use Rattle.std.specs.Prelude.{IsFalse, IfSome, is_some, take, ⊤}
+use Rattle.std.specs.List.{list_any}
+use Rattle.std.proofs.lemmas.List.Folds.{list_any-append}
 use Rattle.md_base.specs.Sectors.{Sector}
 use Rattle.md_base.specs.Shapes.{tolerance_of}
 use Rattle.md_base.specs.declared.answers.Who.{Who}
@@ -15,7 +17,7 @@ use Rattle.flat_history.specs.declared.events.Event.{Event}
 use Rattle.flat_history.specs.declared.events.Event.TheVariants.{Flushed, Stopped}
 use Rattle.flat_history.specs.Flat.{now, length_after, values_after}
 use Rattle.flat_history.specs.Legal.{is_loss, told_left, level_after, IsLegalEvent}
-use Rattle.flat_history.specs.Losses.{is_unsynced, is_resync_end}
+use Rattle.flat_history.specs.Losses.{was_dirty, is_unsynced, is_resync_end}
 use Rattle.flat_history.specs.Plain.{entries_of}
 use Rattle.flat_history.specs.Sound.{OpensFit}
 use Rattle.flat_history.specs.World.{World, opening_list}
@@ -24,6 +26,7 @@ use Rattle.shape_changes.specs.Safety.{HasLiveSlot, HasRoomLeft, IsRisen}
 use Rattle.shape_changes.specs.Steady.{IsMoreTold, IsSafeOver, KeepsSafe, AreGoneTold, IsUncleanTold, AreWritesAllowed}
 use Rattle.views.specs.Moving.{Grows}
 use Rattle.call_entries.specs.Losing.{losses_of}
+use Rattle.call_entries.proofs.CallLaws.{losses-are, ends-losses}
 use Rattle.call_entries.proofs.LeftLaws.{TellLeft}
 use Rattle.kept_history.specs.Recorded.{IsCallGoing, entry_of, ends_reshape, gives_some}
 use Rattle.kept_history.specs.Safe.{world_in, IsFilledRight}
@@ -34,6 +37,7 @@ use Rattle.history_calls.proofs.Behind.{AreLostOrMissing, IsAmong}
 use Rattle.history_calls.proofs.Quiet.{IsLeftBehind, last-left}
 use Rattle.history_calls.proofs.Settling.{IsSettlement, IsSettledBy, takes-newest, settling-ends, settling-leaves, settled-same}
 use Rattle.moving_kept.specs.Moving.{AreReshaping, HasListInCourse, IsMoving}
+use Rattle.moving_kept.proofs.Pending.{HasResync, later-unsynced}
 use Rattle.moving_kept.proofs.Quiet.{listed-later, safe-now}
 
 -- ---- the event
@@ -57,18 +61,34 @@ pub stop-is : IsSettling Stopped
 stop-is = record { other = refl; gives = refl; ends = refl; resync = refl; level = λ n. refl; length = λ n. refl; newest = λ x values. refl; legal = λ world before e. tt; tells = λ left who end told is. is }
 
 -- so the events settle
-settlement : (event : Event) → IsSettling event → IsSettlement event
+pub settlement : (event : Event) → IsSettling event → IsSettlement event
 settlement event is = takes-newest event is.gives is.level is.length is.newest
 
-not-ended : (unsynced ends : Bool) → ends ≡ false → (unsynced && not ends) ≡ unsynced
+-- and leave a resync pending
+pub not-ended : (unsynced ends : Bool) → ends ≡ false → (unsynced && not ends) ≡ unsynced
 not-ended true false is = refl
 not-ended false false is = refl
 not-ended unsynced true is = absurd (cc)
 
+-- it is pending behind losses and an event, as long as that doesn't end it
+unsynced-then : (world : World) (entries : List Entry) (who : Who) (end roles spares : ℕ) (event : Event)
+    → is_unsynced world (entries ++ entries_of who end (losses_of roles spares ++ event ∷ [])) ≡ (is_unsynced world entries && not (is_resync_end event))
+unsynced-then world entries who end roles spares event =
+    ap (λ (b : Bool). was_dirty world && not b)
+    (list_any-append (λ e. is_resync_end e.event) entries (entries_of who end (losses_of roles spares ++ event ∷ []))
+    ∙ ap (λ (b : Bool). list_any (λ e. is_resync_end e.event) entries || b) (ends-losses who end (losses_of roles spares) (event ∷ []) (losses-are roles spares)))
+    ∙ neither (was_dirty world) (list_any (λ e. is_resync_end e.event) entries) (is_resync_end event)
+  where
+    neither : (dirty a b : Bool) → (dirty && not (a || (b || false))) ≡ ((dirty && not a) && not b)
+    neither false a b = refl
+    neither true true b = refl
+    neither true false true = refl
+    neither true false false = refl
+
 -- ---- the call
 
 -- What is asked of a call, from this tape to that one with its end there: by what is told while it runs each mark is safe, and its end by the list alone.
-pub record IsSettlingCall (given : Given) (tape : List Operation) (scope : Scope) (first : ℕ) (entries : List Entry) (old new : Members) (carried : ℕ → Bool) (unsynced : Bool) (course' : Course) (buffer' : List ℕ)
+pub record IsSettlingCall (given : Given) (tape : List Operation) (scope : Scope) (first : ℕ) (entries : List Entry) (old new : Members) (carried : ℕ → Bool) (unsynced : Bool) (resync : Option ℕ) (course' : Course) (buffer' : List ℕ)
     (who : Who) (roles spares : ℕ) (event : Event) (tape' : List Operation) (end : ℕ) : Type 0 where
   pub rise : IsRisen ⊤ old new tape tape'
   pub keeps : (told : Ledger) → IsFilledRight (world_in given tape scope first) entries → IsMoreTold (told_now (world_in given tape scope first) carried true entries) told
@@ -79,41 +99,47 @@ pub record IsSettlingCall (given : Given) (tape : List Operation) (scope : Scope
       → IsSafeOver (world_in given tape scope first) given told old tape
       → IsSettledBy (world_in given tape scope first) given told old new tape' unsynced (now (opening_list (world_in given tape scope first)) entries)
   pub listed : IsFilledRight (world_in given tape scope first) entries
-      → HasListInCourse (OpensFit (world_in given tape scope first)) new course' buffer' (present given tape') (now (opening_list (world_in given tape scope first)) entries)
+      → HasListInCourse (OpensFit (world_in given tape scope first)) new resync course' buffer' (present given tape') (now (opening_list (world_in given tape scope first)) entries)
+  pub legal : IsLegalEvent (world_in given tape' scope first) (entries ++ entries_of who end (losses_of roles spares)) (entry_of who end event) [] event
 
 -- ---- what is kept
 
--- The call keeps the record: what was written is settled, and the array as unsynced as it was.
-pub settling-moves : (tells : Type 0) (given : Given) (tape tape' : List Operation) (scope : Scope) (first : ℕ) (entries : List Entry) (old new : Members) (carried : ℕ → Bool) (unsynced : Bool) (course course' : Course)
+-- The call keeps the record: what was written is settled; a resync is pending as it was, or ended with that.
+pub settling-moves : (tells : Type 0) (given : Given) (tape tape' : List Operation) (scope : Scope) (first : ℕ) (entries : List Entry) (old new : Members) (carried : ℕ → Bool) (resync resync' : Option ℕ) (unsynced : Bool) (course course' : Course)
     (buffer buffer' : List ℕ) (left left' : ℕ) (who : Who) (end roles spares : ℕ) (event : Event)
-    → IsMoving tells given tape scope first entries old carried course buffer left → HasLiveSlot old → IsCallGoing entries who → IsFalse (who.caller == 254) → (tells → end ≡ length tape') → Grows tells tape tape' → IsSettling event
-    → AreReshaping scope given new → role_count new.newest ≤ 16
+    → IsMoving tells given tape scope first entries old carried resync course buffer left → HasLiveSlot old → IsCallGoing entries who → IsFalse (who.caller == 254) → (tells → end ≡ length tape') → Grows tells tape tape'
+    → IsSettlement event → is_loss event ≡ false → ends_reshape event ≡ false
+    → AreReshaping scope given new → HasResync new resync' course' → unsynced ≡ is_some resync' → role_count new.newest ≤ 16
     → AreLostOrMissing old new (IsAmong roles)
     → list_length new.newest ≡ list_length old.newest → (shape_of new.newest).level ≡ (shape_of old.newest).level → (unsynced ≡ false → is_clean new.newest ≡ true)
-    → (tells → is_unsynced (world_in given tape scope first) entries ≡ unsynced) → IsCourseOf new.newest course' → (tells → IsStored scope new course'.window buffer' (disk given.start tape'))
+    → (tells → (is_unsynced (world_in given tape scope first) entries && not (is_resync_end event)) ≡ unsynced) → IsCourseOf new.newest course' → (tells → IsStored scope new course'.window buffer' (disk given.start tape'))
     → IfSome (told_left (entries ++ entries_of who end (losses_of roles spares ++ event ∷ []))) (λ n. n ≡ left')
-    → (tells → IsSettlingCall given tape scope first entries old new carried unsynced course' buffer' who roles spares event tape' end)
-    → IsMoving tells given tape' scope first (entries ++ entries_of who end (losses_of roles spares ++ event ∷ [])) new carried course' buffer' left'
-settling-moves tells given tape tape' scope first entries old new carried unsynced course course' buffer buffer' left left' who end roles spares event was live goes caller at_end grows settling members few missing sized level clean
+    → (tells → IsSettlingCall given tape scope first entries old new carried unsynced resync' course' buffer' who roles spares event tape' end)
+    → IsMoving tells given tape' scope first (entries ++ entries_of who end (losses_of roles spares ++ event ∷ [])) new carried resync' course' buffer' left'
+settling-moves tells given tape tape' scope first entries old new carried resync resync' unsynced course course' buffer buffer' left left' who end roles spares event was live goes caller at_end grows settling other ends members has pends few missing sized level clean
     unsynced_is course_is stored told call = record {
       slots = was.slots;
       members_are = members;
       course_is = course_is;
       sizes_are = was.sizes_are;
       left_told = told;
+      progress = has.progress;
+      beside = has.beside;
+      pending = λ t. later-unsynced (leaves t) (entries ++ entries_of who end (losses_of roles spares ++ event ∷ [])) ∙ unsynced-then (world_in given tape scope first) entries who end roles spares event ∙ unsynced_is t ∙ pends;
+      dirty = has.dirty;
       levelled = λ t fills. ap tolerance_of (leaves t).levelled ∙ was.levelled t ((leaves t).right fills) ∙ sym (ap tolerance_of level);
       gone = λ t. (leaves t).gone;
       unclean = λ t. (leaves t).unclean;
       recorded = λ t. (leaves t).recorded;
-      last_step = λ t. last-left given tape tape' scope first entries (list_length old.newest) new carried true who end (losses_of roles spares) event (leaves t) (at_end t) settling.other sized (was.last_step t).past;
+      last_step = λ t. last-left given tape tape' scope first entries (list_length old.newest) new carried true who end (losses_of roles spares) event (leaves t) (at_end t) other sized (was.last_step t).past;
       stored = stored;
-      listed = λ t. listed-later given tape scope first entries (entries ++ entries_of who end (losses_of roles spares ++ event ∷ [])) new carried course' buffer' tape' (now (opening_list (world_in given tape scope first)) entries) (leaves t)
-          (settled-same (opening_list (world_in given tape scope first)) entries who end roles spares event (settlement event settling)) (call t).listed;
+      listed = λ t. listed-later given tape scope first entries (entries ++ entries_of who end (losses_of roles spares ++ event ∷ [])) new carried resync' course' buffer' tape' (now (opening_list (world_in given tape scope first)) entries) (leaves t)
+          (settled-same (opening_list (world_in given tape scope first)) entries who end roles spares event settling) (call t).listed;
       safe = λ t. (leaves t).safe;
     }
   where
     Then : List Operation → ℕ → Type 0
-    Then l e = IsSettlingCall given tape scope first entries old new carried unsynced course' buffer' who roles spares event l e
+    Then l e = IsSettlingCall given tape scope first entries old new carried unsynced resync' course' buffer' who roles spares event l e
         → IsLeftBehind given tape scope first entries (entries ++ entries_of who e (losses_of roles spares ++ event ∷ [])) new carried true l
 
     leaves : tells → IsLeftBehind given tape scope first entries (entries ++ entries_of who end (losses_of roles spares ++ event ∷ [])) new carried true tape'
@@ -121,13 +147,13 @@ settling-moves tells given tape tape' scope first entries old new carried unsync
         let g = grows.more t in
         subst (λ (l : List Operation). Then l end) (sym g.1)
         (subst (Then (tape ++ g.0)) (sym (at_end t ∙ ap (λ (l : List Operation). length l) g.1))
-        (λ call_to. settling-leaves given tape scope first entries old new carried true unsynced who roles spares event g.0 goes caller (settlement event settling) few missing sized clean was.sizes_are
-        (not-ended (is_unsynced (world_in given tape scope first) entries) (is_resync_end event) settling.resync ∙ unsynced_is t) (was.gone t) (was.unclean t) (was.recorded t) (was.safe t) (safe-now was live t)
+        (λ call_to. settling-leaves given tape scope first entries old new carried true unsynced who roles spares event g.0 goes caller settling few missing sized clean was.sizes_are
+        (unsynced_is t) (was.gone t) (was.unclean t) (was.recorded t) (was.safe t) (safe-now was live t)
         (record {
           rise = call_to.rise;
           keeps = call_to.keeps;
           settled = call_to.settled;
-          legal = λ fills gone level. settling.legal (world_in given (tape ++ g.0) scope first) (entries ++ entries_of who (length (tape ++ g.0)) (losses_of roles spares)) (entry_of who (length (tape ++ g.0)) event);
-          reshaped = settling-ends (world_in given (tape ++ g.0) scope first) entries who (length (tape ++ g.0)) roles spares event settling.ends;
+          legal = λ fills gone level. call_to.legal;
+          reshaped = settling-ends (world_in given (tape ++ g.0) scope first) entries who (length (tape ++ g.0)) roles spares event ends;
         })))
         (call t)

@@ -26,6 +26,7 @@ use Rattle.flat_history.specs.declared.events.StepKind.TheVariants.{Begun}
 use Rattle.flat_history.specs.Epochs.{HasRoomForEvents}
 use Rattle.flat_history.specs.Flat.{now, values_after, resized}
 use Rattle.flat_history.specs.Legal.{told_left, left_after}
+use Rattle.flat_history.specs.Losses.{is_unsynced}
 use Rattle.flat_history.specs.Plain.{entries_of}
 use Rattle.flat_history.specs.Sound.{OpensFit}
 use Rattle.flat_history.specs.World.{World, contents_at, opening_list}
@@ -53,10 +54,11 @@ use Rattle.kept_history.proofs.Calls.{now-live}
 use Rattle.kept_history.proofs.Growing.{fit-grown, alike-before, room-before, room-now}
 use Rattle.kept_history.proofs.Lengths.{now-drawn}
 use Rattle.kept_history.proofs.Turned.{filled-before}
-use Rattle.course_kept.specs.Course.{StandsInCourse}
 use Rattle.course_kept.specs.Laws.{closed}
 use Rattle.course_kept.proofs.Frames.{does-or}
 use Rattle.course_kept.proofs.Courses.{begins-stand}
+use Rattle.course_mends.specs.Mended.{StandsMended}
+use Rattle.course_mends.proofs.Mended.{none-pending}
 use Rattle.history_calls.specs.Reliable.{IsReliable, HasLastStep}
 use Rattle.history_calls.proofs.Behind.{early-losses}
 use Rattle.history_calls.proofs.LastStep.{keeps-last}
@@ -68,12 +70,12 @@ use Rattle.moving_kept.proofs.BegunRead.{begun-either}
 use Rattle.moving_kept.proofs.Beginning.{safe-over}
 use Rattle.moving_kept.proofs.Quiet.{IsLeftBy}
 use Rattle.moving_kept.proofs.ReadShapes.{IsEitherRead}
-use Rattle.moving_kept.proofs.Shortening.{IsShorteningCall, shortened-gone, shortened-recorded, shortened-level, shortened-unclean, shortened-values, shortened-safe}
+use Rattle.moving_kept.proofs.Shortening.{IsShorteningCall, shortened-gone, shortened-recorded, shortened-level, shortened-unclean, shortened-unsynced, shortened-values, shortened-safe}
 
 -- ---- the record
 
 module _ (given : Given) (tape : List Operation) (scope : Scope) (first : ℕ) (entries : List Entry) (old plan new : Members) (carried carried' : ℕ → Bool) (buffer : List ℕ) (who : Who) (left n roles spares : ℕ)
-    (ops : List Operation) (tells : Type 0) (was : IsStillKept tells given tape scope first entries old carried) (t : tells) (goes : IsCallGoing entries who) (caller : IsFalse (who.caller == 254))
+    (ops : List Operation) (tells : Type 0) (was : IsStillKept tells given tape scope first entries old carried) (t : tells) (synced : is_unsynced (world_in given tape scope first) entries ≡ false) (goes : IsCallGoing entries who) (caller : IsFalse (who.caller == 254))
     (told : IfSome (told_left entries) (λ n. n ≡ left + 1)) (some : left ≢ 0) (are : AreBegun scope given old plan new) (back : is_backward plan.newest ≡ true)
     (rows : AreOtherRowsKept (λ row. ⊥) (reading_of new) (present given tape) (present given (tape ++ ops)))
     (behind : IsOpenBehind (world_in given (tape ++ ops) scope first) goes.call) (call : IsShorteningCall given tape scope first entries old plan new carried carried' n roles (tape ++ ops)) where
@@ -103,7 +105,7 @@ module _ (given : Given) (tape : List Operation) (scope : Scope) (first : ℕ) (
           omega (arith, pass, most)
 
   -- the list stands, as far as it goes now, by the shape in force, if that does without what is missing of it
-  listed-old : DoesWithout (shape_of new.newest) new → IsFilledRight later all → HasListInCourse (OpensFit later) new (closed 0) buffer (present given (tape ++ ops)) (now (opening_list later) all)
+  listed-old : DoesWithout (shape_of new.newest) new → IsFilledRight later all → HasListInCourse (OpensFit later) new None (closed 0) buffer (present given (tape ++ ops)) (now (opening_list later) all)
   listed-old does fills =
       let l = was.listed t (without-old does) (filled-before world ops entries (entries_of who (length (tape ++ ops)) (Step Begun left ∷ Resized n ∷ losses_of roles spares)) recorded.begun recorded.ends fills) in
       record {
@@ -111,20 +113,20 @@ module _ (given : Given) (tape : List Operation) (scope : Scope) (first : ℕ) (
         is = λ x lt. let below : x < n = (let sized = call.sized in omega (arith, lt, sized)) in
             l.is x (let shorter = call.shorter in omega (arith, below, shorter))
             ∙ sym (shortened-values given tape scope first entries old plan new carried carried' who left n roles spares ops was.sizes_are recorded.begun recorded.ends recorded.sized (was.gone t) call x below);
-        stands = subst (λ (sound : Type 0). StandsInCourse sound (λ shape. DoesWithout shape new) new (closed 0) buffer (present given (tape ++ ops)) l.list) (sym (fit-grown world ops recorded.begun))
-            (begins-stand (OpensFit world) (λ shape. DoesWithout shape new) scope given old plan new buffer (present given tape) (present given (tape ++ ops)) l.list are.begun are.backed are.moved rows
-            (λ forth. absurd (let both = sym forth ∙ back in cc)) (λ own. l.stands) (λ own. l.rows));
+        stands = subst (λ (sound : Type 0). StandsMended sound (λ shape. DoesWithout shape new) None new (closed 0) buffer (present given (tape ++ ops)) l.list) (sym (fit-grown world ops recorded.begun))
+            ((none-pending (OpensFit world) (λ shape. DoesWithout shape new) new (closed 0) buffer (present given (tape ++ ops)) l.list).0 (begins-stand (OpensFit world) (λ shape. DoesWithout shape new) scope given old plan new buffer (present given tape) (present given (tape ++ ops)) l.list are.begun are.backed are.moved rows
+            (λ forth. absurd (let both = sym forth ∙ back in cc)) (λ own. l.stands) (λ own. l.rows)));
       }
 
   -- and if it doesn't, no row is asked to stand
-  listed : IsFilledRight later all → HasListInCourse (OpensFit later) new (closed 0) buffer (present given (tape ++ ops)) (now (opening_list later) all)
+  listed : IsFilledRight later all → HasListInCourse (OpensFit later) new None (closed 0) buffer (present given (tape ++ ops)) (now (opening_list later) all)
   listed fills = elim (does-or (shape_of new.newest) new) [
     | inl does ↦ listed-old does fills
     | inr lacks ↦ record {
       list = now (opening_list later) all;
       is = λ x lt. refl;
-      stands = begins-stand (OpensFit later) (λ shape. DoesWithout shape new) scope given old plan new buffer (present given tape) (present given (tape ++ ops)) (now (opening_list later) all) are.begun are.backed are.moved rows
-          (λ forth. absurd (let both = sym forth ∙ back in cc)) (λ own. absurd (lacks own)) (λ own. absurd (lacks own));
+      stands = (none-pending (OpensFit later) (λ shape. DoesWithout shape new) new (closed 0) buffer (present given (tape ++ ops)) (now (opening_list later) all)).0 (begins-stand (OpensFit later) (λ shape. DoesWithout shape new) scope given old plan new buffer (present given tape) (present given (tape ++ ops)) (now (opening_list later) all) are.begun are.backed are.moved rows
+          (λ forth. absurd (let both = sym forth ∙ back in cc)) (λ own. absurd (lacks own)) (λ own. absurd (lacks own)));
     }
   ]
 
@@ -155,6 +157,7 @@ module _ (given : Given) (tape : List Operation) (scope : Scope) (first : ℕ) (
     unclean = λ dirty. shortened-unclean given tape scope first entries old plan new carried carried' who left n roles spares ops was.sizes_are recorded.begun recorded.ends recorded.sized (was.gone t) call (was.unclean t (sym are.clean ∙ dirty));
     recorded = shortened-recorded given tape scope first entries old plan new carried carried' who left n roles spares ops was.sizes_are recorded.begun recorded.ends recorded.sized (was.gone t) call (safe-over was t call.live) recorded goes caller behind told some;
     last_step = last-step;
+    pending = shortened-unsynced given tape scope first entries old plan new carried carried' who left n roles spares ops was.sizes_are recorded.begun recorded.ends recorded.sized (was.gone t) call ∙ synced;
     listed = listed;
     safe = shortened-safe given tape scope first entries old plan new carried carried' who left n roles spares ops was.sizes_are recorded.begun recorded.ends recorded.sized (was.gone t) call (safe-over was t call.live);
   }
@@ -162,17 +165,21 @@ module _ (given : Given) (tape : List Operation) (scope : Scope) (first : ℕ) (
 -- So the array is in its reshape, with the shorter list.
 pub shortened-moves : (tells : Type 0) (given : Given) (tape tape' : List Operation) (scope : Scope) (first : ℕ) (entries : List Entry) (old plan new : Members) (carried carried' : ℕ → Bool) (buffer : List ℕ)
     (left n : ℕ) (who : Who) (end roles spares : ℕ)
-    → IsStillKept tells given tape scope first entries old carried → (goes : IsCallGoing entries who) → IsFalse (who.caller == 254) → (tells → end ≡ length tape') → Grows tells tape tape'
+    → IsStillKept tells given tape scope first entries old carried → (tells → is_unsynced (world_in given tape scope first) entries ≡ false) → (goes : IsCallGoing entries who) → IsFalse (who.caller == 254) → (tells → end ≡ length tape') → Grows tells tape tape'
     → IfSome (told_left entries) (λ n. n ≡ left + 1) → left ≢ 0 → AreBegun scope given old plan new → is_backward plan.newest ≡ true → (tells → IsCleared scope (disk given.start tape'))
     → (tells → AreOtherRowsKept (λ row. ⊥) (reading_of new) (present given tape) (present given tape')) → (tells → IsOpenBehind (world_in given tape' scope first) goes.call)
     → (tells → IsShorteningCall given tape scope first entries old plan new carried carried' n roles tape')
-    → IsMoving tells given tape' scope first (entries ++ entries_of who end (Step Begun left ∷ Resized n ∷ losses_of roles spares)) new carried' (closed 0) buffer left
-shortened-moves tells given tape tape' scope first entries old plan new carried carried' buffer left n who end roles spares was goes caller at_end grows told some are back cleared rows behind call = record {
+    → IsMoving tells given tape' scope first (entries ++ entries_of who end (Step Begun left ∷ Resized n ∷ losses_of roles spares)) new carried' None (closed 0) buffer left
+shortened-moves tells given tape tape' scope first entries old plan new carried carried' buffer left n who end roles spares was synced goes caller at_end grows told some are back cleared rows behind call = record {
   slots = was.slots;
   members_are = are.members_are;
   course_is = record { window = tt; through = λ some. absurd (omega (arith, some)); few = omega arith };
   sizes_are = was.sizes_are;
   left_told = left-told;
+  progress = tt;
+  beside = inl tt;
+  pending = λ t. (leaves t).pending;
+  dirty = λ does some. absurd (cc);
   levelled = λ t fills. ap tolerance_of (leaves t).levelled ∙ was.levelled t ((leaves t).right fills) ∙ ap tolerance (sym (are.moved.shape ∙ are.begun.shape));
   gone = λ t. (leaves t).gone;
   unclean = λ t. (leaves t).unclean;
@@ -199,7 +206,7 @@ shortened-moves tells given tape tape' scope first entries old plan new carried 
         let g = grows.more t in
         subst (λ (l : List Operation). Then l end) (sym g.1)
         (subst (Then (tape ++ g.0)) (sym (at_end t ∙ ap (λ (l : List Operation). length l) g.1))
-        (λ rows behind call. shortened-leaves given tape scope first entries old plan new carried carried' buffer who left n roles spares g.0 tells was t goes caller told some are back rows behind call))
+        (λ rows behind call. shortened-leaves given tape scope first entries old plan new carried carried' buffer who left n roles spares g.0 tells was t (synced t) goes caller told some are back rows behind call))
         (rows t) (behind t) (call t)
 
 -- ---- the call
@@ -278,12 +285,12 @@ module _ (tells : Type 0) (given : Given) (scope : Scope) (first : ℕ) (entries
 
   -- So a reshape that makes the list shorter begins in an array that keeps its record and leaves one that keeps it in the reshape: from what `begin` says of its call.
   pub array-shortens : (tape' : List Operation) (did : IsBegunBy tells given tape tape' scope backup uuid to old new roles) → HasNoneRecovering old → AreSparesFree given old → length old.own ≡ 32 → AreSparesFree given new
-      → length new.spares ≤ 32 → (buffer : List ℕ) (left : ℕ) (who : Who) (end lost_spares : ℕ) → (goes : IsCallGoing entries who) → IsFalse (who.caller == 254) → (tells → end ≡ length tape')
+      → length new.spares ≤ 32 → (buffer : List ℕ) (left : ℕ) (who : Who) (end lost_spares : ℕ) → (tells → is_unsynced (world_in given tape scope first) entries ≡ false) → (goes : IsCallGoing entries who) → IsFalse (who.caller == 254) → (tells → end ≡ length tape')
       → Grows tells tape tape' → IfSome (told_left entries) (λ n. n ≡ left + 1) → left ≢ 0 → ((number : ℕ) → carried number ≡ true → carried' number ≡ true) → (tells → IsCleared scope (disk given.start tape'))
       → (tells → (s k : ℕ) → k ≢ 8 → (s ≢ backup) ⊎ (k ≢ 0) → present given tape' s k ≡ present given tape s k) → (tells → IsOpenBehind (world_in given tape' scope first) goes.call)
-      → IsMoving tells given tape' scope first (entries ++ entries_of who end (Step Begun left ∷ Resized (list_length new.newest) ∷ losses_of roles lost_spares)) new carried' (closed 0) buffer left
-  array-shortens tape' did whole free long still_free spares buffer left who end lost_spares goes caller at_end grows told some numbers cleared others behind =
-      shortened-moves tells given tape tape' scope first entries old (begun_plan old to) new carried carried' buffer left (list_length new.newest) who end roles lost_spares was goes caller at_end grows told some
+      → IsMoving tells given tape' scope first (entries ++ entries_of who end (Step Begun left ∷ Resized (list_length new.newest) ∷ losses_of roles lost_spares)) new carried' None (closed 0) buffer left
+  array-shortens tape' did whole free long still_free spares buffer left who end lost_spares synced goes caller at_end grows told some numbers cleared others behind =
+      shortened-moves tells given tape tape' scope first entries old (begun_plan old to) new carried carried' buffer left (list_length new.newest) who end roles lost_spares was synced goes caller at_end grows told some
       (begun-members tells given tape tape' scope first entries backup uuid to old new carried carried' roles was did whole free long still_free spares)
       ((planned-begun-is old to was.still (roles-still given old was.placed was.still) did.in_force did.level).backward ∙ back) cleared
       (λ t. begun-rows tells given tape tape' scope first entries backup uuid to old new carried carried' roles was did whole free long still_free spares t (others t)) behind (λ t. call t)

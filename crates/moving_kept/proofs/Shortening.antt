@@ -47,7 +47,7 @@ use Rattle.kept_history.specs.Recorded.{IsHistoryKept, IsLegalCall, IsCallGoing,
 use Rattle.kept_history.specs.Safe.{world_in, IsFilledRight, IsSafeHistory}
 use Rattle.kept_history.specs.Told.{told_now, told_by}
 use Rattle.kept_history.proofs.Growing.{reading-grown, opening-grown, fit-grown, gone-grown, unsynced-grown, now-grown, alike-before, room-before, room-now}
-use Rattle.kept_history.proofs.Ledgers.{more-then, any-gone, unclean-now}
+use Rattle.kept_history.proofs.Ledgers.{more-then, any-gone, unclean-now, unsynced-still, none-ends}
 use Rattle.kept_history.proofs.Longer.{regains-none}
 use Rattle.kept_history.proofs.Lengths.{length-now}
 use Rattle.kept_history.proofs.Lists.{newest-in}
@@ -307,6 +307,10 @@ module _ (given : Given) (tape : List Operation) (scope : Scope) (first : ℕ) (
   -- what is told unclean stays so
   pub shortened-unclean : (is_unsynced world entries || is_unsettled entries) ≡ true → (is_unsynced later all || is_unsettled all) ≡ true
   shortened-unclean is = unclean-all is
+
+  -- and a resync is as pending
+  pub shortened-unsynced : is_unsynced later all ≡ is_unsynced world entries
+  shortened-unsynced = unsynced-grown world ops begun all ∙ unsynced-still world entries added (none-ends added (settle-none more adds-more))
 
   -- each sector that the list keeps has the value that it had
   pub shortened-values : (x : ℕ) → x < n → now (opening_list later) all x ≡ now (opening_list world) entries x

@@ -1,5 +1,5 @@
 -- A call that leaves the course of the reshape as it is: it reads, or it is refused.
-use Rattle.std.proofs.Common.{◌≡◌, ◌⊎◌, inl, inr, ℕ, ◌<◌, ◌≤◌, ◌==◌, Bool, true, List, [], ◌∷◌, ◌++◌, length, sym, ◌∙◌, ap, subst}
+use Rattle.std.proofs.Common.{◌≡◌, ◌⊎◌, inl, inr, ℕ, ◌<◌, ◌≤◌, ◌==◌, Bool, true, Option, List, [], ◌∷◌, ◌++◌, length, refl, sym, ◌∙◌, ap, subst}
 use Rattle.std.specs.Prelude.{IsFalse, ⊤}
 use Rattle.md_base.specs.Sectors.{Sector}
 use Rattle.md_base.specs.Shapes.{tolerance, tolerance_of}
@@ -40,12 +40,13 @@ use Rattle.kept_history.specs.Told.{told_now}
 use Rattle.course_kept.specs.declared.course.Course.{Course}
 use Rattle.grow_asked.specs.declared.window.Window.{Window}
 use Rattle.grow_asked.specs.declared.window.Window.TheVariants.{Closed, Entered, Unsure}
-use Rattle.course_kept.specs.Course.{IsWindowOf, IsCourseOf, StandsInCourse}
-use Rattle.course_kept.proofs.Frames.{stands-later}
+use Rattle.course_kept.specs.Course.{IsWindowOf, IsCourseOf}
+use Rattle.course_mends.specs.Mended.{StandsMended}
 use Rattle.history_calls.specs.Reliable.{IsReliable, AreToldGone}
 use Rattle.moving_kept.specs.Moving.{IsMoving}
 use Rattle.moving_kept.proofs.BackupKept.{stored-kept}
 use Rattle.moving_kept.proofs.MembersMove.{reshaping-moved}
+use Rattle.moving_kept.proofs.Pending.{resync-of, resync-moved, mended-later}
 use Rattle.history_calls.proofs.Quiet.{IsQuiet}
 use Rattle.moving_kept.proofs.Quiet.{quiet-moves}
 use Rattle.moving_kept.proofs.Refusals.{quiet-refusal, refused-right}
@@ -72,21 +73,21 @@ course-moved given old new course moved was = record {
 -- ---- a call that leaves it
 
 pub stays-moves : (tells : Type 0) (given : Given) (tape tape' : List Operation) (scope : Scope) (first : ℕ) (entries : List Entry) (old new : Members) (carried : ℕ → Bool)
-    (course : Course) (buffer : List ℕ) (left : ℕ) (who : Who) (end roles spares : ℕ) (event : Event)
-    → IsMoving tells given tape scope first entries old carried course buffer left → HasLiveSlot old → IsCallGoing entries who → IsFalse (who.caller == 254) → (tells → end ≡ length tape') → Grows tells tape tape'
+    (resync : Option ℕ) (course : Course) (buffer : List ℕ) (left : ℕ) (who : Who) (end roles spares : ℕ) (event : Event)
+    → IsMoving tells given tape scope first entries old carried resync course buffer left → HasLiveSlot old → IsCallGoing entries who → IsFalse (who.caller == 254) → (tells → end ≡ length tape') → Grows tells tape tape'
     → IsQuiet event → TellLeft left who end (event ∷ []) → IsMoved given old new → role_count new.newest ≤ 16 → AreMissingSince old new roles → is_clean new.newest ≡ is_clean old.newest
     → (tells → IsRisen ⊤ old new tape tape') → (tells → IsUnusedKept old (disk given.start tape) (disk given.start tape'))
-    → (tells → (sound : Type 0) (among : Shape → Type 0) (list : ℕ → Sector) → StandsInCourse sound among old course buffer (present given tape) list → StandsInCourse sound among new course buffer (present given tape') list)
+    → (tells → (sound : Type 0) (among : Shape → Type 0) (list : ℕ → Sector) → StandsMended sound among resync old course buffer (present given tape) list → StandsMended sound among resync new course buffer (present given tape') list)
     → (tells → (told : Ledger) → IsFilledRight (world_in given tape scope first) entries → IsMoreTold (told_now (world_in given tape scope first) carried true entries) told
     → HasRoomLeft old tape tape' → AreGoneTold told new → IsUncleanTold told old → IsSafeOver (world_in given tape scope first) given told old tape → KeepsSafe (world_in given tape scope first) given told new tape tape')
     → (tells → IsReliable (world_in given tape scope first) entries
     → AreToldGone (world_in given tape' scope first) (entries ++ entries_of who end (losses_of roles spares)) new
     → level_at (world_in given tape' scope first) (entries ++ entries_of who end (losses_of roles spares)) ≡ level_at (world_in given tape scope first) entries
     → IsLegalEvent (world_in given tape' scope first) (entries ++ entries_of who end (losses_of roles spares)) (entry_of who end event) [] event)
-    → IsMoving tells given tape' scope first (entries ++ entries_of who end (losses_of roles spares ++ event ∷ [])) new carried course buffer left
-stays-moves tells given tape tape' scope first entries old new carried course buffer left who end roles spares event was live goes caller at_end grows quiet tell moved few since clean rise unused stands keeps legal =
-    quiet-moves tells given tape tape' scope first entries old new carried course course buffer buffer left left who end roles spares event
-    was live goes caller at_end grows quiet (reshaping-moved scope given old new moved was.members_are) few (missing-moved roles moved since)
+    → IsMoving tells given tape' scope first (entries ++ entries_of who end (losses_of roles spares ++ event ∷ [])) new carried resync course buffer left
+stays-moves tells given tape tape' scope first entries old new carried resync course buffer left who end roles spares event was live goes caller at_end grows quiet tell moved few since clean rise unused stands keeps legal =
+    quiet-moves tells given tape tape' scope first entries old new carried resync resync course course buffer buffer left left who end roles spares event
+    was live goes caller at_end grows quiet (reshaping-moved scope given old new moved was.members_are) (resync-moved moved (λ some dirty. clean ∙ dirty) was.beside (resync-of was)) refl few (missing-moved roles moved since)
     (list-alike old.newest new.newest moved.reshape moved.shape moved.size) (ap (λ (s : Shape). s.level) moved.shape) clean (course-moved given old new course moved was.course_is)
     (λ t. stored-kept scope given old new course.window buffer (disk given.start tape) (disk given.start tape') was.members_are moved (unused t) (was.stored t))
     (left-more left entries who end (losses_of roles spares ++ event ∷ []) was.left_told (left-behind left who end (losses_of roles spares) (event ∷ []) (losses-are roles spares) tell))
@@ -99,7 +100,7 @@ stays-moves tells given tape tape' scope first entries old new carried course bu
             list = l.list;
             is = λ x lt. l.is x (subst (λ (n : ℕ). x < n) (list-alike old.newest new.newest moved.reshape moved.shape moved.size) lt);
             stands = stands t (OpensFit (world_in given tape scope first)) (λ shape. DoesWithout shape new) l.list
-                (stands-later (OpensFit (world_in given tape scope first)) given old new course buffer (present given tape) l.list moved l.stands);
+                (mended-later (OpensFit (world_in given tape scope first)) given old new resync course buffer (present given tape) l.list moved l.stands);
           };
       legal = legal t;
     })
@@ -107,16 +108,16 @@ stays-moves tells given tape tape' scope first entries old new carried course bu
 -- ---- a call that is refused
 
 pub refused-moves : (tells : Type 0) (given : Given) (tape tape' : List Operation) (scope : Scope) (first : ℕ) (entries : List Entry) (old new : Members) (carried : ℕ → Bool)
-    (course : Course) (buffer : List ℕ) (left : ℕ) (who : Who) (end roles spares : ℕ) (refusal : Refusal)
-    → IsMoving tells given tape scope first entries old carried course buffer left → HasLiveSlot old → IsCallGoing entries who → IsFalse (who.caller == 254) → (tells → end ≡ length tape') → Grows tells tape tape'
+    (resync : Option ℕ) (course : Course) (buffer : List ℕ) (left : ℕ) (who : Who) (end roles spares : ℕ) (refusal : Refusal)
+    → IsMoving tells given tape scope first entries old carried resync course buffer left → HasLiveSlot old → IsCallGoing entries who → IsFalse (who.caller == 254) → (tells → end ≡ length tape') → Grows tells tape tape'
     → IsMoved given old new → role_count new.newest ≤ 16 → AreMissingSince old new roles → is_clean new.newest ≡ is_clean old.newest → (refusal ≡ BackupFault) ⊎ AreTooMany new refusal
     → (tells → IsRisen ⊤ old new tape tape') → (tells → IsUnusedKept old (disk given.start tape) (disk given.start tape'))
-    → (tells → (sound : Type 0) (among : Shape → Type 0) (list : ℕ → Sector) → StandsInCourse sound among old course buffer (present given tape) list → StandsInCourse sound among new course buffer (present given tape') list)
+    → (tells → (sound : Type 0) (among : Shape → Type 0) (list : ℕ → Sector) → StandsMended sound among resync old course buffer (present given tape) list → StandsMended sound among resync new course buffer (present given tape') list)
     → (tells → (told : Ledger) → IsFilledRight (world_in given tape scope first) entries → IsMoreTold (told_now (world_in given tape scope first) carried true entries) told
     → HasRoomLeft old tape tape' → AreGoneTold told new → IsUncleanTold told old → IsSafeOver (world_in given tape scope first) given told old tape → KeepsSafe (world_in given tape scope first) given told new tape tape')
-    → IsMoving tells given tape' scope first (entries ++ entries_of who end (losses_of roles spares ++ Refused refusal ∷ [])) new carried course buffer left
-refused-moves tells given tape tape' scope first entries old new carried course buffer left who end roles spares refusal was live goes caller at_end grows moved few since clean why rise unused stands keeps =
-    stays-moves tells given tape tape' scope first entries old new carried course buffer left who end roles spares (Refused refusal) was live goes caller at_end grows (quiet-refusal refusal) (λ told is. is) moved few since clean rise unused stands keeps
+    → IsMoving tells given tape' scope first (entries ++ entries_of who end (losses_of roles spares ++ Refused refusal ∷ [])) new carried resync course buffer left
+refused-moves tells given tape tape' scope first entries old new carried resync course buffer left who end roles spares refusal was live goes caller at_end grows moved few since clean why rise unused stands keeps =
+    stays-moves tells given tape tape' scope first entries old new carried resync course buffer left who end roles spares (Refused refusal) was live goes caller at_end grows (quiet-refusal refusal) (λ told is. is) moved few since clean rise unused stands keeps
     (λ t fills gone level. right t fills gone level why)
   where
     right : tells → IsReliable (world_in given tape scope first) entries → AreToldGone (world_in given tape' scope first) (entries ++ entries_of who end (losses_of roles spares)) new

@@ -22,7 +22,7 @@ use Rattle.flat_history.specs.declared.events.Event.{Event}
 use Rattle.flat_history.specs.declared.events.Event.TheVariants.{Lost, SpareLost, Step}
 use Rattle.flat_history.specs.declared.events.LostCause.TheVariants.{Fault}
 use Rattle.flat_history.specs.declared.events.StepKind.{StepKind}
-use Rattle.flat_history.specs.declared.events.StepKind.TheVariants.{Entered as EntersWindow, Copied as CopiesStripe, Checkpointed as RecordsWindow, Zeroed as ZeroesStripe, WindowFinished as FinishesWindow}
+use Rattle.flat_history.specs.declared.events.StepKind.TheVariants.{Entered as EntersWindow, Copied as CopiesStripe, Checkpointed as RecordsWindow, Zeroed as ZeroesStripe, WindowFinished as FinishesWindow, ResyncStripe}
 use Rattle.flat_history.specs.Flat.{now}
 use Rattle.flat_history.specs.Legal.{told_left, known_left, call_before, disturbs, left_after, is_free_step, IsStep}
 use Rattle.flat_history.specs.Plain.{entries_of}
@@ -48,23 +48,25 @@ use Rattle.window_steps.proofs.CopyLaws.{window-alike, critical-alike}
 use Rattle.grow_asked.specs.declared.window.Window.TheVariants.{Entered}
 use Rattle.course_kept.specs.Course.{IsWindowOf, IsCourseOf, IsStoredAs, IsStored}
 use Rattle.course_kept.specs.Laws.{entered, next_stripe}
-use Rattle.course_kept.proofs.Frames.{stands-later}
-use Rattle.course_kept.proofs.Courses.{copies-go-on, courses-copied}
+use Rattle.course_kept.proofs.Courses.{courses-copied}
+use Rattle.course_mends.proofs.Windows.{mended-copies-go-on}
 use Rattle.moving_kept.specs.Moving.{HasListInCourse, IsMoving}
 use Rattle.moving_kept.proofs.BackupKept.{stored-kept}
 use Rattle.moving_kept.proofs.MembersMove.{reshaping-moved}
+use Rattle.moving_kept.proofs.Pending.{resync-of, resync-moved, unmended-of, mended-later}
 use Rattle.history_calls.proofs.Quiet.{IsQuiet}
 use Rattle.moving_kept.proofs.Quiet.{quiet-moves}
 
 -- ---- a step
 
--- the steps between the begin of a reshape and its end
+-- the steps between the begin of a reshape and its end, and those of a resync but for its last
 abbrev pub IsStepBetween : StepKind → Type 0
 IsStepBetween EntersWindow = ⊤
 IsStepBetween CopiesStripe = ⊤
 IsStepBetween RecordsWindow = ⊤
 IsStepBetween ZeroesStripe = ⊤
 IsStepBetween FinishesWindow = ⊤
+IsStepBetween ResyncStripe = ⊤
 IsStepBetween kind = ⊥
 
 not-zero : (n : ℕ) → n ≢ 0 → (n == 0) ≡ false
@@ -76,6 +78,7 @@ quiet-step CopiesStripe left is some = record { adds = refl; gives = refl; ends 
 quiet-step RecordsWindow left is some = record { adds = refl; gives = refl; ends = not-zero left some; still = λ x values. refl; level = λ n. refl; other = refl }
 quiet-step ZeroesStripe left is some = record { adds = refl; gives = refl; ends = not-zero left some; still = λ x values. refl; level = λ n. refl; other = refl }
 quiet-step FinishesWindow left is some = record { adds = refl; gives = refl; ends = not-zero left some; still = λ x values. refl; level = λ n. refl; other = refl }
+quiet-step ResyncStripe left is some = record { adds = refl; gives = refl; ends = not-zero left some; still = λ x values. refl; level = λ n. refl; other = refl }
 quiet-step kind left is some = absurd is
 
 -- ---- the steps that are left
@@ -156,8 +159,8 @@ plain-of newest span copied sectioned window none = by (is_critical (shape_of ne
     by true is = absurd (let must = window.2 is in let both = sym must ∙ none in cc)
 
 pub copied-moves : (tells : Type 0) (given : Given) (tape tape' : List Operation) (scope : Scope) (first : ℕ) (entries : List Entry) (old new : Members) (carried : ℕ → Bool)
-    (span : Span) (copied : ℕ) (sectioned : Bool) (buffer : List ℕ) (left : ℕ) (who : Who) (end roles spares : ℕ)
-    → IsMoving tells given tape scope first entries old carried (entered span copied sectioned) buffer (left + 1) → HasLiveSlot old → IsCallGoing entries who → IsFalse (who.caller == 254) → (tells → end ≡ length tape') → Grows tells tape tape'
+    (resync : Option ℕ) (span : Span) (copied : ℕ) (sectioned : Bool) (buffer : List ℕ) (left : ℕ) (who : Who) (end roles spares : ℕ)
+    → IsMoving tells given tape scope first entries old carried resync (entered span copied sectioned) buffer (left + 1) → HasLiveSlot old → IsCallGoing entries who → IsFalse (who.caller == 254) → (tells → end ≡ length tape') → Grows tells tape tape'
     → copied < stripes (final_shape old.newest) span.lo span.hi → left ≢ 0 → IsMoved given old new → role_count new.newest ≤ 16 → AreMissingSince old new roles → is_clean new.newest ≡ is_clean old.newest
     → (tells → IsRisen ⊤ old new tape tape') → (tells → IsUnusedKept old (disk given.start tape) (disk given.start tape'))
     → (tells → AreOtherRowsKept (IsOfStripe (final_shape old.newest) (next_stripe old span copied)) (reading_of new) (present given tape) (present given tape'))
@@ -165,10 +168,10 @@ pub copied-moves : (tells : Type 0) (given : Given) (tape tape' : List Operation
     → RowStands (reading_of new) (present given tape') (final_shape old.newest) list row)
     → (tells → (world : World) → (told : Ledger) → HasRoomLeft old tape tape' → AreGoneTold told new → IsUncleanTold told old → IsCopyable world.scope old span (disk given.start tape)
     → IsSafeOver world given told old tape → KeepsSafe world given told new tape tape')
-    → IsMoving tells given tape' scope first (entries ++ entries_of who end (losses_of roles spares ++ Step CopiesStripe left ∷ [])) new carried (entered span (copied + 1) sectioned) buffer left
-copied-moves tells given tape tape' scope first entries old new carried span copied sectioned buffer left who end roles spares was live goes caller at_end grows more some moved few since clean rise unused others stands safe =
-    quiet-moves tells given tape tape' scope first entries old new carried (entered span copied sectioned) (entered span (copied + 1) sectioned) buffer buffer (left + 1) left who end roles spares (Step CopiesStripe left)
-    was live goes caller at_end grows (quiet-step CopiesStripe left tt some) (reshaping-moved scope given old new moved was.members_are) few (missing-moved roles moved since)
+    → IsMoving tells given tape' scope first (entries ++ entries_of who end (losses_of roles spares ++ Step CopiesStripe left ∷ [])) new carried resync (entered span (copied + 1) sectioned) buffer left
+copied-moves tells given tape tape' scope first entries old new carried resync span copied sectioned buffer left who end roles spares was live goes caller at_end grows more some moved few since clean rise unused others stands safe =
+    quiet-moves tells given tape tape' scope first entries old new carried resync resync (entered span copied sectioned) (entered span (copied + 1) sectioned) buffer buffer (left + 1) left who end roles spares (Step CopiesStripe left)
+    was live goes caller at_end grows (quiet-step CopiesStripe left tt some) (reshaping-moved scope given old new moved was.members_are) (resync-moved moved (λ some dirty. clean ∙ dirty) was.beside (resync-of was)) refl few (missing-moved roles moved since)
     (list-alike old.newest new.newest moved.reshape moved.shape moved.size) (ap (λ (s : Shape). s.level) moved.shape) clean course_is (λ t. stored (was.stored t) (unused t)) (told-step entries who end (losses_of roles spares) CopiesStripe left (losses-are roles spares))
     (λ t. record {
       rise = rise t;
@@ -197,13 +200,13 @@ copied-moves tells given tape tape' scope first entries old new carried span cop
         more_copied true is = record { section = is.section; sectors = is.sectors; headers = is.headers }
         more_copied false is = record { section = is.section; sectors = is.sectors; headers = is.headers }
 
-    on : tells → HasListInCourse (OpensFit (world_in given tape scope first)) old (entered span copied sectioned) buffer (present given tape) (now (opening_list (world_in given tape scope first)) entries)
-        → HasListInCourse (OpensFit (world_in given tape scope first)) new (entered span (copied + 1) sectioned) buffer (present given tape') (now (opening_list (world_in given tape scope first)) entries)
+    on : tells → HasListInCourse (OpensFit (world_in given tape scope first)) old resync (entered span copied sectioned) buffer (present given tape) (now (opening_list (world_in given tape scope first)) entries)
+        → HasListInCourse (OpensFit (world_in given tape scope first)) new resync (entered span (copied + 1) sectioned) buffer (present given tape') (now (opening_list (world_in given tape scope first)) entries)
     on t l = record {
       list = l.list;
       is = λ x lt. l.is x (subst (λ (n : ℕ). x < n) (list-alike old.newest new.newest moved.reshape moved.shape moved.size) lt);
-      stands = (copies-go-on (OpensFit (world_in given tape scope first)) (λ shape. DoesWithout shape new) given old new span copied sectioned buffer (present given tape) (present given tape') l.list was.members_are.placed moved was.course_is.window.0 more
-          (plain-of old.newest span copied sectioned was.course_is.window) (others t)
-          (stands-later (OpensFit (world_in given tape scope first)) given old new (entered span copied sectioned) buffer (present given tape) l.list moved l.stands)).1
-          (λ row at. stands t l.list (courses-copied (OpensFit (world_in given tape scope first)) (λ shape. DoesWithout shape old) scope given old span copied sectioned buffer (present given tape) l.list was.members_are.backed was.course_is.window.0 l.stands) row at);
+      stands = (mended-copies-go-on (OpensFit (world_in given tape scope first)) (λ shape. DoesWithout shape new) given old new resync span copied sectioned buffer (present given tape) (present given tape') l.list was.members_are.placed moved
+          (unmended-of resync was.beside) was.course_is.window.0 more (plain-of old.newest span copied sectioned was.course_is.window) (others t)
+          (mended-later (OpensFit (world_in given tape scope first)) given old new resync (entered span copied sectioned) buffer (present given tape) l.list moved l.stands)).1
+          (λ row at. stands t l.list (courses-copied ⊥ (λ shape. DoesWithout shape old) scope given old span copied sectioned buffer (present given tape) l.list was.members_are.backed was.course_is.window.0 l.stands.in_course) row at);
     }

@@ -1,11 +1,11 @@
 -- A write beside the window of a reshape, from what `put_list` of region_writes leaves: it is done, or refused before its first row, or behind it.
 use Rattle.std.proofs.Common.{◌≡◌, ◌⊎◌, inl, inr, ℕ, ◌+◌, ◌-◌, ◌*◌, ◌/◌, ◌<◌, ◌≤◌, ◌==◌, ◌||◌, nat_le, Bool, true, false, if◌then◌else◌, Option, Some, None, List, [], ◌∷◌, ◌++◌, length, refl, sym, ◌∙◌, ap, subst, arith, append_assoc, append-nil}
-use Rattle.std.specs.Prelude.{IsFalse, fold, min, slice_index_or, ⊤}
+use Rattle.std.specs.Prelude.{IsFalse, fold, is_some, min, slice_index_or, ⊤}
 use Rattle.std.specs.Option.{option_map_or}
 use Rattle.std.proofs.lemmas.Bool.{cases_lt}
 use Rattle.std.proofs.lemmas.Bool.Decides.{nat_tests}
 use Rattle.std.proofs.lemmas.List.Sums.{fold-append}
-use Rattle.md_base.specs.Sectors.{Sector, sectors_of}
+use Rattle.md_base.specs.Sectors.{Sector, IsSector, IsWhole, sectors_of}
 use Rattle.md_base.proofs.SectorLaws.{length-sectors_of}
 use Rattle.md_base.specs.declared.answers.Refusal.{Refusal}
 use Rattle.md_base.specs.declared.answers.Who.{Who}
@@ -17,7 +17,7 @@ use Rattle.bank.specs.Given.{Given}
 use Rattle.bank.specs.Tape.{IsIn, disk}
 use Rattle.sb1.specs.declared.sb.Sb.{Sb}
 use Rattle.superblocks.specs.declared.members.Members.{Members}
-use Rattle.superblocks.specs.Reading.{Scope, shape_of, final_shape, list_length, role_count}
+use Rattle.superblocks.specs.Reading.{Scope, is_clean, shape_of, final_shape, list_length, role_count}
 use Rattle.row_io.specs.Rows.{reading_of, present}
 use Rattle.list_io.specs.Writing.{IsWritten}
 use Rattle.flat_history.specs.declared.events.Entry.{Entry}
@@ -43,7 +43,7 @@ use Rattle.views.specs.Moving.{Grows, IsMoved}
 use Rattle.safe_updates.specs.Unused.{IsUnusedKept}
 use Rattle.views.specs.Lacking.{lacking, DoesWithout, AreOtherRowsKept, AreBytes}
 use Rattle.views.proofs.Fit.{list-alike, force-disks}
-use Rattle.views.proofs.LackingLists.{row-sector}
+use Rattle.views.proofs.LackingLists.{row-sector, sectors-whole}
 use Rattle.views.proofs.LackingWrites.{list-with, list-with-is}
 use Rattle.call_entries.specs.Losing.{losses_of, failure_events}
 use Rattle.call_entries.proofs.CallLaws.{losses-are, limit-losses, values-losses}
@@ -65,10 +65,13 @@ use Rattle.kept_history.proofs.Lists.{newest-in}
 use Rattle.course_kept.specs.declared.course.Course.{Course}
 use Rattle.grow_asked.specs.declared.window.Window.{Window}
 use Rattle.grow_asked.specs.declared.window.Window.TheVariants.{Closed, Entered, Unsure}
-use Rattle.course_kept.specs.Course.{IsWindowOf, hidden_in, span_in, StandsInCourse}
+use Rattle.course_kept.specs.Course.{IsWindowOf, hidden_in, span_in}
 use Rattle.course_kept.specs.Laws.{IsOtherTouched}
-use Rattle.course_kept.proofs.Frames.{stands-later, stands-stretch}
-use Rattle.course_kept.proofs.Writes.{writes-go-on, torn-writes-go-on}
+use Rattle.region_mends.specs.Mends.{relied_sector, AreEndsStanding}
+use Rattle.region_mends.proofs.Alike.{low-alike, relied-alike}
+use Rattle.course_mends.specs.Mended.{StandsMended}
+use Rattle.course_mends.proofs.Mended.{whole-on, mended-writes-go-on}
+use Rattle.course_mends.proofs.Torn.{mended-torn-writes-go-on}
 use Rattle.history_calls.specs.Reliable.{IsReliable, AreToldGone}
 use Rattle.moving_kept.specs.Moving.{HasListInCourse, IsMoving}
 use Rattle.moving_kept.proofs.Adding.{behind-moves}
@@ -76,6 +79,7 @@ use Rattle.history_calls.proofs.LastStep.{AreWithin, losses-within}
 use Rattle.history_calls.proofs.Behind.{IsAmong, early-losses, legal-losses, first-of, first-more}
 use Rattle.moving_kept.proofs.BackupKept.{stored-kept}
 use Rattle.moving_kept.proofs.MembersMove.{reshaping-moved}
+use Rattle.moving_kept.proofs.Pending.{HasResync, resync-of, resync-moved, mended-less, mended-later}
 use Rattle.moving_kept.proofs.Refusals.{lacking-right}
 use Rattle.moving_kept.proofs.Staying.{course-moved}
 use Rattle.moving_kept.proofs.Steps.{AreMissingSince, missing-moved}
@@ -89,6 +93,7 @@ pub record ArePut (tells : Type 0) (given : Given) (tape tape' : List Operation)
   pub moved : IsMoved given old new
   pub few : role_count new.newest ≤ 16
   pub since : AreMissingSince old new roles
+  pub stays : is_clean old.newest ≡ false → is_clean new.newest ≡ false
   pub rise : tells → IsRisen ⊤ old new tape tape'
   pub unused : tells → IsUnusedKept old (disk given.start tape) (disk given.start tape')
   pub safe : tells → (world : World) → (told : Ledger) → HasRoomLeft old tape tape' → AreGoneTold told new → told.unclean ≡ true → (hidden : Option Span) → MayBeHidden old.newest hidden
@@ -101,23 +106,22 @@ pub record ArePut (tells : Type 0) (given : Given) (tape tape' : List Operation)
 
 -- What it leaves besides where it is done.
 pub record AreWritten (tells : Type 0) (given : Given) (tape tape' : List Operation) (old new : Members) (at : ℕ) (from : List ℕ) (relied : ℕ) : Type 0 where
+  pub whole : IsWhole from
   pub bytes : AreBytes from
   pub put : tells → (among : Shape → Bool) → (hidden : Option Span) → (list list' : ℕ → Sector) → IsWritten list list' at from
       → ListStandsIn (λ s. among s ≡ true) hidden old (present given tape) list → ListStandsIn (λ s. among s ≡ true) hidden new (present given tape') list'
   pub tail : tells → (list list' : ℕ → Sector) → IsWritten list list' at from → AreTailsStanding old (present given tape) list → AreTailsStanding new (present given tape') list'
+  pub ends : tells → (list list' : ℕ → Sector) → IsWritten list list' at from → AreEndsStanding old (present given tape) list → AreEndsStanding new (present given tape') list'
   pub others : tells → AreOtherRowsKept (IsListTouched old.newest at (at + length from / 512)) (reading_of new) (present given tape) (present given tape')
   pub good : tells → (among : Shape → Bool) → (hidden : Option Span) → (list list' : ℕ → Sector) → IsWritten list list' at from → AreBytes from
       → ((x : ℕ) → at ≤ x → x < at + length from / 512 → IsShown hidden old.newest x) → (bound : ℕ) → relied ≤ bound
       → RowsStandIn (λ s. among s ≡ true) hidden bound old (present given tape) list → RowsStandIn (λ s. among s ≡ true) hidden bound new (present given tape') list'
 
 -- And where it is refused: it was torn only where too many are missing, and no row is written but those that sectors have by a shape of which too many are.
--- Parity isn't relied on everywhere only while a resync is pending.
-pub record AreUnwritten (tells : Type 0) (given : Given) (tape tape' : List Operation) (scope : Scope) (first : ℕ) (entries : List Entry) (old new : Members) (at : ℕ) (from : List ℕ) (relied : ℕ)
-    (begun : Bool) (refusal : Refusal) : Type 0 where
+pub record AreUnwritten (tells : Type 0) (given : Given) (tape tape' : List Operation) (old new : Members) (at : ℕ) (from : List ℕ) (relied : ℕ) (begun : Bool) (refusal : Refusal) : Type 0 where
   pub refused : IsListUnwritten relied at (at + length from / 512) new refusal
   pub torn : begun ≡ true → IsListTorn at (at + length from / 512) new refusal
   pub torn_rows : tells → AreOtherRowsKept (IsOtherTouched (λ shape. DoesWithout shape new) old.newest at (at + length from / 512)) (reading_of new) (present given tape) (present given tape')
-  pub pending : tells → relied < list_length old.newest → is_unsynced (world_in given tape scope first) entries ≡ true
 
 -- ---- the window
 
@@ -200,14 +204,32 @@ unrelied-short newest fit relied x lt far = elim (cases_lt relied (list_length n
       omega (arith, whole, below, far))
 ]
 
+-- nor are they only while a resync is pending
+short-pending : (newest : Sb) (resync : Option ℕ) (relied : ℕ) → relied ≡ relied_sector newest resync → relied < list_length newest → is_some resync ≡ true
+short-pending newest None relied relies short = absurd (let all : relied ≡ list_length newest = relies in omega (arith, all, short))
+short-pending newest (Some mended) relied relies short = refl
+
+-- a sector is whole with the write done if it was before
+written-sector : (at : ℕ) (from : List ℕ) (list list' : ℕ → Sector) (x : ℕ) → IsWritten list list' at from → IsWhole from → AreBytes from → IsSector (list x) → IsSector (list' x)
+written-sector at from list list' x w whole bytes was = elim (cases_lt x at) [
+  | inl low ↦ subst IsSector (sym (w.other x (inl low))) was
+  | inr within ↦ elim (cases_lt x (at + length from / 512)) [
+    | inl high ↦ subst IsSector (sym (w.here x within high)) (sectors-whole from whole bytes (x - at) (omega (arith, within, high)))
+    | inr high ↦ subst IsSector (sym (w.other x (inr high))) was
+  ]
+]
+
 -- ---- the call
 
 module _ (tells : Type 0) (given : Given) (tape tape' : List Operation) (scope : Scope) (first : ℕ) (entries : List Entry) (old new : Members) (carried : ℕ → Bool)
-    (course : Course) (buffer : List ℕ) (left : ℕ) (who : Who) (end roles spares at : ℕ) (from : List ℕ) (relied : ℕ) (begun : Bool)
-    (was : IsMoving tells given tape scope first entries old carried course buffer left) (live : HasLiveSlot old) (goes : IsCallGoing entries who) (caller : IsFalse (who.caller == 254))
+    (resync : Option ℕ) (course : Course) (buffer : List ℕ) (left : ℕ) (who : Who) (end roles spares at : ℕ) (from : List ℕ) (relied : ℕ) (begun : Bool)
+    (was : IsMoving tells given tape scope first entries old carried resync course buffer left) (live : HasLiveSlot old) (goes : IsCallGoing entries who) (caller : IsFalse (who.caller == 254))
     (at_end : tells → end ≡ length tape') (grows : Grows tells tape tape') (does : (x : ℕ) → at ≤ x → x < at + length from / 512 → DoesWithout (shape_for old.newest x) old)
     (visible : tells → at + length from / 512 ≤ visible_of (length (opening_list (world_in given tape scope first))) entries)
-    (did : ArePut tells given tape tape' old new course at from relied roles begun) where
+    (relies : relied ≡ relied_sector old.newest resync) (did : ArePut tells given tape tape' old new course at from relied roles begun) where
+  has : HasResync new resync course
+  has = resync-moved did.moved (λ some. did.stays) was.beside (resync-of was)
+
   list-same : list_length new.newest ≡ list_length old.newest
   list-same = list-alike old.newest new.newest did.moved.reshape did.moved.shape did.moved.size
 
@@ -244,9 +266,9 @@ module _ (tells : Type 0) (given : Given) (tape tape' : List Operation) (scope :
   -- ---- the list
 
   -- it stands by the shapes that do without what is missing behind the call too
-  later-stands : (list : ℕ → Sector) → StandsInCourse (OpensFit (world_in given tape scope first)) (λ shape. DoesWithout shape old) old course buffer (present given tape) list
-      → StandsInCourse (OpensFit (world_in given tape scope first)) (λ shape. DoesWithout shape new) old course buffer (present given tape) list
-  later-stands list stands = stands-later (OpensFit (world_in given tape scope first)) given old new course buffer (present given tape) list did.moved stands
+  later-stands : (list : ℕ → Sector) → StandsMended (OpensFit (world_in given tape scope first)) (λ shape. DoesWithout shape old) resync old course buffer (present given tape) list
+      → StandsMended (OpensFit (world_in given tape scope first)) (λ shape. DoesWithout shape new) resync old course buffer (present given tape) list
+  later-stands list stands = mended-later (OpensFit (world_in given tape scope first)) given old new resync course buffer (present given tape) list did.moved stands
 
   -- each sector of the list may have its newest value
   newest : tells → (x : ℕ) → x < list_length old.newest → IsIn (values_of (opening_list (world_in given tape scope first)) entries x) (now (opening_list (world_in given tape scope first)) entries x)
@@ -259,28 +281,29 @@ module _ (tells : Type 0) (given : Given) (tape tape' : List Operation) (scope :
       → HasRoomLeft old tape tape' → AreGoneTold told new → IsSafeOver (world_in given tape scope first) given told old tape → KeepsSafe (world_in given tape scope first) given told new tape tape'
   keeps t told fills whole more unclean writes room gone before =
       let l = was.listed t fills in
-      let here = stands-stretch (OpensFit (world_in given tape scope first)) old course buffer (present given tape) l.list at (at + length from / 512) does l.stands in
+      let here = mended-less (OpensFit (world_in given tape scope first)) (IsShapeOf old.newest at (at + length from / 512)) (λ shape. DoesWithout shape old) resync old course buffer (present given tape) l.list
+      (λ shape own. subst (λ (s : Shape). DoesWithout s old) own.3 (does own.0 own.1 own.2)) l.stands in
       did.safe t (world_in given tape scope first) told room gone unclean (hidden_in course.window) (hidden-next old.newest course.window was.course_is.window)
-      l.list (list-with l.list at from) (list-with-is l.list at from) shown here.stands
+      l.list (list-with l.list at from) (list-with-is l.list at from) shown here.in_course.stands
       (elim whole [
         | inl all ↦ inl all
-        | inr fit ↦ inr (λ x lt own out. here.rows fit x own out)
+        | inr fit ↦ inr (λ x lt. here.rows fit x (subst (λ (n : ℕ). x < n) relies lt))
       ])
-      here.tail
+      here.in_course.tail
       (λ is. written-allowed (list_length old.newest) at from l.list (list-with l.list at from) told.values (list-with-is l.list at from)
       (λ x lt. subst (IsIn (told.values x)) (sym (l.is x lt))
       (more.values x (let size = (was.recorded t).sized in omega (arith, lt, size)) (now (opening_list (world_in given tape scope first)) entries x) (newest t x lt)))
       (writes is))
-      (λ fit x tail. l.stands.zeros tail.forth x tail.past) before
+      (λ fit x tail. l.stands.in_course.zeros tail.forth x tail.past) before
 
   -- ---- it is done
 
   pub written-moves : AreWritten tells given tape tape' old new at from relied
-      → IsMoving tells given tape' scope first (entries ++ entries_of who end (losses_of roles spares ++ Wrote at (sectors_of from) ∷ [])) new carried course buffer left
+      → IsMoving tells given tape' scope first (entries ++ entries_of who end (losses_of roles spares ++ Wrote at (sectors_of from) ∷ [])) new carried resync course buffer left
   written-moves done =
-      behind-moves tells given tape tape' scope first entries old new carried course course buffer buffer left left who end (losses_of roles spares) (IsAmong roles) (Wrote at (sectors_of from))
+      behind-moves tells given tape tape' scope first entries old new carried resync course course buffer buffer left left who end (losses_of roles spares) (IsAmong roles) (Wrote at (sectors_of from))
       was live goes caller at_end grows (record { adds = refl; gives = refl; ends = refl; level = λ n. refl; other = refl })
-      (reshaping-moved scope given old new did.moved was.members_are) did.few (first-of (early-losses roles spares)) (missing-moved roles did.moved did.since) list-same level-same (λ t dirty. inr refl)
+      (reshaping-moved scope given old new did.moved was.members_are) has did.few (first-of (early-losses roles spares)) (missing-moved roles did.moved did.since) list-same level-same (λ t dirty. inr refl)
       (course-moved given old new course did.moved was.course_is)
       (λ t. stored-kept scope given old new course.window buffer (disk given.start tape) (disk given.start tape') was.members_are did.moved (did.unused t) (was.stored t))
       (left-more left entries who end (losses_of roles spares ++ Wrote at (sectors_of from) ∷ []) was.left_told
@@ -325,7 +348,7 @@ module _ (tells : Type 0) (given : Given) (tape tape' : List Operation) (scope :
       tolerated-is shape is = is-le (lacking shape new) (tolerance shape) is
 
       listed : tells → IsFilledRight (world_in given tape scope first) entries
-          → HasListInCourse (OpensFit (world_in given tape scope first)) new course buffer (present given tape')
+          → HasListInCourse (OpensFit (world_in given tape scope first)) new resync course buffer (present given tape')
           (now (opening_list (world_in given tape scope first)) (entries ++ entries_of who end (losses_of roles spares ++ Wrote at (sectors_of from) ∷ [])))
       listed t fills =
           let l = was.listed t fills in
@@ -339,30 +362,33 @@ module _ (tells : Type 0) (given : Given) (tape tape' : List Operation) (scope :
           }
         where
           stand : (t : tells) (list list' : ℕ → Sector) → IsWritten list list' at from
-              → StandsInCourse (OpensFit (world_in given tape scope first)) (λ shape. DoesWithout shape new) old course buffer (present given tape) list
-              → StandsInCourse (OpensFit (world_in given tape scope first)) (λ shape. DoesWithout shape new) new course buffer (present given tape') list'
+              → StandsMended (OpensFit (world_in given tape scope first)) (λ shape. DoesWithout shape new) resync old course buffer (present given tape) list
+              → StandsMended (OpensFit (world_in given tape scope first)) (λ shape. DoesWithout shape new) resync new course buffer (present given tape') list'
           stand t list list' w before =
-              writes-go-on (OpensFit (world_in given tape scope first)) (λ shape. DoesWithout shape new) given old new course buffer (present given tape) (present given tape') list list' at from
+              mended-writes-go-on (OpensFit (world_in given tape scope first)) (λ shape. DoesWithout shape new) given old new resync course buffer (present given tape) (present given tape') list list' at from
               was.members_are.placed did.moved was.course_is w did.within did.beside (done.others t)
               (λ x slot own out held. done.put t tolerated (hidden_in course.window) list list' w
-              (λ x slot own out held. before.stands x slot (tolerated-is (shape_for old.newest x) own) out held) x slot (is-tolerated (shape_for new.newest x) own) out held)
-              (λ own. done.tail t list list' w (before.tail (subst (λ (s : Shape). DoesWithout s new) did.moved.reshape.final own)))
-              (λ fit x own out. done.good t tolerated (hidden_in course.window) list list' w done.bytes shown (relied + list_length new.newest) (omega arith)
-              (λ x lt own out. before.rows fit x (tolerated-is (shape_for old.newest x) own) out) x (let within = out.within in omega (arith, within)) (is-tolerated (shape_for new.newest x) own) out)
+              (λ x slot own out held. before.in_course.stands x slot (tolerated-is (shape_for old.newest x) own) out held) x slot (is-tolerated (shape_for new.newest x) own) out held)
+              (λ own. done.tail t list list' w (before.in_course.tail (subst (λ (s : Shape). DoesWithout s new) did.moved.reshape.final own)))
+              (λ some aside own. done.ends t list list' w (before.ends some aside (subst (λ (s : Shape). DoesWithout s new) (low-alike old.newest new.newest did.moved.reshape did.moved.shape did.moved.size) own)))
+              (λ some fit x at_x. written-sector at from list list' x w done.whole done.bytes (whole-on given old new did.moved list (before.whole some fit) x at_x))
+              (λ fit x below own out. done.good t tolerated (hidden_in course.window) list list' w done.bytes shown (relied_sector old.newest resync) (subst (λ (n : ℕ). relied ≤ n) relies (omega arith))
+              (λ x lt own out. before.rows fit x lt (tolerated-is (shape_for old.newest x) own) out) x
+              (subst (λ (n : ℕ). x < n) (relied-alike old.newest new.newest did.moved.reshape did.moved.shape did.moved.size resync) below) (is-tolerated (shape_for new.newest x) own) out)
               before
 
   -- ---- it is refused
 
-  module _ (refusal : Refusal) (undone : AreUnwritten tells given tape tape' scope first entries old new at from relied begun refusal) where
+  module _ (refusal : Refusal) (undone : AreUnwritten tells given tape tape' old new at from relied begun refusal) where
     -- The list stands by the shapes that do without what is missing, if the history says the same of it.
     same-listed : (t : tells) (current : ℕ → Sector) → ((x : ℕ) → current x ≡ now (opening_list (world_in given tape scope first)) entries x) → IsFilledRight (world_in given tape scope first) entries
-        → HasListInCourse (OpensFit (world_in given tape scope first)) new course buffer (present given tape') current
+        → HasListInCourse (OpensFit (world_in given tape scope first)) new resync course buffer (present given tape') current
     same-listed t current same fills =
         let l = was.listed t fills in
         record {
           list = l.list;
           is = λ x lt. l.is x (subst (λ (n : ℕ). x < n) list-same lt) ∙ sym (same x);
-          stands = torn-writes-go-on (OpensFit (world_in given tape scope first)) (λ shape. DoesWithout shape new) scope given old new course buffer (present given tape) (present given tape') l.list
+          stands = mended-torn-writes-go-on (OpensFit (world_in given tape scope first)) (λ shape. DoesWithout shape new) scope given old new resync course buffer (present given tape) (present given tape') l.list
               at (at + length from / 512) was.members_are.backed was.members_are.active did.moved was.course_is did.within did.beside (undone.torn_rows t) (later-stands l.list l.stands);
         }
 
@@ -375,11 +401,11 @@ module _ (tells : Type 0) (given : Given) (tape tape' : List Operation) (scope :
         (shape_for new.newest torn.0) refusal (shape-force new.newest torn.0) torn.3
 
     -- behind its first row
-    torn-moves : begun ≡ true → IsMoving tells given tape' scope first (entries ++ entries_of who end ((losses_of roles spares ++ Torn at (sectors_of from) ∷ []) ++ Refused refusal ∷ [])) new carried course buffer left
+    torn-moves : begun ≡ true → IsMoving tells given tape' scope first (entries ++ entries_of who end ((losses_of roles spares ++ Torn at (sectors_of from) ∷ []) ++ Refused refusal ∷ [])) new carried resync course buffer left
     torn-moves is =
-        behind-moves tells given tape tape' scope first entries old new carried course course buffer buffer left left who end (losses_of roles spares ++ Torn at (sectors_of from) ∷ []) (IsAmong roles) (Refused refusal)
+        behind-moves tells given tape tape' scope first entries old new carried resync course course buffer buffer left left who end (losses_of roles spares ++ Torn at (sectors_of from) ∷ []) (IsAmong roles) (Refused refusal)
         was live goes caller at_end grows (record { adds = refl; gives = refl; ends = refl; level = λ n. refl; other = refl })
-        (reshaping-moved scope given old new did.moved was.members_are) did.few
+        (reshaping-moved scope given old new did.moved was.members_are) has did.few
         (first-more (losses_of roles spares) (IsAmong roles) (Torn at (sectors_of from)) (first-of (early-losses roles spares)) refl refl refl (λ n. refl))
         (missing-moved roles did.moved did.since) list-same level-same (λ t dirty. inr (torn-unsettles at (at + length from / 512) new refusal (undone.torn is)))
         (course-moved given old new course did.moved was.course_is)
@@ -440,11 +466,11 @@ module _ (tells : Type 0) (given : Given) (tape tape' : List Operation) (scope :
             (torn-right t (entries ++ entries_of who end (losses_of roles spares ++ Torn at (sectors_of from) ∷ [])) fills gone level (undone.torn is))
 
     -- or before it
-    unbegun-moves : begun ≡ false → IsMoving tells given tape' scope first (entries ++ entries_of who end (losses_of roles spares ++ Refused refusal ∷ [])) new carried course buffer left
+    unbegun-moves : begun ≡ false → IsMoving tells given tape' scope first (entries ++ entries_of who end (losses_of roles spares ++ Refused refusal ∷ [])) new carried resync course buffer left
     unbegun-moves is =
-        behind-moves tells given tape tape' scope first entries old new carried course course buffer buffer left left who end (losses_of roles spares) (IsAmong roles) (Refused refusal)
+        behind-moves tells given tape tape' scope first entries old new carried resync course course buffer buffer left left who end (losses_of roles spares) (IsAmong roles) (Refused refusal)
         was live goes caller at_end grows (record { adds = refl; gives = refl; ends = refl; level = λ n. refl; other = refl })
-        (reshaping-moved scope given old new did.moved was.members_are) did.few (first-of (early-losses roles spares)) (missing-moved roles did.moved did.since) list-same level-same
+        (reshaping-moved scope given old new did.moved was.members_are) has did.few (first-of (early-losses roles spares)) (missing-moved roles did.moved did.since) list-same level-same
         (λ t dirty. clean t undone.refused) (course-moved given old new course did.moved was.course_is)
         (λ t. stored-kept scope given old new course.window buffer (disk given.start tape) (disk given.start tape') was.members_are did.moved (did.unused t) (was.stored t))
         (left-more left entries who end (losses_of roles spares ++ Refused refusal ∷ []) was.left_told (left-behind left who end (losses_of roles spares) (Refused refusal ∷ []) (losses-are roles spares) (λ told is. is)))
@@ -462,7 +488,7 @@ module _ (tells : Type 0) (given : Given) (tape tape' : List Operation) (scope :
         pending-is t x high far =
             let within = did.within in
             let short = unrelied-short new.newest did.moved.placed.fit relied x (omega (arith, high, within, list-same)) far in
-            undone.pending t (omega (arith, short, list-same))
+            was.pending t ∙ short-pending old.newest resync relied relies (omega (arith, short, list-same))
 
         clean : (t : tells) → IsListUnwritten relied at (at + length from / 512) new refusal
             → ((is_unsynced (world_in given tape scope first) entries || is_unsettled entries) ≡ true) ⊎ (unsettles (Refused refusal) ≡ true)
@@ -494,9 +520,9 @@ module _ (tells : Type 0) (given : Given) (tape tape' : List Operation) (scope :
             )
 
     -- as a write enters it that is refused
-    pub unwritten-moves : IsMoving tells given tape' scope first (entries ++ entries_of who end (failure_events roles spares begun at (sectors_of from) refusal)) new carried course buffer left
+    pub unwritten-moves : IsMoving tells given tape' scope first (entries ++ entries_of who end (failure_events roles spares begun at (sectors_of from) refusal)) new carried resync course buffer left
     unwritten-moves = by begun refl
       where
-        by : (b : Bool) → begun ≡ b → IsMoving tells given tape' scope first (entries ++ entries_of who end (failure_events roles spares b at (sectors_of from) refusal)) new carried course buffer left
+        by : (b : Bool) → begun ≡ b → IsMoving tells given tape' scope first (entries ++ entries_of who end (failure_events roles spares b at (sectors_of from) refusal)) new carried resync course buffer left
         by true is = torn-moves is
         by false is = unbegun-moves is

@@ -1,5 +1,5 @@
 -- What an array keeps that is in a reshape, over plain data.
-use Rattle.std.specs.Prelude.{◌≡◌, ℕ, ◌<◌, ◌≤◌, ◌||◌, Bool, true, false, List, length, IfSome, None, ⊤}
+use Rattle.std.specs.Prelude.{◌≡◌, ◌⊎◌, ℕ, ◌<◌, ◌≤◌, ◌||◌, Bool, true, false, List, length, Option, IfSome, IsSome, is_some, None, ⊤}
 use Rattle.md_base.specs.Sectors.{Sector}
 use Rattle.md_base.specs.Shapes.{tolerance, tolerance_of}
 use Rattle.bank.specs.declared.bank.Operation.{Operation}
@@ -30,7 +30,9 @@ use Rattle.kept_history.specs.Recorded.{IsHistoryKept}
 use Rattle.kept_history.specs.Safe.{world_in, IsFilledRight, IsSafeHistory}
 use Rattle.history_calls.specs.Reliable.{IsReliable, AreToldGone, IsNonePast, HasLastStep}
 use Rattle.course_kept.specs.declared.course.Course.{Course}
-use Rattle.course_kept.specs.Course.{IsCourseOf, IsStored, StandsInCourse}
+use Rattle.course_kept.specs.Course.{IsCourseOf, IsStored}
+use Rattle.region_mends.specs.Mends.{mend_stripes}
+use Rattle.course_mends.specs.Mended.{IsAside, IsUnmended, StandsMended}
 
 -- The members of an array in a reshape: each has its place, the backup has room for the sections, holds no role and is no spare, and no slot recovers a role.
 pub record AreReshaping (scope : Scope) (given : Given) (members : Members) : Type 0 where
@@ -43,11 +45,11 @@ pub record AreReshaping (scope : Scope) (given : Given) (members : Members) : Ty
   pub free : AreSparesFree given members
   pub spares : length members.spares ≤ 32
 
--- The list of the history stands in the course of the reshape, by each shape that does without what is missing of it.
-pub record HasListInCourse (sound : Type 0) (members : Members) (course : Course) (buffer : List ℕ) (c : Contents) (current : ℕ → Sector) : Type 0 where
+-- The list of the history stands in the course of the reshape, by each shape that does without what is missing of it; of its rows those that a pending resync has mended.
+pub record HasListInCourse (sound : Type 0) (members : Members) (resync : Option ℕ) (course : Course) (buffer : List ℕ) (c : Contents) (current : ℕ → Sector) : Type 0 where
   pub list : ℕ → Sector
   pub is : (x : ℕ) → x < list_length members.newest → list x ≡ current x
-  pub stands : StandsInCourse sound (λ shape. DoesWithout shape members) members course buffer c list
+  pub stands : StandsMended sound (λ shape. DoesWithout shape members) resync members course buffer c list
 
 -- The list of the history stands on members without a reshape: it is zero behind its end, and where the epoch opened sound, its rows stand too.
 pub record HasListStill (sound : Type 0) (members : Members) (c : Contents) (current : ℕ → Sector) : Type 0 where
@@ -77,16 +79,21 @@ pub record IsStillKept (tells : Type 0) (given : Given) (tape : List Operation) 
   pub safe : tells → IsFilledRight (world_in given tape scope first) entries → HasRoomForEvents (world_in given tape scope first) → OpensAlike (world_in given tape scope first)
       → IsSafeHistory ⊤ (world_in given tape scope first) given members carried reshaping entries
 
--- A reshape is active in the array, and this is how far it has come; so many steps are left. What is missing was told so, and a dirty mark; over a bank that
+-- A reshape is active in the array, and this is how far it has come; a resync may be pending, beside whose mended stripes no window is open; so many steps are left. What is
+-- missing was told so, and a dirty mark, and a pending resync; over a bank that
 -- tells its contents the history is legal and reaches to the tape's end, as its last step does, and tells nothing past the list's end; the backup's headers say how far the window has come, the list stands where what is
 -- filled in is right, by each shape that does without what is missing of it, and each mark so far is safe.
 pub record IsMoving (tells : Type 0) (given : Given) (tape : List Operation) (scope : Scope) (first : ℕ) (entries : List Entry)
-    (members : Members) (carried : ℕ → Bool) (course : Course) (buffer : List ℕ) (left : ℕ) : Type 0 where
+    (members : Members) (carried : ℕ → Bool) (resync : Option ℕ) (course : Course) (buffer : List ℕ) (left : ℕ) : Type 0 where
   pub slots : given.slots ≤ 32
   pub members_are : AreReshaping scope given members
   pub course_is : IsCourseOf members.newest course
   pub sizes_are : scope.sizes ≡ sizes given
   pub left_told : IfSome (told_left entries) (λ n. n ≡ left)
+  pub progress : IfSome resync (λ mended. mended ≤ mend_stripes members.newest)
+  pub beside : IsAside course.window ⊎ IsUnmended resync
+  pub pending : tells → is_unsynced (world_in given tape scope first) entries ≡ is_some resync
+  pub dirty : DoWithout members → IsSome resync → is_clean members.newest ≡ false
   pub levelled : tells → IsReliable (world_in given tape scope first) entries → tolerance_of (level_at (world_in given tape scope first) entries) ≡ tolerance (shape_of members.newest)
   pub gone : tells → IsReliable (world_in given tape scope first) entries → AreToldGone (world_in given tape scope first) entries members
   pub unclean : tells → is_clean members.newest ≡ false → (is_unsynced (world_in given tape scope first) entries || is_unsettled entries) ≡ true
@@ -94,6 +101,6 @@ pub record IsMoving (tells : Type 0) (given : Given) (tape : List Operation) (sc
   pub last_step : tells → HasLastStep (world_in given tape scope first) entries (list_length members.newest)
   pub stored : tells → IsStored scope members course.window buffer (disk given.start tape)
   pub listed : tells → IsFilledRight (world_in given tape scope first) entries
-      → HasListInCourse (OpensFit (world_in given tape scope first)) members course buffer (present given tape) (now (opening_list (world_in given tape scope first)) entries)
+      → HasListInCourse (OpensFit (world_in given tape scope first)) members resync course buffer (present given tape) (now (opening_list (world_in given tape scope first)) entries)
   pub safe : tells → IsFilledRight (world_in given tape scope first) entries → HasRoomForEvents (world_in given tape scope first) → OpensAlike (world_in given tape scope first)
       → IsSafeHistory ⊤ (world_in given tape scope first) given members carried true entries

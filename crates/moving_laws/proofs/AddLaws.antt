@@ -57,11 +57,9 @@ with-room {tells = tells} {given = given} {tape = tape} {scope = scope} {first =
     {rows = rows} {buffer = buffer} {far_rows = far_rows} {far_buffer = far_buffer} same left was =
     subst (λ (l : List Entry). IsReady tells given tape scope first l members work course ahead window faults steps room' rows buffer far_rows far_buffer) (sym same) (record {
       kept = was.kept;
-      synced = was.synced;
       sized = was.sized;
       unlimited = was.unlimited;
       full = was.full;
-      settled = was.settled;
       planned = was.planned;
       wide = was.wide;
       failed = was.failed;

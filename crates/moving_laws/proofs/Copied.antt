@@ -1,5 +1,5 @@
 -- A stripe of the open window is copied: what the array keeps, and what it answers.
-use Rattle.std.proofs.Common.{◌≡◌, ◌≢◌, inr, ℕ, ◌+◌, ◌-◌, ◌*◌, ◌<◌, ◌≤◌, ◌==◌, Bool, true, false, cond, List, [], ◌∷◌, ◌++◌, length, take, sym, ◌∙◌, ap, subst, arith, append-nil}
+use Rattle.std.proofs.Common.{◌≡◌, ◌≢◌, inr, ℕ, ◌+◌, ◌-◌, ◌*◌, ◌<◌, ◌≤◌, ◌==◌, Bool, true, false, cond, Option, Some, None, List, [], ◌∷◌, ◌++◌, length, take, refl, sym, ◌∙◌, ap, subst, arith, append-nil}
 use Rattle.std.specs.Prelude.{IsFalse, fold, ⊤}
 use Rattle.std.specs.List.{All}
 use Rattle.std.proofs.lemmas.Bool.Decides.{nat_tests}
@@ -14,6 +14,7 @@ use Rattle.bank.specs.Given.{Given}
 use Rattle.bank.specs.Tape.{disk}
 use Rattle.geometry.specs.Geometry.{beyond}
 use Rattle.grow_plan.specs.Plans.{phases_steps}
+use Rattle.sb1.specs.declared.sb.Sb.{Sb}
 use Rattle.superblocks.specs.declared.members.Members.{Members}
 use Rattle.superblocks.specs.Reading.{Scope, is_reshaping, is_backward, is_clean, final_shape, role_count}
 use Rattle.superblocks.proofs.ValidFields.{few-roles}
@@ -36,21 +37,23 @@ use Rattle.safe_updates.specs.Unused.{IsUnusedKept}
 use Rattle.call_entries.specs.Losing.{losses_of}
 use Rattle.grow_asked.specs.declared.window.Window.TheVariants.{Entered}
 use Rattle.grow_asked.specs.declared.window.PhasesLeft.{PhasesLeft}
-use Rattle.grow_asked.specs.Left.{steps_from, stripes_in, phases_of}
+use Rattle.grow_asked.specs.Left.{steps_from, stripes_in, phases_of, grow_left}
 use Rattle.grow_asked.proofs.LeftLaws.{copying}
 use Rattle.window_rows.specs.Copies.{tail_of, IsCopied}
 use Rattle.kept_history.specs.Recorded.{IsCallGoing, MayGoOn}
 use Rattle.kept_history.specs.Safe.{world_in}
 use Rattle.course_kept.specs.declared.course.Course.{Course}
 use Rattle.course_kept.specs.Laws.{entered, next_stripe}
-use Rattle.course_kept.proofs.Courses.{copies-go-on}
+use Rattle.region_mends.specs.Left.{resync_left}
+use Rattle.course_mends.proofs.Windows.{mended-copies-go-on}
 use Rattle.moving_kept.specs.Moving.{IsMoving}
+use Rattle.moving_kept.proofs.Pending.{unmended-of}
 use Rattle.moving_kept.proofs.Staying.{refused-moves}
 use Rattle.moving_kept.proofs.Steps.{AreMissingSince, able-kept, plain-of, copied-moves}
-use Rattle.running_words.specs.Parts.{RunningParts, left_in}
+use Rattle.running_words.specs.Parts.{RunningParts}
 use Rattle.moving_laws.specs.Ready.{bytes_in}
 use Rattle.running_words.specs.Calls.{IsCopyDue}
-use Rattle.moving_laws.proofs.Kept.{left-moved}
+use Rattle.moving_laws.proofs.Kept.{left_by, left-moved}
 
 -- ---- the number of a call that goes on
 
@@ -117,25 +120,37 @@ copied-more course span s copied n sectioned b window is =
 -- ---- the steps that are left
 
 -- One step fewer is left, and at least one.
-module _ (given : Given) (old new : Members) (course : Course) (ahead : PhasesLeft) (span : Span) (copied : ℕ) (sectioned : Bool) (active : is_reshaping old.newest ≡ true)
+module _ (given : Given) (old new : Members) (resync : Option ℕ) (course : Course) (ahead : PhasesLeft) (span : Span) (copied : ℕ) (sectioned : Bool) (active : is_reshaping old.newest ≡ true)
     (is : course ≡ entered span copied sectioned) (more : copied < stripes_in old.newest span) (moved : IsMoved given old new) where
   more-is : one_more course span copied sectioned ≡ entered span (copied + 1) sectioned
   more-is = ap (λ (c : Course). one_more c span copied sectioned) is
 
   -- on the members as they were
-  before-more : left_in new (one_more course span copied sectioned) ahead ≡ left_in old (entered span (copied + 1) sectioned) ahead
-  before-more = ap (λ (c : Course). left_in new c ahead) more-is ∙ left-moved given old new (entered span (copied + 1) sectioned) ahead moved
+  before-more : left_by resync new (one_more course span copied sectioned) ahead ≡ left_by resync old (entered span (copied + 1) sectioned) ahead
+  before-more = ap (λ (c : Course). left_by resync new c ahead) more-is ∙ left-moved given old new resync (entered span (copied + 1) sectioned) ahead moved
 
-  pub left-falls : left_in new (one_more course span copied sectioned) ahead + 1 ≡ left_in old course ahead
-  left-falls = ap (λ (n : ℕ). n + 1) before-more ∙ copying old.newest span sectioned copied 0 (phases_of ahead) active more ∙ sym (ap (λ (c : Course). left_in old c ahead) is)
-
-  pub left-some : left_in new (one_more course span copied sectioned) ahead ≢ 0
-  left-some none = some-of (is_reshaping old.newest) (stripes_in old.newest span - (copied + 1)) (steps_from old.newest (beyond (is_backward old.newest) span) - 0)
-      (phases_steps (final_shape old.newest) old.newest.size (phases_of ahead)) active (sym before-more ∙ none)
+  pub left-falls : left_by resync new (one_more course span copied sectioned) ahead + 1 ≡ left_by resync old course ahead
+  left-falls =
+      ap (λ (n : ℕ). n + 1) before-more
+      ∙ one (grow_left old.newest (Entered span (copied + 1) sectioned) 0 (phases_of ahead)) (grow_left old.newest (Entered span copied sectioned) 0 (phases_of ahead))
+      (resync_left old.newest (Entered span (copied + 1) sectioned) resync) (resync_left old.newest (Entered span copied sectioned) resync)
+      (copying old.newest span sectioned copied 0 (phases_of ahead) active more) (same old.newest resync)
+      ∙ sym (ap (λ (c : Course). left_by resync old c ahead) is)
     where
-      some-of : (b : Bool) (x y z : ℕ) → b ≡ true → cond b (x + 1 + y) 0 + z ≡ 0 → ⊥
-      some-of true x y z is none = omega (arith, none)
-      some-of false x y z is none = absurd (cc)
+      one : (x y m n : ℕ) → x + 1 ≡ y → m ≡ n → x + m + 1 ≡ y + n
+      one x y m n fewer same = omega (arith, fewer, same)
+
+      same : (newest : Sb) (resync : Option ℕ) → resync_left newest (Entered span (copied + 1) sectioned) resync ≡ resync_left newest (Entered span copied sectioned) resync
+      same newest None = refl
+      same newest (Some mended) = refl
+
+  pub left-some : left_by resync new (one_more course span copied sectioned) ahead ≢ 0
+  left-some none = some-of (is_reshaping old.newest) (stripes_in old.newest span - (copied + 1)) (steps_from old.newest (beyond (is_backward old.newest) span) - 0)
+      (phases_steps (final_shape old.newest) old.newest.size (phases_of ahead)) (resync_left old.newest (Entered span (copied + 1) sectioned) resync) active (sym before-more ∙ none)
+    where
+      some-of : (b : Bool) (x y z m : ℕ) → b ≡ true → cond b (x + 1 + y) 0 + z + m ≡ 0 → ⊥
+      some-of true x y z m is none = omega (arith, none)
+      some-of false x y z m is none = absurd (cc)
 
 -- ---- what is kept
 
@@ -151,48 +166,48 @@ pub record IsStripeTried (tells : Type 0) (given : Given) (tape tape' : List Ope
       → IsSafeOver world given told old tape → KeepsSafe world given told new tape tape'
 
 module _ (tells : Type 0) (given : Given) (tape tape' : List Operation) (scope : Scope) (first : ℕ) (entries : List Entry) (old new : Members) (carried : ℕ → Bool)
-    (course : Course) (ahead : PhasesLeft) (window : List ℕ) (span : Span) (copied : ℕ) (sectioned : Bool) (who : Who) (end roles spares : ℕ)
-    (was : IsMoving tells given tape scope first entries old carried course (bytes_in course.window window) (left_in old course ahead)) (is : course ≡ entered span copied sectioned) (live : HasLiveSlot old)
+    (resync : Option ℕ) (course : Course) (ahead : PhasesLeft) (window : List ℕ) (span : Span) (copied : ℕ) (sectioned : Bool) (who : Who) (end roles spares : ℕ)
+    (was : IsMoving tells given tape scope first entries old carried resync course (bytes_in course.window window) (left_by resync old course ahead)) (is : course ≡ entered span copied sectioned) (live : HasLiveSlot old)
     (more : copied < stripes_in old.newest span) (goes : IsCallGoing entries who) (caller : IsFalse (who.caller == 254)) (at_end : tells → end ≡ length tape') (grows : Grows tells tape tape')
     (did : IsStripeTried tells given tape tape' old new span copied roles) where
   abbrev bytes : List ℕ
   bytes = take (512 * (span.hi - span.lo)) window
 
-  opened : IsMoving tells given tape scope first entries old carried (entered span copied sectioned) bytes (left_in old course ahead)
-  opened = subst (λ (c : Course). IsMoving tells given tape scope first entries old carried c (bytes_in c.window window) (left_in old course ahead)) is was
+  opened : IsMoving tells given tape scope first entries old carried resync (entered span copied sectioned) bytes (left_by resync old course ahead)
+  opened = subst (λ (c : Course). IsMoving tells given tape scope first entries old carried resync c (bytes_in c.window window) (left_by resync old course ahead)) is was
 
   few : role_count new.newest ≤ 16
   few = few-roles new.newest did.moved.placed.fit.valid
 
   -- done
-  pub copied-kept : (left : ℕ) → left ≡ left_in new (one_more course span copied sectioned) ahead
+  pub copied-kept : (left : ℕ) → left ≡ left_by resync new (one_more course span copied sectioned) ahead
       → (tells → (list : ℕ → Sector) → IsCopied span bytes (tail_of old.newest) list → (row : ℕ) → IsOfStripe (final_shape old.newest) (next_stripe old span copied) row
       → RowStands (reading_of new) (present given tape') (final_shape old.newest) list row)
-      → IsMoving tells given tape' scope first (entries ++ entries_of who end (losses_of roles spares ++ Step CopiesStripe left ∷ [])) new carried (one_more course span copied sectioned) bytes
-      (left_in new (one_more course span copied sectioned) ahead)
+      → IsMoving tells given tape' scope first (entries ++ entries_of who end (losses_of roles spares ++ Step CopiesStripe left ∷ [])) new carried resync (one_more course span copied sectioned) bytes
+      (left_by resync new (one_more course span copied sectioned) ahead)
   copied-kept left left_is stands =
       let active = was.members_are.active in
-      let fewer = left-falls given old new course ahead span copied sectioned active is more did.moved in
-      let some = left-some given old new course ahead span copied sectioned active is more did.moved in
-      let one : left_in old course ahead ≡ left + 1 = sym fewer ∙ ap (λ (n : ℕ). n + 1) (sym left_is) in
-      subst (λ (n : ℕ). IsMoving tells given tape' scope first (entries ++ entries_of who end (losses_of roles spares ++ Step CopiesStripe left ∷ [])) new carried (one_more course span copied sectioned) bytes n) left_is
-      (subst (λ (c : Course). IsMoving tells given tape' scope first (entries ++ entries_of who end (losses_of roles spares ++ Step CopiesStripe left ∷ [])) new carried c bytes left)
-      (sym (more-is given old new course ahead span copied sectioned active is more did.moved))
-      (copied-moves tells given tape tape' scope first entries old new carried span copied sectioned bytes left who end roles spares
-      (subst (λ (n : ℕ). IsMoving tells given tape scope first entries old carried (entered span copied sectioned) bytes n) one opened) live goes caller at_end grows
+      let fewer = left-falls given old new resync course ahead span copied sectioned active is more did.moved in
+      let some = left-some given old new resync course ahead span copied sectioned active is more did.moved in
+      let one : left_by resync old course ahead ≡ left + 1 = sym fewer ∙ ap (λ (n : ℕ). n + 1) (sym left_is) in
+      subst (λ (n : ℕ). IsMoving tells given tape' scope first (entries ++ entries_of who end (losses_of roles spares ++ Step CopiesStripe left ∷ [])) new carried resync (one_more course span copied sectioned) bytes n) left_is
+      (subst (λ (c : Course). IsMoving tells given tape' scope first (entries ++ entries_of who end (losses_of roles spares ++ Step CopiesStripe left ∷ [])) new carried resync c bytes left)
+      (sym (more-is given old new resync course ahead span copied sectioned active is more did.moved))
+      (copied-moves tells given tape tape' scope first entries old new carried resync span copied sectioned bytes left who end roles spares
+      (subst (λ (n : ℕ). IsMoving tells given tape scope first entries old carried resync (entered span copied sectioned) bytes n) one opened) live goes caller at_end grows
       more (λ none. some (sym left_is ∙ none)) did.moved few did.since did.clean did.rise did.unused did.others stands did.safe))
 
   -- refused
   pub uncopied-kept : (refusal : Refusal) → AreTooMany new refusal
-      → IsMoving tells given tape' scope first (entries ++ entries_of who end (losses_of roles spares ++ Refused refusal ∷ [])) new carried course (bytes_in course.window window) (left_in new course ahead)
+      → IsMoving tells given tape' scope first (entries ++ entries_of who end (losses_of roles spares ++ Refused refusal ∷ [])) new carried resync course (bytes_in course.window window) (left_by resync new course ahead)
   uncopied-kept refusal many =
-      subst (λ (n : ℕ). IsMoving tells given tape' scope first (entries ++ entries_of who end (losses_of roles spares ++ Refused refusal ∷ [])) new carried course (bytes_in course.window window) n)
-      (sym (left-moved given old new course ahead did.moved))
-      (subst (λ (c : Course). IsMoving tells given tape' scope first (entries ++ entries_of who end (losses_of roles spares ++ Refused refusal ∷ [])) new carried c (bytes_in c.window window) (left_in old course ahead)) (sym is)
-      (refused-moves tells given tape tape' scope first entries old new carried (entered span copied sectioned) bytes (left_in old course ahead) who end roles spares refusal
+      subst (λ (n : ℕ). IsMoving tells given tape' scope first (entries ++ entries_of who end (losses_of roles spares ++ Refused refusal ∷ [])) new carried resync course (bytes_in course.window window) n)
+      (sym (left-moved given old new resync course ahead did.moved))
+      (subst (λ (c : Course). IsMoving tells given tape' scope first (entries ++ entries_of who end (losses_of roles spares ++ Refused refusal ∷ [])) new carried resync c (bytes_in c.window window) (left_by resync old course ahead)) (sym is)
+      (refused-moves tells given tape tape' scope first entries old new carried resync (entered span copied sectioned) bytes (left_by resync old course ahead) who end roles spares refusal
       opened live goes caller at_end grows did.moved few did.since did.clean (inr many) did.rise did.unused
       (λ t sound among list stands.
-      (copies-go-on sound among given old new span copied sectioned bytes (present given tape) (present given tape') list was.members_are.placed did.moved opened.course_is.window.0 more
+      (mended-copies-go-on sound among given old new resync span copied sectioned bytes (present given tape) (present given tape') list was.members_are.placed did.moved (unmended-of resync opened.beside) opened.course_is.window.0 more
       (plain-of old.newest span copied sectioned opened.course_is.window) (did.others t) stands).0)
       (λ t told fills more_told room gone unclean now. did.safe t (world_in given tape scope first) told room gone unclean
       (able-kept scope given old span copied sectioned (disk given.start tape) opened.course_is.window (opened.stored t).section) now)))

@@ -45,32 +45,34 @@ use Rattle.window_steps.proofs.CopyLaws.{window-alike, critical-alike}
 use Rattle.grow_asked.specs.declared.window.Window.{Window}
 use Rattle.grow_asked.specs.declared.window.Window.TheVariants.{Closed, Entered, Unsure}
 use Rattle.grow_asked.specs.declared.window.PhasesLeft.{PhasesLeft}
-use Rattle.grow_asked.specs.Left.{phases_of, reshape_left}
+use Rattle.grow_asked.specs.Left.{phases_of, reshape_left, grow_left}
 use Rattle.grow_asked.proofs.LeftLaws.{entering}
 use Rattle.kept_history.specs.Recorded.{IsCallGoing, entry_of}
 use Rattle.kept_history.specs.Safe.{world_in, IsFilledRight, TakesNone}
+use Rattle.kept_history.proofs.Entered.{adds_only}
 use Rattle.kept_history.proofs.Lists.{newest-in}
 use Rattle.history_calls.specs.Reliable.{IsReliable, AreToldGone}
 use Rattle.history_calls.proofs.Adding.{IsAdding, ChangesEarly, changing-leaves}
-use Rattle.history_calls.proofs.Behind.{IsAmong, early-losses, first-of, legal-losses}
+use Rattle.history_calls.proofs.Behind.{IsAmong, and-true, early-losses, first-of, legal-losses}
 use Rattle.history_calls.proofs.LastStep.{IsWithin, losses-within}
 use Rattle.history_calls.proofs.Quiet.{IsQuiet, IsLeftBehind, fit-later, quiet-now, last-left}
 use Rattle.course_kept.specs.declared.course.Course.{Course}
 use Rattle.course_kept.specs.Course.{HasWindowIn, IsCourseOf, IsStored, StandsInCourse}
 use Rattle.course_kept.specs.Laws.{closed}
 use Rattle.course_kept.proofs.Courses.{enters-stand}
-use Rattle.course_kept.proofs.Frames.{stands-on, stands-later, stands-whole}
+use Rattle.course_kept.proofs.Frames.{stands-on, stands-whole}
+use Rattle.course_mends.specs.Mended.{IsUnmended, StandsMended}
 use Rattle.moving_state.proofs.LeftLaws.{plans-counted, some-left}
 use Rattle.moving_state.proofs.ReshapeLaws.{under-way-of}
 use Rattle.moving_kept.specs.Moving.{HasListInCourse, IsMoving}
+use Rattle.moving_kept.proofs.Pending.{HasResync, resync-of, resync-moved, pending-on, none-stands, none-on, mended-later}
 use Rattle.moving_kept.proofs.Quiet.{safe-now}
 use Rattle.moving_kept.proofs.MembersMove.{reshaping-moved}
 use Rattle.moving_kept.proofs.Refusals.{quiet-refusal, refused-right}
 use Rattle.moving_kept.proofs.Steps.{AreMissingSince, missing-moved, quiet-step, step-is, told-behind, told-step}
-use Rattle.running_words.specs.Parts.{left_in}
 use Rattle.moving_laws.specs.Ready.{bytes_in}
 use Rattle.running_words.proofs.Called.{not_254}
-use Rattle.moving_laws.proofs.Kept.{left-moved, behind-whole, takes-before}
+use Rattle.moving_laws.proofs.Kept.{left_by, left-moved, behind-whole, takes-before}
 use Rattle.moving_laws.proofs.RecordLaws.{closed-bare}
 
 -- ---- answers
@@ -140,8 +142,8 @@ pub record IsNextTried (tells : Type 0) (given : Given) (tape tape' : List Opera
       → AreWhole new ⊎ RowsStand None old (present given tape) list → AreWritesAllowed old told.values list
       → IsSafeOver (world_in given tape scope first) given told old tape → KeepsSafe (world_in given tape scope first) given told new tape tape'
 
-module _ {tells : Type 0} {given : Given} {tape tape' : List Operation} {scope : Scope} {first : ℕ} {entries : List Entry} {old new : Members} {carried : ℕ → Bool} {former : List ℕ} {left : ℕ} (window : Window) (bytes : List ℕ)
-    (who : Who) (end roles spares : ℕ) (was : IsMoving tells given tape scope first entries old carried (closed 0) former left) (full : tells → TakesNone (world_in given tape scope first) entries → AreWhole old) (does : DoWithout old)
+module _ {tells : Type 0} {given : Given} {tape tape' : List Operation} {scope : Scope} {first : ℕ} {entries : List Entry} {old new : Members} {carried : ℕ → Bool} {resync : Option ℕ} {former : List ℕ} {left : ℕ} (window : Window) (bytes : List ℕ)
+    (who : Who) (end roles spares : ℕ) (was : IsMoving tells given tape scope first entries old carried resync (closed 0) former left) (synced : resync ≡ None) (full : tells → TakesNone (world_in given tape scope first) entries → AreWhole old) (does : DoWithout old)
     (goes : IsCallGoing entries who) (caller : IsFalse (who.caller == 254)) (at_end : tells → end ≡ length tape') (grows : Grows tells tape tape')
     (next : IsNextWindow old.newest window) (did : IsNextTried tells given tape tape' scope first old new window bytes roles) where
   long-same : list_length new.newest ≡ list_length old.newest
@@ -168,6 +170,11 @@ module _ {tells : Type 0} {given : Given} {tape tape' : List Operation} {scope :
     rows-of list (inl whole) stands = inl whole
     rows-of list (inr fit) stands = inr (λ x shown. (stands-whole (OpensFit (world_in given tape scope first)) old (closed 0) former (present given tape) list does stands).rows fit x tt shown)
 
+    -- no resync is pending, so it stands in its course
+    plain : (t : tells) (list : ℕ → Sector) → StandsMended (OpensFit (world_in given tape scope first)) (λ shape. DoesWithout shape old) resync old (closed 0) former (present given tape) list
+        → StandsInCourse (OpensFit (world_in given tape scope first)) (λ shape. DoesWithout shape old) old (closed 0) former (present given tape) list
+    plain t list stands = none-stands (OpensFit (world_in given tape scope first)) (λ shape. DoesWithout shape old) resync old (closed 0) former (present given tape) list synced stands
+
     -- ---- each mark
 
     -- of a call from this tape to that one
@@ -193,7 +200,7 @@ module _ {tells : Type 0} {given : Given} {tape tape' : List Operation} {scope :
         rise = did.rise t;
         keeps = λ told right gone fills more values room told_gone unclean unsettled before.
             let l = was.listed t fills in
-            did.safe t told l.list room told_gone unclean (list-of l.list l.stands) (rows-of l.list (filled t right.fills) l.stands)
+            did.safe t told l.list room told_gone unclean (list-of l.list (plain t l.list l.stands)) (rows-of l.list (filled t right.fills) (plain t l.list l.stands))
             (current l.list l.is t told (λ x v may lt. more.values x (let sized = (was.recorded t).sized in omega (arith, lt, sized)) v may)) before;
         legal = λ right gone level. legal-losses (world_in given tape' scope first) entries who end (losses_of roles spares) (event ∷ []) (losses-are roles spares) (legal t right gone level, tt, tt);
       }
@@ -211,7 +218,7 @@ module _ {tells : Type 0} {given : Given} {tape tape' : List Operation} {scope :
           (changes t)
 
       listed : (t : tells) → IsFilledRight (world_in given tape' scope first) all
-          → HasListInCourse (OpensFit (world_in given tape' scope first)) new (course_in window) bytes (present given tape') (now (opening_list (world_in given tape' scope first)) all)
+          → HasListInCourse (OpensFit (world_in given tape' scope first)) new resync (course_in window) bytes (present given tape') (now (opening_list (world_in given tape' scope first)) all)
       listed t fills =
           let behind = leaves t in
           let l = was.listed t (behind.fills fills) in
@@ -220,19 +227,27 @@ module _ {tells : Type 0} {given : Given} {tape tape' : List Operation} {scope :
             is = λ x lt. l.is x (subst (λ (n : ℕ). x < n) long-same lt)
                 ∙ sym (quiet-now (opening_list (world_in given tape scope first)) entries who end (losses_of roles spares) (IsAmong roles) event (early-losses roles spares) quiet x)
                 ∙ sym (ap (λ (o : List Sector). now o all x) behind.opened);
-            stands = subst (λ (sound : Type 0). StandsInCourse sound (λ shape. DoesWithout shape new) new (course_in window) bytes (present given tape') l.list) (sym (fit-later behind))
-                (next-stands (OpensFit (world_in given tape scope first)) (λ shape. DoesWithout shape new) given old new former bytes (present given tape) (present given tape') l.list did.moved (did.kept t) window next
-                (did.has t l.list (list-of l.list l.stands) (rows-of l.list (filled t fills) l.stands))
-                (stands-later (OpensFit (world_in given tape scope first)) given old new (closed 0) former (present given tape) l.list did.moved l.stands));
+            stands = subst (λ (sound : Type 0). StandsMended sound (λ shape. DoesWithout shape new) resync new (course_in window) bytes (present given tape') l.list) (sym (fit-later behind))
+                (none-on (OpensFit (world_in given tape scope first)) (λ shape. DoesWithout shape new) resync old new (closed 0) (course_in window) former bytes (present given tape) (present given tape') l.list synced
+                (λ before. next-stands (OpensFit (world_in given tape scope first)) (λ shape. DoesWithout shape new) given old new former bytes (present given tape) (present given tape') l.list did.moved (did.kept t) window next
+                (did.has t l.list (list-of l.list (plain t l.list l.stands)) (rows-of l.list (filled t fills) (plain t l.list l.stands))) before)
+                (mended-later (OpensFit (world_in given tape scope first)) given old new resync (closed 0) former (present given tape) l.list did.moved l.stands));
           }
 
-      pub next-moves : (left' : ℕ) → IfSome (told_left all) (λ n. n ≡ left') → IsMoving tells given tape' scope first all new carried (course_in window) bytes left'
+      resynced : HasResync new resync (course_in window)
+      resynced = resync-moved did.moved (λ some dirty. did.clean ∙ dirty) (inr (subst IsUnmended (sym synced) tt)) (resync-of was)
+
+      pub next-moves : (left' : ℕ) → IfSome (told_left all) (λ n. n ≡ left') → IsMoving tells given tape' scope first all new carried resync (course_in window) bytes left'
       next-moves left' told = record {
         slots = was.slots;
         members_are = reshaping-moved scope given old new did.moved was.members_are;
         course_is = next-course given old new did.moved window next;
         sizes_are = was.sizes_are;
         left_told = told;
+        progress = resynced.progress;
+        beside = resynced.beside;
+        pending = λ t. pending-on (entries_of who end (losses_of roles spares ++ event ∷ [])) (leaves t) ((early-losses roles spares).adds who end (event ∷ []) (and-true (adds_only event) true quiet.adds refl)) ∙ was.pending t;
+        dirty = resynced.dirty;
         levelled = λ t right. ap tolerance_of (leaves t).levelled ∙ was.levelled t ((leaves t).right right) ∙ sym (ap tolerance did.moved.shape);
         gone = λ t. (leaves t).gone;
         unclean = λ t. (leaves t).unclean;
@@ -246,44 +261,55 @@ module _ {tells : Type 0} {given : Given} {tape tape' : List Operation} {scope :
 -- ---- the step
 
 -- the bytes of the window in the buffer
-bytes-of : (tells : Type 0) (given : Given) (tape : List Operation) (scope : Scope) (first : ℕ) (entries : List Entry) (m : Members) (carried : ℕ → Bool) (left : ℕ) (span : Span) (buffer : List ℕ) (window : Window)
+bytes-of : (tells : Type 0) (given : Given) (tape : List Operation) (scope : Scope) (first : ℕ) (entries : List Entry) (m : Members) (carried : ℕ → Bool) (resync : Option ℕ) (left : ℕ) (span : Span) (buffer : List ℕ) (window : Window)
     → (window ≡ Closed) ⊎ (((sectioned : Bool) × (window ≡ Entered span 0 sectioned)) ⊎ (window ≡ Unsure span))
-    → IsMoving tells given tape scope first entries m carried (course_in window) (take (512 * (span.hi - span.lo)) buffer) left
-    → IsMoving tells given tape scope first entries m carried (course_in window) (bytes_in window buffer) left
-bytes-of tells given tape scope first entries m carried left span buffer window (inl is) kept =
-    subst (λ (w : Window). IsMoving tells given tape scope first entries m carried (course_in w) (bytes_in w buffer) left) (sym is)
+    → IsMoving tells given tape scope first entries m carried resync (course_in window) (take (512 * (span.hi - span.lo)) buffer) left
+    → IsMoving tells given tape scope first entries m carried resync (course_in window) (bytes_in window buffer) left
+bytes-of tells given tape scope first entries m carried resync left span buffer window (inl is) kept =
+    subst (λ (w : Window). IsMoving tells given tape scope first entries m carried resync (course_in w) (bytes_in w buffer) left) (sym is)
     (closed-bare 0 (take (512 * (span.hi - span.lo)) buffer) left
-    (subst (λ (w : Window). IsMoving tells given tape scope first entries m carried (course_in w) (take (512 * (span.hi - span.lo)) buffer) left) is kept))
-bytes-of tells given tape scope first entries m carried left span buffer window (inr (inl is)) kept =
-    subst (λ (w : Window). IsMoving tells given tape scope first entries m carried (course_in w) (bytes_in w buffer) left) (sym is.1)
-    (subst (λ (w : Window). IsMoving tells given tape scope first entries m carried (course_in w) (take (512 * (span.hi - span.lo)) buffer) left) is.1 kept)
-bytes-of tells given tape scope first entries m carried left span buffer window (inr (inr is)) kept =
-    subst (λ (w : Window). IsMoving tells given tape scope first entries m carried (course_in w) (bytes_in w buffer) left) (sym is)
-    (subst (λ (w : Window). IsMoving tells given tape scope first entries m carried (course_in w) (take (512 * (span.hi - span.lo)) buffer) left) is kept)
+    (subst (λ (w : Window). IsMoving tells given tape scope first entries m carried resync (course_in w) (take (512 * (span.hi - span.lo)) buffer) left) is kept))
+bytes-of tells given tape scope first entries m carried resync left span buffer window (inr (inl is)) kept =
+    subst (λ (w : Window). IsMoving tells given tape scope first entries m carried resync (course_in w) (bytes_in w buffer) left) (sym is.1)
+    (subst (λ (w : Window). IsMoving tells given tape scope first entries m carried resync (course_in w) (take (512 * (span.hi - span.lo)) buffer) left) is.1 kept)
+bytes-of tells given tape scope first entries m carried resync left span buffer window (inr (inr is)) kept =
+    subst (λ (w : Window). IsMoving tells given tape scope first entries m carried resync (course_in w) (bytes_in w buffer) left) (sym is)
+    (subst (λ (w : Window). IsMoving tells given tape scope first entries m carried resync (course_in w) (take (512 * (span.hi - span.lo)) buffer) left) is kept)
 
-module _ {tells : Type 0} {given : Given} {tape tape' : List Operation} {scope : Scope} {first : ℕ} {entries : List Entry} {old new : Members} {carried : ℕ → Bool} {former : List ℕ} (course : Course) (ahead : PhasesLeft)
+module _ {tells : Type 0} {given : Given} {tape tape' : List Operation} {scope : Scope} {first : ℕ} {entries : List Entry} {old new : Members} {carried : ℕ → Bool} {resync : Option ℕ} {former : List ℕ} (course : Course) (ahead : PhasesLeft)
     (window : Window) (span : Span) (buffer : List ℕ) (who : Who) (end roles spares : ℕ) (is : course ≡ closed 0) (at : next_window old.newest ≡ Some span)
-    (was : IsMoving tells given tape scope first entries old carried course former (left_in old course ahead)) (full : tells → TakesNone (world_in given tape scope first) entries → AreWhole old) (does : DoWithout old)
+    (was : IsMoving tells given tape scope first entries old carried resync course former (left_by resync old course ahead)) (synced : resync ≡ None) (full : tells → TakesNone (world_in given tape scope first) entries → AreWhole old) (does : DoWithout old)
     (goes : IsCallGoing entries who) (caller : who.caller ≢ 254) (at_end : tells → end ≡ length tape') (grows : Grows tells tape tape')
     (did : IsNextTried tells given tape tape' scope first old new window (take (512 * (span.hi - span.lo)) buffer) roles) where
   -- the course with the window
   pub with-window : record course { window = window } ≡ course_in window
   with-window = ap (λ (k : Course). record k { window = window }) is
 
-  before : IsMoving tells given tape scope first entries old carried (closed 0) former (left_in old (closed 0) ahead)
-  before = subst (λ (k : Course). IsMoving tells given tape scope first entries old carried k former (left_in old k ahead)) is was
+  before : IsMoving tells given tape scope first entries old carried resync (closed 0) former (left_by resync old (closed 0) ahead)
+  before = subst (λ (k : Course). IsMoving tells given tape scope first entries old carried resync k former (left_by resync old k ahead)) is was
 
-  left-with : left_in new (record course { window = window }) ahead ≡ left_in old (course_in window) ahead
-  left-with = ap (λ (k : Course). left_in new k ahead) with-window ∙ left-moved given old new (course_in window) ahead did.moved
+  left-with : left_by resync new (record course { window = window }) ahead ≡ left_by resync old (course_in window) ahead
+  left-with = ap (λ (k : Course). left_by resync new k ahead) with-window ∙ left-moved given old new resync (course_in window) ahead did.moved
+
+  -- none of them is of a resync
+  left-alone : (m : Members) (k : Course) → left_by resync m k ahead ≡ grow_left m.newest k.window k.zeroed (phases_of ahead)
+  left-alone m k = by resync synced
+    where
+      plus-none : (n : ℕ) → n + 0 ≡ n
+      plus-none n = omega arith
+
+      by : (o : Option ℕ) → o ≡ None → left_by o m k ahead ≡ grow_left m.newest k.window k.zeroed (phases_of ahead)
+      by None none = plus-none (grow_left m.newest k.window k.zeroed (phases_of ahead))
+      by (Some mended) none = absurd (cc)
 
   -- as the array has it
-  put : (events : List Event) → (left : ℕ) → left_in new (record course { window = window }) ahead ≡ left → (window ≡ Closed) ⊎ (((sectioned : Bool) × (window ≡ Entered span 0 sectioned)) ⊎ (window ≡ Unsure span))
-      → IsMoving tells given tape' scope first (entries ++ entries_of who end events) new carried (course_in window) (take (512 * (span.hi - span.lo)) buffer) left
-      → IsMoving tells given tape' scope first (entries ++ entries_of who end events) new carried (record course { window = window }) (bytes_in window buffer) (left_in new (record course { window = window }) ahead)
+  put : (events : List Event) → (left : ℕ) → left_by resync new (record course { window = window }) ahead ≡ left → (window ≡ Closed) ⊎ (((sectioned : Bool) × (window ≡ Entered span 0 sectioned)) ⊎ (window ≡ Unsure span))
+      → IsMoving tells given tape' scope first (entries ++ entries_of who end events) new carried resync (course_in window) (take (512 * (span.hi - span.lo)) buffer) left
+      → IsMoving tells given tape' scope first (entries ++ entries_of who end events) new carried resync (record course { window = window }) (bytes_in window buffer) (left_by resync new (record course { window = window }) ahead)
   put events left same which kept =
-      subst (λ (n : ℕ). IsMoving tells given tape' scope first (entries ++ entries_of who end events) new carried (record course { window = window }) (bytes_in window buffer) n) (sym same)
-      (subst (λ (k : Course). IsMoving tells given tape' scope first (entries ++ entries_of who end events) new carried k (bytes_in window buffer) left) (sym with-window)
-      (bytes-of tells given tape' scope first (entries ++ entries_of who end events) new carried left span buffer window which kept))
+      subst (λ (n : ℕ). IsMoving tells given tape' scope first (entries ++ entries_of who end events) new carried resync (record course { window = window }) (bytes_in window buffer) n) (sym same)
+      (subst (λ (k : Course). IsMoving tells given tape' scope first (entries ++ entries_of who end events) new carried resync k (bytes_in window buffer) left) (sym with-window)
+      (bytes-of tells given tape' scope first (entries ++ entries_of who end events) new carried resync left span buffer window which kept))
 
   -- ---- it is refused
 
@@ -294,24 +320,24 @@ module _ {tells : Type 0} {given : Given} {tape tape' : List Operation} {scope :
       | inr named ↦ subst (IsNextWindow old.newest) (sym named) at
     ]
 
-    refused-left : left_in old (course_in window) ahead ≡ left_in old (closed 0) ahead
-    refused-left = elim which [
-      | inl none ↦ ap (λ (w : Window). left_in old (course_in w) ahead) none
-      | inr named ↦ ap (λ (w : Window). left_in old (course_in w) ahead) named
-    ]
+    refused-left : left_by resync old (course_in window) ahead ≡ left_by resync old (closed 0) ahead
+    refused-left = left-alone old (course_in window) ∙ elim which [
+      | inl none ↦ ap (λ (w : Window). grow_left old.newest w 0 (phases_of ahead)) none
+      | inr named ↦ ap (λ (w : Window). grow_left old.newest w 0 (phases_of ahead)) named
+    ] ∙ sym (left-alone old (closed 0))
 
     refused-which : (window ≡ Closed) ⊎ (((sectioned : Bool) × (window ≡ Entered span 0 sectioned)) ⊎ (window ≡ Unsure span))
     refused-which = elim which [ inl none ↦ inl none | inr named ↦ inr (inr named) ]
 
     pub enter-refused : (refusal : Refusal) → AreTooMany new refusal ⊎ (refusal ≡ BackupFault)
-        → IsMoving tells given tape' scope first (entries ++ entries_of who end (losses_of roles spares ++ Refused refusal ∷ [])) new carried (record course { window = window }) (bytes_in window buffer)
-        (left_in new (record course { window = window }) ahead)
+        → IsMoving tells given tape' scope first (entries ++ entries_of who end (losses_of roles spares ++ Refused refusal ∷ [])) new carried resync (record course { window = window }) (bytes_in window buffer)
+        (left_by resync new (record course { window = window }) ahead)
     enter-refused refusal why =
-        put (losses_of roles spares ++ Refused refusal ∷ []) (left_in old (closed 0) ahead) (left-with ∙ refused-left) refused-which
-        (next-moves window (take (512 * (span.hi - span.lo)) buffer) who end roles spares before full does goes (not_254 who.caller caller) at_end grows refused-next did (Refused refusal) (quiet-refusal refusal) tt
-        (λ t right gone level. legal t right gone level why) (left_in old (closed 0) ahead)
-        (left-more (left_in old (closed 0) ahead) entries who end (losses_of roles spares ++ Refused refusal ∷ []) before.left_told
-        (left-behind (left_in old (closed 0) ahead) who end (losses_of roles spares) (Refused refusal ∷ []) (losses-are roles spares) (λ told same. same))))
+        put (losses_of roles spares ++ Refused refusal ∷ []) (left_by resync old (closed 0) ahead) (left-with ∙ refused-left) refused-which
+        (next-moves window (take (512 * (span.hi - span.lo)) buffer) who end roles spares before synced full does goes (not_254 who.caller caller) at_end grows refused-next did (Refused refusal) (quiet-refusal refusal) tt
+        (λ t right gone level. legal t right gone level why) (left_by resync old (closed 0) ahead)
+        (left-more (left_by resync old (closed 0) ahead) entries who end (losses_of roles spares ++ Refused refusal ∷ []) before.left_told
+        (left-behind (left_by resync old (closed 0) ahead) who end (losses_of roles spares) (Refused refusal ∷ []) (losses-are roles spares) (λ told same. same))))
       where
         legal : tells → IsReliable (world_in given tape scope first) entries → AreToldGone (world_in given tape' scope first) (entries ++ entries_of who end (losses_of roles spares)) new
             → level_at (world_in given tape' scope first) (entries ++ entries_of who end (losses_of roles spares)) ≡ level_at (world_in given tape scope first) entries
@@ -326,27 +352,28 @@ module _ {tells : Type 0} {given : Given} {tape tape' : List Operation} {scope :
 
   module _ (sectioned : Bool) (named : window ≡ Entered span 0 sectioned) where
     -- one step fewer is left
-    pub enter-left : left_in new (record course { window = window }) ahead + 1 ≡ left_in old course ahead
+    pub enter-left : left_by resync new (record course { window = window }) ahead + 1 ≡ left_by resync old course ahead
     enter-left =
-        ap (λ (n : ℕ). n + 1) (left-with ∙ ap (λ (w : Window). left_in old (course_in w) ahead) named)
+        ap (λ (n : ℕ). n + 1) (left-with ∙ left-alone old (course_in window) ∙ ap (λ (w : Window). grow_left old.newest w 0 (phases_of ahead)) named)
         ∙ entering old.newest span sectioned 0 (phases_of ahead) (under-way-of old.newest was.members_are.placed.fit was.members_are.active) at (omega arith)
-        ∙ sym (ap (λ (k : Course). left_in old k ahead) is)
+        ∙ sym (left-alone old (closed 0))
+        ∙ sym (ap (λ (k : Course). left_by resync old k ahead) is)
 
     -- and at least the end
-    enter-some : left_in new (record course { window = window }) ahead ≢ 0
+    enter-some : left_by resync new (record course { window = window }) ahead ≢ 0
     enter-some none =
-        some (left_in new (record course { window = window }) ahead) (left_in old (course_in window) ahead) (reshape_left old.newest window 0) (phases_steps (final_shape old.newest) old.newest.size (phases_of ahead))
-        left-with (plans-counted old.newest (course_in window) (phases_of ahead) was.members_are.active) (some-left old.newest window 0 (omega arith)) none
+        some (left_by resync new (record course { window = window }) ahead) (grow_left old.newest window 0 (phases_of ahead)) (reshape_left old.newest window 0) (phases_steps (final_shape old.newest) old.newest.size (phases_of ahead))
+        (left-with ∙ left-alone old (course_in window)) (plans-counted old.newest (course_in window) (phases_of ahead) was.members_are.active) (some-left old.newest window 0 (omega arith)) none
       where
         some : (x y r p : ℕ) → x ≡ y → r + p ≡ y → 0 < r → x ≢ 0
         some x y r p same counted more zero = absurd (omega (arith, same, counted, more, zero))
 
-    pub enter-done : (is_critical (shape_of old.newest) (final_shape old.newest) old.newest.size (is_backward old.newest) span ≡ true → sectioned ≡ true) → (left : ℕ) → left ≡ left_in new (record course { window = window }) ahead
-        → IsMoving tells given tape' scope first (entries ++ entries_of who end (losses_of roles spares ++ Step EntersWindow left ∷ [])) new carried (record course { window = window }) (bytes_in window buffer)
-        (left_in new (record course { window = window }) ahead)
+    pub enter-done : (is_critical (shape_of old.newest) (final_shape old.newest) old.newest.size (is_backward old.newest) span ≡ true → sectioned ≡ true) → (left : ℕ) → left ≡ left_by resync new (record course { window = window }) ahead
+        → IsMoving tells given tape' scope first (entries ++ entries_of who end (losses_of roles spares ++ Step EntersWindow left ∷ [])) new carried resync (record course { window = window }) (bytes_in window buffer)
+        (left_by resync new (record course { window = window }) ahead)
     enter-done critical left told =
         put (losses_of roles spares ++ Step EntersWindow left ∷ []) left (sym told) (inr (inl (sectioned, named)))
-        (next-moves window (take (512 * (span.hi - span.lo)) buffer) who end roles spares before full does goes (not_254 who.caller caller) at_end grows
+        (next-moves window (take (512 * (span.hi - span.lo)) buffer) who end roles spares before synced full does goes (not_254 who.caller caller) at_end grows
         (subst (IsNextWindow old.newest) (sym named) (at, refl, critical)) did (Step EntersWindow left) (quiet-step EntersWindow left tt (λ zero. enter-some (sym told ∙ zero))) tt
         (λ t right gone level. step-is (world_in given tape' scope first) (entries ++ entries_of who end (losses_of roles spares)) (entry_of who end (Step EntersWindow left)) EntersWindow left
         (told-behind (left + 1) entries who end (losses_of roles spares) (losses-are roles spares)

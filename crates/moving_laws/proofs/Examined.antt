@@ -13,14 +13,18 @@ use Rattle.moving_kept.specs.Moving.{IsMoving}
 use Rattle.moving_laws.specs.Ready.{IsReady}
 
 -- nothing was written
-moving-still : {tells : Type 0} {given : Given} {tape tape' : List Operation} {scope : Scope} {first : ℕ} {entries : List Entry} {members : Members} {carried : ℕ → Bool} {course : Course} {buffer : List ℕ} {left : ℕ}
-    → (tells → tape' ≡ tape) → IsMoving tells given tape scope first entries members carried course buffer left → IsMoving tells given tape' scope first entries members carried course buffer left
-moving-still {tells = tells} {given = given} {tape' = tape'} {scope = scope} {first = first} {entries = entries} {members = members} {carried = carried} {course = course} {buffer = buffer} {left = left} same was = record {
+moving-still : {tells : Type 0} {given : Given} {tape tape' : List Operation} {scope : Scope} {first : ℕ} {entries : List Entry} {members : Members} {carried : ℕ → Bool} {resync : Option ℕ} {course : Course} {buffer : List ℕ} {left : ℕ}
+    → (tells → tape' ≡ tape) → IsMoving tells given tape scope first entries members carried resync course buffer left → IsMoving tells given tape' scope first entries members carried resync course buffer left
+moving-still {tells = tells} {given = given} {tape' = tape'} {scope = scope} {first = first} {entries = entries} {members = members} {carried = carried} {resync = resync} {course = course} {buffer = buffer} {left = left} same was = record {
   slots = was.slots;
   members_are = was.members_are;
   course_is = was.course_is;
   sizes_are = was.sizes_are;
   left_told = was.left_told;
+  progress = was.progress;
+  beside = was.beside;
+  pending = λ t. (there t).pending t;
+  dirty = was.dirty;
   levelled = λ t. (there t).levelled t;
   gone = λ t. (there t).gone t;
   unclean = λ t. (there t).unclean t;
@@ -31,8 +35,8 @@ moving-still {tells = tells} {given = given} {tape' = tape'} {scope = scope} {fi
   last_step = λ t. (there t).last_step t;
 }
   where
-    there : tells → IsMoving tells given tape' scope first entries members carried course buffer left
-    there t = subst (λ (l : List Operation). IsMoving tells given l scope first entries members carried course buffer left) (sym (same t)) was
+    there : tells → IsMoving tells given tape' scope first entries members carried resync course buffer left
+    there t = subst (λ (l : List Operation). IsMoving tells given l scope first entries members carried resync course buffer left) (sym (same t)) was
 
 pub ready-still : {tells : Type 0} {given given' : Given} {tape tape' : List Operation} {uuid : List ℕ} {slots : ℕ} {backup : Option ℕ} {first : ℕ} {entries : List Entry} {members : Members} {work : Work} {course : Course}
     {ahead : PhasesLeft} {window : List ℕ} {faults faults' : ℕ → ℕ} {steps room rows buffer far_rows far_buffer : ℕ} → given' ≡ given → (tells → tape' ≡ tape) → ((s : ℕ) → faults s ≤ faults' s)
@@ -42,11 +46,9 @@ ready-still {tells = tells} {given = given} {tape' = tape'} {uuid = uuid} {slots
     {faults = faults} {faults' = faults'} {steps = steps} {room = room} {rows = rows} {buffer = buffer} {far_rows = far_rows} {far_buffer = far_buffer} known same rose was =
     subst (λ (g : Given). IsReady tells g tape' (scope_in g uuid slots backup) first entries members work course ahead window faults' steps room rows buffer far_rows far_buffer) (sym known) (record {
       kept = moving-still same was.kept;
-      synced = was.synced;
       sized = was.sized;
       unlimited = was.unlimited;
       full = λ t. (there t).full t;
-      settled = λ t. (there t).settled t;
       planned = was.planned;
       wide = was.wide;
       failed = λ slot lt lost. let before = was.failed slot lt lost in let more = rose slot in omega (arith, before, more);

@@ -1,5 +1,5 @@
 -- What an array in a reshape keeps, after a call.
-use Rattle.std.proofs.Common.{◌≡◌, ℕ, ◌+◌, ◌-◌, ◌*◌, ◌<◌, ◌≤◌, ◌==◌, ◌&&◌, ◌||◌, Bool, true, false, inl, inr, not, cond, Option, None, List, [], ◌∷◌, ◌++◌, length, take, take_all, drop, refl, sym, ◌∙◌, ap, subst, arith}
+use Rattle.std.proofs.Common.{◌≡◌, ℕ, ◌+◌, ◌-◌, ◌*◌, ◌<◌, ◌≤◌, ◌==◌, ◌||◌, Bool, true, false, inl, inr, cond, Option, None, List, [], ◌∷◌, ◌++◌, length, take, take_all, drop, refl, sym, ◌∙◌, ap, subst, arith}
 use Rattle.std.specs.Prelude.{min, fold}
 use Rattle.std.specs.List.{list_any}
 use Rattle.std.proofs.lemmas.Bool.Decides.{nat_tests}
@@ -28,7 +28,7 @@ use Rattle.flat_history.specs.Flat.{length_of, length_after, limit_after}
 use Rattle.flat_history.specs.Growing.{EndBy}
 use Rattle.flat_history.specs.OneShape.{is_lost}
 use Rattle.flat_history.specs.Plain.{entries_of}
-use Rattle.flat_history.specs.Losses.{was_dirty, is_resync_end, is_unsynced, loses}
+use Rattle.flat_history.specs.Losses.{loses}
 use Rattle.flat_history.specs.World.{World}
 use Rattle.flat_history.specs.Stands.{reach_of}
 use Rattle.shape_views.specs.Regions.{DoWithout}
@@ -44,12 +44,14 @@ use Rattle.grow_asked.specs.declared.window.PhasesLeft.{PhasesLeft}
 use Rattle.grow_asked.specs.Left.{phases_of, grow_left, reshape_left}
 use Rattle.kept_history.specs.Safe.{world_in, TakesNone}
 use Rattle.kept_history.proofs.Entered.{lost-taken}
-use Rattle.kept_history.proofs.Growing.{unsynced-grown, takes-grown}
+use Rattle.kept_history.proofs.Growing.{takes-grown}
 use Rattle.kept_history.proofs.Tests.{neither, none-before}
 use Rattle.history_calls.proofs.Behind.{early-losses}
 use Rattle.course_kept.specs.declared.course.Course.{Course}
 use Rattle.moving_kept.specs.Moving.{IsMoving}
 use Rattle.moving_kept.proofs.Steps.{AreMissingSince, missing-moved}
+use Rattle.region_mends.specs.Left.{resync_left}
+use Rattle.region_mends.proofs.LeftLaws.{left-stays}
 use Rattle.running_words.specs.Parts.{left_in}
 use Rattle.moving_laws.specs.Ready.{bytes_in, IsReady}
 
@@ -73,7 +75,11 @@ reach-same old new same = λ i. min (unit (same.shape i) (same.final i)) (min (d
 pub long-same : (old new : Sb) → AreSameShapes old new → list_length new ≡ list_length old
 long-same old new same = λ i. min (data_disks (same.shape i)) (data_disks (same.final i)) * same.size i
 
--- the steps that are left are the same
+-- the steps that are left of an array whose resync has come so far
+abbrev pub left_by : Option ℕ → Members → Course → PhasesLeft → ℕ
+left_by resync members course ahead = grow_left members.newest course.window course.zeroed (phases_of ahead) + resync_left members.newest course.window resync
+
+-- they are the same
 left-alike : (old new : Sb) (window : Window) (zeroed : ℕ) (ahead : List Phase) → HaveSameReshape old new → shape_of new ≡ shape_of old → new.size ≡ old.size
     → grow_left new window zeroed ahead ≡ grow_left old window zeroed ahead
 left-alike old new window zeroed ahead reshape shape size =
@@ -85,25 +91,9 @@ left-alike old new window zeroed ahead reshape shape size =
     moved (Entered span copied sectioned) =
         λ i. (stripes (reshape.final i) span.lo span.hi - copied) + 1 + (steps_of (shape i) (reshape.final i) (size i) (reshape.backward i) (beyond (reshape.backward i) span) - zeroed)
 
-pub left-moved : (given : Given) (old new : Members) (course : Course) (ahead : PhasesLeft) → IsMoved given old new → left_in new course ahead ≡ left_in old course ahead
-left-moved given old new course ahead moved = left-alike old.newest new.newest course.window course.zeroed (phases_of ahead) moved.reshape moved.shape moved.size
-
--- ---- no resync is pending
-
-settled-more : (dirty a b : Bool) → (dirty && not a) ≡ false → (dirty && not (a || b)) ≡ false
-settled-more false a b is = refl
-settled-more true true b is = refl
-settled-more true false b is = absurd (cc)
-
-settled-later : {tells : Type 0} {tape tape' : List Operation} (given : Given) (scope : Scope) (first : ℕ) (entries added : List Entry) → Grows tells tape tape' → (tells → first ≤ length tape)
-    → (tells → is_unsynced (world_in given tape scope first) entries ≡ false) → tells → is_unsynced (world_in given tape' scope first) (entries ++ added) ≡ false
-settled-later {tape = tape} given scope first entries added grows begun was t =
-    let g = grows.more t in
-    let world = world_in given tape scope first in
-    subst (λ (l : List Operation). is_unsynced (world_in given l scope first) (entries ++ added) ≡ false) (sym g.1)
-    (unsynced-grown world g.0 (begun t) (entries ++ added)
-    ∙ ap (λ (b : Bool). was_dirty world && not b) (list_any-append (λ e. is_resync_end e.event) entries added)
-    ∙ settled-more (was_dirty world) (list_any (λ e. is_resync_end e.event) entries) (list_any (λ e. is_resync_end e.event) added) (was t))
+pub left-moved : (given : Given) (old new : Members) (resync : Option ℕ) (course : Course) (ahead : PhasesLeft) → IsMoved given old new → left_by resync new course ahead ≡ left_by resync old course ahead
+left-moved given old new resync course ahead moved =
+    λ i. left-alike old.newest new.newest course.window course.zeroed (phases_of ahead) moved.reshape moved.shape moved.size i + left-stays given old new course.window resync moved i
 
 -- ---- the length of the list
 
@@ -168,31 +158,29 @@ takes-before {tape = tape} {tape' = tape'} given scope first entries added grows
 
 -- ---- after a call's last step in memory
 
--- where the work may have changed too, but for the resync
+-- where the work may have changed too
 pub ready-with : {tells : Type 0} {given given' : Given} {tape tape' : List Operation} {scope scope' : Scope} {first first' : ℕ} {entries mid entries' : List Entry} {members members' : Members}
     {work work' : Work} {course course' : Course} {ahead : PhasesLeft} {window window' : List ℕ} {steps steps' room room' rows buffer far_rows far_buffer : ℕ} {before after : ℕ → ℕ} (added : List Entry)
     → IsReady tells given tape scope first entries members work course ahead window before steps room rows buffer far_rows far_buffer
     → Grows tells tape tape' → AreSameShapes members.newest members'.newest
-    → IsMoving tells given tape' scope first (entries ++ added) members' (is_carried work') course' (bytes_in course'.window window') (left_in members' course' ahead)
-    → work'.resync ≡ work.resync → length window' ≡ length window → NeverFalls before after → IsLengthKept added
+    → IsMoving tells given tape' scope first (entries ++ added) members' (is_carried work') work'.resync course' (bytes_in course'.window window') (left_in work' members' course' ahead)
+    → length window' ≡ length window → NeverFalls before after → IsLengthKept added
     → (TakesNone (world_in given tape' scope first) (entries ++ added) → AreWhole members → AreWhole members')
     → given' ≡ given → scope' ≡ scope → first' ≡ first → mid ≡ entries → entries' ≡ mid ++ added → 50 * steps' < room'
     → IsReady tells given' tape' scope' first' entries' members' work' course' ahead window' after steps' room' rows buffer far_rows far_buffer
 ready-with {tells = tells} {given = given} {given' = given'} {tape' = tape'} {scope = scope} {scope' = scope'} {first = first} {first' = first'} {entries = entries} {mid = mid} {members = members} {members' = members'}
     {work' = work'} {course' = course'} {ahead = ahead} {window' = window'} {steps' = steps'} {room' = room'} {rows = rows} {buffer = buffer} {far_rows = far_rows} {far_buffer = far_buffer} {after = after}
-    added was grows same kept resync long rises quiet whole same_given scope_is first_is mid_is is room_left =
+    added was grows same kept long rises quiet whole same_given scope_is first_is mid_is is room_left =
     subst (λ (l : List Entry). IsReady tells given' tape' scope' first' l members' work' course' ahead window' after steps' room' rows buffer far_rows far_buffer) (sym (is ∙ ap (λ (l : List Entry). l ++ added) mid_is))
     (subst (λ (n : ℕ). IsReady tells given' tape' scope' n (entries ++ added) members' work' course' ahead window' after steps' room' rows buffer far_rows far_buffer) (sym first_is)
     (subst (λ (s : Scope). IsReady tells given' tape' s first (entries ++ added) members' work' course' ahead window' after steps' room' rows buffer far_rows far_buffer) (sym scope_is)
     (subst (λ (g : Given). IsReady tells g tape' scope first (entries ++ added) members' work' course' ahead window' after steps' room' rows buffer far_rows far_buffer) (sym same_given)
     (record {
       kept = kept;
-      synced = resync ∙ was.synced;
       sized = subst (λ (n : ℕ). length_of n (entries ++ added) ≡ n) (sym (long-same members.newest members'.newest same))
           (length-more (list_length members.newest) entries added was.sized (quiet.long (list_length members.newest)));
       unlimited = limit-more entries added was.unlimited quiet.free;
       full = λ t none. whole none (was.full t (takes-before given scope first entries added grows (λ t. (was.kept.recorded t).ends) t none));
-      settled = settled-later given scope first entries added grows (λ t. (was.kept.recorded t).begun) was.settled;
       planned = subst (λ (n : ℕ). AreSound (final_shape members'.newest) n (phases_of ahead)) (sym same.size)
           (subst (λ s. AreSound s members.newest.size (phases_of ahead)) (sym same.final) was.planned);
       wide = let wide = was.wide in let reach = reach-same members.newest members'.newest same in omega (arith, wide, reach, long);
@@ -209,12 +197,12 @@ pub ready : {tells : Type 0} {given given' : Given} {tape tape' : List Operation
     {work : Work} {course course' : Course} {ahead : PhasesLeft} {window window' : List ℕ} {steps steps' room room' rows buffer far_rows far_buffer : ℕ} {before after : ℕ → ℕ} (added : List Entry)
     → IsReady tells given tape scope first entries members work course ahead window before steps room rows buffer far_rows far_buffer
     → Grows tells tape tape' → AreSameShapes members.newest members'.newest
-    → IsMoving tells given tape' scope first (entries ++ added) members' (is_carried work) course' (bytes_in course'.window window') (left_in members' course' ahead)
+    → IsMoving tells given tape' scope first (entries ++ added) members' (is_carried work) work.resync course' (bytes_in course'.window window') (left_in work members' course' ahead)
     → length window' ≡ length window → NeverFalls before after → IsLengthKept added
     → (TakesNone (world_in given tape' scope first) (entries ++ added) → AreWhole members → AreWhole members')
     → given' ≡ given → scope' ≡ scope → first' ≡ first → mid ≡ entries → entries' ≡ mid ++ added → 50 * steps' < room'
     → IsReady tells given' tape' scope' first' entries' members' work course' ahead window' after steps' room' rows buffer far_rows far_buffer
-ready added was grows same kept = ready-with added was grows same kept refl
+ready added was grows same kept = ready-with added was grows same kept
 
 -- with another buffer for rows
 pub with-buffer : {tells : Type 0} {given : Given} {tape : List Operation} {scope : Scope} {first : ℕ} {entries : List Entry} {members : Members}
@@ -223,11 +211,9 @@ pub with-buffer : {tells : Type 0} {given : Given} {tape : List Operation} {scop
     → IsReady tells given tape scope first entries members work course ahead window faults steps room rows buffer' far_rows far_buffer
 with-buffer fits was = record {
   kept = was.kept;
-  synced = was.synced;
   sized = was.sized;
   unlimited = was.unlimited;
   full = was.full;
-  settled = was.settled;
   planned = was.planned;
   wide = was.wide;
   failed = was.failed;
@@ -247,11 +233,9 @@ roomier {tells = tells} {given = given} {tape = tape} {scope = scope} {first = f
     {rows = rows} {buffer = buffer} {far_rows = far_rows} {far_buffer = far_buffer} {faults = faults} was same more =
     subst (λ (l : List Entry). IsReady tells given tape scope first l members work course ahead window faults steps room' rows buffer far_rows far_buffer) (sym same) (record {
       kept = was.kept;
-      synced = was.synced;
       sized = was.sized;
       unlimited = was.unlimited;
       full = was.full;
-      settled = was.settled;
       planned = was.planned;
       wide = was.wide;
       failed = was.failed;
@@ -271,6 +255,6 @@ written-whole n bytes written len ok = take-append-le n written (drop (length wr
 -- ---- live slots
 
 -- an array that does without what it misses has one
-pub live-of : {tells : Type 0} {given : Given} {tape : List Operation} {scope : Scope} {first : ℕ} {entries : List Entry} {members : Members} {carried : ℕ → Bool} {course : Course} {buffer : List ℕ} {left : ℕ}
-    → IsMoving tells given tape scope first entries members carried course buffer left → DoWithout members → HasLiveSlot members
+pub live-of : {tells : Type 0} {given : Given} {tape : List Operation} {scope : Scope} {first : ℕ} {entries : List Entry} {members : Members} {carried : ℕ → Bool} {resync : Option ℕ} {course : Course} {buffer : List ℕ} {left : ℕ}
+    → IsMoving tells given tape scope first entries members carried resync course buffer left → DoWithout members → HasLiveSlot members
 live-of {given = given} {members = members} was does = without-left given members was.members_are.placed was.members_are.unlost does

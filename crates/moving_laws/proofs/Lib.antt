@@ -1,5 +1,7 @@
 pub mod Kept
 pub mod Settled
+pub mod Relied
+pub mod Behind
 pub mod Asking
 pub mod TakenOut
 pub mod ZeroLaws

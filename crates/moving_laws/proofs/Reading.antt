@@ -22,13 +22,12 @@ use Rattle.sb1.specs.declared.sb.Sb.{Sb}
 use Rattle.superblocks.specs.declared.members.Members.{Members}
 use Rattle.superblocks.specs.Reading.{Scope, is_clean, list_length, role_count}
 use Rattle.row_io.specs.Rows.{reading_of, present, is_missing}
-use Rattle.list_io.specs.Full.{RowStands}
 use Rattle.flat_history.specs.declared.events.Entry.{Entry}
 use Rattle.flat_history.specs.declared.events.Event.{Event}
 use Rattle.flat_history.specs.declared.events.Event.TheVariants.{Read, Refused}
 use Rattle.flat_history.specs.declared.events.Request.TheVariants.{Read as AsksRead}
 use Rattle.flat_history.specs.Flat.{now, next_number, length_of, limit_of, limit_after, visible_of, values_of, values_after}
-use Rattle.flat_history.specs.Legal.{visible_at, IsRefusedRight}
+use Rattle.flat_history.specs.Legal.{visible_at, level_at, IsRefusedRight}
 use Rattle.flat_history.specs.Losses.{is_gone_after, loses}
 use Rattle.flat_history.specs.Plain.{entries_of}
 use Rattle.flat_history.specs.Sound.{OpensFit}
@@ -38,12 +37,11 @@ use Rattle.flat_history.specs.World.{World, opening_list}
 use Rattle.flat_history.proofs.SoundLaws.{fit-before}
 use Rattle.shape_views.specs.Regions.{AreShapesFit, place_by}
 use Rattle.shape_views.specs.Views.{Ledger}
-use Rattle.shape_views.specs.Windows.{IsShown}
 use Rattle.shape_changes.specs.Marking.{AreOthersPresent}
 use Rattle.shape_changes.specs.Safety.{HasRoomLeft, IsRisen, HasLiveSlot}
 use Rattle.shape_changes.specs.Steady.{IsSafeOver, KeepsSafe, AreGoneTold, IsUncleanTold}
 use Rattle.views.specs.Placed.{AreWhole}
-use Rattle.views.specs.Lacking.{DoesWithout, LacksTooMany, lacking, too_many}
+use Rattle.views.specs.Lacking.{DoesWithout, lacking, too_many}
 use Rattle.views.specs.Moving.{Grows, IsMoved}
 use Rattle.views.proofs.Fit.{list-alike}
 use Rattle.views.proofs.LackingLists.{row-sector}
@@ -55,36 +53,39 @@ use Rattle.call_entries.proofs.LosingLaws.{entries-both}
 use Rattle.array_kept.specs.Calls.{IsRefusedFor, IsReplied}
 use Rattle.array_kept.proofs.NowLaws.{sectors_of-at}
 use Rattle.array_kept.proofs.ReplyLaws.{IsOfMissing, unread-of, refused_reply, read_kind}
-use Rattle.region_rows.specs.Stretches.{ListStandsIn, RowsStandIn, IsListUnread}
+use Rattle.region_rows.specs.Stretches.{ListStandsIn, RowsStandIn}
 use Rattle.region_writes.proofs.Together.{shape-force}
 use Rattle.window_rows.specs.Copies.{HasWindow, IsRoomFor}
 use Rattle.window_calls.specs.Fetching.{IsShapeBeside, IsUnreadBeside}
 use Rattle.kept_history.specs.Recorded.{IsCallGoing}
 use Rattle.kept_history.specs.Safe.{world_in, TakesNone}
-use Rattle.kept_history.proofs.Entered.{values-more, length-more}
+use Rattle.kept_history.proofs.Entered.{adds_only, values-more, length-more}
 use Rattle.kept_history.proofs.Growing.{opening-grown}
 use Rattle.kept_history.proofs.Ledgers.{gone-any}
 use Rattle.kept_history.proofs.Tests.{none-before}
 use Rattle.history_calls.specs.Reliable.{IsReliable, AreToldGone}
-use Rattle.history_calls.proofs.Behind.{IsAmong, early-losses, legal-losses}
+use Rattle.history_calls.proofs.Behind.{IsAmong, and-true, early-losses, legal-losses}
 use Rattle.history_calls.proofs.Quiet.{IsQuiet, LeavesList, IsLeftBehind, quiet-leaves, quiet-now, last-left}
 use Rattle.course_kept.specs.declared.course.Course.{Course}
 use Rattle.grow_asked.specs.declared.window.Window.{Window}
 use Rattle.grow_asked.specs.declared.window.Window.TheVariants.{Closed, Entered, Unsure}
-use Rattle.course_kept.specs.Course.{HasWindowIn, IsWindowOf, StandsInCourse, hidden_in}
-use Rattle.course_kept.proofs.Frames.{stands-later}
-use Rattle.course_kept.proofs.Courses.{courses-move}
+use Rattle.course_kept.specs.Course.{HasWindowIn, IsWindowOf, hidden_in}
+use Rattle.region_mends.specs.Mends.{relied_sector}
+use Rattle.course_mends.specs.Mended.{StandsMended}
+use Rattle.course_mends.proofs.Mended.{mended-courses-move}
 use Rattle.moving_kept.specs.Moving.{IsMoving}
 use Rattle.moving_kept.proofs.BackupKept.{stored-kept}
 use Rattle.moving_kept.proofs.MembersMove.{reshaping-moved}
 use Rattle.moving_kept.proofs.NoneLeft.{shape-left}
+use Rattle.moving_kept.proofs.Pending.{HasResync, resync-of, resync-moved, pending-on, mended-later}
 use Rattle.moving_kept.proofs.Quiet.{safe-now, listed-later}
 use Rattle.moving_kept.proofs.Refusals.{quiet-refusal, lacking-right}
 use Rattle.moving_kept.proofs.Staying.{course-moved, stays-moves}
 use Rattle.moving_kept.proofs.Steps.{AreMissingSince, missing-moved}
-use Rattle.moving_kept.proofs.Writing.{unrelied-short}
+use Rattle.moving_state.specs.First.{IsUnreadAround}
 use Rattle.moving_state.proofs.ReshapeLaws.{window-reach}
 use Rattle.moving_laws.specs.Ready.{bytes_in}
+use Rattle.moving_laws.proofs.Relied.{pending-at, pending-behind, unsynced-right, sector-role}
 
 -- ---- where nobody was lost
 
@@ -134,41 +135,41 @@ module _ (entries : List Entry) (who : Who) (end roles spares : ℕ) where
 
 -- ---- why it is refused
 
--- where all rows are relied on, more roles of the shape of a sector are missing than that tolerates
-lacked-of : (m : Members) → AreShapesFit m.newest → (relied from to : ℕ) (refusal : Refusal) → list_length m.newest ≤ relied → to ≤ list_length m.newest → IsListUnread relied from to m refusal
-    → (x : ℕ) × LacksTooMany (shape_for m.newest x) m refusal
-lacked-of m fit relied from to refusal all within why = elim why.3 [
-  | inl many ↦ (why.0, many)
-  | inr lacked ↦ absurd (
-      let lt = why.2 in
-      let less = unrelied-short m.newest fit relied why.0 (omega (arith, lt, within)) lacked.1.1 in
-      omega (arith, less, all))
-]
-
 -- where no sector is refused, each shape that places one does without what is missing of it
-pub read-does : (m : Members) (relied from to : ℕ) → ((refusal : Refusal) → IsListUnread relied from to m refusal → ⊥) → (x : ℕ) → from ≤ x → x < to → DoesWithout (shape_for m.newest x) m
-read-does m relied from to none x low high = elim (cases_lt (tolerance (shape_for m.newest x)) (lacking (shape_for m.newest x) m)) [
+pub read-does : (m : Members) (hidden : Option Span) (relied from to : ℕ) → ((refusal : Refusal) → IsUnreadAround hidden relied from to m refusal → ⊥) → (x : ℕ) → from ≤ x → x < to → DoesWithout (shape_for m.newest x) m
+read-does m hidden relied from to none x low high = elim (cases_lt (tolerance (shape_for m.newest x)) (lacking (shape_for m.newest x) m)) [
   | inl above ↦ absurd (none (too_many (shape_for m.newest x) m) (x, low, high, inl (record { above = above; told = refl })))
   | inr few ↦ few
 ]
 
 -- so a live slot is left, where a sector is read
-pub read-live : {tells : Type 0} {given : Given} {tape : List Operation} {scope : Scope} {first : ℕ} {entries : List Entry} {m : Members} {carried : ℕ → Bool} {course : Course} {buffer : List ℕ} {left : ℕ}
-    (relied from to : ℕ) → IsMoving tells given tape scope first entries m carried course buffer left → ((refusal : Refusal) → IsListUnread relied from to m refusal → ⊥) → from < to → HasLiveSlot m
-read-live {given = given} {m = m} relied from to was none some =
-    shape-left given m was.members_are.placed was.members_are.unlost (shape_for m.newest from) (shape-force m.newest from) (read-does m relied from to none from (omega arith) some)
+pub read-live : {tells : Type 0} {given : Given} {tape : List Operation} {scope : Scope} {first : ℕ} {entries : List Entry} {m : Members} {carried : ℕ → Bool} {resync : Option ℕ} {course : Course} {buffer : List ℕ} {left : ℕ}
+    (hidden : Option Span) (relied from to : ℕ) → IsMoving tells given tape scope first entries m carried resync course buffer left → ((refusal : Refusal) → IsUnreadAround hidden relied from to m refusal → ⊥) → from < to → HasLiveSlot m
+read-live {given = given} {m = m} hidden relied from to was none some =
+    shape-left given m was.members_are.placed was.members_are.unlost (shape_for m.newest from) (shape-force m.newest from) (read-does m hidden relied from to none from (omega arith) some)
 
 -- where some are asked for
 pub read-some : (count at : ℕ) → (count ≡ 0 → ⊥) → at < at + count
 read-some count at some = omega (arith, some)
 
 -- beside a window the cause is one of the list too
-pub beside-unread : (hidden : Option Span) (relied from to : ℕ) (m : Members) (refusal : Refusal) → IsUnreadBeside hidden relied from to m refusal → IsListUnread relied from to m refusal
-beside-unread hidden relied from to m refusal why = (why.0, why.1, why.2, why.4)
+pub beside-unread : (hidden : Option Span) (relied from to : ℕ) (m : Members) (refusal : Refusal) → IsUnreadBeside hidden relied from to m refusal → IsUnreadAround hidden relied from to m refusal
+beside-unread hidden relied from to m refusal why = (
+  why.0,
+  why.1,
+  why.2,
+  elim why.4 [
+    | inl many ↦ inl many
+    | inr cause ↦ inr (why.3, cause.0, cause.1)
+  ],
+)
 
 -- the refusal tells that members are missing
-pub unread-missing : (m : Members) → AreShapesFit m.newest → (relied from to : ℕ) (refusal : Refusal) → list_length m.newest ≤ relied → to ≤ list_length m.newest → IsListUnread relied from to m refusal → IsOfMissing refusal
-unread-missing m fit relied from to refusal all within why = let lacked = lacked-of m fit relied from to refusal all within why in unread-of (shape_for m.newest lacked.0) 0 0 0 m refusal (inl lacked.1)
+pub unread-missing : (hidden : Option Span) (relied from to : ℕ) (m : Members) (refusal : Refusal) → IsUnreadAround hidden relied from to m refusal → IsOfMissing refusal
+unread-missing hidden relied from to m refusal why = elim why.3 [
+  | inl many ↦ unread-of (shape_for m.newest why.0) 0 0 0 m refusal (inl many)
+  | inr cause ↦ subst IsOfMissing (sym cause.1) (tt, λ p. p)
+]
 
 -- ---- the window
 
@@ -195,8 +196,8 @@ pub record IsFetched (tells : Type 0) (given : Given) (tape tape' : List Operati
 pub read-quiet : (at : ℕ) (body : List Sector) → IsQuiet (Read at body)
 read-quiet at body = record { adds = refl; gives = refl; ends = refl; still = λ x values. refl; level = λ n. refl; other = refl }
 
-module _ {tells : Type 0} {given : Given} {tape : List Operation} {scope : Scope} {first : ℕ} {entries : List Entry} {old : Members} {carried : ℕ → Bool} {course : Course} {buffer : List ℕ} {left : ℕ}
-    (was : IsMoving tells given tape scope first entries old carried course buffer left) (unlimited : limit_of entries ≡ None) where
+module _ {tells : Type 0} {given : Given} {tape : List Operation} {scope : Scope} {first : ℕ} {entries : List Entry} {old : Members} {carried : ℕ → Bool} {resync : Option ℕ} {course : Course} {buffer : List ℕ} {left : ℕ}
+    (was : IsMoving tells given tape scope first entries old carried resync course buffer left) (unlimited : limit_of entries ≡ None) where
   -- all of the list is visible
   seen : tells → visible_at (world_in given tape scope first) entries ≡ list_length old.newest
   seen t =
@@ -205,13 +206,17 @@ module _ {tells : Type 0} {given : Given} {tape : List Operation} {scope : Scope
 
   -- ---- one that is refused before any sector is read
 
-  pub first-right : (at to : ℕ) (refusal : Refusal) → IsRefusedFor (list_length old.newest) to (IsListUnread (list_length old.newest) at to) old old refusal
+  pub first-right : (hidden : Option Span) (relied at to : ℕ) (refusal : Refusal) → relied ≡ relied_sector old.newest resync → IsRefusedFor (list_length old.newest) to (IsUnreadAround hidden relied at to) old old refusal
       → tells → IsReliable (world_in given tape scope first) entries → IsRefusedRight (world_in given tape scope first) entries refusal
-  first-right at to (PastEnd told) why t right = why.0 ∙ sym (seen t)
-  first-right at to refusal why t right =
-      let lacked = lacked-of old was.members_are.placed.fit (list_length old.newest) at to refusal (omega arith) why.0 why.1 in
-      lacking-right (world_in given tape scope first) entries given old was.members_are.placed (was.gone t right) (was.levelled t right)
-      (shape_for old.newest lacked.0) refusal (shape-force old.newest lacked.0) lacked.1
+  first-right hidden relied at to (PastEnd told) relies why t right = why.0 ∙ sym (seen t)
+  first-right hidden relied at to refusal relies why t right = by why.0 why.1
+    where
+      by : to ≤ list_length old.newest → IsUnreadAround hidden relied at to old refusal → IsRefusedRight (world_in given tape scope first) entries refusal
+      by within (x, low, high, inl many) =
+          lacking-right (world_in given tape scope first) entries given old was.members_are.placed (was.gone t right) (was.levelled t right) (shape_for old.newest x) refusal (shape-force old.newest x) many
+      by within (x, low, high, inr (out, is, un)) =
+          unsynced-right (world_in given tape scope first) entries old (was.gone t right) refusal (place_by old.newest x).role is (sector-role old.newest was.members_are.placed.fit x) un.0
+          (pending-at was relied relies old was.members_are.placed.fit refl x (omega (arith, high, within)) un.1 t)
 
   -- ---- one of no sector
 
@@ -227,28 +232,36 @@ module _ {tells : Type 0} {given : Given} {tape : List Operation} {scope : Scope
     long-same : list_length new.newest ≡ list_length old.newest
     long-same = list-alike old.newest new.newest did.moved.reshape did.moved.shape did.moved.size
 
-    moves : tells → (sound : Type 0) (among : Shape → Type 0) (list : ℕ → Sector) → StandsInCourse sound among old course buffer (present given tape) list → StandsInCourse sound among new course buffer (present given tape') list
-    moves t sound among list stands = courses-move sound among given old new course buffer (present given tape) (present given tape') list was.members_are.placed did.moved (did.others t) stands
+    moves : tells → (sound : Type 0) (among : Shape → Type 0) (list : ℕ → Sector) → StandsMended sound among resync old course buffer (present given tape) list
+        → StandsMended sound among resync new course buffer (present given tape') list
+    moves t sound among list stands = mended-courses-move sound among given old new resync course buffer (present given tape) (present given tape') list was.members_are.placed did.moved (did.others t) stands
 
     -- ---- one that is refused behind what it lost
 
-    pub unread-moves : (at to : ℕ) (refusal : Refusal) → to ≤ list_length old.newest → IsListUnread (list_length old.newest) at to new refusal
-        → IsMoving tells given tape' scope first (entries ++ entries_of who end (losses_of roles spares ++ Refused refusal ∷ [])) new carried course buffer left
-    unread-moves at to refusal within why =
-        stays-moves tells given tape tape' scope first entries old new carried course buffer left who end roles spares (Refused refusal) was live goes caller at_end grows (quiet-refusal refusal) (λ told is. is)
+    pub unread-moves : (hidden : Option Span) (relied at to : ℕ) (refusal : Refusal) → relied ≡ relied_sector old.newest resync → to ≤ list_length old.newest → IsUnreadAround hidden relied at to new refusal
+        → IsMoving tells given tape' scope first (entries ++ entries_of who end (losses_of roles spares ++ Refused refusal ∷ [])) new carried resync course buffer left
+    unread-moves hidden relied at to refusal relies within why =
+        stays-moves tells given tape tape' scope first entries old new carried resync course buffer left who end roles spares (Refused refusal) was live goes caller at_end grows (quiet-refusal refusal) (λ told is. is)
         did.moved did.few did.since did.clean did.rise did.unused moves
         (λ t told fills more room gone unclean safe. did.safe t (world_in given tape scope first) told room gone unclean safe)
-        (λ t right gone level.
-        let lacked = lacked-of new did.moved.placed.fit (list_length old.newest) at to refusal (omega (arith, long-same)) (omega (arith, within, long-same)) why in
-        lacking-right (world_in given tape' scope first) (entries ++ entries_of who end (losses_of roles spares)) given new did.moved.placed gone
-        (ap tolerance_of level ∙ was.levelled t right ∙ ap tolerance (sym did.moved.shape)) (shape_for new.newest lacked.0) refusal (shape-force new.newest lacked.0) lacked.1)
+        (λ t right gone level. legal t right gone level why)
+      where
+        legal : tells → IsReliable (world_in given tape scope first) entries → AreToldGone (world_in given tape' scope first) (entries ++ entries_of who end (losses_of roles spares)) new
+            → level_at (world_in given tape' scope first) (entries ++ entries_of who end (losses_of roles spares)) ≡ level_at (world_in given tape scope first) entries → IsUnreadAround hidden relied at to new refusal
+            → IsRefusedRight (world_in given tape' scope first) (entries ++ entries_of who end (losses_of roles spares)) refusal
+        legal t right gone level (x, low, high, inl many) =
+            lacking-right (world_in given tape' scope first) (entries ++ entries_of who end (losses_of roles spares)) given new did.moved.placed gone
+            (ap tolerance_of level ∙ was.levelled t right ∙ ap tolerance (sym did.moved.shape)) (shape_for new.newest x) refusal (shape-force new.newest x) many
+        legal t right gone level (x, low, high, inr (out, is, un)) =
+            unsynced-right (world_in given tape' scope first) (entries ++ entries_of who end (losses_of roles spares)) new gone refusal (place_by new.newest x).role is (sector-role new.newest did.moved.placed.fit x) un.0
+            (pending-behind was relied relies who end roles spares grows t (pending-at was relied relies new did.moved.placed.fit long-same x (omega (arith, high, within, long-same)) un.1 t))
 
     -- ---- one that is done
 
-    module _ (at : ℕ) (bytes : List ℕ) (does : (x : ℕ) → at ≤ x → x < at + length bytes / 512 → DoesWithout (shape_for old.newest x) old) (within : at + length bytes / 512 ≤ list_length old.newest)
+    module _ (relied at : ℕ) (bytes : List ℕ) (relies : relied ≡ relied_sector old.newest resync) (does : (x : ℕ) → at ≤ x → x < at + length bytes / 512 → DoesWithout (shape_for old.newest x) old) (within : at + length bytes / 512 ≤ list_length old.newest)
         (holds : tells → (list : ℕ → Sector) → ListStandsIn (IsShapeBeside (hidden_in course.window) old.newest at (at + length bytes / 512)) (hidden_in course.window) old (present given tape) list
         → IfSome (hidden_in course.window) (λ span. HasWindow span buffer list)
-        → AreWhole new ⊎ RowsStandIn (IsShapeBeside (hidden_in course.window) old.newest at (at + length bytes / 512)) (hidden_in course.window) (list_length old.newest) old (present given tape) list
+        → AreWhole new ⊎ RowsStandIn (IsShapeBeside (hidden_in course.window) old.newest at (at + length bytes / 512)) (hidden_in course.window) relied old (present given tape) list
         → (i : ℕ) → i < length bytes / 512 → sector_of bytes i ≡ list (at + i)) where
       abbrev all : List Entry
       all = entries ++ entries_of who end (losses_of roles spares ++ Read at (sectors_of bytes) ∷ [])
@@ -272,18 +285,17 @@ module _ {tells : Type 0} {given : Given} {tape : List Operation} {scope : Scope
           → (i : ℕ) → i < length bytes / 512 → sector_of bytes i ≡ now (opening_list (world_in given tape scope first)) entries (at + i)
       list-is t right filled i lt =
           let l = was.listed t right.fills in
-          holds t l.list (λ x slot own shown held. l.stands.stands x slot (does-beside (shape_for old.newest x) own) shown held) (window-in course.window buffer l.list l.stands.window)
+          holds t l.list (λ x slot own shown held. l.stands.in_course.stands x slot (does-beside (shape_for old.newest x) own) shown held) (window-in course.window buffer l.list l.stands.in_course.window)
           (rows-beside l.list filled l.stands.rows) i lt ∙ l.is (at + i) (omega (arith, lt, within))
         where
           does-beside : (shape : Shape) → IsShapeBeside (hidden_in course.window) old.newest at (at + length bytes / 512) shape → DoesWithout shape old
           does-beside shape own = subst (λ (s : Shape). DoesWithout s old) own.4 (does own.0 own.1 own.2)
 
           rows-beside : (list : ℕ → Sector) → AreWhole new ⊎ OpensFit (world_in given tape scope first)
-              → (OpensFit (world_in given tape scope first) → (x : ℕ) → DoesWithout (shape_for old.newest x) old → IsShown (hidden_in course.window) old.newest x
-              → RowStands (reading_of old) (present given tape) (shape_for old.newest x) list (place_by old.newest x).row)
-              → AreWhole new ⊎ RowsStandIn (IsShapeBeside (hidden_in course.window) old.newest at (at + length bytes / 512)) (hidden_in course.window) (list_length old.newest) old (present given tape) list
+              → (OpensFit (world_in given tape scope first) → RowsStandIn (λ shape. DoesWithout shape old) (hidden_in course.window) (relied_sector old.newest resync) old (present given tape) list)
+              → AreWhole new ⊎ RowsStandIn (IsShapeBeside (hidden_in course.window) old.newest at (at + length bytes / 512)) (hidden_in course.window) relied old (present given tape) list
           rows-beside list (inl whole) stands = inl whole
-          rows-beside list (inr fit) stands = inr (λ x below own shown. stands fit x (does-beside (shape_for old.newest x) own) shown)
+          rows-beside list (inr fit) stands = inr (λ x below own shown. stands fit x (subst (λ (n : ℕ). x < n) relies below) (does-beside (shape_for old.newest x) own) shown)
 
       legal : (t : tells) → IsReliable (world_in given tape' scope first) all → IsReliable (world_in given tape scope first) entries
           → AreToldGone (world_in given tape' scope first) (entries ++ entries_of who end (losses_of roles spares)) new
@@ -338,7 +350,10 @@ module _ {tells : Type 0} {given : Given} {tape : List Operation} {scope : Scope
         | inr fit ↦ inr (fit-earlier t fit)
       ])
 
-      pub read-moves : IsMoving tells given tape' scope first all new carried course buffer left
+      resynced : HasResync new resync course
+      resynced = resync-moved did.moved (λ some dirty. did.clean ∙ dirty) was.beside (resync-of was)
+
+      pub read-moves : IsMoving tells given tape' scope first all new carried resync course buffer left
       read-moves = record {
         slots = was.slots;
         members_are = reshaping-moved scope given old new did.moved was.members_are;
@@ -346,13 +361,18 @@ module _ {tells : Type 0} {given : Given} {tape : List Operation} {scope : Scope
         sizes_are = was.sizes_are;
         left_told = left-more left entries who end (losses_of roles spares ++ Read at (sectors_of bytes) ∷ []) was.left_told
             (left-behind left who end (losses_of roles spares) (Read at (sectors_of bytes) ∷ []) (losses-are roles spares) (λ told is. is));
+        progress = resynced.progress;
+        beside = resynced.beside;
+        pending = λ t. pending-on (entries_of who end (losses_of roles spares ++ Read at (sectors_of bytes) ∷ [])) (leaves t)
+            ((early-losses roles spares).adds who end (Read at (sectors_of bytes) ∷ []) (and-true (adds_only (Read at (sectors_of bytes))) true quiet.adds refl)) ∙ was.pending t;
+        dirty = resynced.dirty;
         levelled = λ t fills. ap tolerance_of (leaves t).levelled ∙ was.levelled t ((leaves t).right fills) ∙ sym (ap tolerance did.moved.shape);
         gone = λ t. (leaves t).gone;
         unclean = λ t. (leaves t).unclean;
         recorded = λ t. (leaves t).recorded;
         last_step = λ t. last-left given tape tape' scope first entries (list_length old.newest) new carried true who end (losses_of roles spares) (Read at (sectors_of bytes)) (leaves t) (at_end t) refl long-same (was.last_step t).past;
         stored = λ t. stored-kept scope given old new course.window buffer (disk given.start tape) (disk given.start tape') was.members_are did.moved (did.unused t) (was.stored t);
-        listed = λ t. listed-later given tape scope first entries all new carried course buffer tape' (now (opening_list (world_in given tape scope first)) entries) (leaves t)
+        listed = λ t. listed-later given tape scope first entries all new carried resync course buffer tape' (now (opening_list (world_in given tape scope first)) entries) (leaves t)
             (quiet-now (opening_list (world_in given tape scope first)) entries who end (losses_of roles spares) (IsAmong roles) (Read at (sectors_of bytes)) (early-losses roles spares) quiet)
             (λ fills.
             let l = was.listed t fills in
@@ -360,7 +380,7 @@ module _ {tells : Type 0} {given : Given} {tape : List Operation} {scope : Scope
               list = l.list;
               is = λ x lt. l.is x (subst (λ (n : ℕ). x < n) long-same lt);
               stands = moves t (OpensFit (world_in given tape scope first)) (λ shape. DoesWithout shape new) l.list
-                  (stands-later (OpensFit (world_in given tape scope first)) given old new course buffer (present given tape) l.list did.moved l.stands);
+                  (mended-later (OpensFit (world_in given tape scope first)) given old new resync course buffer (present given tape) l.list did.moved l.stands);
             });
         safe = λ t. (leaves t).safe;
       }
@@ -405,30 +425,29 @@ hidden-slice (Unsure span) buffer slice wide list same is has = tt
 
 -- ---- replies
 
-pub first-reply : (m : Members) → AreShapesFit m.newest → (old : List Entry) → length_of (list_length m.newest) old ≡ list_length m.newest → limit_of old ≡ None → (who : Who) (at count : ℕ) (new : List Entry) (end : ℕ) (refusal : Refusal)
-    → IsRefusedFor (list_length m.newest) (at + count) (IsListUnread (list_length m.newest) at (at + count)) m m refusal → new ≡ old ++ entries_of who end (Refused refusal ∷ []) → who.number ≡ next_number who.caller old
+pub first-reply : (m : Members) (hidden : Option Span) (relied : ℕ) (old : List Entry) → length_of (list_length m.newest) old ≡ list_length m.newest → limit_of old ≡ None → (who : Who) (at count : ℕ) (new : List Entry) (end : ℕ) (refusal : Refusal)
+    → IsRefusedFor (list_length m.newest) (at + count) (IsUnreadAround hidden relied at (at + count)) m m refusal → new ≡ old ++ entries_of who end (Refused refusal ∷ []) → who.number ≡ next_number who.caller old
     → IsReplied (list_length m.newest) (AsksRead at count) who old new (Refused refusal)
-first-reply m fit old sized unlimited who at count new end (PastEnd told) why is number =
+first-reply m hidden relied old sized unlimited who at count new end (PastEnd told) why is number =
     refused_reply (list_length m.newest) old sized unlimited (AsksRead at count) who (at + count) (λ members refusal. IsOfMissing refusal) new end m (PastEnd told) (read_kind at count) (λ of. of) why is number
-first-reply m fit old sized unlimited who at count new end refusal why is number =
+first-reply m hidden relied old sized unlimited who at count new end refusal why is number =
     refused_reply (list_length m.newest) old sized unlimited (AsksRead at count) who (at + count) (λ members refusal. IsOfMissing refusal) new end m refusal (read_kind at count) (λ of. of)
-    (why.0, unread-missing m fit (list_length m.newest) at (at + count) refusal (omega arith) why.0 why.1) is number
+    (why.0, unread-missing hidden relied at (at + count) m refusal why.1) is number
 
 -- what is fetched by the bytes of the window's buffer is so by the list that stands in the course
 pub holds-sliced : (tells : Type 0) (old new : Members) (c : Contents) (window : Window) (buffer slice : List ℕ) (wide : ℕ) (hidden : Option Span) (relied at : ℕ) (bytes : List ℕ) (asked : ℕ) → length bytes / 512 ≡ asked
-    → hidden ≡ hidden_in window → relied ≡ list_length old.newest → slice ≡ take wide buffer → IfSome hidden (λ span. wide ≡ 512 * (span.hi - span.lo))
+    → hidden ≡ hidden_in window → slice ≡ take wide buffer → IfSome hidden (λ span. wide ≡ 512 * (span.hi - span.lo))
     → (tells → (list : ℕ → Sector) → ListStandsIn (IsShapeBeside hidden old.newest at (at + asked)) hidden old c list → IfSome hidden (λ span. HasWindow span slice list)
     → AreWhole new ⊎ RowsStandIn (IsShapeBeside hidden old.newest at (at + asked)) hidden relied old c list → (i : ℕ) → i < asked → sector_of bytes i ≡ list (at + i))
     → tells → (list : ℕ → Sector) → ListStandsIn (IsShapeBeside (hidden_in window) old.newest at (at + length bytes / 512)) (hidden_in window) old c list
     → IfSome (hidden_in window) (λ span. HasWindow span (bytes_in window buffer) list)
-    → AreWhole new ⊎ RowsStandIn (IsShapeBeside (hidden_in window) old.newest at (at + length bytes / 512)) (hidden_in window) (list_length old.newest) old c list
+    → AreWhole new ⊎ RowsStandIn (IsShapeBeside (hidden_in window) old.newest at (at + length bytes / 512)) (hidden_in window) relied old c list
     → (i : ℕ) → i < length bytes / 512 → sector_of bytes i ≡ list (at + i)
-holds-sliced tells old new c window buffer slice wide hidden relied at bytes asked same hidden_is relied_is slice_is long holds t list stands has rows i lt =
+holds-sliced tells old new c window buffer slice wide hidden relied at bytes asked same hidden_is slice_is long holds t list stands has rows i lt =
     holds t list (subst (λ (o : Option Span). ListStandsIn (IsShapeBeside o old.newest at (at + asked)) o old c list) (sym hidden_is)
     (subst (λ (n : ℕ). ListStandsIn (IsShapeBeside (hidden_in window) old.newest at (at + n)) (hidden_in window) old c list) same stands))
     (subst (λ (o : Option Span). IfSome o (λ span. HasWindow span slice list)) (sym hidden_is)
     (hidden-slice window buffer slice wide list slice_is (subst (λ (o : Option Span). IfSome o (λ span. wide ≡ 512 * (span.hi - span.lo))) hidden_is long) has))
     (subst (λ (o : Option Span). AreWhole new ⊎ RowsStandIn (IsShapeBeside o old.newest at (at + asked)) o relied old c list) (sym hidden_is)
-    (subst (λ (n : ℕ). AreWhole new ⊎ RowsStandIn (IsShapeBeside (hidden_in window) old.newest at (at + asked)) (hidden_in window) n old c list) (sym relied_is)
-    (subst (λ (n : ℕ). AreWhole new ⊎ RowsStandIn (IsShapeBeside (hidden_in window) old.newest at (at + n)) (hidden_in window) (list_length old.newest) old c list) same rows)))
+    (subst (λ (n : ℕ). AreWhole new ⊎ RowsStandIn (IsShapeBeside (hidden_in window) old.newest at (at + n)) (hidden_in window) relied old c list) same rows))
     i (subst (λ (n : ℕ). i < n) same lt)

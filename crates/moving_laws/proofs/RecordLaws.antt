@@ -37,22 +37,23 @@ use Rattle.window_steps.specs.Recording.{IsCopiedWindow}
 use Rattle.window_steps.proofs.PastLaws.{past-placed}
 use Rattle.grow_asked.specs.declared.window.Window.TheVariants.{Closed, Entered}
 use Rattle.grow_asked.specs.declared.window.PhasesLeft.{PhasesLeft}
-use Rattle.grow_asked.specs.Left.{phases_of, reshape_left, IsPast}
+use Rattle.grow_asked.specs.Left.{phases_of, reshape_left, grow_left, IsPast}
 use Rattle.grow_asked.proofs.LeftLaws.{recording}
 use Rattle.kept_history.specs.Recorded.{IsCallGoing}
 use Rattle.kept_history.specs.Safe.{world_in}
 use Rattle.course_kept.specs.declared.course.Course.{Course}
 use Rattle.course_kept.specs.Course.{IsCourseOf}
 use Rattle.course_kept.specs.Laws.{closed, entered}
-use Rattle.course_kept.proofs.Courses.{courses-move}
+use Rattle.region_mends.specs.Left.{resync_left}
+use Rattle.region_mends.proofs.LeftLaws.{records-leave}
+use Rattle.course_mends.proofs.Mended.{mended-courses-move}
 use Rattle.moving_state.proofs.LeftLaws.{plans-counted, some-left}
 use Rattle.moving_kept.specs.Moving.{IsMoving}
 use Rattle.moving_kept.proofs.MoreSteps.{recorded-moves}
 use Rattle.moving_kept.proofs.Staying.{refused-moves}
 use Rattle.moving_kept.proofs.Steps.{AreMissingSince, missing-since}
-use Rattle.running_words.specs.Parts.{left_in}
 use Rattle.running_words.proofs.Called.{not_254}
-use Rattle.moving_laws.proofs.Kept.{AreSameShapes, left-moved}
+use Rattle.moving_laws.proofs.Kept.{AreSameShapes, left_by, left-moved}
 use Rattle.moving_laws.proofs.Settled.{risen-told}
 
 -- ---- members whose position moved
@@ -84,29 +85,38 @@ past-of given old new span moved = record {
   position = moved.reshape.position;
 }
 
-pub record-left : (given : Given) (old new : Members) (span : Span) (sectioned : Bool) (ahead : PhasesLeft) → IsMoved given (moved_past span old) new → is_reshaping old.newest ≡ true
-    → left_in new (closed 0) ahead + 1 ≡ left_in old (all_copied old span sectioned) ahead
-record-left given old new span sectioned ahead moved active = recording old.newest new.newest span sectioned 0 (phases_of ahead) active (past-of given old new span moved)
+pub record-left : (given : Given) (old new : Members) (resync : Option ℕ) (span : Span) (sectioned : Bool) (ahead : PhasesLeft) → IsMoved given (moved_past span old) new → is_reshaping old.newest ≡ true
+    → left_by resync new (closed 0) ahead + 1 ≡ left_by resync old (all_copied old span sectioned) ahead
+record-left given old new resync span sectioned ahead moved active =
+    one (grow_left new.newest Closed 0 (phases_of ahead)) (grow_left old.newest (all_copied old span sectioned).window 0 (phases_of ahead)) (resync_left new.newest Closed resync) (resync_left old.newest (all_copied old span sectioned).window resync)
+    (recording old.newest new.newest span sectioned 0 (phases_of ahead) active (past-of given old new span moved)) (records-leave given old new span (stripes (final_shape old.newest) span.lo span.hi) sectioned resync moved)
+  where
+    one : (x y m n : ℕ) → x + 1 ≡ y → m ≡ n → x + m + 1 ≡ y + n
+    one x y m n fewer same = omega (arith, fewer, same)
 
 -- the end of the reshape is left behind it
-pub record-some : (given : Given) (old new : Members) (span : Span) (ahead : PhasesLeft) → IsMoved given (moved_past span old) new → is_reshaping old.newest ≡ true → left_in new (closed 0) ahead ≢ 0
-record-some given old new span ahead moved active =
-    some (left_in new (closed 0) ahead) (reshape_left new.newest Closed 0) (phases_steps (final_shape new.newest) new.newest.size (phases_of ahead))
+pub record-some : (given : Given) (old new : Members) (resync : Option ℕ) (span : Span) (ahead : PhasesLeft) → IsMoved given (moved_past span old) new → is_reshaping old.newest ≡ true → left_by resync new (closed 0) ahead ≢ 0
+record-some given old new resync span ahead moved active =
+    some (grow_left new.newest Closed 0 (phases_of ahead)) (resync_left new.newest Closed resync) (reshape_left new.newest Closed 0) (phases_steps (final_shape new.newest) new.newest.size (phases_of ahead))
     (plans-counted new.newest (closed 0) (phases_of ahead) (moved.reshape.reshaping ∙ active)) (some-left new.newest Closed 0 (omega arith))
   where
-    some : (x r p : ℕ) → r + p ≡ x → 0 < r → x ≢ 0
-    some x r p counted more none = absurd (omega (arith, counted, more, none))
+    some : (x m r p : ℕ) → r + p ≡ x → 0 < r → x + m ≢ 0
+    some x m r p counted more none = absurd (omega (arith, counted, more, none))
 
 -- ---- where no window is open, the buffer has nothing
 
-pub closed-bare : {tells : Type 0} {given : Given} {tape : List Operation} {scope : Scope} {first : ℕ} {entries : List Entry} {members : Members} {carried : ℕ → Bool} (count : ℕ) (buffer : List ℕ) (left : ℕ)
-    → IsMoving tells given tape scope first entries members carried (closed count) buffer left → IsMoving tells given tape scope first entries members carried (closed count) [] left
+pub closed-bare : {tells : Type 0} {given : Given} {tape : List Operation} {scope : Scope} {first : ℕ} {entries : List Entry} {members : Members} {carried : ℕ → Bool} {resync : Option ℕ} (count : ℕ) (buffer : List ℕ) (left : ℕ)
+    → IsMoving tells given tape scope first entries members carried resync (closed count) buffer left → IsMoving tells given tape scope first entries members carried resync (closed count) [] left
 closed-bare count buffer left was = record {
   slots = was.slots;
   members_are = was.members_are;
   course_is = was.course_is;
   sizes_are = was.sizes_are;
   left_told = was.left_told;
+  progress = was.progress;
+  beside = was.beside;
+  pending = was.pending;
+  dirty = was.dirty;
   levelled = was.levelled;
   gone = was.gone;
   unclean = was.unclean;
@@ -116,10 +126,16 @@ closed-bare count buffer left was = record {
   listed = λ t fills.
       let l = was.listed t fills in
       let stands = l.stands in
+      let there = stands.in_course in
       record {
         list = l.list;
         is = l.is;
-        stands = record { stands = stands.stands; window = tt; zeros = stands.zeros; copied = stands.copied; tail = stands.tail; zeroed = stands.zeroed; rows = stands.rows };
+        stands = record {
+          in_course = record { stands = there.stands; window = tt; zeros = there.zeros; copied = there.copied; tail = there.tail; zeroed = there.zeroed; rows = there.rows };
+          ends = stands.ends;
+          whole = stands.whole;
+          rows = stands.rows;
+        };
       };
   safe = was.safe;
 }
@@ -132,44 +148,44 @@ IsRecordSafe tells given old new tape tape' span refusal = tells → (world : Wo
     → (refusal ≡ None → IsCopiedWindow (OpensFit world) world.scope told old span list (present given tape) (disk given.start tape))
     → IsSafeOver world given told old tape → KeepsSafe world given told new tape tape'
 
-module _ {tells : Type 0} {given : Given} {tape tape' : List Operation} {scope : Scope} {first : ℕ} {entries : List Entry} {old new : Members} {carried : ℕ → Bool} (course : Course) {buffer : List ℕ} (ahead : PhasesLeft)
-    (span : Span) (who : Who) (end roles spares : ℕ) (was : IsMoving tells given tape scope first entries old carried course buffer (left_in old course ahead))
+module _ {tells : Type 0} {given : Given} {tape tape' : List Operation} {scope : Scope} {first : ℕ} {entries : List Entry} {old new : Members} {carried : ℕ → Bool} {resync : Option ℕ} (course : Course) {buffer : List ℕ} (ahead : PhasesLeft)
+    (span : Span) (who : Who) (end roles spares : ℕ) (was : IsMoving tells given tape scope first entries old carried resync course buffer (left_by resync old course ahead))
     (live : HasLiveSlot old) (goes : IsCallGoing entries who) (caller : who.caller ≢ 254) (at_end : tells → end ≡ length tape') (grows : Grows tells tape tape') {before after : ℕ → ℕ} (since : AreLostSince old new roles spares before after)
     (clean : is_clean new.newest ≡ is_clean old.newest) (rise : IsRisen tells old new tape tape') (others : tells → AreOthersPresent (present given tape) (present given tape')) where
   -- it is refused: the window is open as before
   pub record-refused : (o : Option Refusal) (refusal : Refusal) → o ≡ Some refusal → IsMoved given old new → AreTooMany new refusal → (tells → IsUnusedKept old (disk given.start tape) (disk given.start tape')) → IsRecordSafe tells given old new tape tape' span o
-      → IsMoving tells given tape' scope first (entries ++ entries_of who end (losses_of roles spares ++ Refused refusal ∷ [])) new carried course buffer (left_in new course ahead)
+      → IsMoving tells given tape' scope first (entries ++ entries_of who end (losses_of roles spares ++ Refused refusal ∷ [])) new carried resync course buffer (left_by resync new course ahead)
   record-refused o refusal is moved many unused safe =
-      subst (λ (n : ℕ). IsMoving tells given tape' scope first (entries ++ entries_of who end (losses_of roles spares ++ Refused refusal ∷ [])) new carried course buffer n) (sym (left-moved given old new course ahead moved))
-      (refused-moves tells given tape tape' scope first entries old new carried course buffer (left_in old course ahead) who end roles spares refusal was live goes (not_254 who.caller caller) at_end grows
+      subst (λ (n : ℕ). IsMoving tells given tape' scope first (entries ++ entries_of who end (losses_of roles spares ++ Refused refusal ∷ [])) new carried resync course buffer n) (sym (left-moved given old new resync course ahead moved))
+      (refused-moves tells given tape tape' scope first entries old new carried resync course buffer (left_by resync old course ahead) who end roles spares refusal was live goes (not_254 who.caller caller) at_end grows
       moved (few-roles new.newest moved.placed.fit.valid) (missing-since roles moved since.vacant) clean (inr many) (risen-told rise) unused
-      (λ t sound among list stands. courses-move sound among given old new course buffer (present given tape) (present given tape') list was.members_are.placed moved (others t) stands)
+      (λ t sound among list stands. mended-courses-move sound among given old new resync course buffer (present given tape) (present given tape') list was.members_are.placed moved (others t) stands)
       (λ t told filled more room gone unclean. safe t (world_in given tape scope first) told room gone unclean (λ x. zero_sector) (λ none. absurd (let both = sym none ∙ is in cc))))
 
   -- it is done
-  pub record-done : (sectioned : Bool) (left : ℕ) → course ≡ all_copied old span sectioned → left ≡ left_in new (closed 0) ahead → IsMoved given (moved_past span old) new → DoWithout old
+  pub record-done : (sectioned : Bool) (left : ℕ) → course ≡ all_copied old span sectioned → left ≡ left_by resync new (closed 0) ahead → IsMoved given (moved_past span old) new → DoWithout old
       → (tells → ArePlaced scope given old → AreHeadersFit scope old (disk given.start tape) → HasNoSection scope new (disk given.start tape') × AreHeadersFit scope new (disk given.start tape'))
       → IsRecordSafe tells given old new tape tape' span None
-      → IsMoving tells given tape' scope first (entries ++ entries_of who end (losses_of roles spares ++ Step RecordsWindow left ∷ [])) new carried (closed 0) [] (left_in new (closed 0) ahead)
+      → IsMoving tells given tape' scope first (entries ++ entries_of who end (losses_of roles spares ++ Step RecordsWindow left ∷ [])) new carried resync (closed 0) [] (left_by resync new (closed 0) ahead)
   record-done sectioned left is told moved does plain safe =
-      subst (λ (n : ℕ). IsMoving tells given tape' scope first (entries ++ entries_of who end (losses_of roles spares ++ Step RecordsWindow left ∷ [])) new carried (closed 0) [] n) told
+      subst (λ (n : ℕ). IsMoving tells given tape' scope first (entries ++ entries_of who end (losses_of roles spares ++ Step RecordsWindow left ∷ [])) new carried resync (closed 0) [] n) told
       (closed-bare 0 buffer left
-      (recorded-moves tells given tape tape' scope first entries old new carried span sectioned buffer left who end roles spares entering goes (not_254 who.caller caller) at_end grows some
+      (recorded-moves tells given tape tape' scope first entries old new carried resync span sectioned buffer left who end roles spares entering goes (not_254 who.caller caller) at_end grows some
       moved (few-roles new.newest moved.placed.fit.valid) missing does clean (risen-told rise) others (λ t fit. plain t was.members_are.backed fit)
       (λ t world ledger room gone unclean list copied. safe t world ledger room gone unclean list (λ none. copied))))
     where
-      falls : left + 1 ≡ left_in old (all_copied old span sectioned) ahead
-      falls = ap (λ (n : ℕ). n + 1) told ∙ record-left given old new span sectioned ahead moved was.members_are.active
+      falls : left + 1 ≡ left_by resync old (all_copied old span sectioned) ahead
+      falls = ap (λ (n : ℕ). n + 1) told ∙ record-left given old new resync span sectioned ahead moved was.members_are.active
 
-      entering : IsMoving tells given tape scope first entries old carried (all_copied old span sectioned) buffer (left + 1)
-      entering = subst (λ (n : ℕ). IsMoving tells given tape scope first entries old carried (all_copied old span sectioned) buffer n) (sym falls)
-          (subst (λ (k : Course). IsMoving tells given tape scope first entries old carried k buffer (left_in old k ahead)) is was)
+      entering : IsMoving tells given tape scope first entries old carried resync (all_copied old span sectioned) buffer (left + 1)
+      entering = subst (λ (n : ℕ). IsMoving tells given tape scope first entries old carried resync (all_copied old span sectioned) buffer n) (sym falls)
+          (subst (λ (k : Course). IsMoving tells given tape scope first entries old carried resync k buffer (left_by resync old k ahead)) is was)
 
       missing : AreMissingSince old new roles
       missing = missing-since {old = moved_past span old} roles moved since.vacant
 
       some : left ≢ 0
-      some zero = absurd (record-some given old new span ahead moved was.members_are.active (sym told ∙ zero))
+      some zero = absurd (record-some given old new resync span ahead moved was.members_are.active (sym told ∙ zero))
 
 -- ---- what the call left, by its answer
 

@@ -29,7 +29,7 @@ use Rattle.flat_history.specs.Legal.{visible_at, IsRefusedRight}
 use Rattle.flat_history.specs.Plain.{entries_of}
 use Rattle.flat_history.specs.Stands.{covers, shape_for}
 use Rattle.flat_history.specs.World.{opening_list}
-use Rattle.shape_views.specs.Regions.{AreShapesFit, DoWithout}
+use Rattle.shape_views.specs.Regions.{DoWithout}
 use Rattle.shape_views.specs.Windows.{moved_past}
 use Rattle.shape_changes.specs.Safety.{HasLiveSlot}
 use Rattle.views.specs.declared.work.Work.{Work}
@@ -38,18 +38,19 @@ use Rattle.shape_changes.specs.Safety.{HasLiveSlot}
 use Rattle.views.specs.Moving.{Grows, IsMoved}
 use Rattle.views.specs.Placed.{AreWhole, IsPlaced, AreStillHeld}
 use Rattle.views.specs.Rebuilding.{Held}
+use Rattle.views.proofs.Fit.{force-disks}
 use Rattle.views.proofs.LackingLaws.{AreVacant, AreNewlyVacant, lost-since, shape-without}
 use Rattle.views.proofs.MovedLaws.{grows-then}
 use Rattle.call_entries.specs.Losing.{losses_of, failure_events}
 use Rattle.call_entries.proofs.CallLaws.{losses-are, length-losses, limit-losses}
 use Rattle.array_kept.specs.Calls.{IsRoleLossBy, IsLossBy, AreLossesOf, IsBehind, IsRefusedFor, IsCausedBy}
 use Rattle.array_kept.proofs.ReplyLaws.{IsOfMissing, unwritten-of}
-use Rattle.region_writes.specs.Runs.{IsListTorn, IsListUnwritten}
+use Rattle.region_writes.specs.Runs.{IsListUnwritten}
 use Rattle.region_writes.proofs.Together.{shape-force}
 use Rattle.grow_asked.specs.declared.window.Window.{Window}
 use Rattle.grow_asked.specs.declared.window.Window.TheVariants.{Closed, Entered, Unsure}
 use Rattle.grow_asked.specs.declared.window.PhasesLeft.{PhasesLeft}
-use Rattle.grow_asked.specs.Left.{phases_of}
+use Rattle.grow_asked.specs.Left.{stripes_in, phases_of, grow_left}
 use Rattle.grow_asked.proofs.LeftLaws.{finishing}
 use Rattle.kept_history.specs.Recorded.{IsCallGoing}
 use Rattle.kept_history.specs.Safe.{world_in, TakesNone}
@@ -58,20 +59,26 @@ use Rattle.history_calls.specs.Reliable.{IsReliable}
 use Rattle.course_kept.specs.declared.course.Course.{Course}
 use Rattle.course_kept.specs.Course.{IsWindowOf, IsCourseOf, span_in}
 use Rattle.course_kept.specs.Laws.{closed, entered}
+use Rattle.region_mends.specs.Left.{resync_left}
+use Rattle.region_mends.specs.Mends.{relied_sector}
+use Rattle.region_mends.proofs.LeftLaws.{records-leave}
+use Rattle.region_mends.proofs.ReliedLaws.{relied-reaches}
+use Rattle.course_mends.specs.Mended.{IsUnmended}
 use Rattle.moving_state.specs.Due.{open_in, unsure_in}
 use Rattle.moving_kept.specs.Moving.{IsMoving}
 use Rattle.moving_kept.proofs.NoneLeft.{shape-left}
 use Rattle.moving_kept.proofs.FinishedCall.{IsFinishedBy, finish-moves}
 use Rattle.moving_kept.proofs.Refusals.{lacking-right}
 use Rattle.moving_kept.proofs.Steps.{AreMissingSince, missing-since, missing-moved}
-use Rattle.moving_kept.proofs.Writing.{ArePut, AreWritten, AreUnwritten, unrelied-short, written-moves, unwritten-moves}
+use Rattle.moving_kept.proofs.Writing.{ArePut, AreWritten, AreUnwritten, written-moves, unwritten-moves}
 use Rattle.running_words.specs.Calls.{IsCalled, IsStepTaken}
-use Rattle.running_words.specs.Parts.{RunningParts, left_in}
+use Rattle.running_words.specs.Parts.{RunningParts}
 use Rattle.moving_laws.specs.Ready.{bytes_in, IsReady}
 use Rattle.moving_laws.specs.Writing.{IsWindowOpen, steps_in, TouchesWindow, IsWriteLacked, IsPutEntered, IsWriteEntered}
 use Rattle.running_words.proofs.Called.{not_254}
-use Rattle.moving_laws.proofs.Kept.{IsLengthKept, behind-keeps, behind-whole, takes-lost, left-moved}
-use Rattle.moving_laws.proofs.RecordLaws.{past-of, since-past, record-some, closed-bare, moved-none, moved-if}
+use Rattle.moving_laws.proofs.Kept.{IsLengthKept, behind-keeps, behind-whole, takes-lost, long-same, left_by, left-moved}
+use Rattle.moving_laws.proofs.Relied.{pending-at, unsynced-right}
+use Rattle.moving_laws.proofs.RecordLaws.{shapes-past, past-of, since-past, record-some, closed-bare, moved-none, moved-if}
 
 -- ---- the window
 
@@ -128,11 +135,9 @@ roomed {tells = tells} {given = given} {tape = tape} {scope = scope} {first = fi
     {rows = rows} {buffer = buffer} {far_rows = far_rows} {far_buffer = far_buffer} {faults = faults} same fits was =
     subst (λ (l : List Entry). IsReady tells given tape scope first l members work course ahead window faults steps' room' rows buffer far_rows far_buffer) (sym same) (record {
       kept = was.kept;
-      synced = was.synced;
       sized = was.sized;
       unlimited = was.unlimited;
       full = was.full;
-      settled = was.settled;
       planned = was.planned;
       wide = was.wide;
       failed = was.failed;
@@ -151,11 +156,9 @@ pub with-rooms : {tells : Type 0} {given : Given} {tape : List Operation} {scope
     → IsReady tells given tape scope first entries members work course ahead window faults steps room rows' buffer' far_rows' far_buffer'
 with-rooms one two three four was = record {
   kept = was.kept;
-  synced = was.synced;
   sized = was.sized;
   unlimited = was.unlimited;
   full = was.full;
-  settled = was.settled;
   planned = was.planned;
   wide = was.wide;
   failed = was.failed;
@@ -210,66 +213,71 @@ pub finished-missing : (given : Given) (old new : Members) (span : Span) (refusa
 finished-missing given old new span None moved {roles = roles} since = missing-since {old = moved_past span old} roles moved since.vacant
 finished-missing given old new span (Some why) moved {roles = roles} since = missing-since roles moved since.vacant
 
-module _ {tells : Type 0} {given : Given} {tape tape' : List Operation} {scope : Scope} {first : ℕ} {entries : List Entry} {old new : Members} {carried : ℕ → Bool} (course : Course) (ahead : PhasesLeft) (window : List ℕ)
-    (span : Span) (copied done : ℕ) (sectioned : Bool) (who : Who) (end roles spares : ℕ) (was : IsMoving tells given tape scope first entries old carried course (bytes_in course.window window) (left_in old course ahead))
+module _ {tells : Type 0} {given : Given} {tape tape' : List Operation} {scope : Scope} {first : ℕ} {entries : List Entry} {old new : Members} {carried : ℕ → Bool} {resync : Option ℕ} (course : Course) (ahead : PhasesLeft) (window : List ℕ)
+    (span : Span) (copied done : ℕ) (sectioned : Bool) (who : Who) (end roles spares : ℕ) (was : IsMoving tells given tape scope first entries old carried resync course (bytes_in course.window window) (left_by resync old course ahead))
     (is : course ≡ entered span copied sectioned) (goes : IsCallGoing entries who) (caller : who.caller ≢ 254) (at_end : tells → end ≡ length tape') (grows : Grows tells tape tape') (enough : DoWithout old)
     (refusal : Option Refusal) (did : IsFinishedBy tells given tape tape' old new (final_shape old.newest) span copied done (take (512 * (span.hi - span.lo)) window) roles refusal) where
   abbrev bytes : List ℕ
   bytes = take (512 * (span.hi - span.lo)) window
 
-  opened : IsMoving tells given tape scope first entries old carried (entered span copied sectioned) bytes (left_in old course ahead)
-  opened = subst (λ (c : Course). IsMoving tells given tape scope first entries old carried c (bytes_in c.window window) (left_in old course ahead)) is was
+  opened : IsMoving tells given tape scope first entries old carried resync (entered span copied sectioned) bytes (left_by resync old course ahead)
+  opened = subst (λ (c : Course). IsMoving tells given tape scope first entries old carried resync c (bytes_in c.window window) (left_by resync old course ahead)) is was
 
   -- it is done: no window is open
-  pub finish-done : (left : ℕ) → refusal ≡ None → left ≡ left_in new (closed 0) ahead
-      → IsMoving tells given tape' scope first (entries ++ entries_of who end (losses_of roles spares ++ Step FinishesWindow left ∷ [])) new carried (closed 0) [] (left_in new (closed 0) ahead)
+  pub finish-done : (left : ℕ) → refusal ≡ None → left ≡ left_by resync new (closed 0) ahead
+      → IsMoving tells given tape' scope first (entries ++ entries_of who end (losses_of roles spares ++ Step FinishesWindow left ∷ [])) new carried resync (closed 0) [] (left_by resync new (closed 0) ahead)
   finish-done left none told =
-      subst (λ (n : ℕ). IsMoving tells given tape' scope first (entries ++ entries_of who end (losses_of roles spares ++ Step FinishesWindow left ∷ [])) new carried (closed 0) [] n) told
+      subst (λ (n : ℕ). IsMoving tells given tape' scope first (entries ++ entries_of who end (losses_of roles spares ++ Step FinishesWindow left ∷ [])) new carried resync (closed 0) [] n) told
       (closed-bare 0 bytes left
-      (finish-moves tells given tape tape' scope first entries old new carried (final_shape old.newest) span copied done sectioned bytes who end roles spares goes (not_254 who.caller caller) at_end grows enough
-      None (left_in old course ahead) left opened some (subst (λ (o : Option Refusal). IsFinishedBy tells given tape tape' old new (final_shape old.newest) span copied done bytes roles o) none did)))
+      (finish-moves tells given tape tape' scope first entries old new carried resync (final_shape old.newest) span copied done sectioned bytes who end roles spares goes (not_254 who.caller caller) at_end grows enough
+      None (left_by resync old course ahead) left opened some (subst (λ (o : Option Refusal). IsFinishedBy tells given tape tape' old new (final_shape old.newest) span copied done bytes roles o) none did)))
     where
       some : left ≢ 0
-      some zero = absurd (record-some given old new span ahead (moved-none given span old new refusal none did.moved) was.members_are.active (sym told ∙ zero))
+      some zero = absurd (record-some given old new resync span ahead (moved-none given span old new refusal none did.moved) was.members_are.active (sym told ∙ zero))
 
   -- it is refused: the window is open as before
   pub finish-refused : (why : Refusal) → refusal ≡ Some why
-      → IsMoving tells given tape' scope first (entries ++ entries_of who end (losses_of roles spares ++ Refused why ∷ [])) new carried course (bytes_in course.window window) (left_in new course ahead)
+      → IsMoving tells given tape' scope first (entries ++ entries_of who end (losses_of roles spares ++ Refused why ∷ [])) new carried resync course (bytes_in course.window window) (left_by resync new course ahead)
   finish-refused why refused =
-      subst (λ (n : ℕ). IsMoving tells given tape' scope first (entries ++ entries_of who end (losses_of roles spares ++ Refused why ∷ [])) new carried course (bytes_in course.window window) n)
-      (sym (left-moved given old new course ahead (moved-if given span old new refusal why refused did.moved)))
-      (subst (λ (c : Course). IsMoving tells given tape' scope first (entries ++ entries_of who end (losses_of roles spares ++ Refused why ∷ [])) new carried c (bytes_in c.window window) (left_in old course ahead)) (sym is)
-      (finish-moves tells given tape tape' scope first entries old new carried (final_shape old.newest) span copied done sectioned bytes who end roles spares goes (not_254 who.caller caller) at_end grows enough
-      (Some why) (left_in old course ahead) 1 opened one (subst (λ (o : Option Refusal). IsFinishedBy tells given tape tape' old new (final_shape old.newest) span copied done bytes roles o) refused did)))
+      subst (λ (n : ℕ). IsMoving tells given tape' scope first (entries ++ entries_of who end (losses_of roles spares ++ Refused why ∷ [])) new carried resync course (bytes_in course.window window) n)
+      (sym (left-moved given old new resync course ahead (moved-if given span old new refusal why refused did.moved)))
+      (subst (λ (c : Course). IsMoving tells given tape' scope first (entries ++ entries_of who end (losses_of roles spares ++ Refused why ∷ [])) new carried resync c (bytes_in c.window window) (left_by resync old course ahead)) (sym is)
+      (finish-moves tells given tape tape' scope first entries old new carried resync (final_shape old.newest) span copied done sectioned bytes who end roles spares goes (not_254 who.caller caller) at_end grows enough
+      (Some why) (left_by resync old course ahead) 1 opened one (subst (λ (o : Option Refusal). IsFinishedBy tells given tape tape' old new (final_shape old.newest) span copied done bytes roles o) refused did)))
     where
       one : ◌≢◌ {A = ℕ} 1 0
       one zero = absurd (omega (arith, zero))
 
 -- the steps that the window still had are taken
-pub finish-left : (given : Given) (old new : Members) (course : Course) (ahead : PhasesLeft) (span : Span) (copied : ℕ) (sectioned : Bool) → course ≡ entered span copied sectioned
-    → IsMoved given (moved_past span old) new → is_reshaping old.newest ≡ true → left_in new (closed 0) ahead + steps_in old.newest course.window ≡ left_in old course ahead
-finish-left given old new course ahead span copied sectioned is moved active =
-    ap (λ (c : Course). left_in new (closed 0) ahead + steps_in old.newest c.window) is
-    ∙ finishing old.newest new.newest span sectioned copied 0 (phases_of ahead) active (past-of given old new span moved)
-    ∙ sym (ap (λ (c : Course). left_in old c ahead) is)
+pub finish-left : (given : Given) (old new : Members) (resync : Option ℕ) (course : Course) (ahead : PhasesLeft) (span : Span) (copied : ℕ) (sectioned : Bool) → course ≡ entered span copied sectioned
+    → IsMoved given (moved_past span old) new → is_reshaping old.newest ≡ true → left_by resync new (closed 0) ahead + steps_in old.newest course.window ≡ left_by resync old course ahead
+finish-left given old new resync course ahead span copied sectioned is moved active =
+    ap (λ (c : Course). left_by resync new (closed 0) ahead + steps_in old.newest c.window) is
+    ∙ both (grow_left new.newest Closed 0 (phases_of ahead)) (grow_left old.newest (Entered span copied sectioned) 0 (phases_of ahead)) (resync_left new.newest Closed resync) (resync_left old.newest (Entered span copied sectioned) resync)
+    (stripes_in old.newest span - copied)
+    (finishing old.newest new.newest span sectioned copied 0 (phases_of ahead) active (past-of given old new span moved)) (records-leave given old new span copied sectioned resync moved)
+    ∙ sym (ap (λ (c : Course). left_by resync old c ahead) is)
+  where
+    both : (x y m n k : ℕ) → x + (k + 1) ≡ y → m ≡ n → (x + m) + (k + 1) ≡ y + n
+    both x y m n k taken same = omega (arith, taken, same)
+
+-- and parity is relied on as far as before: nothing is mended while the window is open
+pub finish-relied : (given : Given) (old new : Members) (resync : Option ℕ) (span : Span) → IsPlaced given old → IsMoved given (moved_past span old) new → ⊥ ⊎ IsUnmended resync → relied_sector new.newest resync ≡ relied_sector old.newest resync
+finish-relied given old new None span placed moved beside = long-same old.newest new.newest (shapes-past given old new span moved)
+finish-relied given old new (Some mended) span placed moved (inr none) =
+    ap (λ (n : ℕ). relied_sector new.newest (Some n)) none ∙ (relied-reaches new.newest moved.placed.fit).0
+    ∙ sym (ap (λ (n : ℕ). relied_sector old.newest (Some n)) none ∙ (relied-reaches old.newest placed.fit).0)
+finish-relied given old new (Some mended) span placed moved (inl none) = absurd none
 
 -- ---- sectors beside the window
 
--- where all rows are relied on, a write isn't done for missing members alone
-pub torn-of : (m : Members) → AreShapesFit m.newest → (relied at to : ℕ) (refusal : Refusal) → list_length m.newest ≤ relied → to ≤ list_length m.newest → IsListUnwritten relied at to m refusal → IsListTorn at to m refusal
-torn-of m fit relied at to refusal all within (inl torn) = torn
-torn-of m fit relied at to refusal all within (inr (each, there)) = absurd (
-    let lt = there.2 in
-    let less = unrelied-short m.newest fit relied there.0 (omega (arith, lt, within)) there.3 in
-    omega (arith, less, all))
-
--- and its refusal tells that members are missing
+-- a refusal tells that members are missing
 pub torn-missing : (relied at to : ℕ) (m : Members) (refusal : Refusal) → IsListUnwritten relied at to m refusal → IsOfMissing refusal
 torn-missing relied at to m refusal (inl torn) = unwritten-of (shape_for m.newest torn.0) false m refusal (inl torn.3)
 torn-missing relied at to m refusal (inr (each, there)) = unwritten-of (shape_for m.newest there.0) false m refusal (inr there.4)
 
-module _ {tells : Type 0} {given : Given} {tape : List Operation} {scope : Scope} {first : ℕ} {entries : List Entry} {old : Members} {carried : ℕ → Bool} {course : Course} {buffer : List ℕ} {left : ℕ}
-    (was : IsMoving tells given tape scope first entries old carried course buffer left) (unlimited : limit_of entries ≡ None) where
+module _ {tells : Type 0} {given : Given} {tape : List Operation} {scope : Scope} {first : ℕ} {entries : List Entry} {old : Members} {carried : ℕ → Bool} {resync : Option ℕ} {course : Course} {buffer : List ℕ} {left : ℕ}
+    (was : IsMoving tells given tape scope first entries old carried resync course buffer left) (unlimited : limit_of entries ≡ None) where
   -- all of the list is visible
   pub all-seen : tells → visible_at (world_in given tape scope first) entries ≡ list_length old.newest
   all-seen t =
@@ -277,18 +285,27 @@ module _ {tells : Type 0} {given : Given} {tape : List Operation} {scope : Scope
       ∙ (was.recorded t).sized
 
   -- why it is refused before any row is read
-  pub first-right : (at to : ℕ) (refusal : Refusal) → IsRefusedFor (list_length old.newest) to (IsListUnwritten (list_length old.newest) at to) old old refusal
+  pub first-right : (relied at to : ℕ) (refusal : Refusal) → relied ≡ relied_sector old.newest resync → IsRefusedFor (list_length old.newest) to (IsListUnwritten relied at to) old old refusal
       → tells → IsReliable (world_in given tape scope first) entries → IsRefusedRight (world_in given tape scope first) entries refusal
-  first-right at to (PastEnd told) why t right = why.0 ∙ sym (all-seen t)
-  first-right at to refusal why t right =
-      let torn = torn-of old was.members_are.placed.fit (list_length old.newest) at to refusal (omega arith) why.0 why.1 in
-      lacking-right (world_in given tape scope first) entries given old was.members_are.placed (was.gone t right) (was.levelled t right) (shape_for old.newest torn.0) refusal (shape-force old.newest torn.0) torn.3
+  first-right relied at to (PastEnd told) relies why t right = why.0 ∙ sym (all-seen t)
+  first-right relied at to refusal relies why t right = by why.0 why.1
+    where
+      by : to ≤ list_length old.newest → IsListUnwritten relied at to old refusal → IsRefusedRight (world_in given tape scope first) entries refusal
+      by within (inl torn) =
+          lacking-right (world_in given tape scope first) entries given old was.members_are.placed (was.gone t right) (was.levelled t right) (shape_for old.newest torn.0) refusal (shape-force old.newest torn.0) torn.3
+      by within (inr (each, there)) =
+          let cause = there.4 in
+          let high = there.2 in
+          let few = cause.4.0 in
+          let disks = force-disks old.newest was.members_are.placed.fit (shape_for old.newest there.0) (shape-force old.newest there.0) in
+          unsynced-right (world_in given tape scope first) entries old (was.gone t right) refusal cause.0 cause.1 (omega (arith, few, disks)) cause.3
+          (pending-at was relied relies old was.members_are.placed.fit refl there.0 (omega (arith, high, within)) there.3 t)
 
-module _ {tells : Type 0} {given : Given} {tape tape' : List Operation} {scope : Scope} {first : ℕ} {entries : List Entry} {old new : Members} {carried : ℕ → Bool} (course : Course) (ahead : PhasesLeft) (buffer : List ℕ)
+module _ {tells : Type 0} {given : Given} {tape tape' : List Operation} {scope : Scope} {first : ℕ} {entries : List Entry} {old new : Members} {carried : ℕ → Bool} {resync : Option ℕ} (course : Course) (ahead : PhasesLeft) (buffer : List ℕ)
     (who : Who) (end roles spares at : ℕ) (from : List ℕ) (relied : ℕ) (begun : Bool)
-    (was : IsMoving tells given tape scope first entries old carried course buffer (left_in old course ahead)) (goes : IsCallGoing entries who) (caller : who.caller ≢ 254)
+    (was : IsMoving tells given tape scope first entries old carried resync course buffer (left_by resync old course ahead)) (goes : IsCallGoing entries who) (caller : who.caller ≢ 254)
     (at_end : tells → end ≡ length tape') (grows : Grows tells tape tape') (unlimited : limit_of entries ≡ None) (some : 0 < length from / 512)
-    (fine : (refusal : Refusal) → IsListUnwritten relied at (at + length from / 512) old refusal → ⊥) (did : ArePut tells given tape tape' old new course at from relied roles begun) where
+    (fine : (refusal : Refusal) → IsListUnwritten relied at (at + length from / 512) old refusal → ⊥) (relies : relied ≡ relied_sector old.newest resync) (did : ArePut tells given tape tape' old new course at from relied roles begun) where
   -- no shape of the write misses too many
   each-does : (x : ℕ) → at ≤ x → x < at + length from / 512 → DoesWithout (shape_for old.newest x) old
   each-does x low high = shape-without (shape_for old.newest x) old (λ refusal many. fine refusal (inl (x, low, high, many)))
@@ -302,17 +319,17 @@ module _ {tells : Type 0} {given : Given} {tape tape' : List Operation} {scope :
 
   -- it is done
   pub wrote-kept : AreWritten tells given tape tape' old new at from relied
-      → IsMoving tells given tape' scope first (entries ++ entries_of who end (losses_of roles spares ++ Wrote at (sectors_of from) ∷ [])) new carried course buffer (left_in new course ahead)
+      → IsMoving tells given tape' scope first (entries ++ entries_of who end (losses_of roles spares ++ Wrote at (sectors_of from) ∷ [])) new carried resync course buffer (left_by resync new course ahead)
   wrote-kept done =
-      subst (λ (n : ℕ). IsMoving tells given tape' scope first (entries ++ entries_of who end (losses_of roles spares ++ Wrote at (sectors_of from) ∷ [])) new carried course buffer n) (sym (left-moved given old new course ahead did.moved))
-      (written-moves tells given tape tape' scope first entries old new carried course buffer (left_in old course ahead) who end roles spares at from relied begun was live goes (not_254 who.caller caller) at_end grows each-does seen did done)
+      subst (λ (n : ℕ). IsMoving tells given tape' scope first (entries ++ entries_of who end (losses_of roles spares ++ Wrote at (sectors_of from) ∷ [])) new carried resync course buffer n) (sym (left-moved given old new resync course ahead did.moved))
+      (written-moves tells given tape tape' scope first entries old new carried resync course buffer (left_by resync old course ahead) who end roles spares at from relied begun was live goes (not_254 who.caller caller) at_end grows each-does seen relies did done)
 
   -- it is refused
-  pub unwritten-kept : (refusal : Refusal) → AreUnwritten tells given tape tape' scope first entries old new at from relied begun refusal
-      → IsMoving tells given tape' scope first (entries ++ entries_of who end (failure_events roles spares begun at (sectors_of from) refusal)) new carried course buffer (left_in new course ahead)
+  pub unwritten-kept : (refusal : Refusal) → AreUnwritten tells given tape tape' old new at from relied begun refusal
+      → IsMoving tells given tape' scope first (entries ++ entries_of who end (failure_events roles spares begun at (sectors_of from) refusal)) new carried resync course buffer (left_by resync new course ahead)
   unwritten-kept refusal undone =
-      subst (λ (n : ℕ). IsMoving tells given tape' scope first (entries ++ entries_of who end (failure_events roles spares begun at (sectors_of from) refusal)) new carried course buffer n) (sym (left-moved given old new course ahead did.moved))
-      (unwritten-moves tells given tape tape' scope first entries old new carried course buffer (left_in old course ahead) who end roles spares at from relied begun was live goes (not_254 who.caller caller) at_end grows each-does seen did refusal undone)
+      subst (λ (n : ℕ). IsMoving tells given tape' scope first (entries ++ entries_of who end (failure_events roles spares begun at (sectors_of from) refusal)) new carried resync course buffer n) (sym (left-moved given old new resync course ahead did.moved))
+      (unwritten-moves tells given tape tape' scope first entries old new carried resync course buffer (left_by resync old course ahead) who end roles spares at from relied begun was live goes (not_254 who.caller caller) at_end grows each-does seen relies did refusal undone)
 
 -- ---- one call behind another
 
@@ -434,38 +451,38 @@ finish-caused visible to why old new (Err (IsRefusedWith refusal)) within fine c
 finish-caused visible to why old new (Err NoMemory) within fine caused = caused
 
 -- a write beside the window, which it doesn't touch
-pub alone-caused : {T : Type 0} (window : Window) (visible at to : ℕ) (old new : Members) (result : Result T AnyFault) → (TouchesWindow window at to → ⊥)
-    → IsCausedBy visible to (IsListUnwritten visible at to) old new result → IsCausedBy visible to (IsWriteLacked window visible at to) old new result
-alone-caused window visible at to old new (Ok x) none caused = (caused.0, λ refusal which. elim which [ inl asked ↦ caused.1 refusal asked | inr many ↦ none many.0 ])
-alone-caused window visible at to old new (Err (IsRefusedWith refusal)) none caused = by refusal caused
+pub alone-caused : {T : Type 0} (window : Window) (visible relied at to : ℕ) (old new : Members) (result : Result T AnyFault) → (TouchesWindow window at to → ⊥)
+    → IsCausedBy visible to (IsListUnwritten relied at to) old new result → IsCausedBy visible to (IsWriteLacked window relied at to) old new result
+alone-caused window visible relied at to old new (Ok x) none caused = (caused.0, λ refusal which. elim which [ inl asked ↦ caused.1 refusal asked | inr many ↦ none many.0 ])
+alone-caused window visible relied at to old new (Err (IsRefusedWith refusal)) none caused = by refusal caused
   where
-    by : (refusal : Refusal) → IsRefusedFor visible to (IsListUnwritten visible at to) old new refusal → IsRefusedFor visible to (IsWriteLacked window visible at to) old new refusal
+    by : (refusal : Refusal) → IsRefusedFor visible to (IsListUnwritten relied at to) old new refusal → IsRefusedFor visible to (IsWriteLacked window relied at to) old new refusal
     by (PastEnd told) is = is
     by refusal is = (is.0, inl is.1)
-alone-caused window visible at to old new (Err NoMemory) none caused = caused
+alone-caused window visible relied at to old new (Err NoMemory) none caused = caused
 
 -- a window that it touches isn't finished
-pub refused-caused : (T : Type 0) (window : Window) (visible at to : ℕ) (old new : Members) (fault : AnyFault) → TouchesWindow window at to
-    → IsCausedBy {T = T} visible to (λ m refusal. IsListUnwritten visible at to m refusal ⊎ AreTooMany m refusal) old new (Err fault) → IsCausedBy {T = T} visible to (IsWriteLacked window visible at to) old new (Err fault)
-refused-caused T window visible at to old new (IsRefusedWith refusal) touches caused = by refusal caused
+pub refused-caused : (T : Type 0) (window : Window) (visible relied at to : ℕ) (old new : Members) (fault : AnyFault) → TouchesWindow window at to
+    → IsCausedBy {T = T} visible to (λ m refusal. IsListUnwritten relied at to m refusal ⊎ AreTooMany m refusal) old new (Err fault) → IsCausedBy {T = T} visible to (IsWriteLacked window relied at to) old new (Err fault)
+refused-caused T window visible relied at to old new (IsRefusedWith refusal) touches caused = by refusal caused
   where
-    by : (refusal : Refusal) → IsRefusedFor visible to (λ m refusal. IsListUnwritten visible at to m refusal ⊎ AreTooMany m refusal) old new refusal → IsRefusedFor visible to (IsWriteLacked window visible at to) old new refusal
+    by : (refusal : Refusal) → IsRefusedFor visible to (λ m refusal. IsListUnwritten relied at to m refusal ⊎ AreTooMany m refusal) old new refusal → IsRefusedFor visible to (IsWriteLacked window relied at to) old new refusal
     by (PastEnd told) is = is
     by refusal is = (is.0, elim is.1 [ inl asked ↦ inl asked | inr many ↦ inr (touches, many) ])
-refused-caused T window visible at to old new NoMemory touches caused = caused
+refused-caused T window visible relied at to old new NoMemory touches caused = caused
 
 -- it is finished, and the sectors are written behind it, or aren't
-pub behind-caused : {T : Type 0} (window : Window) (visible long at to : ℕ) (old mid new : Members) (result : Result T AnyFault) (who : Who) (entries entries' : List Entry) (body : List Sector) → long ≡ visible
-    → (to ≤ visible) × ((refusal : Refusal) → IsListUnwritten visible at to old refusal ⊎ AreTooMany old refusal → ⊥) → IsPutEntered who entries entries' at body result
-    → IsCausedBy long to (IsListUnwritten long at to) mid new result → IsCausedBy visible to (IsWriteLacked window visible at to) old new result
-behind-caused window visible long at to old mid new (Ok x) who entries entries' body same before told caused =
+pub behind-caused : {T : Type 0} (window : Window) (visible long relied mended at to : ℕ) (old mid new : Members) (result : Result T AnyFault) (who : Who) (entries entries' : List Entry) (body : List Sector) → long ≡ visible → mended ≡ relied
+    → (to ≤ visible) × ((refusal : Refusal) → IsListUnwritten relied at to old refusal ⊎ AreTooMany old refusal → ⊥) → IsPutEntered who entries entries' at body result
+    → IsCausedBy long to (IsListUnwritten mended at to) mid new result → IsCausedBy visible to (IsWriteLacked window relied at to) old new result
+behind-caused window visible long relied mended at to old mid new (Ok x) who entries entries' body same relies before told caused =
     (before.0, λ refusal which. elim which [ inl asked ↦ before.1 refusal (inl asked) | inr many ↦ before.1 refusal (inr many.1) ])
-behind-caused window visible long at to old mid new (Err (IsRefusedWith refusal)) who entries entries' body same before told caused = by refusal caused
+behind-caused window visible long relied mended at to old mid new (Err (IsRefusedWith refusal)) who entries entries' body same relies before told caused = by refusal caused
   where
-    by : (refusal : Refusal) → IsRefusedFor long to (IsListUnwritten long at to) mid new refusal → IsRefusedFor visible to (IsWriteLacked window visible at to) old new refusal
+    by : (refusal : Refusal) → IsRefusedFor long to (IsListUnwritten mended at to) mid new refusal → IsRefusedFor visible to (IsWriteLacked window relied at to) old new refusal
     by (PastEnd told) is = absurd (let past = is.1 in let within = before.0 in omega (arith, past, within, same))
-    by refusal is = (before.0, inl (subst (λ (n : ℕ). IsListUnwritten n at to new refusal) same is.1))
-behind-caused window visible long at to old mid new (Err NoMemory) who entries entries' body same before told caused = absurd told
+    by refusal is = (before.0, inl (subst (λ (n : ℕ). IsListUnwritten n at to new refusal) relies is.1))
+behind-caused window visible long relied mended at to old mid new (Err NoMemory) who entries entries' body same relies before told caused = absurd told
 
 -- its entries, where it doesn't touch the window
 pub alone-entered : {T : Type 0} (window : Window) (at to : ℕ) (body : List Sector) (who : Who) (old mid new : List Entry) (left : ℕ) (result : Result T AnyFault) → mid ≡ old → (TouchesWindow window at to → ⊥)

@@ -144,14 +144,14 @@ lacked-missing : (window : Window) (relied from to : ℕ) (m : Members) (refusal
 lacked-missing window relied from to m refusal (inl unwritten) = torn-missing relied from to m refusal unwritten
 lacked-missing window relied from to m refusal (inr (touches, many)) = too-many-of m refusal many
 
-module _ (window : Window) (size at to : ℕ) (body : List Sector) (who : Who) (old new : List Entry) (m m' : Members) (left : ℕ) (end-is : to ≡ at + length body)
+module _ (window : Window) (size relied at to : ℕ) (body : List Sector) (who : Who) (old new : List Entry) (m m' : Members) (left : ℕ) (end-is : to ≡ at + length body)
     (number : who.number ≡ next_number who.caller old) (sized : length_of size old ≡ size) (unlimited : limit_of old ≡ None) where
   -- why it is refused fits
-  refused-fits : (refusal : Refusal) → IsRefusedFor size to (IsWriteLacked window size at to) m m' refusal → (call : List Entry) → IsInner who (AsksWrite at body) call
+  refused-fits : (refusal : Refusal) → IsRefusedFor size to (IsWriteLacked window relied at to) m m' refusal → (call : List Entry) → IsInner who (AsksWrite at body) call
       → (before : List Entry) → OneShapeAnswers size (old ++ call) before (AsksWrite at body) (Refused refusal)
   refused-fits (PastEnd told) why call inner = (write_kind at body).past size told (old ++ call) (all-visible size (AsksWrite at body) who old number sized unlimited call inner) (subst (λ (n : ℕ). size < n) end-is why.1)
   refused-fits refusal why call inner = (write_kind at body).missing size refusal (old ++ call) (all-visible size (AsksWrite at body) who old number sized unlimited call inner)
-      (subst (λ (n : ℕ). n ≤ size) end-is why.0) (lacked-missing window size at to m' refusal why.1)
+      (subst (λ (n : ℕ). n ≤ size) end-is why.0) (lacked-missing window relied at to m' refusal why.1)
 
   -- behind the losses of the write
   tail-losses : (mid : List Entry) → IsBefore who (AsksWrite at body) old mid → (end roles spares : ℕ) (event : Event) → new ≡ mid ++ entries_of who end (losses_of roles spares ++ event ∷ [])
@@ -166,7 +166,7 @@ module _ (window : Window) (size at to : ℕ) (body : List Sector) (who : Who) (
 
   -- and behind what it tore
   tail-torn : (mid : List Entry) → IsBefore who (AsksWrite at body) old mid → (end roles spares : ℕ) (torn : Bool) (refusal : Refusal) → new ≡ mid ++ entries_of who end (failure_events roles spares torn at body refusal)
-      → IsRefusedFor size to (IsWriteLacked window size at to) m m' refusal → IsRepliedBehind size (AsksWrite at body) who old new (Refused refusal)
+      → IsRefusedFor size to (IsWriteLacked window relied at to) m m' refusal → IsRepliedBehind size (AsksWrite at body) who old new (Refused refusal)
   tail-torn mid first end roles spares false refusal is why = tail-losses mid first end roles spares (Refused refusal) is (refused-fits refusal why)
   tail-torn mid first end roles spares true refusal is why =
       let xs = entries_of who end (losses_of roles spares ++ Torn at body ∷ []) in
@@ -176,7 +176,7 @@ module _ (window : Window) (size at to : ℕ) (body : List Sector) (who : Who) (
       (is ∙ ap (λ (l : List Entry). mid ++ l) (entries-both who end (losses_of roles spares ++ Torn at body ∷ []) (Refused refusal ∷ []))))
       (refused-fits refusal why (first.pre ++ xs) inner)
 
-  pub write-answered : {T : Type 0} (result : Result T AnyFault) → IsWriteEntered window at to body who old new left result → IsCausedBy size to (IsWriteLacked window size at to) m m' result
+  pub write-answered : {T : Type 0} (result : Result T AnyFault) → IsWriteEntered window at to body who old new left result → IsCausedBy size to (IsWriteLacked window relied at to) m m' result
       → IsWriteAnswered size at body who old new result
   write-answered (Ok x) (mid, first, behind) caused = tail-losses mid (finished-before window at to body who old mid left first) behind.end behind.roles behind.spares (Wrote at body) behind.is (λ call inner before. (refl, refl))
   write-answered (Err (IsRefusedWith refusal)) (mid, first, roles, spares, torn, end, is) caused =

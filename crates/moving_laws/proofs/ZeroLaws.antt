@@ -1,5 +1,5 @@
 -- A stripe behind the list is zeroed, from what `zero` of `window_steps` says of it: what is kept, done or refused.
-use Rattle.std.proofs.Common.{◌≡◌, ◌≢◌, inr, ℕ, ◌+◌, ◌<◌, Bool, true, None, List, [], ◌∷◌, ◌++◌, length, sym, ◌∙◌, ap, subst, arith}
+use Rattle.std.proofs.Common.{◌≡◌, ◌≢◌, inr, ℕ, ◌+◌, ◌<◌, Bool, true, Option, None, List, [], ◌∷◌, ◌++◌, length, sym, ◌∙◌, ap, subst, arith}
 use Rattle.std.specs.Prelude.{⊤}
 use Rattle.md_base.specs.Sectors.{Sector}
 use Rattle.md_base.specs.declared.answers.Refusal.{Refusal}
@@ -34,18 +34,20 @@ use Rattle.grow_asked.proofs.LeftLaws.{zeroing}
 use Rattle.kept_history.specs.Recorded.{IsCallGoing}
 use Rattle.kept_history.specs.Safe.{world_in}
 use Rattle.course_kept.specs.declared.course.Course.{Course}
-use Rattle.course_kept.specs.Course.{StandsInCourse, past_stripe}
+use Rattle.course_kept.specs.Course.{past_stripe}
 use Rattle.course_kept.specs.Laws.{closed}
 use Rattle.course_kept.proofs.Courses.{zeroes-go-on}
+use Rattle.region_mends.specs.Left.{resync_left}
+use Rattle.course_mends.specs.Mended.{StandsMended}
 use Rattle.moving_state.proofs.LeftLaws.{plans-counted, some-left}
 use Rattle.moving_state.proofs.ReshapeLaws.{through-of}
 use Rattle.moving_kept.specs.Moving.{IsMoving}
 use Rattle.moving_kept.proofs.MoreSteps.{zeroed-moves}
+use Rattle.moving_kept.proofs.Pending.{none-on}
 use Rattle.moving_kept.proofs.Staying.{refused-moves}
 use Rattle.moving_kept.proofs.Steps.{AreMissingSince, missing-since}
-use Rattle.running_words.specs.Parts.{left_in}
 use Rattle.running_words.proofs.Called.{not_254}
-use Rattle.moving_laws.proofs.Kept.{left-moved}
+use Rattle.moving_laws.proofs.Kept.{left_by, left-moved}
 use Rattle.moving_laws.proofs.Settled.{risen-told}
 
 -- ---- the course
@@ -62,21 +64,25 @@ more-closed course is = ap (λ (k : Course). record k { zeroed = course.zeroed +
 
 -- ---- the steps that are left
 
-pub zero-left : (given : Given) (old new : Members) (course : Course) (ahead : PhasesLeft) → IsMoved given old new → is_reshaping old.newest ≡ true → course ≡ closed course.zeroed → course.zeroed < zeroed_by old.newest
-    → left_in new (zeroed_more course) ahead + 1 ≡ left_in old course ahead
-zero-left given old new course ahead moved active is lt =
-    ap (λ (n : ℕ). n + 1) (left-moved given old new (zeroed_more course) ahead moved)
-    ∙ subst (λ (w : Window). grow_left old.newest w (course.zeroed + 1) (phases_of ahead) + 1 ≡ grow_left old.newest w course.zeroed (phases_of ahead)) (sym (ap (λ (k : Course). k.window) is))
-    (zeroing old.newest course.zeroed (phases_of ahead) active lt)
+pub zero-left : (given : Given) (old new : Members) (resync : Option ℕ) (course : Course) (ahead : PhasesLeft) → IsMoved given old new → is_reshaping old.newest ≡ true → course ≡ closed course.zeroed → course.zeroed < zeroed_by old.newest
+    → left_by resync new (zeroed_more course) ahead + 1 ≡ left_by resync old course ahead
+zero-left given old new resync course ahead moved active is lt =
+    ap (λ (n : ℕ). n + 1) (left-moved given old new resync (zeroed_more course) ahead moved)
+    ∙ one (grow_left old.newest course.window (course.zeroed + 1) (phases_of ahead)) (grow_left old.newest course.window course.zeroed (phases_of ahead)) (resync_left old.newest course.window resync)
+    (subst (λ (w : Window). grow_left old.newest w (course.zeroed + 1) (phases_of ahead) + 1 ≡ grow_left old.newest w course.zeroed (phases_of ahead)) (sym (ap (λ (k : Course). k.window) is))
+    (zeroing old.newest course.zeroed (phases_of ahead) active lt))
+  where
+    one : (x y m : ℕ) → x + 1 ≡ y → x + m + 1 ≡ y + m
+    one x y m fewer = omega (arith, fewer)
 
 -- the end of the reshape is left behind it
-zero-some : (given : Given) (old new : Members) (course : Course) (ahead : PhasesLeft) → IsMoved given old new → is_reshaping old.newest ≡ true → course.zeroed < zeroed_by old.newest → left_in new (zeroed_more course) ahead ≢ 0
-zero-some given old new course ahead moved active lt =
-    some (left_in new (zeroed_more course) ahead) (left_in old (zeroed_more course) ahead) (reshape_left old.newest course.window (course.zeroed + 1)) (phases_steps (final_shape old.newest) old.newest.size (phases_of ahead))
-    (left-moved given old new (zeroed_more course) ahead moved) (plans-counted old.newest (zeroed_more course) (phases_of ahead) active) (some-left old.newest course.window (course.zeroed + 1) (omega (arith, lt)))
+zero-some : (given : Given) (old new : Members) (resync : Option ℕ) (course : Course) (ahead : PhasesLeft) → IsMoved given old new → is_reshaping old.newest ≡ true → course.zeroed < zeroed_by old.newest → left_by resync new (zeroed_more course) ahead ≢ 0
+zero-some given old new resync course ahead moved active lt =
+    some (left_by resync new (zeroed_more course) ahead) (grow_left old.newest course.window (course.zeroed + 1) (phases_of ahead)) (resync_left old.newest course.window resync) (reshape_left old.newest course.window (course.zeroed + 1)) (phases_steps (final_shape old.newest) old.newest.size (phases_of ahead))
+    (left-moved given old new resync (zeroed_more course) ahead moved) (plans-counted old.newest (zeroed_more course) (phases_of ahead) active) (some-left old.newest course.window (course.zeroed + 1) (omega (arith, lt)))
   where
-    some : (x y r p : ℕ) → x ≡ y → r + p ≡ y → 0 < r → x ≢ 0
-    some x y r p same counted more none = absurd (omega (arith, same, counted, more, none))
+    some : (x y m r p : ℕ) → x ≡ y + m → r + p ≡ y → 0 < r → x ≢ 0
+    some x y m r p same counted more none = absurd (omega (arith, same, counted, more, none))
 
 -- ---- what the call left
 
@@ -123,36 +129,39 @@ rows-zeroed {tells = tells} given old new tape' shape stripe zeroed same at stan
 
 -- ---- what is kept
 
-module _ {tells : Type 0} {given : Given} {tape tape' : List Operation} {scope : Scope} {first : ℕ} {entries : List Entry} {old new : Members} {carried : ℕ → Bool} (course : Course) {buffer : List ℕ} (ahead : PhasesLeft)
-    (who : Who) (end roles spares : ℕ) (is : course ≡ closed course.zeroed) (none : next_window old.newest ≡ None) (was : IsMoving tells given tape scope first entries old carried course buffer (left_in old course ahead))
+module _ {tells : Type 0} {given : Given} {tape tape' : List Operation} {scope : Scope} {first : ℕ} {entries : List Entry} {old new : Members} {carried : ℕ → Bool} {resync : Option ℕ} (course : Course) {buffer : List ℕ} (ahead : PhasesLeft)
+    (who : Who) (end roles spares : ℕ) (is : course ≡ closed course.zeroed) (none : next_window old.newest ≡ None) (synced : resync ≡ None)
+    (was : IsMoving tells given tape scope first entries old carried resync course buffer (left_by resync old course ahead))
     (live : HasLiveSlot old) (goes : IsCallGoing entries who) (caller : who.caller ≢ 254) (at_end : tells → end ≡ length tape') (did : IsZeroStep tells given old new tape tape' course.zeroed roles) where
   -- it is refused: the rows that were written of the stripe are written again
   pub zero-refused : (refusal : Refusal) → AreTooMany new refusal
-      → IsMoving tells given tape' scope first (entries ++ entries_of who end (losses_of roles spares ++ Refused refusal ∷ [])) new carried course buffer (left_in new course ahead)
+      → IsMoving tells given tape' scope first (entries ++ entries_of who end (losses_of roles spares ++ Refused refusal ∷ [])) new carried resync course buffer (left_by resync new course ahead)
   zero-refused refusal many =
-      subst (λ (n : ℕ). IsMoving tells given tape' scope first (entries ++ entries_of who end (losses_of roles spares ++ Refused refusal ∷ [])) new carried course buffer n) (sym (left-moved given old new course ahead did.moved))
-      (refused-moves tells given tape tape' scope first entries old new carried course buffer (left_in old course ahead) who end roles spares refusal was live goes (not_254 who.caller caller) at_end did.grows
+      subst (λ (n : ℕ). IsMoving tells given tape' scope first (entries ++ entries_of who end (losses_of roles spares ++ Refused refusal ∷ [])) new carried resync course buffer n) (sym (left-moved given old new resync course ahead did.moved))
+      (refused-moves tells given tape tape' scope first entries old new carried resync course buffer (left_by resync old course ahead) who end roles spares refusal was live goes (not_254 who.caller caller) at_end did.grows
       did.moved (few-roles new.newest did.moved.placed.fit.valid) did.since did.clean (inr many) did.rise did.unused
-      (λ t sound among list stands. subst (λ (k : Course). StandsInCourse sound among new k buffer (present given tape') list) (sym is)
-      ((zeroes-go-on sound among given old new course.zeroed buffer (present given tape) (present given tape') list was.members_are.placed did.moved (through-of old.newest was.members_are.placed.fit was.members_are.active none) (did.others t)
-      (subst (λ (k : Course). StandsInCourse sound among old k buffer (present given tape) list) is stands)).0))
+      (λ t sound among list stands. subst (λ (k : Course). StandsMended sound among resync new k buffer (present given tape') list) (sym is)
+      (none-on sound among resync old new (closed course.zeroed) (closed course.zeroed) buffer buffer (present given tape) (present given tape') list synced
+      (λ before. (zeroes-go-on sound among given old new course.zeroed buffer (present given tape) (present given tape') list was.members_are.placed did.moved (through-of old.newest was.members_are.placed.fit was.members_are.active none) (did.others t)
+      before).0)
+      (subst (λ (k : Course). StandsMended sound among resync old k buffer (present given tape) list) is stands)))
       (λ t told filled more room gone unclean. did.safe t (world_in given tape scope first) told room gone unclean))
 
   -- it is done
-  pub zero-done : (left : ℕ) → left ≡ left_in new (zeroed_more course) ahead → course.zeroed < zeroed_by old.newest → AreRowsZeroed tells given old new tape' (final_shape old.newest) (past_stripe old.newest + course.zeroed)
-      → IsMoving tells given tape' scope first (entries ++ entries_of who end (losses_of roles spares ++ Step ZeroesStripe left ∷ [])) new carried (zeroed_more course) buffer (left_in new (zeroed_more course) ahead)
+  pub zero-done : (left : ℕ) → left ≡ left_by resync new (zeroed_more course) ahead → course.zeroed < zeroed_by old.newest → AreRowsZeroed tells given old new tape' (final_shape old.newest) (past_stripe old.newest + course.zeroed)
+      → IsMoving tells given tape' scope first (entries ++ entries_of who end (losses_of roles spares ++ Step ZeroesStripe left ∷ [])) new carried resync (zeroed_more course) buffer (left_by resync new (zeroed_more course) ahead)
   zero-done left told more stands =
-      subst (λ (n : ℕ). IsMoving tells given tape' scope first (entries ++ entries_of who end (losses_of roles spares ++ Step ZeroesStripe left ∷ [])) new carried (zeroed_more course) buffer n) told
-      (subst (λ (k : Course). IsMoving tells given tape' scope first (entries ++ entries_of who end (losses_of roles spares ++ Step ZeroesStripe left ∷ [])) new carried k buffer left) (sym (more-closed course is))
-      (zeroed-moves tells given tape tape' scope first entries old new carried course.zeroed buffer left who end roles spares before live goes (not_254 who.caller caller) at_end did.grows
+      subst (λ (n : ℕ). IsMoving tells given tape' scope first (entries ++ entries_of who end (losses_of roles spares ++ Step ZeroesStripe left ∷ [])) new carried resync (zeroed_more course) buffer n) told
+      (subst (λ (k : Course). IsMoving tells given tape' scope first (entries ++ entries_of who end (losses_of roles spares ++ Step ZeroesStripe left ∷ [])) new carried resync k buffer left) (sym (more-closed course is))
+      (zeroed-moves tells given tape tape' scope first entries old new carried resync course.zeroed buffer left who end roles spares before synced live goes (not_254 who.caller caller) at_end did.grows
       (through-of old.newest was.members_are.placed.fit was.members_are.active none) more some did.moved (few-roles new.newest did.moved.placed.fit.valid) did.since did.clean did.rise did.unused did.others stands did.safe))
     where
-      falls : left + 1 ≡ left_in old course ahead
-      falls = ap (λ (n : ℕ). n + 1) told ∙ zero-left given old new course ahead did.moved was.members_are.active is more
+      falls : left + 1 ≡ left_by resync old course ahead
+      falls = ap (λ (n : ℕ). n + 1) told ∙ zero-left given old new resync course ahead did.moved was.members_are.active is more
 
-      before : IsMoving tells given tape scope first entries old carried (closed course.zeroed) buffer (left + 1)
-      before = subst (λ (n : ℕ). IsMoving tells given tape scope first entries old carried (closed course.zeroed) buffer n) (sym falls)
-          (subst (λ (k : Course). IsMoving tells given tape scope first entries old carried k buffer (left_in old course ahead)) is was)
+      before : IsMoving tells given tape scope first entries old carried resync (closed course.zeroed) buffer (left + 1)
+      before = subst (λ (n : ℕ). IsMoving tells given tape scope first entries old carried resync (closed course.zeroed) buffer n) (sym falls)
+          (subst (λ (k : Course). IsMoving tells given tape scope first entries old carried resync k buffer (left_by resync old course ahead)) is was)
 
       some : left ≢ 0
-      some zero = absurd (zero-some given old new course ahead did.moved was.members_are.active more (sym told ∙ zero))
+      some zero = absurd (zero-some given old new resync course ahead did.moved was.members_are.active more (sym told ∙ zero))

@@ -8,7 +8,6 @@ use Rattle.superblocks.specs.Reading.{Scope, final_shape, list_length}
 use Rattle.grow_plan.specs.Plans.{AreSound}
 use Rattle.flat_history.specs.declared.events.Entry.{Entry}
 use Rattle.flat_history.specs.Flat.{length_of, limit_of}
-use Rattle.flat_history.specs.Losses.{is_unsynced}
 use Rattle.flat_history.specs.Stands.{reach_of}
 use Rattle.views.specs.declared.work.Work.{Work}
 use Rattle.views.specs.Numbers.{is_carried}
@@ -28,17 +27,15 @@ bytes_in Closed buffer = []
 bytes_in (Entered span copied sectioned) buffer = take (512 * (span.hi - span.lo)) buffer
 bytes_in (Unsure span) buffer = take (512 * (span.hi - span.lo)) buffer
 
--- The array keeps the record of its reshape. No resync is pending, the entries tell the length of its list and limit it nowhere, where none of them takes a role's
+-- The array keeps the record of its reshape. The entries tell the length of its list and limit it nowhere, where none of them takes a role's
 -- holder no role is missing, each slot that wasn't found sound has failed, the window's buffer has room for each window, and there is room for the entries of so many
 -- steps and of its end, and for the rows of one call in two regions.
 pub record IsReady (tells : Type 0) (given : Given) (tape : List Operation) (scope : Scope) (first : ℕ) (entries : List Entry)
     (members : Members) (work : Work) (course : Course) (ahead : PhasesLeft) (window : List ℕ) (faults : ℕ → ℕ) (steps room rows buffer far_rows far_buffer : ℕ) : Type 0 where
-  pub kept : IsMoving tells given tape scope first entries members (is_carried work) course (bytes_in course.window window) (left_in members course ahead)
-  pub synced : work.resync ≡ None
+  pub kept : IsMoving tells given tape scope first entries members (is_carried work) work.resync course (bytes_in course.window window) (left_in work members course ahead)
   pub sized : length_of (list_length members.newest) entries ≡ list_length members.newest
   pub unlimited : limit_of entries ≡ None
   pub full : tells → TakesNone (world_in given tape scope first) entries → AreWhole members
-  pub settled : tells → is_unsynced (world_in given tape scope first) entries ≡ false
   pub planned : AreSound (final_shape members.newest) members.newest.size (phases_of ahead)
   pub wide : 512 * reach_of members.newest ≤ length window
   pub failed : (slot : ℕ) → slot < given.slots → has_slot scope.given slot ≡ false → 0 < faults slot

@@ -1,11 +1,15 @@
--- Why sectors of the list of an array in a reshape aren't read or written, where parity is relied on everywhere: the first cause.
-use Rattle.std.specs.Prelude.{ℕ, ◌+◌, Bool, Option, option_map}
+-- Why sectors of the list of an array in a reshape aren't read or written.
+use Rattle.std.specs.Prelude.{◌≡◌, ◌⊎◌, ℕ, ◌+◌, ◌<◌, ◌≤◌, Bool, false, Option, option_map}
 use Rattle.md_base.specs.Search.{least_below}
 use Rattle.md_base.specs.declared.answers.Refusal.{Refusal}
+use Rattle.md_base.specs.declared.answers.Refusal.TheVariants.{NotResynced as Unsynced}
+use Rattle.md_base.specs.declared.places.Span.{Span}
 use Rattle.superblocks.specs.declared.members.Members.{Members}
-use Rattle.flat_history.specs.Stands.{shape_for}
-use Rattle.views.specs.Lacking.{too_many}
+use Rattle.flat_history.specs.Stands.{covers, shape_for}
+use Rattle.shape_views.specs.Regions.{place_by}
+use Rattle.views.specs.Lacking.{too_many, LacksTooMany}
 use Rattle.safe_updates.specs.First.{are_too_many}
+use Rattle.region_rows.specs.Stretches.{IsUnrelied}
 
 -- more roles of the shape that places this sector are missing than it tolerates
 abbrev pub is_lacking : Members → ℕ → Bool
@@ -14,3 +18,9 @@ is_lacking m x = are_too_many (shape_for m.newest x) m
 -- what that of the first of so many sectors from this one on is refused with
 abbrev pub list_refusal : ℕ → ℕ → Members → Option Refusal
 list_refusal first count m = option_map (λ i. too_many (shape_for m.newest (first + i)) m) (least_below count (λ i. is_lacking m (first + i)))
+
+-- Why a read isn't done beside a window whose sectors the buffer has: more roles of the shape of one of its sectors are missing than that tolerates, or one outside
+-- the window can't be had.
+abbrev pub IsUnreadAround : Option Span → ℕ → ℕ → ℕ → Members → Refusal → Type 0
+IsUnreadAround hidden relied from to m refusal = (x : ℕ) × (from ≤ x) × (x < to)
+    × (LacksTooMany (shape_for m.newest x) m refusal ⊎ ((covers hidden x ≡ false) × (refusal ≡ Unsynced (place_by m.newest x).role) × IsUnrelied relied m x))

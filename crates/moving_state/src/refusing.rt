@@ -1,18 +1,21 @@
-//! Why a read or a write of an array in a reshape isn't done, before any device is touched, where parity is relied on everywhere.
+//! Why a read or a write of an array in a reshape isn't done, before any device is touched.
 
-ghost use Rattle.std.specs.Prelude.{◌≡◌, ◌+◌, ◌^◌, ◌<◌, ◌≤◌, ℕ, length, MatchOption};
+ghost use Rattle.std.specs.Prelude.{◌≡◌, ◌+◌, ◌^◌, ◌<◌, ◌≤◌, ℕ, false, length, Some, MatchOption, ⊤};
 ghost use Rattle.superblocks.specs.Reading.{list_length, role_count};
-ghost use Rattle.flat_history.specs.Stands.{shape_for};
+ghost use Rattle.flat_history.specs.Stands.{covers, shape_for};
 ghost use Rattle.shape_views.specs.Regions.{AreShapesFit};
 ghost use Rattle.views.specs.Lacking.{DoesWithout};
 ghost use Rattle.safe_updates.specs.First.{call_refusal};
-ghost use Rattle.region_rows.specs.Stretches.{IsListUnread};
+ghost use Rattle.region_rows.specs.Stretches.{IsLacked};
 ghost use Rattle.region_writes.specs.Runs.{IsListTorn, IsListUnwritten};
 ghost use Rattle.array_kept.specs.Calls.{IsRefusalOf};
-ghost use Rattle.moving_state.specs.First.{list_refusal};
+ghost use Rattle.moving_state.specs.First.{list_refusal, IsUnreadAround};
 
-use md_base::Refusal;
+use crate::windows::part_in;
+use md_base::{Refusal, Span};
+use region_rows::fetching::unread_list;
 use region_rows::stretches::stretch_at;
+use region_writes::runs::{runs_of, unwritten_runs};
 use safe_updates::refusing::too_many_of;
 use superblocks::Members;
 
@@ -38,34 +41,81 @@ fn lacking_from(members: &Members, first: u64, count: u64) -> Option<Refusal>
     None
 }
 
+// Why sectors of the list outside this window can't be had, where parity is to be relied on up to sector `relied`.
+fn unread_beside(
+    members: &Members,
+    hidden: Option<Span>,
+    from: u64,
+    to: u64,
+    relied: u64,
+) -> Option<Refusal>
+    requires fit { AreShapesFit members.now.newest }
+    requires roles { length members.now.roles ≡ role_count members.now.newest }
+    requires order { from ≤ to }
+    requires within { to ≤ list_length members.now.newest }
+    ensures { MatchOption result ((x : ℕ) → from ≤ x → x < to → covers hidden x ≡ false → IsLacked relied members.now x → ⊥) (IsUnreadAround hidden relied from to members.now) }
+{
+    let part = part_in(hidden, from, to);
+    let refusal = unread_list(members, from, part.lo, relied);
+    if refusal.is_some() {
+        return refusal;
+    }
+    unread_list(members, part.hi, to, relied)
+}
+
 /// Why so many sectors from one on aren't read, before any is: `PastEnd`, or else `TooManyMissing` of the first of them of whose shape too
-/// many roles are missing, be it in the open window or not.
-pub fn unread_from(members: &Members, visible: u64, at: u64, count: u64) -> Option<Refusal>
+/// many roles are missing, be it in the open window or not, or else `NotResynced` of one whose role is missing, outside the window whose
+/// sectors the buffer has, and behind sector `relied`, up to which parity is to be relied on.
+pub fn unread_from(
+    members: &Members,
+    hidden: Option<Span>,
+    visible: u64,
+    relied: u64,
+    at: u64,
+    count: u64,
+) -> Option<Refusal>
     requires fit { AreShapesFit members.now.newest }
     requires roles { length members.now.roles ≡ role_count members.now.newest }
     requires visible { visible ≤ list_length members.now.newest }
     requires short { at + count < 2 ^ 63 }
-    ensures first { result ≡ call_refusal visible (at + count) (list_refusal at count members.now) }
-    ensures why { IsRefusalOf visible (at + count) (IsListUnread (list_length members.now.newest) at (at + count)) members.now result }
+    ensures first { MatchOption (call_refusal visible (at + count) (list_refusal at count members.now)) ⊤ (λ refusal. result ≡ Some refusal) }
+    ensures why { IsRefusalOf visible (at + count) (IsUnreadAround hidden relied at (at + count)) members.now result }
 {
     if visible < at + count {
         return Some(Refusal::PastEnd(visible));
     }
-    lacking_from(members, at, count)
+    let refusal = lacking_from(members, at, count);
+    if refusal.is_some() {
+        return refusal;
+    }
+    unread_beside(members, hidden, at, at + count, relied)
 }
 
 /// Why so many sectors from one on aren't written, before any row is read: `PastEnd`, or else `TooManyMissing` of the first of them of whose
-/// shape too many roles are missing, be it in the open window or not.
-pub fn unwritten_from(members: &Members, visible: u64, at: u64, count: u64) -> Option<Refusal>
+/// shape too many roles are missing, be it in the open window or not, or else `NotResynced` of the lowest missing role that has data in the
+/// shape of one of them behind sector `relied`, up to which parity is to be relied on.
+pub fn unwritten_from(
+    members: &Members,
+    visible: u64,
+    relied: u64,
+    at: u64,
+    count: u64,
+) -> Option<Refusal>
     requires fit { AreShapesFit members.now.newest }
     requires roles { length members.now.roles ≡ role_count members.now.newest }
     requires visible { visible ≤ list_length members.now.newest }
+    requires some { 0 < count }
     requires short { at + count < 2 ^ 63 }
-    ensures first { result ≡ call_refusal visible (at + count) (list_refusal at count members.now) }
-    ensures why { IsRefusalOf visible (at + count) (IsListUnwritten (list_length members.now.newest) at (at + count)) members.now result }
+    ensures first { MatchOption (call_refusal visible (at + count) (list_refusal at count members.now)) ⊤ (λ refusal. result ≡ Some refusal) }
+    ensures why { IsRefusalOf visible (at + count) (IsListUnwritten relied at (at + count)) members.now result }
 {
     if visible < at + count {
         return Some(Refusal::PastEnd(visible));
     }
-    lacking_from(members, at, count)
+    let refusal = lacking_from(members, at, count);
+    if refusal.is_some() {
+        return refusal;
+    }
+    let cut = runs_of(members, at, at + count, relied);
+    unwritten_runs(members, &cut.low, &cut.high)
 }

@@ -42,7 +42,7 @@ pub record IsStatusFor {B : Type 0} (array : RunningParts B) (status : Status) :
   pub visible : status.visible ≡ list_length array.parts.members.newest
   pub clean : status.clean ≡ is_clean array.parts.members.newest
   pub events : status.events ≡ array.parts.members.newest.events
-  pub left : status.left ≡ left_in array.parts.members array.course array.ahead
+  pub left : status.left ≡ left_in array.parts.work array.parts.members array.course array.ahead
   pub roles : status.roles ≡ array.parts.members.roles
   pub spares : status.spares ≡ array.parts.members.spares
 

@@ -8,6 +8,7 @@ use Rattle.views.specs.Parts.{Parts}
 use Rattle.views.specs.Status.{left_of}
 use Rattle.grow_asked.specs.declared.window.PhasesLeft.{PhasesLeft}
 use Rattle.grow_asked.specs.Left.{phases_of, grow_left}
+use Rattle.region_mends.specs.Left.{resync_left}
 use Rattle.course_kept.specs.declared.course.Course.{Course}
 
 -- what is seen of an array of one shape too, how far the reshape has come, and the phases of the plan that are ahead
@@ -16,9 +17,9 @@ pub record RunningParts (B : Type 0) : Type 0 where
   pub course : Course
   pub ahead : PhasesLeft
 
--- the steps that are left, of the reshape and of the phases ahead
-abbrev pub left_in : Members → Course → PhasesLeft → ℕ
-left_in members course ahead = grow_left members.newest course.window course.zeroed (phases_of ahead)
+-- the steps that are left, of the reshape, of a pending resync and of the phases ahead
+abbrev pub left_in : Work → Members → Course → PhasesLeft → ℕ
+left_in work members course ahead = grow_left members.newest course.window course.zeroed (phases_of ahead) + resync_left members.newest course.window work.resync
 
 -- the steps that are left where no reshape is active: of a pending resync, of the roles that are to be rebuilt, and of the phases of a plan
 abbrev pub still_left : Work → Members → PhasesLeft → ℕ

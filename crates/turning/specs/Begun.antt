@@ -101,10 +101,10 @@ pub record IsBegunWith (who : Who) (back : Bool) (size : ℕ) (old new : List En
 -- for, and these phases are ahead.
 pub record IsReshapeBegun {B : Type 0} (tells : Type 0) (tape tape' : List Operation) (before after : ℕ → ℕ) (who : Who) (to : Shape) (behind : PhasesLeft) (old new : RunningParts B) : Type 0 where
   pub could : CanBegin old.parts.members to
-  pub entered : IsBegunWith who (goes_back (shape_of old.parts.members.newest) to) (list_length new.parts.members.newest) old.parts.entries new.parts.entries (left_in new.parts.members new.course new.ahead)
+  pub entered : IsBegunWith who (goes_back (shape_of old.parts.members.newest) to) (list_length new.parts.members.newest) old.parts.entries new.parts.entries (left_in new.parts.work new.parts.members new.course new.ahead)
   pub ended : IsEndOf tells new.parts.first new.parts.entries tape'
   pub grows : Grows tells tape tape'
-  pub left : left_in new.parts.members new.course new.ahead + 1 ≡ still_left old.parts.work old.parts.members old.ahead
+  pub left : left_in new.parts.work new.parts.members new.course new.ahead + 1 ≡ still_left old.parts.work old.parts.members old.ahead
   pub start : IsAtStartOf old.parts.members.newest to new.parts.members.newest
   pub long : list_length new.parts.members.newest ≡ list_end (shape_of old.parts.members.newest) to old.parts.members.newest.size
   pub held : AreStillHeld (begun_plan old.parts.members to) new.parts.members

@@ -86,8 +86,8 @@ impl<B: Bank> Moving<B> {
         (bank, epoch)
     }
 
-    /// Flushes the members, marks the array clean, and ends the epoch, whose bank it gives back with what happened; an open window stays as
-    /// it is stored. Where it is refused with `TooManyMissing`, or memory is short, the array goes on.
+    /// Flushes the members, marks the array clean, unless a resync is pending, and ends the epoch, whose bank it gives back with what
+    /// happened; an open window stays as it is stored. Where it is refused with `TooManyMissing`, or memory is short, the array goes on.
     pub fn stop(self, who: Who) -> Result<(B, Epoch), (Moving<B>, Fault)>
         requires next { who.number ≡ next_number who.caller self.parts.entries }
         requires caller { who.caller ≢ 254 }

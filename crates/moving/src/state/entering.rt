@@ -217,19 +217,20 @@ fn enter_next<B: Bank>(
 }
 
 impl<B: Bank> Moving<B> {
-    /// A step of the reshape, of which no window is open: the next one is entered. Its sectors are read into the window's buffer, and
+    /// A step of the reshape, of which no window is open, where no resync is pending: the next one is entered. Its sectors are read into the window's buffer, and
     /// stored in the backup, where it is critical. Refusals: `TooManyMissing`, and `BackupFault` where the backup fails, which may leave
     /// the window unsure. It takes no memory.
     pub fn enter(&mut self, who: Who) -> Result<(), Fault>
         requires open { IsCallGoing self.old.parts.entries who }
         requires caller { who.caller ≢ 254 }
         requires room { 1 ≤ self.old.parts.steps }
+        requires synced { self.old.parts.work.resync ≡ None }
         requires due { IsEnterDue self.old }
-        ensures entered { IsStepTaken who self.old.parts.entries self.new.parts.entries EntersWindow (left_in self.new.parts.members self.new.course self.new.ahead) result }
+        ensures entered { IsStepTaken who self.old.parts.entries self.new.parts.entries EntersWindow (left_in self.new.parts.work self.new.parts.members self.new.course self.new.ahead) result }
         ensures called { IsCalled B.tells (B.given self.old.parts.bank) (B.tape self.old.parts.bank) (B.tape self.new.parts.bank) (B.faults_of self.old.parts.bank) (B.faults_of self.new.parts.bank) self.old self.new }
         ensures clean { is_clean self.new.parts.members.newest ≡ is_clean self.old.parts.members.newest }
         ensures caused { IsEnterCaused self.old.parts.backup self.old.parts.members self.new.parts.members (B.faults_of self.old.parts.bank) (B.faults_of self.new.parts.bank) result }
-        ensures left { OnOk result (left_in self.new.parts.members self.new.course self.new.ahead + 1 ≡ left_in self.old.parts.members self.old.course self.old.ahead) }
+        ensures left { OnOk result (left_in self.new.parts.work self.new.parts.members self.new.course self.new.ahead + 1 ≡ left_in self.old.parts.work self.old.parts.members self.old.course self.old.ahead) }
         ensures opened { OnOk result (IsNextOpen self.old.parts.members self.new.course) }
         ensures course { OnErr result ((self.new.course ≡ self.old.course) ⊎ IsNextUnsure self.old.parts.members self.new.course) }
         ensures room { self.new.parts.steps + 1 ≡ self.old.parts.steps }
@@ -264,7 +265,7 @@ impl<B: Bank> Moving<B> {
             return Err(Fault::Refused(refusal));
         }
         let kind = StepKind::Entered;
-        let left = steps_left(&self.members, &self.course, &self.ahead);
+        let left = steps_left(&self.members, &self.work, &self.course, &self.ahead);
         let event = Event::Step { kind, left };
         enter_behind(&mut self.epoch, who, end, tried.roles, tried.spares, event);
         Ok(())

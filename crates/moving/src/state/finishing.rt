@@ -24,6 +24,7 @@ ghost use Rattle.window_rows.specs.Copies.{tail_of, IsCopied};
 ghost use Rattle.window_calls.specs.Finishing.{IsOfRest, AreStripesCopied, IsOpenWindow};
 ghost use Rattle.array_kept.specs.Calls.{IsCausedBy};
 ghost use Rattle.kept_history.specs.Recorded.{IsCallGoing};
+ghost use Rattle.region_mends.specs.Mends.{relied_sector};
 ghost use Rattle.course_kept.specs.Laws.{closed};
 ghost use Rattle.running_words.specs.Parts.{left_in};
 ghost use Rattle.running_words.specs.Calls.{IsCalled, IsStepTaken};
@@ -116,14 +117,15 @@ impl<B: Bank> Moving<B> {
         requires caller { who.caller ≢ 254 }
         requires room { 1 ≤ self.old.parts.steps }
         requires due { IsWindowOpen self.old }
-        ensures entered { IsStepTaken who self.old.parts.entries self.new.parts.entries FinishesWindow (left_in self.new.parts.members self.new.course self.new.ahead) result }
+        ensures entered { IsStepTaken who self.old.parts.entries self.new.parts.entries FinishesWindow (left_in self.new.parts.work self.new.parts.members self.new.course self.new.ahead) result }
         ensures goes { OnOk result (IsCallGoing self.new.parts.entries who) }
         ensures called { IsCalled B.tells (B.given self.old.parts.bank) (B.tape self.old.parts.bank) (B.tape self.new.parts.bank) (B.faults_of self.old.parts.bank) (B.faults_of self.new.parts.bank) self.old self.new }
         ensures clean { is_clean self.new.parts.members.newest ≡ is_clean self.old.parts.members.newest }
         ensures caused { IsCausedBy (list_length self.old.parts.members.newest) 0 AreTooMany self.old.parts.members self.new.parts.members result }
         ensures failed { HaveRolesFailed self.old.parts.members self.new.parts.members (B.faults_of self.old.parts.bank) (B.faults_of self.new.parts.bank) }
-        ensures left { OnOk result (left_in self.new.parts.members self.new.course self.new.ahead + steps_in self.old.parts.members.newest self.old.course.window ≡ left_in self.old.parts.members self.old.course self.old.ahead) }
+        ensures left { OnOk result (left_in self.new.parts.work self.new.parts.members self.new.course self.new.ahead + steps_in self.old.parts.members.newest self.old.course.window ≡ left_in self.old.parts.work self.old.parts.members self.old.course self.old.ahead) }
         ensures closed { OnOk result (self.new.course ≡ closed 0) }
+        ensures relied { OnOk result (relied_sector self.new.parts.members.newest self.new.parts.work.resync ≡ relied_sector self.old.parts.members.newest self.old.parts.work.resync) }
         ensures course { OnErr result (self.new.course ≡ self.old.course) }
         ensures room { self.new.parts.steps + 1 ≡ self.old.parts.steps }
         ensures given { B.given self.new.parts.bank ≡ B.given self.old.parts.bank }
@@ -162,7 +164,7 @@ impl<B: Bank> Moving<B> {
             zeroed: 0,
         };
         let kind = StepKind::WindowFinished;
-        let left = steps_left(&self.members, &self.course, &self.ahead);
+        let left = steps_left(&self.members, &self.work, &self.course, &self.ahead);
         let event = Event::Step { kind, left };
         enter_behind(&mut self.epoch, who, end, rest.roles, rest.spares, event);
         Ok(())

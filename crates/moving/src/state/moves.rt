@@ -121,11 +121,11 @@ impl<B: Bank> Moving<B> {
         requires caller { who.caller ≢ 254 }
         requires room { 1 ≤ self.old.parts.steps }
         requires due { IsCopyDue self.old }
-        ensures entered { IsStepTaken who self.old.parts.entries self.new.parts.entries CopiesStripe (left_in self.new.parts.members self.new.course self.new.ahead) result }
+        ensures entered { IsStepTaken who self.old.parts.entries self.new.parts.entries CopiesStripe (left_in self.new.parts.work self.new.parts.members self.new.course self.new.ahead) result }
         ensures called { IsCalled B.tells (B.given self.old.parts.bank) (B.tape self.old.parts.bank) (B.tape self.new.parts.bank) (B.faults_of self.old.parts.bank) (B.faults_of self.new.parts.bank) self.old self.new }
         ensures clean { is_clean self.new.parts.members.newest ≡ is_clean self.old.parts.members.newest }
         ensures caused { IsCausedBy (list_length self.old.parts.members.newest) 0 AreTooMany self.old.parts.members self.new.parts.members result }
-        ensures left { OnOk result (left_in self.new.parts.members self.new.course self.new.ahead + 1 ≡ left_in self.old.parts.members self.old.course self.old.ahead) }
+        ensures left { OnOk result (left_in self.new.parts.work self.new.parts.members self.new.course self.new.ahead + 1 ≡ left_in self.old.parts.work self.old.parts.members self.old.course self.old.ahead) }
         ensures copied { OnOk result ((span : Span) → (copied : ℕ) → (sectioned : Bool) → self.old.course ≡ entered span copied sectioned → self.new.course ≡ entered span (copied + 1) sectioned) }
         ensures course { OnErr result (self.new.course ≡ self.old.course) }
         ensures room { self.new.parts.steps + 1 ≡ self.old.parts.steps }
@@ -166,7 +166,7 @@ impl<B: Bank> Moving<B> {
             sectioned,
         };
         let kind = StepKind::Copied;
-        let left = steps_left(&self.members, &self.course, &self.ahead);
+        let left = steps_left(&self.members, &self.work, &self.course, &self.ahead);
         let event = Event::Step { kind, left };
         enter_behind(&mut self.epoch, who, end, moved.roles, moved.spares, event);
         Ok(())

@@ -12,7 +12,9 @@ ghost use Rattle.flat_history.specs.declared.events.Request.TheVariants.{Read as
 ghost use Rattle.shape_changes.specs.Marking.{AreOthersPresent};
 ghost use Rattle.views.specs.Lacking.{HaveRolesFailed};
 ghost use Rattle.array_kept.specs.Calls.{IsAnswered, IsCausedBy, OnNoMemory};
-ghost use Rattle.region_rows.specs.Stretches.{IsListUnread};
+ghost use Rattle.region_mends.specs.Mends.{relied_sector};
+ghost use Rattle.course_kept.specs.Course.{hidden_in};
+ghost use Rattle.moving_state.specs.First.{IsUnreadAround};
 ghost use Rattle.history_calls.specs.Reliable.{IsReliable};
 ghost use Rattle.running_words.specs.Calls.{moving_world, IsCalled};
 
@@ -25,6 +27,7 @@ use md_base::{Fault, Sectors, Span, Who};
 use moving_state::refusing::unread_from;
 use moving_state::reshape::list_sectors;
 use moving_state::windows::hidden_span;
+use region_mends::stripes::relied_sector;
 use safe_updates::naming::newly_vacant;
 use safe_updates::roles::vacant_roles;
 use window_calls::fetch_beside;
@@ -43,8 +46,9 @@ fn bytes_of(hidden: Option<Span>, most: usize) -> usize
 
 impl<B: Bank> Moving<B> {
     /// Fills `into`, of whole sectors, with those of the list from `at` on: those of a window whose section is stored from its buffer, and
-    /// each other by the shape of its region; what a missing member held is filled in from the others. Refusals: `PastEnd`, and
-    /// `TooManyMissing` where more roles are missing than a shape tolerates that places one of them.
+    /// each other by the shape of its region; what a missing member held is filled in from the others. Refusals: `PastEnd`,
+    /// `TooManyMissing` where more roles are missing than a shape tolerates that places one of them, and `NotResynced` where a resync is
+    /// pending, of a missing role that has one of those others, in a stripe that isn't mended.
     pub fn read(&mut self, who: Who, at: u64, into: &mut [u8]) -> Result<(), Fault>
         requires next { who.number ≡ next_number who.caller self.old.parts.entries }
         requires caller { who.caller ≢ 254 }
@@ -58,7 +62,8 @@ impl<B: Bank> Moving<B> {
         ensures called { IsCalled B.tells (B.given self.old.parts.bank) (B.tape self.old.parts.bank) (B.tape self.new.parts.bank) (B.faults_of self.old.parts.bank) (B.faults_of self.new.parts.bank) self.old self.new }
         ensures others { B.tells → AreOthersPresent (present (B.given self.old.parts.bank) (B.tape self.old.parts.bank)) (present (B.given self.old.parts.bank) (B.tape self.new.parts.bank)) }
         ensures clean { is_clean self.new.parts.members.newest ≡ is_clean self.old.parts.members.newest }
-        ensures caused { IsCausedBy (list_length self.old.parts.members.newest) (at + length into.old / 512) (IsListUnread (list_length self.old.parts.members.newest) at (at + length into.old / 512)) self.old.parts.members self.new.parts.members result }
+        ensures caused { IsCausedBy (list_length self.old.parts.members.newest) (at + length into.old / 512) (IsUnreadAround (hidden_in self.old.course.window)
+            (relied_sector self.old.parts.members.newest self.old.parts.work.resync) at (at + length into.old / 512)) self.old.parts.members self.new.parts.members result }
         ensures failed { HaveRolesFailed self.old.parts.members self.new.parts.members (B.faults_of self.old.parts.bank) (B.faults_of self.new.parts.bank) }
         ensures course { self.new.course ≡ self.old.course }
         ensures given { B.given self.new.parts.bank ≡ B.given self.old.parts.bank }
@@ -74,8 +79,10 @@ impl<B: Bank> Moving<B> {
         self.steps = 0;
         check_number(&self.epoch.entries, who);
         let asked = (into.len() / 512) as u64;
+        let hidden = hidden_span(&self.course);
         let sectors = list_sectors(&self.members);
-        if let Some(refusal) = unread_from(&self.members, sectors, at, asked) {
+        let relied = relied_sector(&self.members, self.work.resync);
+        if let Some(refusal) = unread_from(&self.members, hidden, sectors, relied, at, asked) {
             let end = self.bank.ops();
             enter(&mut self.epoch, who, end, Event::Refused { refusal });
             return Err(Fault::Refused(refusal));
@@ -88,7 +95,6 @@ impl<B: Bank> Moving<B> {
         }
         let count = self.members.roles.len() as u32;
         let before = vacant_roles(&self.members, count);
-        let hidden = hidden_span(&self.course);
         let wide = bytes_of(hidden, self.window.len());
         let fetched = fetch_beside(
             &mut self.members,
@@ -98,7 +104,7 @@ impl<B: Bank> Moving<B> {
             at,
             bytes.as_mut_slice(),
             self.buffer.as_mut_slice(),
-            sectors,
+            relied,
         );
         let roles = newly_vacant(&self.members, count, before);
         let end = self.bank.ops();

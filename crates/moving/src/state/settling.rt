@@ -1,6 +1,6 @@
 //! Flushes of an array in a reshape.
 
-ghost use Rattle.std.specs.Prelude.{◌≡◌, ◌≢◌, length, true, OnOk};
+ghost use Rattle.std.specs.Prelude.{◌≡◌, ◌≢◌, length, true, None, OnOk};
 ghost use Rattle.superblocks.specs.Reading.{is_clean, list_length};
 ghost use Rattle.row_io.specs.Rows.{reading_of, present};
 ghost use Rattle.flat_history.specs.Flat.{next_number};
@@ -22,7 +22,7 @@ use safe_updates::roles::vacant_roles;
 use safe_updates::settles::settle;
 
 impl<B: Bank> Moving<B> {
-    // Flushes the members, marks the array clean, and enters this event, `Flushed` or `Stopped`.
+    // Flushes the members, marks the array clean, unless a resync is pending, and enters this event, `Flushed` or `Stopped`.
     pub(crate) fn settle_entering(&mut self, who: Who, event: Event) -> Result<(), Fault>
         requires next { who.number ≡ next_number who.caller self.old.parts.entries }
         requires caller { who.caller ≢ 254 }
@@ -32,7 +32,7 @@ impl<B: Bank> Moving<B> {
         ensures flushed { OnOk result (B.tells → AreHoldersFlushed (reading_of self.new.parts.members) (B.given self.old.parts.bank) (B.tape self.new.parts.bank)) }
         ensures called { IsCalled B.tells (B.given self.old.parts.bank) (B.tape self.old.parts.bank) (B.tape self.new.parts.bank) (B.faults_of self.old.parts.bank) (B.faults_of self.new.parts.bank) self.old self.new }
         ensures others { B.tells → AreOthersPresent (present (B.given self.old.parts.bank) (B.tape self.old.parts.bank)) (present (B.given self.old.parts.bank) (B.tape self.new.parts.bank)) }
-        ensures clean { OnOk result (is_clean self.new.parts.members.newest ≡ true) }
+        ensures clean { OnOk result (self.old.parts.work.resync ≡ None → is_clean self.new.parts.members.newest ≡ true) }
         ensures caused { IsCausedBy (list_length self.old.parts.members.newest) 0 AreTooMany self.old.parts.members self.new.parts.members result }
         ensures last { OnOk result (B.tells → self.new.parts.last ≡ length (B.tape self.new.parts.bank)) }
         ensures failed { HaveRolesFailed self.old.parts.members self.new.parts.members (B.faults_of self.old.parts.bank) (B.faults_of self.new.parts.bank) }
@@ -52,7 +52,11 @@ impl<B: Bank> Moving<B> {
         }
         let count = self.members.roles.len() as u32;
         let before = vacant_roles(&self.members, count);
-        let settled = settle(&mut self.members, &mut self.bank, false);
+        let settled = settle(
+            &mut self.members,
+            &mut self.bank,
+            self.work.resync.is_some(),
+        );
         let roles = newly_vacant(&self.members, count, before);
         let end = self.bank.ops();
         if let Some(refusal) = settled.refusal {
@@ -64,7 +68,8 @@ impl<B: Bank> Moving<B> {
         Ok(())
     }
 
-    /// Makes what was written durable, and marks the array clean. Refusals: `TooManyMissing`.
+    /// Makes what was written durable, and marks the array clean, unless a resync is pending. Refusals:
+    /// `TooManyMissing`.
     pub fn flush(&mut self, who: Who) -> Result<(), Fault>
         requires next { who.number ≡ next_number who.caller self.old.parts.entries }
         requires caller { who.caller ≢ 254 }
@@ -73,7 +78,7 @@ impl<B: Bank> Moving<B> {
         ensures flushed { OnOk result (B.tells → AreHoldersFlushed (reading_of self.new.parts.members) (B.given self.old.parts.bank) (B.tape self.new.parts.bank)) }
         ensures called { IsCalled B.tells (B.given self.old.parts.bank) (B.tape self.old.parts.bank) (B.tape self.new.parts.bank) (B.faults_of self.old.parts.bank) (B.faults_of self.new.parts.bank) self.old self.new }
         ensures others { B.tells → AreOthersPresent (present (B.given self.old.parts.bank) (B.tape self.old.parts.bank)) (present (B.given self.old.parts.bank) (B.tape self.new.parts.bank)) }
-        ensures clean { OnOk result (is_clean self.new.parts.members.newest ≡ true) }
+        ensures clean { OnOk result (self.old.parts.work.resync ≡ None → is_clean self.new.parts.members.newest ≡ true) }
         ensures caused { IsCausedBy (list_length self.old.parts.members.newest) 0 AreTooMany self.old.parts.members self.new.parts.members result }
         ensures failed { HaveRolesFailed self.old.parts.members self.new.parts.members (B.faults_of self.old.parts.bank) (B.faults_of self.new.parts.bank) }
         ensures course { self.new.course ≡ self.old.course }

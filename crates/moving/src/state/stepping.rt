@@ -1,6 +1,6 @@
 //! The step of a reshape that is due.
 
-ghost use Rattle.std.specs.Prelude.{◌≡◌, ◌≢◌, ◌⊎◌, ◌+◌, ◌≤◌, OnOk, OnErr};
+ghost use Rattle.std.specs.Prelude.{◌≡◌, ◌≢◌, ◌⊎◌, ◌+◌, ◌≤◌, None, OnOk, OnErr};
 ghost use Rattle.md_base.specs.declared.places.Span.{Span};
 ghost use Rattle.superblocks.specs.Reading.{is_clean};
 ghost use Rattle.course_kept.specs.Laws.{unsure};
@@ -17,19 +17,20 @@ use md_base::{Fault, Who};
 use moving_state::stepping::{Due, due_step};
 
 impl<B: Bank> Moving<B> {
-    // The step of the reshape that is due, but for its end, while no window is unsure: a window is entered, a stripe of it is copied, it is recorded, or a stripe behind
+    // The step of the reshape that is due, but for its end, while no resync is pending and no window is unsure: a window is entered, a stripe of it is copied, it is recorded, or a stripe behind
     // the list is zeroed. Refusals: `TooManyMissing`, and `BackupFault` where a window is to be entered. It takes no memory.
     pub(crate) fn step(&mut self, who: Who) -> Result<(), Fault>
         requires open { IsCallGoing self.old.parts.entries who }
         requires caller { who.caller ≢ 254 }
         requires room { 1 ≤ self.old.parts.steps }
+        requires synced { self.old.parts.work.resync ≡ None }
         requires due { due_of self.old.parts.members.newest self.old.course ≢ EndsReshape }
         requires sure { (span : Span) → self.old.course ≡ unsure span → ⊥ }
-        ensures entered { IsStepTaken who self.old.parts.entries self.new.parts.entries (kind_of (due_of self.old.parts.members.newest self.old.course)) (left_in self.new.parts.members self.new.course self.new.ahead) result }
+        ensures entered { IsStepTaken who self.old.parts.entries self.new.parts.entries (kind_of (due_of self.old.parts.members.newest self.old.course)) (left_in self.new.parts.work self.new.parts.members self.new.course self.new.ahead) result }
         ensures called { IsCalled B.tells (B.given self.old.parts.bank) (B.tape self.old.parts.bank) (B.tape self.new.parts.bank) (B.faults_of self.old.parts.bank) (B.faults_of self.new.parts.bank) self.old self.new }
         ensures clean { is_clean self.new.parts.members.newest ≡ is_clean self.old.parts.members.newest }
         ensures caused { IsStepCaused (due_of self.old.parts.members.newest self.old.course) self.old.parts.backup self.old.parts.members self.new.parts.members (B.faults_of self.old.parts.bank) (B.faults_of self.new.parts.bank) result }
-        ensures left { OnOk result (left_in self.new.parts.members self.new.course self.new.ahead + 1 ≡ left_in self.old.parts.members self.old.course self.old.ahead) }
+        ensures left { OnOk result (left_in self.new.parts.work self.new.parts.members self.new.course self.new.ahead + 1 ≡ left_in self.old.parts.work self.old.parts.members self.old.course self.old.ahead) }
         ensures course { OnErr result ((self.new.course ≡ self.old.course) ⊎ IsNextUnsure self.old.parts.members self.new.course) }
         ensures room { self.new.parts.steps + 1 ≡ self.old.parts.steps }
         ensures given { B.given self.new.parts.bank ≡ B.given self.old.parts.bank }

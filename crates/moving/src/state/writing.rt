@@ -2,13 +2,15 @@
 
 ghost use Rattle.std.specs.Prelude.{◌≡◌, ◌≢◌, ◌⊎◌, ◌+◌, ◌/◌, ◌^◌, ◌<◌, ◌≤◌, ℕ, length, false, OnOk, OnErr};
 ghost use Rattle.md_base.specs.Sectors.{IsWhole, sectors_of};
-ghost use Rattle.superblocks.specs.Reading.{is_clean, list_length};
+ghost use Rattle.superblocks.specs.Reading.{is_clean, list_length, role_count};
 ghost use Rattle.flat_history.specs.Flat.{next_number};
 ghost use Rattle.flat_history.specs.Stands.{covers};
 ghost use Rattle.flat_history.specs.declared.events.StepKind.TheVariants.{WindowFinished as FinishesWindow};
 ghost use Rattle.views.specs.Lacking.{HaveRolesFailed, AreTooMany};
-ghost use Rattle.array_kept.specs.Calls.{IsCausedBy, OnNoMemory};
+ghost use Rattle.shape_views.specs.Regions.{AreShapesFit};
+ghost use Rattle.array_kept.specs.Calls.{IsCausedBy, IsRefusalOf, OnNoMemory};
 ghost use Rattle.region_writes.specs.Runs.{IsListUnwritten};
+ghost use Rattle.region_mends.specs.Mends.{relied_sector};
 ghost use Rattle.kept_history.specs.Recorded.{IsCallGoing};
 ghost use Rattle.course_kept.specs.Course.{span_in};
 ghost use Rattle.course_kept.specs.Laws.{closed};
@@ -22,13 +24,27 @@ use crate::state::moves::check_going;
 use bank::Bank;
 use call_entries::calls::{enter, enter_behind, enter_failure};
 use flat_history::Event;
-use md_base::{Fault, Sectors, Who};
+use md_base::{Fault, Refusal, Sectors, Who};
 use moving_state::refusing::unwritten_from;
 use moving_state::reshape::list_sectors;
 use moving_state::windows::{meets, open_span};
+use region_mends::stripes::relied_sector;
 use region_writes::writing::put_list;
 use safe_updates::naming::newly_vacant;
 use safe_updates::roles::vacant_roles;
+use superblocks::Members;
+
+// Why so many sectors from one on aren't written, before any row is read, where parity is to be relied on up to sector `relied`.
+fn unwritten_here(members: &Members, relied: u64, at: u64, count: u64) -> Option<Refusal>
+    requires fit { AreShapesFit members.now.newest }
+    requires roles { length members.now.roles ≡ role_count members.now.newest }
+    requires some { 0 < count }
+    requires short { at + count < 2 ^ 63 }
+    ensures { IsRefusalOf (list_length members.now.newest) (at + count) (IsListUnwritten relied at (at + count)) members.now result }
+{
+    let sectors = list_sectors(members);
+    unwritten_from(members, sectors, relied, at, count)
+}
 
 impl<B: Bank> Moving<B> {
     // Puts the sectors of `from`, 1 to 128, into the list from `at` on, none of them in the window under way; `body` has the same.
@@ -44,19 +60,19 @@ impl<B: Bank> Moving<B> {
         requires beside { (x : ℕ) → at ≤ x → x < at + length from.now / 512 → covers (span_in self.old.course.window) x ≡ false }
         ensures entered { IsPutEntered who self.old.parts.entries self.new.parts.entries at (sectors_of from.now) result }
         ensures called { IsCalled B.tells (B.given self.old.parts.bank) (B.tape self.old.parts.bank) (B.tape self.new.parts.bank) (B.faults_of self.old.parts.bank) (B.faults_of self.new.parts.bank) self.old self.new }
-        ensures caused { IsCausedBy (list_length self.old.parts.members.newest) (at + length from.now / 512) (IsListUnwritten (list_length self.old.parts.members.newest) at (at + length from.now / 512))
+        ensures caused { IsCausedBy (list_length self.old.parts.members.newest) (at + length from.now / 512) (IsListUnwritten (relied_sector self.old.parts.members.newest self.old.parts.work.resync) at (at + length from.now / 512))
             self.old.parts.members self.new.parts.members result }
         ensures failed { HaveRolesFailed self.old.parts.members self.new.parts.members (B.faults_of self.old.parts.bank) (B.faults_of self.new.parts.bank) }
         ensures dirty { OnOk result (is_clean self.new.parts.members.newest ≡ false) }
-        ensures left { left_in self.new.parts.members self.new.course self.new.ahead ≡ left_in self.old.parts.members self.old.course self.old.ahead }
+        ensures left { left_in self.new.parts.work self.new.parts.members self.new.course self.new.ahead ≡ left_in self.old.parts.work self.old.parts.members self.old.course self.old.ahead }
         ensures course { self.new.course ≡ self.old.course }
         ensures given { B.given self.new.parts.bank ≡ B.given self.old.parts.bank }
     {
         self.steps -= 1;
         check_going(&self.epoch.entries, who);
         let asked = (from.len() / 512) as u64;
-        let sectors = list_sectors(&self.members);
-        if let Some(refusal) = unwritten_from(&self.members, sectors, at, asked) {
+        let relied = relied_sector(&self.members, self.work.resync);
+        if let Some(refusal) = unwritten_here(&self.members, relied, at, asked) {
             let end = self.bank.ops();
             enter(&mut self.epoch, who, end, Event::Refused { refusal });
             return Err(Fault::Refused(refusal));
@@ -72,7 +88,7 @@ impl<B: Bank> Moving<B> {
             &mut self.buffer,
             &mut self.far_rows,
             &mut self.far_buffer,
-            sectors,
+            relied,
         );
         let roles = newly_vacant(&self.members, count, before);
         let end = self.bank.ops();
@@ -100,20 +116,22 @@ impl<B: Bank> Moving<B> {
         requires open { IsCallGoing self.old.parts.entries who }
         requires caller { who.caller ≢ 254 }
         requires room { 1 ≤ self.old.parts.steps }
+        requires some { 0 < count }
         requires short { at + count < 2 ^ 63 }
         requires due { IsWindowOpen self.old }
-        ensures entered { IsStepTaken who self.old.parts.entries self.new.parts.entries FinishesWindow (left_in self.new.parts.members self.new.course self.new.ahead) result }
+        ensures entered { IsStepTaken who self.old.parts.entries self.new.parts.entries FinishesWindow (left_in self.new.parts.work self.new.parts.members self.new.course self.new.ahead) result }
         ensures goes { OnOk result (IsCallGoing self.new.parts.entries who) }
         ensures called { IsCalled B.tells (B.given self.old.parts.bank) (B.tape self.old.parts.bank) (B.tape self.new.parts.bank) (B.faults_of self.old.parts.bank) (B.faults_of self.new.parts.bank) self.old self.new }
         ensures caused { IsCausedBy (list_length self.old.parts.members.newest) (at + count)
-            (λ m refusal. IsListUnwritten (list_length self.old.parts.members.newest) at (at + count) m refusal ⊎ AreTooMany m refusal) self.old.parts.members self.new.parts.members result }
+            (λ m refusal. IsListUnwritten (relied_sector self.old.parts.members.newest self.old.parts.work.resync) at (at + count) m refusal ⊎ AreTooMany m refusal) self.old.parts.members self.new.parts.members result }
         ensures failed { HaveRolesFailed self.old.parts.members self.new.parts.members (B.faults_of self.old.parts.bank) (B.faults_of self.new.parts.bank) }
         ensures closed { OnOk result (self.new.course ≡ closed 0) }
+        ensures relied { OnOk result (relied_sector self.new.parts.members.newest self.new.parts.work.resync ≡ relied_sector self.old.parts.members.newest self.old.parts.work.resync) }
         ensures room { self.new.parts.steps + 1 ≡ self.old.parts.steps }
         ensures given { B.given self.new.parts.bank ≡ B.given self.old.parts.bank }
     {
-        let sectors = list_sectors(&self.members);
-        if let Some(refusal) = unwritten_from(&self.members, sectors, at, count) {
+        let relied = relied_sector(&self.members, self.work.resync);
+        if let Some(refusal) = unwritten_here(&self.members, relied, at, count) {
             self.steps -= 1;
             check_going(&self.epoch.entries, who);
             let end = self.bank.ops();
@@ -124,8 +142,9 @@ impl<B: Bank> Moving<B> {
     }
 
     /// Makes the list hold `from`, of 1 to 128 whole sectors, from `at` on. Where some lie in the open window, that is finished first.
-    /// Refusals: `PastEnd`, and `TooManyMissing` where more roles of the shape of one of them are missing than it tolerates, or, where
-    /// the window has to be finished, of either shape.
+    /// Refusals: `PastEnd`, `TooManyMissing` where more roles of the shape of one of them are missing than it tolerates, or, where
+    /// the window has to be finished, of either shape, and `NotResynced` where a resync is pending, of a missing role that has data in the
+    /// shape of one of them that lies in a stripe that isn't mended.
     pub fn write(&mut self, who: Who, at: u64, from: &[u8]) -> Result<(), Fault>
         requires next { who.number ≡ next_number who.caller self.old.parts.entries }
         requires caller { who.caller ≢ 254 }
@@ -135,11 +154,11 @@ impl<B: Bank> Moving<B> {
         requires short { at + length from.now / 512 < 2 ^ 63 }
         requires sure { (x : ℕ) → at ≤ x → x < at + length from.now / 512 → covers (unsure_in self.old.course.window) x ≡ false }
         ensures answered { IsWriteAnswered (list_length self.old.parts.members.newest) at (sectors_of from.now) who self.old.parts.entries self.new.parts.entries result }
-        ensures entered { IsWriteEntered self.old.course.window at (at + length from.now / 512) (sectors_of from.now) who self.old.parts.entries self.new.parts.entries (left_in self.new.parts.members self.new.course self.new.ahead) result }
+        ensures entered { IsWriteEntered self.old.course.window at (at + length from.now / 512) (sectors_of from.now) who self.old.parts.entries self.new.parts.entries (left_in self.new.parts.work self.new.parts.members self.new.course self.new.ahead) result }
         ensures unchanged { OnNoMemory result (self.new ≡ self.old) }
         ensures called { IsCalled B.tells (B.given self.old.parts.bank) (B.tape self.old.parts.bank) (B.tape self.new.parts.bank) (B.faults_of self.old.parts.bank) (B.faults_of self.new.parts.bank) self.old self.new }
         ensures caused { IsCausedBy (list_length self.old.parts.members.newest) (at + length from.now / 512)
-            (IsWriteLacked self.old.course.window (list_length self.old.parts.members.newest) at (at + length from.now / 512)) self.old.parts.members self.new.parts.members result }
+            (IsWriteLacked self.old.course.window (relied_sector self.old.parts.members.newest self.old.parts.work.resync) at (at + length from.now / 512)) self.old.parts.members self.new.parts.members result }
         ensures failed { HaveRolesFailed self.old.parts.members self.new.parts.members (B.faults_of self.old.parts.bank) (B.faults_of self.new.parts.bank) }
         ensures dirty { OnOk result (is_clean self.new.parts.members.newest ≡ false) }
         ensures course { (TouchesWindow self.old.course.window at (at + length from.now / 512) → ⊥) → self.new.course ≡ self.old.course }

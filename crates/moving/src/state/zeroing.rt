@@ -1,6 +1,6 @@
 //! The stripes behind the list, once a reshape has gone through it.
 
-ghost use Rattle.std.specs.Prelude.{◌≡◌, ◌≢◌, ◌+◌, ◌≤◌, length, OnOk, OnErr};
+ghost use Rattle.std.specs.Prelude.{◌≡◌, ◌≢◌, ◌+◌, ◌≤◌, length, None, OnOk, OnErr};
 ghost use Rattle.flat_history.specs.declared.events.StepKind.TheVariants.{Zeroed as ZeroesStripe};
 ghost use Rattle.superblocks.specs.Reading.{is_clean, list_length};
 ghost use Rattle.views.specs.Lacking.{AreTooMany};
@@ -23,18 +23,19 @@ use safe_updates::roles::{final_in, vacant_roles};
 use window_steps::zero;
 
 impl<B: Bank> Moving<B> {
-    /// A step of the reshape, which has gone through the list: the next stripe behind it is zeroed. Refusals: `TooManyMissing`. It
+    /// A step of the reshape, which has gone through the list, where no resync is pending: the next stripe behind it is zeroed. Refusals: `TooManyMissing`. It
     /// takes no memory.
     pub fn zero(&mut self, who: Who) -> Result<(), Fault>
         requires open { IsCallGoing self.old.parts.entries who }
         requires caller { who.caller ≢ 254 }
         requires room { 1 ≤ self.old.parts.steps }
+        requires synced { self.old.parts.work.resync ≡ None }
         requires due { IsZeroDue self.old }
-        ensures entered { IsStepTaken who self.old.parts.entries self.new.parts.entries ZeroesStripe (left_in self.new.parts.members self.new.course self.new.ahead) result }
+        ensures entered { IsStepTaken who self.old.parts.entries self.new.parts.entries ZeroesStripe (left_in self.new.parts.work self.new.parts.members self.new.course self.new.ahead) result }
         ensures called { IsCalled B.tells (B.given self.old.parts.bank) (B.tape self.old.parts.bank) (B.tape self.new.parts.bank) (B.faults_of self.old.parts.bank) (B.faults_of self.new.parts.bank) self.old self.new }
         ensures clean { is_clean self.new.parts.members.newest ≡ is_clean self.old.parts.members.newest }
         ensures caused { IsCausedBy (list_length self.old.parts.members.newest) 0 AreTooMany self.old.parts.members self.new.parts.members result }
-        ensures left { OnOk result (left_in self.new.parts.members self.new.course self.new.ahead + 1 ≡ left_in self.old.parts.members self.old.course self.old.ahead) }
+        ensures left { OnOk result (left_in self.new.parts.work self.new.parts.members self.new.course self.new.ahead + 1 ≡ left_in self.old.parts.work self.old.parts.members self.old.course self.old.ahead) }
         ensures zeroed { OnOk result (self.new.course ≡ closed (self.old.course.zeroed + 1)) }
         ensures course { OnErr result (self.new.course ≡ self.old.course) }
         ensures room { self.new.parts.steps + 1 ≡ self.old.parts.steps }
@@ -68,7 +69,7 @@ impl<B: Bank> Moving<B> {
         }
         self.course.zeroed = zeroed + 1;
         let kind = StepKind::Zeroed;
-        let left = steps_left(&self.members, &self.course, &self.ahead);
+        let left = steps_left(&self.members, &self.work, &self.course, &self.ahead);
         let event = Event::Step { kind, left };
         enter_behind(&mut self.epoch, who, end, roles, done.spares, event);
         Ok(())

@@ -48,7 +48,7 @@ invariant_of-self g c =
     let tape = g.B.Bank.tape a.bank in
     let end = c.ops-end.result in
     let refusal = c.in-Some.refusal in
-    let kept = resting-moves g.B.Bank.tells given tape scope a.epoch.first a.epoch.entries.items a.members (is_carried a.work) a.course (bytes_in a.course.window a.window.items) (left_in a.members a.course a.ahead)
+    let kept = resting-moves g.B.Bank.tells given tape scope a.epoch.first a.epoch.entries.items a.members (is_carried a.work) a.work.resync a.course (bytes_in a.course.window a.window.items) (left_in a.work a.members a.course a.ahead)
     c.args.who end (Refused refusal) was.kept goes (not_254 c.args.who.caller c.requires.caller) c.ops-end.ensures.count (quiet-refusal refusal) (λ told is. is)
     (λ t right. refused-right (world_in given tape scope a.epoch.first) a.epoch.entries.items given a.members was.kept.members_are.placed (was.kept.gone t right) (was.kept.levelled t right) refusal c.in-Some.ensures) in
     ready (entries_of c.args.who end (Refused refusal ∷ [])) was (grows-none (λ t. refl)) (shapes-same a.members.newest) kept
@@ -103,7 +103,7 @@ invariant_of-self-in-Some-refusal g c =
       others = did.others;
       safe = did.safe;
     } in
-    let kept = uncopied-kept g.B.Bank.tells given tape tape' scope a.epoch.first a.epoch.entries.items a.members m (is_carried a.work) a.course a.ahead a.window.items
+    let kept = uncopied-kept g.B.Bank.tells given tape tape' scope a.epoch.first a.epoch.entries.items a.members m (is_carried a.work) a.work.resync a.course a.ahead a.window.items
     c.in-Entered.span c.in-Entered.copied c.in-Entered.sectioned c.args.who end roles spares was.kept due.0 (live-of was.kept c.in_default.ensures) due.1 goes (not_254 c.args.who.caller c.requires.caller) c.ops-end-2.ensures.count did.grows tried
     refusal (many-of m c.copy_next-moved.result.refusal refusal c.in-Some-refusal.is did.refused) in
     with-buffer (let len = (with_items a.buffer c.copy_next-moved.new.scratch).ok.0 in let ok = a.buffer.ok.0 in omega (arith, len, ok, was.buffer_fits))
@@ -160,7 +160,7 @@ invariant_of-self-2 g c =
       others = did.others;
       safe = did.safe;
     } in
-    let kept = copied-kept g.B.Bank.tells given tape tape' scope a.epoch.first a.epoch.entries.items a.members m (is_carried a.work) a.course a.ahead a.window.items
+    let kept = copied-kept g.B.Bank.tells given tape tape' scope a.epoch.first a.epoch.entries.items a.members m (is_carried a.work) a.work.resync a.course a.ahead a.window.items
     c.in-Entered.span c.in-Entered.copied c.in-Entered.sectioned c.args.who end roles spares was.kept due.0 (live-of was.kept c.in_default.ensures) due.1 goes (not_254 c.args.who.caller c.requires.caller) c.ops-end-2.ensures.count did.grows tried
     left c.steps_left-left.ensures (λ t list copied. did.stands c.in_default-refusal.is t list (subst (λ (l : List ℕ). IsCopied span (take (512 * (span.hi - span.lo)) l) (tail_of a.members.newest) list) (sym c.as_slice.ensures.value) copied)) in
     with-buffer (let len = (with_items a.buffer c.copy_next-moved.new.scratch).ok.0 in let ok = a.buffer.ok.0 in omega (arith, len, ok, was.buffer_fits))

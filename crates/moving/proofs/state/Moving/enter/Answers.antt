@@ -1,4 +1,4 @@
-use Rattle.std.proofs.Common.{◌≡◌, ◌≤◌, inl, inr, ℕ, ◌-◌, ◌*◌, List, [], ◌∷◌, ◌++◌, length, take, Some, refl, sym, ◌∙◌, ap, subst, arith}
+use Rattle.std.proofs.Common.{None, ◌≡◌, ◌≤◌, inl, inr, ℕ, ◌-◌, ◌*◌, List, [], ◌∷◌, ◌++◌, length, take, Some, refl, sym, ◌∙◌, ap, subst, arith}
 use Rattle.std.specs.Vec.{with_items}
 use Rattle.bank.specs.Tape.{disk}
 use Rattle.superblocks.specs.Reading.{next_window}
@@ -43,7 +43,7 @@ invariant_of-self g c =
     let tape = g.B.Bank.tape a.bank in
     let end = c.ops-end.result in
     let refusal = c.in-Some.refusal in
-    let kept = resting-moves g.B.Bank.tells given tape scope a.epoch.first a.epoch.entries.items a.members (is_carried a.work) a.course (bytes_in a.course.window a.window.items) (left_in a.members a.course a.ahead)
+    let kept = resting-moves g.B.Bank.tells given tape scope a.epoch.first a.epoch.entries.items a.members (is_carried a.work) a.work.resync a.course (bytes_in a.course.window a.window.items) (left_in a.work a.members a.course a.ahead)
     c.args.who end (Refused refusal) was.kept goes (not_254 c.args.who.caller c.requires.caller) c.ops-end.ensures.count (quiet-refusal refusal) (λ told is. is)
     (λ t right. refused-right (world_in given tape scope a.epoch.first) a.epoch.entries.items given a.members was.kept.members_are.placed (was.kept.gone t right) (was.kept.levelled t right) refusal c.in-Some.ensures) in
     ready (entries_of c.args.who end (Refused refusal ∷ [])) was (grows-none (λ t. refl)) (shapes-same a.members.newest) kept
@@ -96,6 +96,7 @@ invariant_of-self-in-Some-refusal g c =
     let tried = c.enter_next-tried.result in
     let span = c.in-Some-next_window_of.span in
     let due = subst (λ p. IsEnterDue p) (sym c.self.view_is) c.requires.due in
+    let synced : a.work.resync ≡ None = ap (λ p. p.parts.work.resync) c.self.view_is ∙ c.requires.synced in
     let at : next_window a.members.newest ≡ Some span = sym c.in-Some-next_window_of.ensures.value in
     let goes : IsCallGoing a.epoch.entries.items c.args.who = subst (λ p. IsCallGoing p.parts.entries c.args.who) (sym c.self.view_is) c.requires.open in
     let steps : 1 ≤ a.steps = subst (λ p. 1 ≤ p.parts.steps) (sym c.self.view_is) c.requires.room in
@@ -115,9 +116,9 @@ invariant_of-self-in-Some-refusal g c =
     let refusal = c.in-Some-refusal.refusal in
     let end = c.ops-end-2.result in
     let whole : (with_items a.window written).items ≡ written = written-whole a.window.len a.window.items written (c.enter_next-tried.auto.window ∙ ap (λ (l : List ℕ). length l) c.as_mut_slice.ensures.value) a.window.ok.0 in
-    let kept = subst (λ (l : List ℕ). IsMoving g.B.Bank.tells given tape' scope a.epoch.first (a.epoch.entries.items ++ entries_of c.args.who end (losses_of tried.roles tried.spares ++ Refused refusal ∷ [])) m (is_carried a.work)
-    (record a.course { window = tried.window }) (bytes_in tried.window l) (left_in m (record a.course { window = tried.window }) a.ahead)) (sym whole)
-    (enter-refused a.course a.ahead tried.window span written c.args.who c.ops-end-2.result tried.roles tried.spares due.is at was.kept was.full c.in_default.ensures goes c.requires.caller c.ops-end-2.ensures.count did.grows next
+    let kept = subst (λ (l : List ℕ). IsMoving g.B.Bank.tells given tape' scope a.epoch.first (a.epoch.entries.items ++ entries_of c.args.who end (losses_of tried.roles tried.spares ++ Refused refusal ∷ [])) m (is_carried a.work) a.work.resync
+    (record a.course { window = tried.window }) (bytes_in tried.window l) (left_in a.work m (record a.course { window = tried.window }) a.ahead)) (sym whole)
+    (enter-refused a.course a.ahead tried.window span written c.args.who c.ops-end-2.result tried.roles tried.spares due.is at was.kept synced was.full c.in_default.ensures goes c.requires.caller c.ops-end-2.ensures.count did.grows next
     (elim (when-some _ _ tried.refusal refusal c.in-Some-refusal.is did.window) [ inl none ↦ inl none | inr unsure ↦ inr unsure.0 ])
     refusal (elim (when-some _ _ tried.refusal refusal c.in-Some-refusal.is did.refused) [ inl many ↦ inl many | inr fault ↦ inr fault.0 ])) in
     with-buffer (let len = (with_items a.buffer c.enter_next-tried.new.scratch).ok.0 in let ok = a.buffer.ok.0 in omega (arith, len, ok, was.buffer_fits))
@@ -154,6 +155,7 @@ returns-in-Some-refusal-clause-course g c =
     let tried = c.enter_next-tried.result in
     let span = c.in-Some-next_window_of.span in
     let due = subst (λ p. IsEnterDue p) (sym c.self.view_is) c.requires.due in
+    let synced : a.work.resync ≡ None = ap (λ p. p.parts.work.resync) c.self.view_is ∙ c.requires.synced in
     let with_it : record a.course { window = tried.window } ≡ course_in tried.window = ap (λ (k : Course). record k { window = tried.window }) due.is in
     rw (← c.self.view_is) (elim (when-some _ _ tried.refusal c.in-Some-refusal.refusal c.in-Some-refusal.is c.enter_next-tried.ensures.window) [
       | inl none ↦ inl (with_it ∙ ap course_in none ∙ sym due.is)
@@ -175,6 +177,7 @@ invariant_of-self-2 g c =
     let tried = c.enter_next-tried.result in
     let span = c.in-Some-next_window_of.span in
     let due = subst (λ p. IsEnterDue p) (sym c.self.view_is) c.requires.due in
+    let synced : a.work.resync ≡ None = ap (λ p. p.parts.work.resync) c.self.view_is ∙ c.requires.synced in
     let at : next_window a.members.newest ≡ Some span = sym c.in-Some-next_window_of.ensures.value in
     let goes : IsCallGoing a.epoch.entries.items c.args.who = subst (λ p. IsCallGoing p.parts.entries c.args.who) (sym c.self.view_is) c.requires.open in
     let steps : 1 ≤ a.steps = subst (λ p. 1 ≤ p.parts.steps) (sym c.self.view_is) c.requires.room in
@@ -194,9 +197,9 @@ invariant_of-self-2 g c =
     let left = c.steps_left-left.result in
     let end = c.ops-end-2.result in
     let whole : (with_items a.window written).items ≡ written = written-whole a.window.len a.window.items written (c.enter_next-tried.auto.window ∙ ap (λ (l : List ℕ). length l) c.as_mut_slice.ensures.value) a.window.ok.0 in
-    let kept = subst (λ (l : List ℕ). IsMoving g.B.Bank.tells given tape' scope a.epoch.first (a.epoch.entries.items ++ entries_of c.args.who end (losses_of tried.roles tried.spares ++ Step EntersWindow left ∷ [])) m (is_carried a.work)
-    (record a.course { window = tried.window }) (bytes_in tried.window l) (left_in m (record a.course { window = tried.window }) a.ahead)) (sym whole)
-    (enter-done a.course a.ahead tried.window span written c.args.who c.ops-end-2.result tried.roles tried.spares due.is at was.kept was.full c.in_default.ensures goes c.requires.caller c.ops-end-2.ensures.count did.grows next
+    let kept = subst (λ (l : List ℕ). IsMoving g.B.Bank.tells given tape' scope a.epoch.first (a.epoch.entries.items ++ entries_of c.args.who end (losses_of tried.roles tried.spares ++ Step EntersWindow left ∷ [])) m (is_carried a.work) a.work.resync
+    (record a.course { window = tried.window }) (bytes_in tried.window l) (left_in a.work m (record a.course { window = tried.window }) a.ahead)) (sym whole)
+    (enter-done a.course a.ahead tried.window span written c.args.who c.ops-end-2.result tried.roles tried.spares due.is at was.kept synced was.full c.in_default.ensures goes c.requires.caller c.ops-end-2.ensures.count did.grows next
     c.is_window_critical-sectioned.result (when-none _ _ tried.refusal c.in_default-refusal.is did.window) (λ critical. c.is_window_critical-sectioned.ensures ∙ critical) left c.steps_left-left.ensures) in
     with-buffer (let len = (with_items a.buffer c.enter_next-tried.new.scratch).ok.0 in let ok = a.buffer.ok.0 in omega (arith, len, ok, was.buffer_fits))
     (ready (entries_of c.args.who end (losses_of tried.roles tried.spares ++ Step EntersWindow left ∷ [])) was did.grows (shapes-moved given a.members m did.moved) kept
@@ -242,6 +245,7 @@ returns-clause-left g c =
     let tried = c.enter_next-tried.result in
     let span = c.in-Some-next_window_of.span in
     let due = subst (λ p. IsEnterDue p) (sym c.self.view_is) c.requires.due in
+    let synced : a.work.resync ≡ None = ap (λ p. p.parts.work.resync) c.self.view_is ∙ c.requires.synced in
     let at : next_window a.members.newest ≡ Some span = sym c.in-Some-next_window_of.ensures.value in
     let goes : IsCallGoing a.epoch.entries.items c.args.who = subst (λ p. IsCallGoing p.parts.entries c.args.who) (sym c.self.view_is) c.requires.open in
     let steps : 1 ≤ a.steps = subst (λ p. 1 ≤ p.parts.steps) (sym c.self.view_is) c.requires.room in
@@ -258,5 +262,5 @@ returns-clause-left g c =
       stored = λ t. did.stored t scope its was.kept.members_are (stored t).section (stored t).headers;
       safe = λ t told list room gone unclean stands filled allowed before. did.safe t (world_in given tape scope a.epoch.first) told list room gone unclean its (stored t).section stands filled allowed before;
     } in
-    rw (← c.self.view_is) (enter-left a.course a.ahead tried.window span written c.args.who c.ops-end-2.result tried.roles tried.spares due.is at was.kept was.full c.in_default.ensures goes c.requires.caller
+    rw (← c.self.view_is) (enter-left a.course a.ahead tried.window span written c.args.who c.ops-end-2.result tried.roles tried.spares due.is at was.kept synced was.full c.in_default.ensures goes c.requires.caller
     c.ops-end-2.ensures.count did.grows next c.is_window_critical-sectioned.result (when-none _ _ tried.refusal c.in_default-refusal.is did.window))

@@ -112,8 +112,8 @@ invariant_of-self-in_default g c =
     let number : c.args.who.number ≡ next_number c.args.who.caller a.epoch.entries.items = c.requires.next ∙ ap (λ p. next_number c.args.who.caller p.parts.entries) (sym c.self.view_is) in
     ready (entries_of c.args.who c.ops-end.result (Refused (NoSuchRole c.args.role) ∷ []))
     was (grows-none (λ t. refl)) (shapes-same a.members.newest)
-    (resting-moves g.B.Bank.tells given tape (scope_in given a.epoch.uuid a.epoch.given (Some a.backup)) a.epoch.first a.epoch.entries.items a.members (is_carried a.work) a.course
-    (bytes_in a.course.window a.window.items) (left_in a.members a.course a.ahead) c.args.who c.ops-end.result (Refused (NoSuchRole c.args.role))
+    (resting-moves g.B.Bank.tells given tape (scope_in given a.epoch.uuid a.epoch.given (Some a.backup)) a.epoch.first a.epoch.entries.items a.members (is_carried a.work) a.work.resync a.course
+    (bytes_in a.course.window a.window.items) (left_in a.work a.members a.course a.ahead) c.args.who c.ops-end.result (Refused (NoSuchRole c.args.role))
     was.kept (begins-going a.epoch.entries.items c.args.who number) (not_254 c.args.who.caller c.requires.caller) c.ops-end.ensures.count (quiet-refusal (NoSuchRole c.args.role)) (λ told is. is) (λ t fills. tt))
     refl (λ slot. omega arith) (alone-keeps c.args.who c.ops-end.result (Refused (NoSuchRole c.args.role)) (λ n. refl) refl) (λ none whole. whole) refl (scope-same given (Some a.backup) refl c.enter.ensures.uuid c.enter.ensures.given) c.enter.ensures.first c.make_room.ensures.items c.enter.ensures.items
     (omega (arith, c.enter.ensures.room, c.in-Ok.ensures.ok))
@@ -165,9 +165,9 @@ invariant_of-self-2 g c =
     let items = behind-loss c.make_room.new.self.items c.enter-2.new.epoch.entries.items c.enter_behind.new.epoch.entries.items c.args.who end (Lost role Command) (losses_of roles spares ++ Failed role ∷ []) c.enter-2.ensures.items c.enter_behind.ensures.items in
     ready (entries_of c.args.who end ((Lost role Command ∷ losses_of roles spares) ++ Failed role ∷ []))
     was did.grows (shapes-moved given a.members m moved)
-    (subst (λ (n : ℕ). IsMoving g.B.Bank.tells given tape' scope a.epoch.first (a.epoch.entries.items ++ entries_of c.args.who end ((Lost role Command ∷ losses_of roles spares) ++ Failed role ∷ [])) m (is_carried a.work) a.course buffer n)
-    (sym (left-moved given a.members m a.course a.ahead moved))
-    (failed-moves g.B.Bank.tells given tape tape' scope a.epoch.first a.epoch.entries.items a.members m (is_carried a.work) a.course buffer (left_in a.members a.course a.ahead) c.args.who end role roles spares
+    (subst (λ (n : ℕ). IsMoving g.B.Bank.tells given tape' scope a.epoch.first (a.epoch.entries.items ++ entries_of c.args.who end ((Lost role Command ∷ losses_of roles spares) ++ Failed role ∷ [])) m (is_carried a.work) a.work.resync a.course buffer n)
+    (sym (left-moved given a.members m a.work.resync a.course a.ahead moved))
+    (failed-moves g.B.Bank.tells given tape tape' scope a.epoch.first a.epoch.entries.items a.members m (is_carried a.work) a.work.resync a.course buffer (left_in a.work a.members a.course a.ahead) c.args.who end role roles spares
     was.kept (holder-left given a.members role c.in-Some.slot here.placed here.unlost c.in-Some.ensures.held) (begins-going a.epoch.entries.items c.args.who number) (not_254 c.args.who.caller c.requires.caller) c.ops-end-2.ensures.count did.grows out))
     refl did.counts (record { long = (behind-keeps c.args.who end roles spares (Failed role) (λ n. refl) refl).long; free = (behind-keeps c.args.who end roles spares (Failed role) (λ n. refl) refl).free })
     (λ none whole. takes-lost (world_in given tape' scope a.epoch.first) role a.epoch.entries.items (entries_of c.args.who end ((Lost role Command ∷ losses_of roles spares) ++ Failed role ∷ [])) (lost-here role c.args.who end Command (losses_of roles spares ++ Failed role ∷ [])) none) did.given (scope-same given (Some a.backup) did.given (c.enter_behind.ensures.uuid ∙ c.enter-2.ensures.uuid) (c.enter_behind.ensures.given ∙ c.enter-2.ensures.given)) (c.enter_behind.ensures.first ∙ c.enter-2.ensures.first)

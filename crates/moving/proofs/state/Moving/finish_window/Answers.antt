@@ -1,4 +1,4 @@
-use Rattle.std.proofs.Common.{inl, ◌≤◌, ℕ, ◌-◌, ◌*◌, List, [], ◌∷◌, ◌++◌, take, Some, refl, sym, subst, arith}
+use Rattle.std.proofs.Common.{◌⊎◌, inl, ◌≤◌, ℕ, ◌-◌, ◌*◌, List, [], ◌∷◌, ◌++◌, take, Some, refl, sym, subst, arith}
 use Rattle.std.specs.Vec.{with_items}
 use Rattle.superblocks.specs.Reading.{final_shape, list_length}
 use Rattle.flat_history.specs.declared.events.Event.TheVariants.{Refused, Step}
@@ -17,7 +17,9 @@ use Rattle.array_kept.proofs.ReplyLaws.{too-many-of, refused-for}
 use Rattle.kept_history.specs.Recorded.{IsCallGoing}
 use Rattle.kept_history.specs.Safe.{world_in}
 use Rattle.course_kept.specs.declared.course.Course.{Course}
+use Rattle.grow_asked.specs.declared.window.Window.{Window}
 use Rattle.course_kept.specs.Course.{IsWindowOf}
+use Rattle.course_mends.specs.Mended.{IsAside, IsUnmended}
 use Rattle.moving_state.proofs.ReshapeLaws.{window-reach}
 use Rattle.moving_kept.proofs.FinishedCall.{IsFinishedBy}
 use Rattle.moving_kept.proofs.Going.{going-on}
@@ -31,7 +33,7 @@ use Rattle.running_words.proofs.Called.{not_254, called, alone-lossless}
 use Rattle.moving_laws.proofs.Kept.{ready, shapes-same, shapes-moved, alone-keeps, behind-keeps, behind-whole, with-buffer}
 use Rattle.moving_laws.proofs.RecordLaws.{moved-if, moved-none, shapes-past}
 use Rattle.moving_laws.proofs.Settled.{many-of}
-use Rattle.moving_laws.proofs.WriteLaws.{finished-missing, open-is, finish-left, finish-done, finish-refused}
+use Rattle.moving_laws.proofs.WriteLaws.{finish-relied, finished-missing, open-is, finish-left, finish-done, finish-refused}
 use Rattle.moving.proofs.state.Moving.finish_window.Goals as goal
 
 -- ---- the members lack too many
@@ -47,7 +49,7 @@ invariant_of-self g c =
     let tape = g.B.Bank.tape a.bank in
     let end = c.ops-end.result in
     let refusal = c.in-Some.refusal in
-    let kept = resting-moves g.B.Bank.tells given tape scope a.epoch.first a.epoch.entries.items a.members (is_carried a.work) a.course (bytes_in a.course.window a.window.items) (left_in a.members a.course a.ahead)
+    let kept = resting-moves g.B.Bank.tells given tape scope a.epoch.first a.epoch.entries.items a.members (is_carried a.work) a.work.resync a.course (bytes_in a.course.window a.window.items) (left_in a.work a.members a.course a.ahead)
     c.args.who end (Refused refusal) was.kept goes (not_254 c.args.who.caller c.requires.caller) c.ops-end.ensures.count (quiet-refusal refusal) (λ told is. is)
     (λ t right. refused-right (world_in given tape scope a.epoch.first) a.epoch.entries.items given a.members was.kept.members_are.placed (was.kept.gone t right) (was.kept.levelled t right) refusal c.in-Some.ensures) in
     ready (entries_of c.args.who end (Refused refusal ∷ [])) was (grows-none (λ t. refl)) (shapes-same a.members.newest) kept
@@ -287,5 +289,15 @@ returns-clause-left g c =
     let m = c.finish_rest-rest.new.members in
     let span = c.in-Entered.span in
     let due = open-is _ span c.in-Entered.copied c.in-Entered.sectioned (subst (λ p. IsWindowOpen p) (sym c.self.view_is) c.requires.due) c.in-Entered.is in
-    rw (← c.self.view_is) (finish-left (g.B.Bank.given a.bank) a.members m a.course a.ahead span c.in-Entered.copied c.in-Entered.sectioned due
+    rw (← c.self.view_is) (finish-left (g.B.Bank.given a.bank) a.members m a.work.resync a.course a.ahead span c.in-Entered.copied c.in-Entered.sectioned due
     (moved-none (g.B.Bank.given a.bank) span a.members m c.finish_rest-rest.result.refusal c.in_default-refusal.is c.finish_rest-rest.ensures.moved) c.self.invariant.kept.members_are.active)
+
+pub returns-clause-relied : goal.returns-clause-relied
+returns-clause-relied g c =
+    let a = c.self.inside in
+    let m = c.finish_rest-rest.new.members in
+    let span = c.in-Entered.span in
+    let given = g.B.Bank.given a.bank in
+    let kept = c.self.invariant.kept in
+    rw (← c.self.view_is) (finish-relied given a.members m a.work.resync span kept.members_are.placed (moved-none given span a.members m c.finish_rest-rest.result.refusal c.in_default-refusal.is c.finish_rest-rest.ensures.moved)
+    (subst (λ (w : Window). IsAside w ⊎ IsUnmended a.work.resync) c.in-Entered.is kept.beside))

@@ -23,12 +23,12 @@ returns-clause-right g c =
     let given = g.B.Bank.given a.bank in
     let tape = g.B.Bank.tape a.bank in
     let buffer = bytes_in a.course.window a.window.items in
-    let left = left_in a.members a.course a.ahead in
+    let left = left_in a.work a.members a.course a.ahead in
     let number : c.args.who.number ≡ next_number c.args.who.caller a.epoch.entries.items = c.requires.next ∙ ap (λ p. next_number c.args.who.caller p.parts.entries) (sym c.self.view_is) in
     let kept = halted-moves c.args.who c.ops-end.result c.self.invariant.kept number c.requires.caller c.ops-end.ensures.count in
     let same =
-    subst (λ (l : List Entry). IsMoving g.B.Bank.tells given tape (scope_in given epoch.uuid epoch.given (Some a.backup)) epoch.first l a.members (is_carried a.work) a.course buffer left) (sym c.enter.ensures.items)
-    (subst (λ (n : ℕ). IsMoving g.B.Bank.tells given tape (scope_in given epoch.uuid epoch.given (Some a.backup)) n (a.epoch.entries.items ++ entries_of c.args.who c.ops-end.result (Halted ∷ [])) a.members (is_carried a.work) a.course buffer left) (sym c.enter.ensures.first)
-    (subst (λ (s : Scope). IsMoving g.B.Bank.tells given tape s a.epoch.first (a.epoch.entries.items ++ entries_of c.args.who c.ops-end.result (Halted ∷ [])) a.members (is_carried a.work) a.course buffer left)
+    subst (λ (l : List Entry). IsMoving g.B.Bank.tells given tape (scope_in given epoch.uuid epoch.given (Some a.backup)) epoch.first l a.members (is_carried a.work) a.work.resync a.course buffer left) (sym c.enter.ensures.items)
+    (subst (λ (n : ℕ). IsMoving g.B.Bank.tells given tape (scope_in given epoch.uuid epoch.given (Some a.backup)) n (a.epoch.entries.items ++ entries_of c.args.who c.ops-end.result (Halted ∷ [])) a.members (is_carried a.work) a.work.resync a.course buffer left) (sym c.enter.ensures.first)
+    (subst (λ (s : Scope). IsMoving g.B.Bank.tells given tape s a.epoch.first (a.epoch.entries.items ++ entries_of c.args.who c.ops-end.result (Halted ∷ [])) a.members (is_carried a.work) a.work.resync a.course buffer left)
     (sym (scope-same given (Some a.backup) refl c.enter.ensures.uuid c.enter.ensures.given)) kept)) in
     rw (← c.self.view_is) (λ t right. epoch-kept given tape (Some a.backup) epoch same t (c.enter.ensures.last ∙ c.ops-end.ensures.count t) right)

@@ -61,8 +61,8 @@ invariant_of-self-in_default g c =
     let look = c.look_at.ensures in
     let end = c.ops-end.result in
     ready (entries_of c.args.who end (Refused (SlotFault c.args.slot) ∷ [])) was (looked-grows look.tape) (shapes-same a.members.newest)
-    (looked-moves g.B.Bank.tells given (g.B.Bank.tape a.bank) (g.B.Bank.tape c.look_at.new.bank) (scope_in given a.epoch.uuid a.epoch.given (Some a.backup)) a.epoch.first a.epoch.entries.items a.members (is_carried a.work)
-    a.course (bytes_in a.course.window a.window.items) (left_in a.members a.course a.ahead) c.args.who end c.args.slot
+    (looked-moves g.B.Bank.tells given (g.B.Bank.tape a.bank) (g.B.Bank.tape c.look_at.new.bank) (scope_in given a.epoch.uuid a.epoch.given (Some a.backup)) a.epoch.first a.epoch.entries.items a.members (is_carried a.work) a.work.resync
+    a.course (bytes_in a.course.window a.window.items) (left_in a.work a.members a.course a.ahead) c.args.who end c.args.slot
     was.kept (live-of was.kept (slot-does given (Some a.backup) c.args.slot a.members was.kept.members_are.placed addable)) (begins-going a.epoch.entries.items c.args.who number) (not_254 c.args.who.caller c.requires.caller) c.ops-end.ensures.count look.tape)
     refl look.counts (alone-keeps c.args.who end (Refused (SlotFault c.args.slot)) (λ n. refl) refl) (λ none whole. whole) look.given (scope-same given (Some a.backup) look.given c.enter.ensures.uuid c.enter.ensures.given) c.enter.ensures.first c.make_room.ensures.items c.enter.ensures.items
     (omega (arith, c.enter.ensures.room, c.in-Ok.ensures.ok))
@@ -238,11 +238,11 @@ invariant_of-self-then-contains g c =
     let given_is = e.given ∙ look.given in
     let events = losses_of roles spares ++ Refused (SlotFault slot) ∷ [] in
     ready-with (entries_of c.args.who end events) was (grows-then (looked-grows look.tape) did.grows) (shapes-moved given (with_spare slot sb a.members) m did.moved)
-    (subst (λ (n : ℕ). IsMoving g.B.Bank.tells given tape' scope a.epoch.first (a.epoch.entries.items ++ entries_of c.args.who end events) m (is_carried work) a.course (bytes_in a.course.window a.window.items) n)
-    (sym (left-moved given (with_spare slot sb a.members) m a.course a.ahead did.moved))
-    (added-lost-moves g.B.Bank.tells given tape mid tape' scope a.epoch.first a.epoch.entries.items a.members m (is_carried a.work) (is_carried work) a.course (bytes_in a.course.window a.window.items)
-    (left_in a.members a.course a.ahead) c.args.who end slot sb roles spares was.kept (begins-going a.epoch.entries.items c.args.who number) (not_254 c.args.who.caller c.requires.caller) c.ops-end-2.ensures.count made))
-    refl refl did.counts (behind-keeps c.args.who end roles spares (Refused (SlotFault slot)) (λ n. refl) refl)
+    (subst (λ (n : ℕ). IsMoving g.B.Bank.tells given tape' scope a.epoch.first (a.epoch.entries.items ++ entries_of c.args.who end events) m (is_carried work) a.work.resync a.course (bytes_in a.course.window a.window.items) n)
+    (sym (left-moved given (with_spare slot sb a.members) m a.work.resync a.course a.ahead did.moved))
+    (added-lost-moves g.B.Bank.tells given tape mid tape' scope a.epoch.first a.epoch.entries.items a.members m (is_carried a.work) (is_carried work) a.work.resync a.course (bytes_in a.course.window a.window.items)
+    (left_in a.work a.members a.course a.ahead) c.args.who end slot sb roles spares was.kept (begins-going a.epoch.entries.items c.args.who number) (not_254 c.args.who.caller c.requires.caller) c.ops-end-2.ensures.count made))
+    refl did.counts (behind-keeps c.args.who end roles spares (Refused (SlotFault slot)) (λ n. refl) refl)
     (behind-whole tape' scope a.epoch.first a.epoch.entries.items c.args.who end roles spares (Refused (SlotFault slot)) did.moved made.since) given_is (scope-same given (Some a.backup) given_is c.enter_behind.ensures.uuid c.enter_behind.ensures.given) c.enter_behind.ensures.first c.make_room.ensures.items c.enter_behind.ensures.items
     (omega (arith, c.enter_behind.ensures.room, c.in-Ok.ensures.ok))
 
@@ -367,11 +367,11 @@ invariant_of-self-2 g c =
     let given_is = e.given ∙ look.given in
     let events = losses_of roles spares ++ Added slot ∷ [] in
     ready-with (entries_of c.args.who end events) was (grows-then (looked-grows look.tape) did.grows) (shapes-moved given (with_spare slot sb a.members) m did.moved)
-    (subst (λ (n : ℕ). IsMoving g.B.Bank.tells given tape' scope a.epoch.first (a.epoch.entries.items ++ entries_of c.args.who end events) m (is_carried work) a.course (bytes_in a.course.window a.window.items) n)
-    (sym (left-moved given (with_spare slot sb a.members) m a.course a.ahead did.moved))
-    (added-moves g.B.Bank.tells given tape mid tape' scope a.epoch.first a.epoch.entries.items a.members m (is_carried a.work) (is_carried work) a.course (bytes_in a.course.window a.window.items)
-    (left_in a.members a.course a.ahead) c.args.who end slot sb roles spares was.kept (begins-going a.epoch.entries.items c.args.who number) (not_254 c.args.who.caller c.requires.caller) c.ops-end-2.ensures.count made))
-    refl refl did.counts (behind-keeps c.args.who end roles spares (Added slot) (λ n. refl) refl)
+    (subst (λ (n : ℕ). IsMoving g.B.Bank.tells given tape' scope a.epoch.first (a.epoch.entries.items ++ entries_of c.args.who end events) m (is_carried work) a.work.resync a.course (bytes_in a.course.window a.window.items) n)
+    (sym (left-moved given (with_spare slot sb a.members) m a.work.resync a.course a.ahead did.moved))
+    (added-moves g.B.Bank.tells given tape mid tape' scope a.epoch.first a.epoch.entries.items a.members m (is_carried a.work) (is_carried work) a.work.resync a.course (bytes_in a.course.window a.window.items)
+    (left_in a.work a.members a.course a.ahead) c.args.who end slot sb roles spares was.kept (begins-going a.epoch.entries.items c.args.who number) (not_254 c.args.who.caller c.requires.caller) c.ops-end-2.ensures.count made))
+    refl did.counts (behind-keeps c.args.who end roles spares (Added slot) (λ n. refl) refl)
     (behind-whole tape' scope a.epoch.first a.epoch.entries.items c.args.who end roles spares (Added slot) did.moved made.since) given_is (scope-same given (Some a.backup) given_is c.enter_behind-2.ensures.uuid c.enter_behind-2.ensures.given) c.enter_behind-2.ensures.first c.make_room.ensures.items c.enter_behind-2.ensures.items
     (omega (arith, c.enter_behind-2.ensures.room, c.in-Ok.ensures.ok))
 

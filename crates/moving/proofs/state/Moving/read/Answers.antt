@@ -31,7 +31,9 @@ use Rattle.array_kept.proofs.LossLaws.{losses-behind, ended-behind}
 use Rattle.array_kept.proofs.ReadyLaws.{scope-same, list-same}
 use Rattle.array_kept.proofs.ReplyLaws.{lost_reply, inside-losses, replied, read_kind, refused-for}
 use Rattle.calls_kept.proofs.ReadLaws.{some-of}
-use Rattle.region_rows.specs.Stretches.{IsListUnread}
+use Rattle.region_mends.specs.Mends.{relied_sector}
+use Rattle.course_kept.specs.Course.{hidden_in}
+use Rattle.moving_state.specs.First.{IsUnreadAround}
 use Rattle.window_calls.specs.Fetching.{IsUnreadBeside}
 use Rattle.kept_history.specs.Safe.{world_in}
 use Rattle.kept_history.proofs.Records.{begins-going}
@@ -89,10 +91,12 @@ invariant_of-self-in-Some g c =
     let refusal = c.in-Some.refusal in
     let count = length c.args.into.now / 512 in
     let size = list_length a.members.newest in
-    let why = subst (λ (n : ℕ). IsRefusedFor n (c.args.at + count) (IsListUnread size c.args.at (c.args.at + count)) a.members a.members refusal) c.list_sectors-sectors.ensures.length c.in-Some.ensures.why in
-    let kept = resting-moves g.B.Bank.tells given tape scope a.epoch.first a.epoch.entries.items a.members (is_carried a.work) a.course (bytes_in a.course.window a.window.items) (left_in a.members a.course a.ahead)
+    let hidden = c.hidden_span-hidden.result in
+    let relied = c.relied_sector-relied.result in
+    let why = subst (λ (n : ℕ). IsRefusedFor n (c.args.at + count) (IsUnreadAround hidden relied c.args.at (c.args.at + count)) a.members a.members refusal) c.list_sectors-sectors.ensures.length c.in-Some.ensures.why in
+    let kept = resting-moves g.B.Bank.tells given tape scope a.epoch.first a.epoch.entries.items a.members (is_carried a.work) a.work.resync a.course (bytes_in a.course.window a.window.items) (left_in a.work a.members a.course a.ahead)
     c.args.who end (Refused refusal) was.kept (begins-going a.epoch.entries.items c.args.who number) (not_254 c.args.who.caller c.requires.caller) c.ops-end.ensures.count (quiet-refusal refusal) (λ told is. is)
-    (first-right was.kept was.unlimited c.args.at (c.args.at + count) refusal why) in
+    (first-right was.kept was.unlimited hidden relied c.args.at (c.args.at + count) refusal c.relied_sector-relied.ensures.value why) in
     ready (entries_of c.args.who end (Refused refusal ∷ [])) was (grows-none (λ t. refl)) (shapes-same a.members.newest) kept
     refl (λ slot. omega arith) (alone-keeps c.args.who end (Refused refusal) (λ n. refl) refl) (λ none whole. whole) refl (scope-same given (Some a.backup) refl c.enter.ensures.uuid c.enter.ensures.given) c.enter.ensures.first c.make_room.ensures.items c.enter.ensures.items
     (omega (arith, c.enter.ensures.room, c.in-Ok-make_room.ensures.ok))
@@ -105,8 +109,10 @@ returns-in-Some-clause-answered g c =
     let count = length c.args.into.now / 512 in
     let size = list_length a.members.newest in
     let refusal = c.in-Some.refusal in
-    let why = subst (λ (n : ℕ). IsRefusedFor n (c.args.at + count) (IsListUnread size c.args.at (c.args.at + count)) a.members a.members refusal) c.list_sectors-sectors.ensures.length c.in-Some.ensures.why in
-    rw (← c.self.view_is) (first-reply a.members was.kept.members_are.placed.fit a.epoch.entries.items was.sized was.unlimited c.args.who c.args.at count c.enter.new.epoch.entries.items c.ops-end.result refusal why
+    let hidden = c.hidden_span-hidden.result in
+    let relied = c.relied_sector-relied.result in
+    let why = subst (λ (n : ℕ). IsRefusedFor n (c.args.at + count) (IsUnreadAround hidden relied c.args.at (c.args.at + count)) a.members a.members refusal) c.list_sectors-sectors.ensures.length c.in-Some.ensures.why in
+    rw (← c.self.view_is) (first-reply a.members hidden relied a.epoch.entries.items was.sized was.unlimited c.args.who c.args.at count c.enter.new.epoch.entries.items c.ops-end.result refusal why
     (c.enter.ensures.items ∙ ap (λ (l : List Entry). l ++ entries_of c.args.who c.ops-end.result (Refused refusal ∷ [])) c.make_room.ensures.items) number)
 
 pub returns-in-Some-clause-called : goal.returns-in-Some-clause-called
@@ -157,7 +163,7 @@ invariant_of-self-then-asked-eq0 g c =
     let zero = c.if-asked-eq0.true in
     let none : length body ≡ 0 = ap (λ (l : List Sector). length l) (c.from_bytes-body.ensures ∙ no-sectors c.in-Ok.bytes.items (ap (λ (n : ℕ). n / 512) c.in-Ok.ensures.len ∙ zero)) in
     let within : c.args.at ≤ list_length a.members.newest = let below = c.in_default.ensures.why.0 in let sectors = c.list_sectors-sectors.ensures.length in omega (arith, below, sectors) in
-    let kept = resting-moves g.B.Bank.tells given tape scope a.epoch.first a.epoch.entries.items a.members (is_carried a.work) a.course (bytes_in a.course.window a.window.items) (left_in a.members a.course a.ahead)
+    let kept = resting-moves g.B.Bank.tells given tape scope a.epoch.first a.epoch.entries.items a.members (is_carried a.work) a.work.resync a.course (bytes_in a.course.window a.window.items) (left_in a.work a.members a.course a.ahead)
     c.args.who end (Read c.args.at body) was.kept (begins-going a.epoch.entries.items c.args.who number) (not_254 c.args.who.caller c.requires.caller) c.ops-end-then-asked-eq0.ensures.count (read-quiet c.args.at body) (λ told is. is)
     (none-read was.kept was.unlimited c.args.at body none within) in
     ready (entries_of c.args.who end (Read c.args.at body ∷ [])) was (grows-none (λ t. refl)) (shapes-same a.members.newest) kept
@@ -283,15 +289,16 @@ invariant_of-self-in-Some-refusal g c =
     let refusal = c.in-Some-refusal.refusal in
     let same : asked ≡ count = asked-is c.in-Ok.bytes.items c.as_mut_slice.result.now c.args.into.now c.in-Ok.ensures.len c.as_mut_slice.ensures.value in
     let within : c.args.at + count ≤ size = let below = c.in_default.ensures.why.0 in let sectors = c.list_sectors-sectors.ensures.length in omega (arith, below, sectors) in
-    let why : IsListUnread size c.args.at (c.args.at + count) m refusal =
-    subst (λ (n : ℕ). IsListUnread n c.args.at (c.args.at + count) m refusal) c.list_sectors-sectors.ensures.length
-    (subst (λ (n : ℕ). IsListUnread c.list_sectors-sectors.result c.args.at (c.args.at + n) m refusal) same
-    (beside-unread c.hidden_span-hidden.result c.list_sectors-sectors.result c.args.at (c.args.at + asked) m refusal
-    (some-of (IsUnreadBeside c.hidden_span-hidden.result c.list_sectors-sectors.result c.args.at (c.args.at + asked) m) c.fetch_beside-fetched.result.refusal refusal c.in-Some-refusal.is did.refused))) in
+    let hidden = c.hidden_span-hidden.result in
+    let relied = c.relied_sector-relied.result in
+    let why : IsUnreadAround hidden relied c.args.at (c.args.at + count) m refusal =
+    subst (λ (n : ℕ). IsUnreadAround hidden relied c.args.at (c.args.at + n) m refusal) same
+    (beside-unread hidden relied c.args.at (c.args.at + asked) m refusal
+    (some-of (IsUnreadBeside hidden relied c.args.at (c.args.at + asked) m) c.fetch_beside-fetched.result.refusal refusal c.in-Some-refusal.is did.refused)) in
     with-buffer (let len = (with_items a.buffer c.fetch_beside-fetched.new.scratch).ok.0 in let ok = a.buffer.ok.0 in let fits = was.buffer_fits in omega (arith, len, ok, fits))
     (ready (entries_of c.args.who end (losses_of roles spares ++ Refused refusal ∷ [])) was did.grows (shapes-moved given a.members m did.moved)
-    (subst (λ (left : ℕ). IsMoving g.B.Bank.tells given tape' scope a.epoch.first (a.epoch.entries.items ++ entries_of c.args.who end (losses_of roles spares ++ Refused refusal ∷ [])) m (is_carried a.work) a.course (bytes_in a.course.window a.window.items) left)
-    (sym (left-moved given a.members m a.course a.ahead did.moved)) (unread-moves was.kept was.unlimited (read-live size c.args.at (c.args.at + count) was.kept c.in_default.ensures.why.1 (read-some count c.args.at c.if-asked-eq0.false)) c.args.who end roles spares (begins-going a.epoch.entries.items c.args.who number) (not_254 c.args.who.caller c.requires.caller) c.ops-end-2.ensures.count did.grows named c.args.at (c.args.at + count) refusal within why))
+    (subst (λ (left : ℕ). IsMoving g.B.Bank.tells given tape' scope a.epoch.first (a.epoch.entries.items ++ entries_of c.args.who end (losses_of roles spares ++ Refused refusal ∷ [])) m (is_carried a.work) a.work.resync a.course (bytes_in a.course.window a.window.items) left)
+    (sym (left-moved given a.members m a.work.resync a.course a.ahead did.moved)) (unread-moves was.kept was.unlimited (read-live c.hidden_span-hidden.result c.relied_sector-relied.result c.args.at (c.args.at + count) was.kept c.in_default.ensures.why.1 (read-some count c.args.at c.if-asked-eq0.false)) c.args.who end roles spares (begins-going a.epoch.entries.items c.args.who number) (not_254 c.args.who.caller c.requires.caller) c.ops-end-2.ensures.count did.grows named hidden relied c.args.at (c.args.at + count) refusal c.relied_sector-relied.ensures.value within why))
     refl did.counts (behind-keeps c.args.who end roles spares (Refused refusal) (λ n. refl) refl)
     (behind-whole tape' scope a.epoch.first a.epoch.entries.items c.args.who end roles spares (Refused refusal) did.moved (missing-since roles did.moved since.vacant)) did.given (scope-same given (Some a.backup) did.given c.enter_behind.ensures.uuid c.enter_behind.ensures.given) c.enter_behind.ensures.first c.make_room.ensures.items
     c.enter_behind.ensures.items
@@ -321,13 +328,13 @@ returns-in-Some-refusal-clause-answered g c =
     let refusal = c.in-Some-refusal.refusal in
     let same : asked ≡ count = asked-is c.in-Ok.bytes.items c.as_mut_slice.result.now c.args.into.now c.in-Ok.ensures.len c.as_mut_slice.ensures.value in
     let within : c.args.at + count ≤ size = let below = c.in_default.ensures.why.0 in let sectors = c.list_sectors-sectors.ensures.length in omega (arith, below, sectors) in
-    let why : IsListUnread size c.args.at (c.args.at + count) m refusal =
-    subst (λ (n : ℕ). IsListUnread n c.args.at (c.args.at + count) m refusal) c.list_sectors-sectors.ensures.length
-    (subst (λ (n : ℕ). IsListUnread c.list_sectors-sectors.result c.args.at (c.args.at + n) m refusal) same
-    (beside-unread c.hidden_span-hidden.result c.list_sectors-sectors.result c.args.at (c.args.at + asked) m refusal
-    (some-of (IsUnreadBeside c.hidden_span-hidden.result c.list_sectors-sectors.result c.args.at (c.args.at + asked) m) c.fetch_beside-fetched.result.refusal refusal c.in-Some-refusal.is did.refused))) in
-    let long : list_length m.newest ≡ size = list-alike a.members.newest m.newest did.moved.reshape did.moved.shape did.moved.size in
-    let missing = unread-missing m did.moved.placed.fit size c.args.at (c.args.at + count) refusal (omega (arith, long)) (omega (arith, within, long)) why in
+    let hidden = c.hidden_span-hidden.result in
+    let relied = c.relied_sector-relied.result in
+    let why : IsUnreadAround hidden relied c.args.at (c.args.at + count) m refusal =
+    subst (λ (n : ℕ). IsUnreadAround hidden relied c.args.at (c.args.at + n) m refusal) same
+    (beside-unread hidden relied c.args.at (c.args.at + asked) m refusal
+    (some-of (IsUnreadBeside hidden relied c.args.at (c.args.at + asked) m) c.fetch_beside-fetched.result.refusal refusal c.in-Some-refusal.is did.refused)) in
+    let missing = unread-missing hidden relied c.args.at (c.args.at + count) m refusal why in
     rw (← c.self.view_is) (lost_reply size a.epoch.entries.items was.sized was.unlimited (AsksRead c.args.at count) c.args.who (c.args.at + count)
     c.enter_behind.new.epoch.entries.items end roles spares refusal (read_kind c.args.at count) within missing
     (c.enter_behind.ensures.items ∙ ap (λ (l : List Entry). l ++ entries_of c.args.who end (losses_of roles spares ++ Refused refusal ∷ [])) c.make_room.ensures.items) number)
@@ -356,14 +363,16 @@ returns-in-Some-refusal-clause-caused g c =
     let refusal = c.in-Some-refusal.refusal in
     let same : asked ≡ count = asked-is c.in-Ok.bytes.items c.as_mut_slice.result.now c.args.into.now c.in-Ok.ensures.len c.as_mut_slice.ensures.value in
     let within : c.args.at + count ≤ size = let below = c.in_default.ensures.why.0 in let sectors = c.list_sectors-sectors.ensures.length in omega (arith, below, sectors) in
-    let why : IsListUnread size c.args.at (c.args.at + count) m refusal =
-    subst (λ (n : ℕ). IsListUnread n c.args.at (c.args.at + count) m refusal) c.list_sectors-sectors.ensures.length
-    (subst (λ (n : ℕ). IsListUnread c.list_sectors-sectors.result c.args.at (c.args.at + n) m refusal) same
-    (beside-unread c.hidden_span-hidden.result c.list_sectors-sectors.result c.args.at (c.args.at + asked) m refusal
-    (some-of (IsUnreadBeside c.hidden_span-hidden.result c.list_sectors-sectors.result c.args.at (c.args.at + asked) m) c.fetch_beside-fetched.result.refusal refusal c.in-Some-refusal.is did.refused))) in
-    let long : list_length m.newest ≡ size = list-alike a.members.newest m.newest did.moved.reshape did.moved.shape did.moved.size in
-    let missing = unread-missing m did.moved.placed.fit size c.args.at (c.args.at + count) refusal (omega (arith, long)) (omega (arith, within, long)) why in
-    rw (← c.self.view_is) (refused-for size (c.args.at + count) (IsListUnread size c.args.at (c.args.at + count)) a.members m refusal missing within why)
+    let hidden = c.hidden_span-hidden.result in
+    let relied = c.relied_sector-relied.result in
+    let why : IsUnreadAround hidden relied c.args.at (c.args.at + count) m refusal =
+    subst (λ (n : ℕ). IsUnreadAround hidden relied c.args.at (c.args.at + n) m refusal) same
+    (beside-unread hidden relied c.args.at (c.args.at + asked) m refusal
+    (some-of (IsUnreadBeside hidden relied c.args.at (c.args.at + asked) m) c.fetch_beside-fetched.result.refusal refusal c.in-Some-refusal.is did.refused)) in
+    let missing = unread-missing hidden relied c.args.at (c.args.at + count) m refusal why in
+    rw (← c.self.view_is) (subst (λ (o : Option Span). IsRefusedFor size (c.args.at + count) (IsUnreadAround o (relied_sector a.members.newest a.work.resync) c.args.at (c.args.at + count)) a.members m refusal) c.hidden_span-hidden.ensures
+    (subst (λ (n : ℕ). IsRefusedFor size (c.args.at + count) (IsUnreadAround hidden n c.args.at (c.args.at + count)) a.members m refusal) c.relied_sector-relied.ensures.value
+    (refused-for size (c.args.at + count) (IsUnreadAround hidden relied c.args.at (c.args.at + count)) a.members m refusal missing within why)))
 
 pub returns-in-Some-refusal-clause-called : goal.returns-in-Some-refusal-clause-called
 returns-in-Some-refusal-clause-called g c =
@@ -443,14 +452,14 @@ invariant_of-self-2 g c =
     let whole = written-whole c.in-Ok.bytes.len c.in-Ok.bytes.items bytes (filled ∙ ap (λ (l : List ℕ). length l) c.as_mut_slice.ensures.value) c.in-Ok.bytes.ok.0 in
     let within : c.args.at + length bytes / 512 ≤ size = let below = c.in_default.ensures.why.0 in let sectors = c.list_sectors-sectors.ensures.length in
     let long = asked-is c.in-Ok.bytes.items c.as_mut_slice.result.now c.args.into.now c.in-Ok.ensures.len c.as_mut_slice.ensures.value in omega (arith, below, sectors, same, long) in
-    let does : (x : ℕ) → c.args.at ≤ x → x < c.args.at + length bytes / 512 → DoesWithout (shape_for a.members.newest x) a.members = λ x low high. read-does a.members size c.args.at (c.args.at + count) c.in_default.ensures.why.1 x low
+    let does : (x : ℕ) → c.args.at ≤ x → x < c.args.at + length bytes / 512 → DoesWithout (shape_for a.members.newest x) a.members = λ x low high. read-does a.members c.hidden_span-hidden.result c.relied_sector-relied.result c.args.at (c.args.at + count) c.in_default.ensures.why.1 x low
     (let long = asked-is c.in-Ok.bytes.items c.as_mut_slice.result.now c.args.into.now c.in-Ok.ensures.len c.as_mut_slice.ensures.value in omega (arith, high, same, long)) in
-    let holds = holds-sliced g.B.Bank.tells a.members m (present given tape) a.course.window a.window.items (take c.bytes_of-wide.result c.as_slice.result.now) c.bytes_of-wide.result c.hidden_span-hidden.result c.list_sectors-sectors.result c.args.at bytes asked same
-    c.hidden_span-hidden.ensures c.list_sectors-sectors.ensures.length (ap (λ (l : List ℕ). take c.bytes_of-wide.result l) c.as_slice.ensures.value) c.bytes_of-wide.ensures.long (did.holds c.in_default-refusal.is) in
+    let holds = holds-sliced g.B.Bank.tells a.members m (present given tape) a.course.window a.window.items (take c.bytes_of-wide.result c.as_slice.result.now) c.bytes_of-wide.result c.hidden_span-hidden.result c.relied_sector-relied.result c.args.at bytes asked same
+    c.hidden_span-hidden.ensures (ap (λ (l : List ℕ). take c.bytes_of-wide.result l) c.as_slice.ensures.value) c.bytes_of-wide.ensures.long (did.holds c.in_default-refusal.is) in
     with-buffer (let len = (with_items a.buffer c.fetch_beside-fetched.new.scratch).ok.0 in let ok = a.buffer.ok.0 in let fits = was.buffer_fits in omega (arith, len, ok, fits))
     (ready (entries_of c.args.who end (losses_of roles spares ++ Read c.args.at (sectors_of bytes) ∷ [])) was did.grows (shapes-moved given a.members m did.moved)
-    (subst (λ (left : ℕ). IsMoving g.B.Bank.tells given tape' scope a.epoch.first (a.epoch.entries.items ++ entries_of c.args.who end (losses_of roles spares ++ Read c.args.at (sectors_of bytes) ∷ [])) m (is_carried a.work) a.course (bytes_in a.course.window a.window.items) left)
-    (sym (left-moved given a.members m a.course a.ahead did.moved)) (read-moves was.kept was.unlimited (read-live size c.args.at (c.args.at + count) was.kept c.in_default.ensures.why.1 (read-some count c.args.at c.if-asked-eq0.false)) c.args.who end roles spares (begins-going a.epoch.entries.items c.args.who number) (not_254 c.args.who.caller c.requires.caller) c.ops-end-2.ensures.count did.grows named c.args.at bytes does within holds))
+    (subst (λ (left : ℕ). IsMoving g.B.Bank.tells given tape' scope a.epoch.first (a.epoch.entries.items ++ entries_of c.args.who end (losses_of roles spares ++ Read c.args.at (sectors_of bytes) ∷ [])) m (is_carried a.work) a.work.resync a.course (bytes_in a.course.window a.window.items) left)
+    (sym (left-moved given a.members m a.work.resync a.course a.ahead did.moved)) (read-moves was.kept was.unlimited (read-live c.hidden_span-hidden.result c.relied_sector-relied.result c.args.at (c.args.at + count) was.kept c.in_default.ensures.why.1 (read-some count c.args.at c.if-asked-eq0.false)) c.args.who end roles spares (begins-going a.epoch.entries.items c.args.who number) (not_254 c.args.who.caller c.requires.caller) c.ops-end-2.ensures.count did.grows named c.relied_sector-relied.result c.args.at bytes c.relied_sector-relied.ensures.value does within holds))
     refl did.counts (behind-keeps c.args.who end roles spares (Read c.args.at (sectors_of bytes)) (λ n. refl) refl)
     (behind-whole tape' scope a.epoch.first a.epoch.entries.items c.args.who end roles spares (Read c.args.at (sectors_of bytes)) did.moved (missing-since roles did.moved since.vacant)) did.given (scope-same given (Some a.backup) did.given c.enter_behind-2.ensures.uuid c.enter_behind-2.ensures.given) c.enter_behind-2.ensures.first c.make_room.ensures.items
     (c.enter_behind-2.ensures.items ∙ ap (λ (b : List Sector). c.make_room.new.self.items ++ entries_of c.args.who end (losses_of roles spares ++ Read c.args.at b ∷ [])) (c.from_bytes-body-2.ensures ∙ ap sectors_of whole))
@@ -524,17 +533,17 @@ returns-clause-holds g c = λ t right i lt.
     let whole = written-whole c.in-Ok.bytes.len c.in-Ok.bytes.items bytes (filled ∙ ap (λ (l : List ℕ). length l) c.as_mut_slice.ensures.value) c.in-Ok.bytes.ok.0 in
     let within : c.args.at + length bytes / 512 ≤ size = let below = c.in_default.ensures.why.0 in let sectors = c.list_sectors-sectors.ensures.length in
     let long = asked-is c.in-Ok.bytes.items c.as_mut_slice.result.now c.args.into.now c.in-Ok.ensures.len c.as_mut_slice.ensures.value in omega (arith, below, sectors, same, long) in
-    let does : (x : ℕ) → c.args.at ≤ x → x < c.args.at + length bytes / 512 → DoesWithout (shape_for a.members.newest x) a.members = λ x low high. read-does a.members size c.args.at (c.args.at + count) c.in_default.ensures.why.1 x low
+    let does : (x : ℕ) → c.args.at ≤ x → x < c.args.at + length bytes / 512 → DoesWithout (shape_for a.members.newest x) a.members = λ x low high. read-does a.members c.hidden_span-hidden.result c.relied_sector-relied.result c.args.at (c.args.at + count) c.in_default.ensures.why.1 x low
     (let long = asked-is c.in-Ok.bytes.items c.as_mut_slice.result.now c.args.into.now c.in-Ok.ensures.len c.as_mut_slice.ensures.value in omega (arith, high, same, long)) in
-    let holds = holds-sliced g.B.Bank.tells a.members m (present given tape) a.course.window a.window.items (take c.bytes_of-wide.result c.as_slice.result.now) c.bytes_of-wide.result c.hidden_span-hidden.result c.list_sectors-sectors.result c.args.at bytes asked same
-    c.hidden_span-hidden.ensures c.list_sectors-sectors.ensures.length (ap (λ (l : List ℕ). take c.bytes_of-wide.result l) c.as_slice.ensures.value) c.bytes_of-wide.ensures.long (did.holds c.in_default-refusal.is) in
+    let holds = holds-sliced g.B.Bank.tells a.members m (present given tape) a.course.window a.window.items (take c.bytes_of-wide.result c.as_slice.result.now) c.bytes_of-wide.result c.hidden_span-hidden.result c.relied_sector-relied.result c.args.at bytes asked same
+    c.hidden_span-hidden.ensures (ap (λ (l : List ℕ). take c.bytes_of-wide.result l) c.as_slice.ensures.value) c.bytes_of-wide.ensures.long (did.holds c.in_default-refusal.is) in
     let copied : c.copy_from_slice.new.self ≡ bytes = c.copy_from_slice.ensures.after ∙ c.as_slice-2.ensures.value ∙ whole in
     let body : c.from_bytes-body-2.result ≡ sectors_of bytes = c.from_bytes-body-2.ensures ∙ ap sectors_of whole in
     let items : c.enter_behind-2.new.epoch.entries.items ≡ a.epoch.entries.items ++ entries_of c.args.who end (losses_of roles spares ++ Read c.args.at (sectors_of bytes) ∷ []) =
     c.enter_behind-2.ensures.items ∙ ap (λ (l : List Entry). l ++ entries_of c.args.who end (losses_of roles spares ++ Read c.args.at c.from_bytes-body-2.result ∷ [])) c.make_room.ensures.items
     ∙ ap (λ (b : List Sector). a.epoch.entries.items ++ entries_of c.args.who end (losses_of roles spares ++ Read c.args.at b ∷ [])) body in
     ap (λ (l : List ℕ). take 512 (drop (512 * i) l)) copied ∙ sym (row-sector bytes i)
-    ∙ holds-read was.kept was.unlimited (read-live size c.args.at (c.args.at + count) was.kept c.in_default.ensures.why.1 (read-some count c.args.at c.if-asked-eq0.false)) c.args.who end roles spares (begins-going a.epoch.entries.items c.args.who number) (not_254 c.args.who.caller c.requires.caller) c.ops-end-2.ensures.count did.grows named c.args.at bytes does within holds t
+    ∙ holds-read was.kept was.unlimited (read-live c.hidden_span-hidden.result c.relied_sector-relied.result c.args.at (c.args.at + count) was.kept c.in_default.ensures.why.1 (read-some count c.args.at c.if-asked-eq0.false)) c.args.who end roles spares (begins-going a.epoch.entries.items c.args.who number) (not_254 c.args.who.caller c.requires.caller) c.ops-end-2.ensures.count did.grows named c.relied_sector-relied.result c.args.at bytes c.relied_sector-relied.ensures.value does within holds t
     (subst (λ (w : World). IsReliable w (a.epoch.entries.items ++ entries_of c.args.who end (losses_of roles spares ++ Read c.args.at (sectors_of bytes) ∷ [])))
     (λ k. world_in (did.given k) tape' (scope-same given (Some a.backup) did.given c.enter_behind-2.ensures.uuid c.enter_behind-2.ensures.given k) (c.enter_behind-2.ensures.first k))
     (subst (λ (l : List Entry). IsReliable (world_in (g.B.Bank.given c.fetch_beside-fetched.new.bank) tape' (scope_in (g.B.Bank.given c.fetch_beside-fetched.new.bank) c.enter_behind-2.new.epoch.uuid c.enter_behind-2.new.epoch.given (Some a.backup)) c.enter_behind-2.new.epoch.first) l) items right)) i (subst (λ (l : List ℕ). i < length l / 512) copied lt)
@@ -544,7 +553,13 @@ pub returns-clause-caused : goal.returns-clause-caused
 returns-clause-caused g c =
     let below = c.in_default.ensures.why.0 in
     let sectors = c.list_sectors-sectors.ensures.length in
-    rw (← c.self.view_is) (omega (arith, below, sectors), c.in_default.ensures.why.1)
+    let a = c.self.inside in
+    let to = c.args.at + length c.args.into.now / 512 in
+    rw (← c.self.view_is) (
+      omega (arith, below, sectors),
+      λ refusal why. c.in_default.ensures.why.1 refusal (subst (λ (o : Option Span). IsUnreadAround o c.relied_sector-relied.result c.args.at to a.members refusal) (sym c.hidden_span-hidden.ensures)
+      (subst (λ (n : ℕ). IsUnreadAround (hidden_in a.course.window) n c.args.at to a.members refusal) (sym c.relied_sector-relied.ensures.value) why)),
+    )
 
 pub returns-clause-called : goal.returns-clause-called
 returns-clause-called g c =
@@ -571,3 +586,25 @@ returns-clause-called g c =
     (ended-behind tape' c.enter_behind-2.new.epoch.first c.make_room.new.self.items c.args.who end (losses_of roles spares) (Read c.args.at c.from_bytes-body-2.result) c.enter_behind-2.ensures.items c.ops-end-2.ensures.count)
     (losses-behind a.members m before after a.epoch.entries.items c.make_room.new.self.items c.enter_behind-2.new.epoch.entries.items c.args.who end roles spares (Read c.args.at c.from_bytes-body-2.result) since tt c.make_room.ensures.items c.enter_behind-2.ensures.items)
     did.counts (record { uuid = c.enter_behind-2.ensures.uuid; given = c.enter_behind-2.ensures.given; first = c.enter_behind-2.ensures.first; backup = refl; work = refl; ahead = refl }) (λ t. (was.kept.recorded t).begun))
+
+pub returns-in-Some-clause-caused : goal.returns-in-Some-clause-caused
+returns-in-Some-clause-caused g c =
+    let a = c.self.inside in
+    let to = c.args.at + length c.args.into.now / 512 in
+    let size = list_length a.members.newest in
+    let refusal = c.in-Some.refusal in
+    rw (← c.self.view_is) (subst (λ (o : Option Span). IsRefusedFor size to (IsUnreadAround o (relied_sector a.members.newest a.work.resync) c.args.at to) a.members a.members refusal) c.hidden_span-hidden.ensures
+    (subst (λ (n : ℕ). IsRefusedFor size to (IsUnreadAround c.hidden_span-hidden.result n c.args.at to) a.members a.members refusal) c.relied_sector-relied.ensures.value
+    (subst (λ (n : ℕ). IsRefusedFor n to (IsUnreadAround c.hidden_span-hidden.result c.relied_sector-relied.result c.args.at to) a.members a.members refusal) c.list_sectors-sectors.ensures.length c.in-Some.ensures.why)))
+
+pub returns-then-asked-eq0-clause-caused : goal.returns-then-asked-eq0-clause-caused
+returns-then-asked-eq0-clause-caused g c =
+    let below = c.in_default.ensures.why.0 in
+    let sectors = c.list_sectors-sectors.ensures.length in
+    let a = c.self.inside in
+    let to = c.args.at + length c.args.into.now / 512 in
+    rw (← c.self.view_is) (
+      omega (arith, below, sectors),
+      λ refusal why. c.in_default.ensures.why.1 refusal (subst (λ (o : Option Span). IsUnreadAround o c.relied_sector-relied.result c.args.at to a.members refusal) (sym c.hidden_span-hidden.ensures)
+      (subst (λ (n : ℕ). IsUnreadAround (hidden_in a.course.window) n c.args.at to a.members refusal) (sym c.relied_sector-relied.ensures.value) why)),
+    )

@@ -1,4 +1,4 @@
-use Rattle.std.proofs.Common.{◌≡◌, ℕ, false, [], ◌∷◌, ◌++◌, Some, refl, sym, ◌∙◌, ap, subst, arith}
+use Rattle.std.proofs.Common.{◌≡◌, ℕ, [], ◌∷◌, ◌++◌, Option, Some, None, is_some, refl, sym, ◌∙◌, ap, subst, arith}
 use Rattle.superblocks.proofs.ValidFields.{few-roles}
 use Rattle.flat_history.specs.declared.events.Event.TheVariants.{Refused}
 use Rattle.flat_history.specs.Flat.{next_number}
@@ -68,24 +68,23 @@ invariant_of-self-2 g c =
     let end = c.ops-end-2.result in
     let since = lost-since given a.members m c.len-count.result c.vacant_roles-before.result roles spares (g.B.Bank.faults_of a.bank) (g.B.Bank.faults_of c.settle-settled.new.bank) was.kept.members_are.placed did.moved did.failed
     (c.len-count.ensures ∙ was.kept.members_are.backed.roles) c.vacant_roles-before.ensures c.newly_vacant-roles.ensures in
-    let flushed : AreFlushed g.B.Bank.tells given tape tape' scope a.epoch.first a.epoch.entries.items a.members m roles false =
+    let flushed : AreFlushed g.B.Bank.tells given tape tape' a.members m roles c.is_some.result =
     record {
       moved = did.moved;
       few = few-roles m.newest did.moved.placed.fit.valid;
       since = missing-since roles did.moved since.vacant;
+      stays = did.stays;
       rise = risen-told did.rise;
       others = did.others;
       unused = did.unused;
-      pending = was.settled;
-      dirty = λ t does is. absurd (cc);
       safe = did.safe;
     } in
-    let kept = flushed-moves g.B.Bank.tells given tape tape' scope a.epoch.first a.epoch.entries.items a.members m (is_carried a.work) a.course (bytes_in a.course.window a.window.items) (left_in a.members a.course a.ahead)
-    c.args.who end roles spares false was.kept (live-of was.kept c.in_default.ensures) (begins-going a.epoch.entries.items c.args.who number) (not_254 c.args.who.caller c.requires.caller) c.ops-end-2.ensures.count did.grows flushed c.args.event (settles-so c.args.event c.requires.event)
+    let kept = flushed-moves g.B.Bank.tells given tape tape' scope a.epoch.first a.epoch.entries.items a.members m (is_carried a.work) a.work.resync a.course (bytes_in a.course.window a.window.items) (left_in a.work a.members a.course a.ahead)
+    c.args.who end roles spares c.is_some.result was.kept (live-of was.kept c.in_default.ensures) (begins-going a.epoch.entries.items c.args.who number) (not_254 c.args.who.caller c.requires.caller) c.ops-end-2.ensures.count did.grows flushed c.is_some.ensures c.args.event (settles-so c.args.event c.requires.event)
     (record { clean = did.clean c.in_default-refusal.is; settled = did.settled c.in_default-refusal.is }) in
     ready (entries_of c.args.who end (losses_of roles spares ++ c.args.event ∷ [])) was did.grows (shapes-moved given a.members m did.moved)
-    (subst (λ (left : ℕ). IsMoving g.B.Bank.tells given tape' scope a.epoch.first (a.epoch.entries.items ++ entries_of c.args.who end (losses_of roles spares ++ c.args.event ∷ [])) m (is_carried a.work) a.course (bytes_in a.course.window a.window.items) left)
-    (sym (left-moved given a.members m a.course a.ahead did.moved)) kept)
+    (subst (λ (left : ℕ). IsMoving g.B.Bank.tells given tape' scope a.epoch.first (a.epoch.entries.items ++ entries_of c.args.who end (losses_of roles spares ++ c.args.event ∷ [])) m (is_carried a.work) a.work.resync a.course (bytes_in a.course.window a.window.items) left)
+    (sym (left-moved given a.members m a.work.resync a.course a.ahead did.moved)) kept)
     refl did.counts (behind-keeps c.args.who end roles spares c.args.event (settling-long c.args.event c.requires.event) (settling-free c.args.event c.requires.event)) (behind-whole tape' (scope_in given a.epoch.uuid a.epoch.given (Some a.backup)) a.epoch.first a.epoch.entries.items c.args.who end roles spares c.args.event did.moved (missing-since roles did.moved since.vacant)) did.given (scope-same given (Some a.backup) did.given c.enter_behind-2.ensures.uuid c.enter_behind-2.ensures.given) c.enter_behind-2.ensures.first c.make_room.ensures.items c.enter_behind-2.ensures.items
     (omega (arith, c.enter_behind-2.ensures.room, c.in-Ok.ensures.ok))
 
@@ -106,24 +105,23 @@ invariant_of-self-in-Some-refusal g c =
     let refusal = c.in-Some-refusal.refusal in
     let since = lost-since given a.members m c.len-count.result c.vacant_roles-before.result roles spares (g.B.Bank.faults_of a.bank) (g.B.Bank.faults_of c.settle-settled.new.bank) was.kept.members_are.placed did.moved did.failed
     (c.len-count.ensures ∙ was.kept.members_are.backed.roles) c.vacant_roles-before.ensures c.newly_vacant-roles.ensures in
-    let flushed : AreFlushed g.B.Bank.tells given tape tape' scope a.epoch.first a.epoch.entries.items a.members m roles false =
+    let flushed : AreFlushed g.B.Bank.tells given tape tape' a.members m roles c.is_some.result =
     record {
       moved = did.moved;
       few = few-roles m.newest did.moved.placed.fit.valid;
       since = missing-since roles did.moved since.vacant;
+      stays = did.stays;
       rise = risen-told did.rise;
       others = did.others;
       unused = did.unused;
-      pending = was.settled;
-      dirty = λ t does is. absurd (cc);
       safe = did.safe;
     } in
-    let kept = unflushed-moves g.B.Bank.tells given tape tape' scope a.epoch.first a.epoch.entries.items a.members m (is_carried a.work) a.course (bytes_in a.course.window a.window.items) (left_in a.members a.course a.ahead)
-    c.args.who end roles spares false was.kept (live-of was.kept c.in_default.ensures) (begins-going a.epoch.entries.items c.args.who number) (not_254 c.args.who.caller c.requires.caller) c.ops-end-2.ensures.count did.grows flushed refusal
+    let kept = unflushed-moves g.B.Bank.tells given tape tape' scope a.epoch.first a.epoch.entries.items a.members m (is_carried a.work) a.work.resync a.course (bytes_in a.course.window a.window.items) (left_in a.work a.members a.course a.ahead)
+    c.args.who end roles spares c.is_some.result was.kept (live-of was.kept c.in_default.ensures) (begins-going a.epoch.entries.items c.args.who number) (not_254 c.args.who.caller c.requires.caller) c.ops-end-2.ensures.count did.grows flushed c.is_some.ensures refusal
     (many-of m c.settle-settled.result.refusal refusal c.in-Some-refusal.is did.refused) in
     ready (entries_of c.args.who end (losses_of roles spares ++ Refused refusal ∷ [])) was did.grows (shapes-moved given a.members m did.moved)
-    (subst (λ (left : ℕ). IsMoving g.B.Bank.tells given tape' scope a.epoch.first (a.epoch.entries.items ++ entries_of c.args.who end (losses_of roles spares ++ Refused refusal ∷ [])) m (is_carried a.work) a.course (bytes_in a.course.window a.window.items) left)
-    (sym (left-moved given a.members m a.course a.ahead did.moved)) kept)
+    (subst (λ (left : ℕ). IsMoving g.B.Bank.tells given tape' scope a.epoch.first (a.epoch.entries.items ++ entries_of c.args.who end (losses_of roles spares ++ Refused refusal ∷ [])) m (is_carried a.work) a.work.resync a.course (bytes_in a.course.window a.window.items) left)
+    (sym (left-moved given a.members m a.work.resync a.course a.ahead did.moved)) kept)
     refl did.counts (behind-keeps c.args.who end roles spares (Refused refusal) (λ n. refl) refl) (behind-whole tape' (scope_in given a.epoch.uuid a.epoch.given (Some a.backup)) a.epoch.first a.epoch.entries.items c.args.who end roles spares (Refused refusal) did.moved (missing-since roles did.moved since.vacant)) did.given (scope-same given (Some a.backup) did.given c.enter_behind.ensures.uuid c.enter_behind.ensures.given) c.enter_behind.ensures.first c.make_room.ensures.items c.enter_behind.ensures.items
     (omega (arith, c.enter_behind.ensures.room, c.in-Ok.ensures.ok))
 
@@ -193,7 +191,7 @@ invariant_of-self-in-Some g c =
     let tape = g.B.Bank.tape a.bank in
     let end = c.ops-end.result in
     let refusal = c.in-Some.refusal in
-    let kept = resting-moves g.B.Bank.tells given tape scope a.epoch.first a.epoch.entries.items a.members (is_carried a.work) a.course (bytes_in a.course.window a.window.items) (left_in a.members a.course a.ahead)
+    let kept = resting-moves g.B.Bank.tells given tape scope a.epoch.first a.epoch.entries.items a.members (is_carried a.work) a.work.resync a.course (bytes_in a.course.window a.window.items) (left_in a.work a.members a.course a.ahead)
     c.args.who end (Refused refusal) was.kept (begins-going a.epoch.entries.items c.args.who number) (not_254 c.args.who.caller c.requires.caller) c.ops-end.ensures.count (quiet-refusal refusal) (λ told is. is)
     (λ t right. refused-right (world_in given tape scope a.epoch.first) a.epoch.entries.items given a.members was.kept.members_are.placed (was.kept.gone t right) (was.kept.levelled t right) refusal c.in-Some.ensures) in
     ready (entries_of c.args.who end (Refused refusal ∷ [])) was (grows-none (λ t. refl)) (shapes-same a.members.newest) kept
@@ -272,3 +270,8 @@ returns-in-Some-refusal-clause-called g c =
         ahead = refl;
       };
     })
+
+pub returns-clause-clean : goal.returns-clause-clean
+returns-clause-clean g c = λ none.
+    let synced : c.self.inside.work.resync ≡ None = ap (λ p. p.parts.work.resync) c.self.view_is ∙ none in
+    c.settle-settled.ensures.clean c.in_default-refusal.is (c.is_some.ensures ∙ ap (λ (o : Option ℕ). is_some o) synced)

@@ -15,6 +15,7 @@ use Rattle.views.proofs.MovedLaws.{grows-none, moved-same}
 use Rattle.array_kept.specs.Calls.{IsLossBy, IsBehind, IsCausedBy}
 use Rattle.course_kept.specs.Laws.{closed}
 use Rattle.moving_state.specs.Due.{open_in, unsure_in}
+use Rattle.region_mends.specs.Mends.{relied_sector}
 use Rattle.running_words.specs.Parts.{left_in}
 use Rattle.moving_laws.specs.Writing.{TouchesWindow, IsWriteLacked, IsWriteEntered}
 use Rattle.running_words.proofs.Called.{called}
@@ -60,7 +61,7 @@ returns-then-not-meets-clause-entered g c =
     let out : (x : ℕ) → c.args.at ≤ x → x < to → covers (open_in a.course.window) x ≡ false =
     λ x low high. subst (λ (s : Option Span). covers s x ≡ false) c.open_span.ensures (c.meets.ensures.no c.if-not-meets.true x low high) in
     let new = c.write_beside.new.self in
-    rw (← c.self.view_is) (alone-entered a.course.window c.args.at to (sectors_of c.args.from.now) c.args.who a.epoch.entries.items c.make_room.new.self.items new.parts.entries (left_in new.parts.members new.course new.ahead) c.write_beside.result
+    rw (← c.self.view_is) (alone-entered a.course.window c.args.at to (sectors_of c.args.from.now) c.args.who a.epoch.entries.items c.make_room.new.self.items new.parts.entries (left_in new.parts.work new.parts.members new.course new.ahead) c.write_beside.result
     c.make_room.ensures.items (untouched a.course.window c.args.at to out) c.write_beside.ensures.entered)
 
 pub returns-then-not-meets-clause-called : goal.returns-then-not-meets-clause-called
@@ -72,7 +73,7 @@ returns-then-not-meets-clause-caused g c =
     let to = c.args.at + length c.args.from.now / 512 in
     let out : (x : ℕ) → c.args.at ≤ x → x < to → covers (open_in a.course.window) x ≡ false =
     λ x low high. subst (λ (s : Option Span). covers s x ≡ false) c.open_span.ensures (c.meets.ensures.no c.if-not-meets.true x low high) in
-    rw (← c.self.view_is) (alone-caused a.course.window (list_length a.members.newest) c.args.at to a.members c.write_beside.new.self.parts.members c.write_beside.result (untouched a.course.window c.args.at to out) c.write_beside.ensures.caused)
+    rw (← c.self.view_is) (alone-caused a.course.window (list_length a.members.newest) (relied_sector a.members.newest a.work.resync) c.args.at to a.members c.write_beside.new.self.parts.members c.write_beside.result (untouched a.course.window c.args.at to out) c.write_beside.ensures.caused)
 
 pub returns-then-not-meets-clause-closed : goal.returns-then-not-meets-clause-closed
 returns-then-not-meets-clause-closed g c =
@@ -97,9 +98,9 @@ returns-in-Err-finish_for-clause-entered g c =
     let a = c.self.inside in
     let to = c.args.at + length c.args.from.now / 512 in
     let new = c.finish_for.new.self in
-    subst (λ p. IsWriteEntered {T = ℕ} p.course.window c.args.at to (sectors_of c.args.from.now) c.args.who p.parts.entries new.parts.entries (left_in new.parts.members new.course new.ahead) (Err c.in-Err-finish_for.fault)) c.self.view_is
-    (refused-entered ℕ a.course.window c.args.at to (sectors_of c.args.from.now) c.args.who a.epoch.entries.items c.make_room.new.self.items new.parts.entries (left_in new.parts.members new.course new.ahead)
-    (left_in new.parts.members new.course new.ahead) c.in-Err-finish_for.fault c.make_room.ensures.items c.in-Err-finish_for.ensures.entered)
+    subst (λ p. IsWriteEntered {T = ℕ} p.course.window c.args.at to (sectors_of c.args.from.now) c.args.who p.parts.entries new.parts.entries (left_in new.parts.work new.parts.members new.course new.ahead) (Err c.in-Err-finish_for.fault)) c.self.view_is
+    (refused-entered ℕ a.course.window c.args.at to (sectors_of c.args.from.now) c.args.who a.epoch.entries.items c.make_room.new.self.items new.parts.entries (left_in new.parts.work new.parts.members new.course new.ahead)
+    (left_in new.parts.work new.parts.members new.course new.ahead) c.in-Err-finish_for.fault c.make_room.ensures.items c.in-Err-finish_for.ensures.entered)
 
 pub returns-in-Err-finish_for-clause-called : goal.returns-in-Err-finish_for-clause-called
 returns-in-Err-finish_for-clause-called g c = rw (← c.self.view_is) (called-roomed _ c.finish_for.new.self _ 2 c.make_room.ensures.items c.in-Err-finish_for.ensures.called)
@@ -110,8 +111,8 @@ returns-in-Err-finish_for-clause-caused g c =
     let to = c.args.at + length c.args.from.now / 512 in
     let met = c.meets.ensures.yes c.if-not-meets.false in
     let touches : TouchesWindow a.course.window c.args.at to = (met.0, met.1, met.2, subst (λ (s : Option Span). covers s met.0 ≡ true) c.open_span.ensures met.3) in
-    subst (λ p. IsCausedBy {T = ℕ} (list_length p.parts.members.newest) to (IsWriteLacked p.course.window (list_length p.parts.members.newest) c.args.at to) p.parts.members c.finish_for.new.self.parts.members (Err c.in-Err-finish_for.fault)) c.self.view_is
-    (refused-caused ℕ a.course.window (list_length a.members.newest) c.args.at to a.members c.finish_for.new.self.parts.members c.in-Err-finish_for.fault touches c.in-Err-finish_for.ensures.caused)
+    subst (λ p. IsCausedBy {T = ℕ} (list_length p.parts.members.newest) to (IsWriteLacked p.course.window (relied_sector p.parts.members.newest p.parts.work.resync) c.args.at to) p.parts.members c.finish_for.new.self.parts.members (Err c.in-Err-finish_for.fault)) c.self.view_is
+    (refused-caused ℕ a.course.window (list_length a.members.newest) (relied_sector a.members.newest a.work.resync) c.args.at to a.members c.finish_for.new.self.parts.members c.in-Err-finish_for.fault touches c.in-Err-finish_for.ensures.caused)
 
 -- ---- and the sectors are written behind it
 
@@ -121,10 +122,10 @@ returns-clause-entered g c =
     let to = c.args.at + length c.args.from.now / 512 in
     let mid = c.finish_for.new.self in
     let new = c.write_beside-2.new.self in
-    let before = left_in mid.parts.members mid.course mid.ahead in
+    let before = left_in mid.parts.work mid.parts.members mid.course mid.ahead in
     let met = c.meets.ensures.yes c.if-not-meets.false in
     let touches : TouchesWindow a.course.window c.args.at to = (met.0, met.1, met.2, subst (λ (s : Option Span). covers s met.0 ≡ true) c.open_span.ensures met.3) in
-    rw (← c.self.view_is) (behind-entered a.course.window c.args.at to (sectors_of c.args.from.now) c.args.who a.epoch.entries.items mid.parts.entries new.parts.entries (left_in new.parts.members new.course new.ahead) before c.write_beside-2.result
+    rw (← c.self.view_is) (behind-entered a.course.window c.args.at to (sectors_of c.args.from.now) c.args.who a.epoch.entries.items mid.parts.entries new.parts.entries (left_in new.parts.work new.parts.members new.course new.ahead) before c.write_beside-2.result
     touches c.write_beside-2.ensures.left (subst (λ (l : List Entry). IsBehind c.args.who l mid.parts.entries (Step FinishesWindow before)) c.make_room.ensures.items c.in-Ok-finish_for.ensures.entered) c.write_beside-2.ensures.entered)
 
 pub returns-clause-called : goal.returns-clause-called
@@ -139,8 +140,8 @@ returns-clause-caused g c =
     let new = c.write_beside-2.new.self in
     let same = c.in-Ok-finish_for.ensures.called.same in
     let long : list_length mid.parts.members.newest ≡ list_length a.members.newest = long-same a.members.newest mid.parts.members.newest (record { shape = same.array.shape; final = same.final; size = same.array.size }) in
-    rw (← c.self.view_is) (behind-caused a.course.window (list_length a.members.newest) (list_length mid.parts.members.newest) c.args.at to a.members mid.parts.members new.parts.members c.write_beside-2.result c.args.who
-    mid.parts.entries new.parts.entries (sectors_of c.args.from.now) long c.in-Ok-finish_for.ensures.caused c.write_beside-2.ensures.entered c.write_beside-2.ensures.caused)
+    rw (← c.self.view_is) (behind-caused a.course.window (list_length a.members.newest) (list_length mid.parts.members.newest) (relied_sector a.members.newest a.work.resync) (relied_sector mid.parts.members.newest mid.parts.work.resync) c.args.at to a.members mid.parts.members new.parts.members c.write_beside-2.result c.args.who
+    mid.parts.entries new.parts.entries (sectors_of c.args.from.now) long c.in-Ok-finish_for.ensures.relied c.in-Ok-finish_for.ensures.caused c.write_beside-2.ensures.entered c.write_beside-2.ensures.caused)
 
 -- ---- what failed
 
@@ -174,8 +175,8 @@ returns-then-not-meets-clause-answered g c =
     let long = length-sectors_of c.args.from.now in
     let sized = subst (λ p. length_of (list_length p.parts.members.newest) p.parts.entries ≡ list_length p.parts.members.newest) c.self.view_is c.self.invariant.sized in
     let unlimited = subst (λ p. limit_of p.parts.entries ≡ None) c.self.view_is c.self.invariant.unlimited in
-    write-answered old.course.window (list_length old.parts.members.newest) at (at + length c.args.from.now / 512) (sectors_of c.args.from.now) c.args.who old.parts.entries new.parts.entries old.parts.members new.parts.members
-    (left_in new.parts.members new.course new.ahead) (omega (arith, long)) c.requires.next sized unlimited c.write_beside.result (returns-then-not-meets-clause-entered g c) (returns-then-not-meets-clause-caused g c)
+    write-answered old.course.window (list_length old.parts.members.newest) (relied_sector old.parts.members.newest old.parts.work.resync) at (at + length c.args.from.now / 512) (sectors_of c.args.from.now) c.args.who old.parts.entries new.parts.entries old.parts.members new.parts.members
+    (left_in new.parts.work new.parts.members new.course new.ahead) (omega (arith, long)) c.requires.next sized unlimited c.write_beside.result (returns-then-not-meets-clause-entered g c) (returns-then-not-meets-clause-caused g c)
 
 pub returns-in-Err-finish_for-clause-answered : goal.returns-in-Err-finish_for-clause-answered
 returns-in-Err-finish_for-clause-answered g c =
@@ -185,8 +186,8 @@ returns-in-Err-finish_for-clause-answered g c =
     let long = length-sectors_of c.args.from.now in
     let sized = subst (λ p. length_of (list_length p.parts.members.newest) p.parts.entries ≡ list_length p.parts.members.newest) c.self.view_is c.self.invariant.sized in
     let unlimited = subst (λ p. limit_of p.parts.entries ≡ None) c.self.view_is c.self.invariant.unlimited in
-    write-answered old.course.window (list_length old.parts.members.newest) at (at + length c.args.from.now / 512) (sectors_of c.args.from.now) c.args.who old.parts.entries new.parts.entries old.parts.members new.parts.members
-    (left_in new.parts.members new.course new.ahead) (omega (arith, long)) c.requires.next sized unlimited {T = ℕ} (Err c.in-Err-finish_for.fault) (returns-in-Err-finish_for-clause-entered g c) (returns-in-Err-finish_for-clause-caused g c)
+    write-answered old.course.window (list_length old.parts.members.newest) (relied_sector old.parts.members.newest old.parts.work.resync) at (at + length c.args.from.now / 512) (sectors_of c.args.from.now) c.args.who old.parts.entries new.parts.entries old.parts.members new.parts.members
+    (left_in new.parts.work new.parts.members new.course new.ahead) (omega (arith, long)) c.requires.next sized unlimited {T = ℕ} (Err c.in-Err-finish_for.fault) (returns-in-Err-finish_for-clause-entered g c) (returns-in-Err-finish_for-clause-caused g c)
 
 pub returns-clause-answered : goal.returns-clause-answered
 returns-clause-answered g c =
@@ -196,5 +197,5 @@ returns-clause-answered g c =
     let long = length-sectors_of c.args.from.now in
     let sized = subst (λ p. length_of (list_length p.parts.members.newest) p.parts.entries ≡ list_length p.parts.members.newest) c.self.view_is c.self.invariant.sized in
     let unlimited = subst (λ p. limit_of p.parts.entries ≡ None) c.self.view_is c.self.invariant.unlimited in
-    write-answered old.course.window (list_length old.parts.members.newest) at (at + length c.args.from.now / 512) (sectors_of c.args.from.now) c.args.who old.parts.entries new.parts.entries old.parts.members new.parts.members
-    (left_in new.parts.members new.course new.ahead) (omega (arith, long)) c.requires.next sized unlimited c.write_beside-2.result (returns-clause-entered g c) (returns-clause-caused g c)
+    write-answered old.course.window (list_length old.parts.members.newest) (relied_sector old.parts.members.newest old.parts.work.resync) at (at + length c.args.from.now / 512) (sectors_of c.args.from.now) c.args.who old.parts.entries new.parts.entries old.parts.members new.parts.members
+    (left_in new.parts.work new.parts.members new.course new.ahead) (omega (arith, long)) c.requires.next sized unlimited c.write_beside-2.result (returns-clause-entered g c) (returns-clause-caused g c)

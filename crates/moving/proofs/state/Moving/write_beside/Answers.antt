@@ -20,6 +20,7 @@ use Rattle.array_kept.proofs.LossLaws.{losses-behind, losses-failure, ended-behi
 use Rattle.array_kept.proofs.ReadyLaws.{scope-same}
 use Rattle.array_kept.proofs.ReplyLaws.{refused-for}
 use Rattle.calls_kept.proofs.ReadLaws.{some-of}
+use Rattle.region_mends.specs.Mends.{relied_sector}
 use Rattle.region_writes.specs.Runs.{IsTornTouched, IsListTorn, IsListUnwritten}
 use Rattle.kept_history.specs.Recorded.{IsCallGoing}
 use Rattle.course_kept.specs.Course.{span_in}
@@ -49,10 +50,9 @@ invariant_of-self g c =
     let tape = g.B.Bank.tape a.bank in
     let end = c.ops-end.result in
     let refusal = c.in-Some.refusal in
-    let why = subst (λ (n : ℕ). IsRefusedFor n to (IsListUnwritten (list_length a.members.newest) c.args.at to) a.members a.members refusal) c.list_sectors-sectors.ensures.length c.in-Some.ensures.why in
-    let kept = resting-moves g.B.Bank.tells given tape scope a.epoch.first a.epoch.entries.items a.members (is_carried a.work) a.course (bytes_in a.course.window a.window.items) (left_in a.members a.course a.ahead)
+    let kept = resting-moves g.B.Bank.tells given tape scope a.epoch.first a.epoch.entries.items a.members (is_carried a.work) a.work.resync a.course (bytes_in a.course.window a.window.items) (left_in a.work a.members a.course a.ahead)
     c.args.who end (Refused refusal) was.kept goes (not_254 c.args.who.caller c.requires.caller) c.ops-end.ensures.count (quiet-refusal refusal) (λ told is. is)
-    (λ t right. first-right was.kept was.unlimited c.args.at to refusal why t right) in
+    (λ t right. first-right was.kept was.unlimited c.relied_sector-relied.result c.args.at to refusal c.relied_sector-relied.ensures.value c.in-Some.ensures t right) in
     ready (entries_of c.args.who end (Refused refusal ∷ [])) was (grows-none (λ t. refl)) (shapes-same a.members.newest) kept
     refl (λ slot. omega arith) (alone-keeps c.args.who end (Refused refusal) (λ n. refl) refl) (λ none whole. whole) refl (scope-same given (Some a.backup) refl c.enter.ensures.uuid c.enter.ensures.given) c.enter.ensures.first refl c.enter.ensures.items
     (let had = was.room_left in let room = c.enter.ensures.room in omega (arith, room, had, steps))
@@ -82,7 +82,7 @@ pub returns-in-Some-clause-caused : goal.returns-in-Some-clause-caused
 returns-in-Some-clause-caused g c =
     let a = c.self.inside in
     let to = c.args.at + length c.args.from.now / 512 in
-    rw (← c.self.view_is) (subst (λ (n : ℕ). IsRefusedFor n to (IsListUnwritten (list_length a.members.newest) c.args.at to) a.members a.members c.in-Some.refusal) c.list_sectors-sectors.ensures.length c.in-Some.ensures.why)
+    rw (← c.self.view_is) (subst (λ (n : ℕ). IsRefusedFor (list_length a.members.newest) to (IsListUnwritten n c.args.at to) a.members a.members c.in-Some.refusal) c.relied_sector-relied.ensures.value c.in-Some.ensures)
 
 -- ---- the roles, and the sectors
 
@@ -112,9 +112,8 @@ newly_vacant-roles-requires-clause-few g c =
 
 pub put_list-done-requires-clause-within : goal.put_list-done-requires-clause-within
 put_list-done-requires-clause-within g c =
-    let size = c.list_sectors-sectors.ensures.length in
-    let within = c.in_default.ensures.why.0 in
-    omega (arith, size, within)
+    let within = c.in_default.ensures.0 in
+    omega (arith, within)
 
 -- ---- it isn't done
 
@@ -136,8 +135,7 @@ invariant_of-self-in-Some-refusal g c =
     let at = c.args.at in
     let from = c.args.from.now in
     let to = at + length from / 512 in
-    let size = c.list_sectors-sectors.ensures.length in
-    let relied = c.list_sectors-sectors.result in
+    let relied = c.relied_sector-relied.result in
     let begun = c.put_list-done.result.begun in
     let roles = c.newly_vacant-roles.result in
     let spares = c.put_list-done.result.spares in
@@ -147,24 +145,24 @@ invariant_of-self-in-Some-refusal g c =
     let since : AreLostSince a.members m roles spares before after = lost-since given a.members m c.len-count.result c.vacant_roles-before.result roles spares before after here.placed did.moved did.failed
     (c.len-count.ensures ∙ here.backed.roles) c.vacant_roles-before.ensures c.newly_vacant-roles.ensures in
     let fine : (refusal : Refusal) → IsListUnwritten relied at to a.members refusal → ⊥ =
-    λ refusal why. c.in_default.ensures.why.1 refusal (subst (λ (n : ℕ). IsListUnwritten n at to a.members refusal) size why) in
+    c.in_default.ensures.1 in
     let put : ArePut g.B.Bank.tells given tape tape' a.members m a.course at from relied roles begun =
     record {
-      within = (let within = c.in_default.ensures.why.0 in omega (arith, size, within));
+      within = c.in_default.ensures.0;
       beside = subst (λ p. (x : ℕ) → at ≤ x → x < to → covers (span_in p.course.window) x ≡ false) (sym c.self.view_is) c.requires.beside;
       moved = did.moved;
       few = few-roles m.newest did.moved.placed.fit.valid;
       since = missing-since roles did.moved since.vacant;
       rise = risen-told did.rise;
       unused = did.unused;
+      stays = did.stays;
       safe = did.safe;
     } in
-    let kept = unwritten-kept a.course a.ahead (bytes_in a.course.window a.window.items) c.args.who end roles spares at from relied begun was.kept goes c.requires.caller c.ops-end-2.ensures.count did.grows was.unlimited c.requires.some fine put refusal
+    let kept = unwritten-kept a.course a.ahead (bytes_in a.course.window a.window.items) c.args.who end roles spares at from relied begun was.kept goes c.requires.caller c.ops-end-2.ensures.count did.grows was.unlimited c.requires.some fine c.relied_sector-relied.ensures.value put refusal
     (record {
       refused = some-of (IsListUnwritten relied at to m) c.put_list-done.result.refusal refusal is did.refused;
       torn = λ begun. some-of (IsListTorn at to m) c.put_list-done.result.refusal refusal is (did.torn begun);
       torn_rows = some-of (λ refusal. g.B.Bank.tells → AreOtherRowsKept (IsTornTouched a.members.newest at to m) (reading_of m) (present given tape) (present given tape')) c.put_list-done.result.refusal refusal is did.torn_rows;
-      pending = λ t less. absurd (omega (arith, less, size));
     }) in
     with-rooms did.rows did.buffer did.far_rows did.far_buffer
     (ready (entries_of c.args.who end (failure_events roles spares begun at (sectors_of from) refusal)) was did.grows (shapes-moved given a.members m did.moved) kept
@@ -218,16 +216,16 @@ returns-in-Some-refusal-clause-caused g c =
     let m = c.put_list-done.new.members in
     let at = c.args.at in
     let to = at + length c.args.from.now / 512 in
-    let size = c.list_sectors-sectors.ensures.length in
+    let relied = relied_sector a.members.newest a.work.resync in
     let refusal = c.in-Some-refusal.refusal in
-    let why = subst (λ (n : ℕ). IsListUnwritten n at to m refusal) size (some-of (IsListUnwritten c.list_sectors-sectors.result at to m) c.put_list-done.result.refusal refusal c.in-Some-refusal.is c.put_list-done.ensures.refused) in
-    rw (← c.self.view_is) (refused-for (list_length a.members.newest) to (IsListUnwritten (list_length a.members.newest) at to) a.members m refusal (torn-missing (list_length a.members.newest) at to m refusal why)
-    (let within = c.in_default.ensures.why.0 in omega (arith, size, within)) why)
+    let why = subst (λ (n : ℕ). IsListUnwritten n at to m refusal) c.relied_sector-relied.ensures.value
+    (some-of (IsListUnwritten c.relied_sector-relied.result at to m) c.put_list-done.result.refusal refusal c.in-Some-refusal.is c.put_list-done.ensures.refused) in
+    rw (← c.self.view_is) (refused-for (list_length a.members.newest) to (IsListUnwritten relied at to) a.members m refusal (torn-missing relied at to m refusal why) c.in_default.ensures.0 why)
 
 pub returns-in-Some-refusal-clause-left : goal.returns-in-Some-refusal-clause-left
 returns-in-Some-refusal-clause-left g c =
     let a = c.self.inside in
-    rw (← c.self.view_is) (left-moved (g.B.Bank.given a.bank) a.members c.put_list-done.new.members a.course a.ahead c.put_list-done.ensures.moved)
+    rw (← c.self.view_is) (left-moved (g.B.Bank.given a.bank) a.members c.put_list-done.new.members a.work.resync a.course a.ahead c.put_list-done.ensures.moved)
 
 -- ---- it is done
 
@@ -249,8 +247,7 @@ invariant_of-self-2 g c =
     let at = c.args.at in
     let from = c.args.from.now in
     let to = at + length from / 512 in
-    let size = c.list_sectors-sectors.ensures.length in
-    let relied = c.list_sectors-sectors.result in
+    let relied = c.relied_sector-relied.result in
     let begun = c.put_list-done.result.begun in
     let roles = c.newly_vacant-roles.result in
     let spares = c.put_list-done.result.spares in
@@ -259,20 +256,21 @@ invariant_of-self-2 g c =
     let since : AreLostSince a.members m roles spares before after = lost-since given a.members m c.len-count.result c.vacant_roles-before.result roles spares before after here.placed did.moved did.failed
     (c.len-count.ensures ∙ here.backed.roles) c.vacant_roles-before.ensures c.newly_vacant-roles.ensures in
     let fine : (refusal : Refusal) → IsListUnwritten relied at to a.members refusal → ⊥ =
-    λ refusal why. c.in_default.ensures.why.1 refusal (subst (λ (n : ℕ). IsListUnwritten n at to a.members refusal) size why) in
+    c.in_default.ensures.1 in
     let put : ArePut g.B.Bank.tells given tape tape' a.members m a.course at from relied roles begun =
     record {
-      within = (let within = c.in_default.ensures.why.0 in omega (arith, size, within));
+      within = c.in_default.ensures.0;
       beside = subst (λ p. (x : ℕ) → at ≤ x → x < to → covers (span_in p.course.window) x ≡ false) (sym c.self.view_is) c.requires.beside;
       moved = did.moved;
       few = few-roles m.newest did.moved.placed.fit.valid;
       since = missing-since roles did.moved since.vacant;
       rise = risen-told did.rise;
       unused = did.unused;
+      stays = did.stays;
       safe = did.safe;
     } in
-    let kept = wrote-kept a.course a.ahead (bytes_in a.course.window a.window.items) c.args.who end roles spares at from relied begun was.kept goes c.requires.caller c.ops-end-2.ensures.count did.grows was.unlimited c.requires.some fine put
-    (record { bytes = λ i. (c.type_inv.from i).fits; put = did.put none; tail = did.tail none; others = did.others; good = did.good none }) in
+    let kept = wrote-kept a.course a.ahead (bytes_in a.course.window a.window.items) c.args.who end roles spares at from relied begun was.kept goes c.requires.caller c.ops-end-2.ensures.count did.grows was.unlimited c.requires.some fine c.relied_sector-relied.ensures.value put
+    (record { bytes = λ i. (c.type_inv.from i).fits; whole = c.requires.whole; put = did.put none; tail = did.tail none; ends = did.ends none; others = did.others; good = did.good none }) in
     with-rooms did.rows did.buffer did.far_rows did.far_buffer
     (ready (entries_of c.args.who end (losses_of roles spares ++ Wrote at (sectors_of from) ∷ [])) was did.grows (shapes-moved given a.members m did.moved) kept
     refl did.counts (behind-keeps c.args.who end roles spares (Wrote at (sectors_of from)) (λ n. refl) refl)
@@ -318,8 +316,12 @@ returns-clause-called g c =
 
 pub returns-clause-caused : goal.returns-clause-caused
 returns-clause-caused g c =
-    let size = c.list_sectors-sectors.ensures.length in
-    rw (← c.self.view_is) ((let within = c.in_default.ensures.why.0 in omega (arith, size, within)), c.in_default.ensures.why.1)
+    let a = c.self.inside in
+    let to = c.args.at + length c.args.from.now / 512 in
+    rw (← c.self.view_is) (
+      c.in_default.ensures.0,
+      λ refusal why. c.in_default.ensures.1 refusal (subst (λ (n : ℕ). IsListUnwritten n c.args.at to a.members refusal) (sym c.relied_sector-relied.ensures.value) why),
+    )
 
 pub returns-clause-dirty : goal.returns-clause-dirty
 returns-clause-dirty g c = c.put_list-done.ensures.dirty c.in_default-refusal.is
@@ -327,7 +329,7 @@ returns-clause-dirty g c = c.put_list-done.ensures.dirty c.in_default-refusal.is
 pub returns-clause-left : goal.returns-clause-left
 returns-clause-left g c =
     let a = c.self.inside in
-    rw (← c.self.view_is) (left-moved (g.B.Bank.given a.bank) a.members c.put_list-done.new.members a.course a.ahead c.put_list-done.ensures.moved)
+    rw (← c.self.view_is) (left-moved (g.B.Bank.given a.bank) a.members c.put_list-done.new.members a.work.resync a.course a.ahead c.put_list-done.ensures.moved)
 
 -- ---- what failed
 

@@ -1,0 +1,21 @@
+-- The position behind the window under way lies in the list.
+use Rattle.std.proofs.Common.{◌≡◌, ◌<◌, ◌≤◌, Bool, true, false, arith}
+use Rattle.sb1.specs.declared.sb.Sb.{Sb}
+use Rattle.geometry.specs.Geometry.{beyond}
+use Rattle.superblocks.specs.Reading.{is_reshaping, is_backward, list_length}
+use Rattle.shape_views.specs.Regions.{AreShapesFit}
+use Rattle.shape_views.proofs.Headers.{window-filled}
+use Rattle.shape_views.proofs.Stands.{window-inside}
+use Rattle.grow_asked.specs.declared.window.Window.{Window}
+use Rattle.grow_asked.specs.declared.window.Window.TheVariants.{Closed, Entered, Unsure}
+use Rattle.grow_asked.specs.Left.{IsWindowRight}
+use Rattle.region_mends.specs.Left.{position_behind}
+
+pub position-within : (newest : Sb) (window : Window) → AreShapesFit newest → is_reshaping newest ≡ true → IsWindowRight newest window → position_behind newest window ≤ list_length newest
+position-within newest Closed fit active is = fit.position active
+position-within newest (Unsure span) fit active is = fit.position active
+position-within newest (Entered span copied sectioned) fit active is = by (is_backward newest) (window-filled newest fit span is.0) (window-inside newest fit span is.0)
+  where
+    by : (back : Bool) → span.lo < span.hi → span.hi ≤ list_length newest → beyond back span ≤ list_length newest
+    by true some inside = omega (arith, some, inside)
+    by false some inside = inside

@@ -1,0 +1,75 @@
+-- Where parity isn't relied on in each row, a resync is pending, and a refusal that tells so is right by the history.
+use Rattle.std.proofs.Common.{◌≡◌, ℕ, ◌<◌, ◌≤◌, Bool, true, false, Option, Some, None, List, [], ◌++◌, refl, sym, ◌∙◌, subst, arith, append-nil}
+use Rattle.std.specs.Prelude.{is_some}
+use Rattle.std.specs.List.{list_any}
+use Rattle.md_base.specs.declared.answers.Refusal.{Refusal}
+use Rattle.md_base.specs.declared.answers.Refusal.TheVariants.{NotResynced}
+use Rattle.md_base.specs.declared.answers.Who.{Who}
+use Rattle.bank.specs.declared.bank.Operation.{Operation}
+use Rattle.bank.specs.Given.{Given}
+use Rattle.sb1.specs.declared.sb.Sb.{Sb}
+use Rattle.superblocks.specs.declared.members.Members.{Members}
+use Rattle.superblocks.specs.Reading.{Scope, list_length, role_count}
+use Rattle.row_io.specs.Rows.{reading_of, is_missing}
+use Rattle.flat_history.specs.declared.events.Entry.{Entry}
+use Rattle.flat_history.specs.Legal.{IsRefusedRight}
+use Rattle.flat_history.specs.declared.events.Event.{Event}
+use Rattle.flat_history.specs.Losses.{is_resync_end, is_unsynced}
+use Rattle.flat_history.specs.Plain.{entries_of}
+use Rattle.flat_history.specs.Stands.{shape_for}
+use Rattle.flat_history.specs.World.{World}
+use Rattle.shape_views.specs.Regions.{AreShapesFit, place_by}
+use Rattle.views.specs.Moving.{Grows}
+use Rattle.views.proofs.Fit.{force-valid, force-disks}
+use Rattle.layout.proofs.Places.{place-role_below}
+use Rattle.call_entries.specs.Losing.{losses_of}
+use Rattle.call_entries.proofs.CallLaws.{losses-are, ends-losses}
+use Rattle.kept_history.specs.Safe.{world_in}
+use Rattle.kept_history.proofs.Growing.{unsynced-grown}
+use Rattle.kept_history.proofs.Ledgers.{unsynced-still}
+use Rattle.history_calls.specs.Reliable.{AreToldGone}
+use Rattle.region_rows.specs.Stretches.{relied_rows}
+use Rattle.region_writes.proofs.Together.{shape-force}
+use Rattle.region_mends.specs.Mends.{relied_sector}
+use Rattle.course_kept.specs.declared.course.Course.{Course}
+use Rattle.moving_kept.specs.Moving.{IsMoving}
+use Rattle.moving_kept.proofs.Writing.{unrelied-short}
+
+short-pending : (newest : Sb) (resync : Option ℕ) (relied : ℕ) → relied ≡ relied_sector newest resync → relied < list_length newest → is_some resync ≡ true
+short-pending newest None relied relies short = absurd (let all : relied ≡ list_length newest = relies in omega (arith, all, short))
+short-pending newest (Some mended) relied relies short = refl
+
+none-ended : (who : Who) (end roles spares : ℕ) → list_any (λ e. is_resync_end e.event) (entries_of who end (losses_of roles spares)) ≡ false
+none-ended who end roles spares =
+    subst (λ (l : List Event). list_any (λ e. is_resync_end e.event) (entries_of who end l) ≡ false) (append-nil (losses_of roles spares)) (ends-losses who end (losses_of roles spares) [] (losses-are roles spares))
+
+module _ {tells : Type 0} {given : Given} {tape : List Operation} {scope : Scope} {first : ℕ} {entries : List Entry} {old : Members} {carried : ℕ → Bool} {resync : Option ℕ} {course : Course} {buffer : List ℕ} {left : ℕ}
+    (was : IsMoving tells given tape scope first entries old carried resync course buffer left) (relied : ℕ) (relies : relied ≡ relied_sector old.newest resync) where
+  -- on members with as long a list too
+  pub pending-at : (new : Members) → AreShapesFit new.newest → list_length new.newest ≡ list_length old.newest → (x : ℕ) → x < list_length new.newest
+      → relied_rows new.newest relied (shape_for new.newest x) ≤ (place_by new.newest x).row → tells → is_unsynced (world_in given tape scope first) entries ≡ true
+  pending-at new fit long x lt far t = was.pending t ∙ short-pending old.newest resync relied relies (let short = unrelied-short new.newest fit relied x lt far in omega (arith, short, long))
+
+  -- and behind losses
+  pub pending-behind : {tape' : List Operation} (who : Who) (end roles spares : ℕ) → Grows tells tape tape' → (t : tells) → is_unsynced (world_in given tape scope first) entries ≡ true
+      → is_unsynced (world_in given tape' scope first) (entries ++ entries_of who end (losses_of roles spares)) ≡ true
+  pending-behind {tape' = tape'} who end roles spares grows t pends =
+      let g = grows.more t in
+      let lost = entries_of who end (losses_of roles spares) in
+      subst (λ (l : List Operation). is_unsynced (world_in given l scope first) (entries ++ lost) ≡ true) (sym g.1)
+      (unsynced-grown (world_in given tape scope first) g.0 (was.recorded t).begun (entries ++ lost)
+      ∙ unsynced-still (world_in given tape scope first) entries lost (none-ended who end roles spares)
+      ∙ pends)
+
+-- a role is missing while a resync is pending
+pub unsynced-right : (world : World) (before : List Entry) (m : Members) → AreToldGone world before m → (refusal : Refusal) (role : ℕ) → refusal ≡ NotResynced role → role < role_count m.newest
+    → is_missing (reading_of m) role ≡ true → is_unsynced world before ≡ true → IsRefusedRight world before refusal
+unsynced-right world before m gone refusal role is lt missing pends = subst (λ (r : Refusal). IsRefusedRight world before r) (sym is) (gone role lt missing, pends)
+
+-- that of a sector is one of the array's
+pub sector-role : (newest : Sb) → AreShapesFit newest → (x : ℕ) → (place_by newest x).role < role_count newest
+sector-role newest fit x =
+    let force = shape-force newest x in
+    let below = place-role_below (shape_for newest x) (force-valid newest fit (shape_for newest x) force) x in
+    let disks = force-disks newest fit (shape_for newest x) force in
+    omega (arith, below, disks)
