@@ -1,5 +1,6 @@
 -- What an array in a reshape keeps over a bank of which only counts of faults have risen.
 use Rattle.std.proofs.Common.{◌≡◌, ℕ, ◌≤◌, Bool, List, Option, sym, subst, arith}
+use Rattle.std.specs.Prelude.{unwrap_or}
 use Rattle.bank.specs.Given.{Given}
 use Rattle.bank.specs.declared.bank.Operation.{Operation}
 use Rattle.superblocks.specs.declared.members.Members.{Members}
@@ -52,6 +53,7 @@ ready-still {tells = tells} {given = given} {tape' = tape'} {uuid = uuid} {slots
       planned = was.planned;
       wide = was.wide;
       failed = λ slot lt lost. let before = was.failed slot lt lost in let more = rose slot in omega (arith, before, more);
+      dead = λ span is. let before = was.dead span is in let more = rose (unwrap_or backup 0) in omega (arith, before, more);
       room_left = was.room_left;
       rows_fit = was.rows_fit;
       buffer_fits = was.buffer_fits;

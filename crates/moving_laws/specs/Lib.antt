@@ -1,4 +1,3 @@
 pub mod Ready
 pub mod Writing
-pub mod Entering
 pub mod Steps

@@ -17,7 +17,7 @@ use md_base::{Fault, Who};
 use moving_state::stepping::{Due, due_step};
 
 impl<B: Bank> Moving<B> {
-    // The step of the reshape that is due, but for its end, while no resync is pending and no window is unsure: a window is entered, a stripe of it is copied, it is recorded, or a stripe behind
+    // The step of the reshape that is due, but for its end, while no resync is pending: a window is entered, a stripe of it is copied, it is recorded, or a stripe behind
     // the list is zeroed. Refusals: `TooManyMissing`, and `BackupFault` where a window is to be entered. It takes no memory.
     pub(crate) fn step(&mut self, who: Who) -> Result<(), Fault>
         requires open { IsCallGoing self.old.parts.entries who }
@@ -25,7 +25,6 @@ impl<B: Bank> Moving<B> {
         requires room { 1 ≤ self.old.parts.steps }
         requires synced { self.old.parts.work.resync ≡ None }
         requires due { due_of self.old.parts.members.newest self.old.course ≢ EndsReshape }
-        requires sure { (span : Span) → self.old.course ≡ unsure span → ⊥ }
         ensures entered { IsStepTaken who self.old.parts.entries self.new.parts.entries (kind_of (due_of self.old.parts.members.newest self.old.course)) (left_in self.new.parts.work self.new.parts.members self.new.course self.new.ahead) result }
         ensures called { IsCalled B.tells (B.given self.old.parts.bank) (B.tape self.old.parts.bank) (B.tape self.new.parts.bank) (B.faults_of self.old.parts.bank) (B.faults_of self.new.parts.bank) self.old self.new }
         ensures clean { is_clean self.new.parts.members.newest ≡ is_clean self.old.parts.members.newest }

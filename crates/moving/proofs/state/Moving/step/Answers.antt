@@ -9,5 +9,4 @@ use Rattle.moving.proofs.state.Moving.step.Goals as goal
 pub enter-requires-clause-due : goal.enter-requires-clause-due
 enter-requires-clause-due g c =
     let a = c.self.inside in
-    let sure = subst (λ p. (span : Span) → p.course ≡ unsure span → ⊥) (sym c.self.view_is) c.requires.sure in
-    subst (λ p. IsEnterDue p) c.self.view_is (enter-due _ sure (subst (λ due. IsDue a.members.newest a.course due) c.in-Enter.is c.due_step.ensures.ready))
+    subst (λ p. IsEnterDue p) c.self.view_is (enter-due _ (subst (λ due. IsDue a.members.newest a.course due) c.in-Enter.is c.due_step.ensures.ready))

@@ -1,0 +1,1 @@
+use Rattle.moving.proofs.state.Moving.bar_write.Goals as goal

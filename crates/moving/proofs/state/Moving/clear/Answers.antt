@@ -1,0 +1,1 @@
+use Rattle.moving.proofs.state.Moving.clear.Goals as goal

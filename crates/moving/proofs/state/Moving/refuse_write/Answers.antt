@@ -1,0 +1,1 @@
+use Rattle.moving.proofs.state.Moving.refuse_write.Goals as goal
