@@ -163,8 +163,70 @@ fn refused_requests(rt: HostRuntime) -> Result<(), Fail> {
         assert!(rt; are_fit(&members));
         let visible = visible(&members, None);
         let (at, count) = (u64::from(*at), u64::from(*count));
-        assert!(rt; unread_from(&members, visible, at, count) == *wanted);
-        assert!(rt; unwritten_from(&members, visible, at, count) == *wanted);
+        let relied = list_sectors(&members);
+        assert!(rt; unread_from(&members, None, visible, relied, at, count) == *wanted);
+        if count > 0 {
+            assert!(rt; unwritten_from(&members, visible, relied, at, count) == *wanted);
+        }
+    }
+    Ok(())
+}
+
+/// Members in a resync up to a sector of the list, the sectors asked for, and why they aren't read and written: role 0 has the first
+/// chunk of the first stripe.
+type Pending = (
+    (Made, u32),
+    (u32, u32),
+    (Option<Refusal>, Option<Refusal>),
+);
+
+const PENDING: [Pending; 6] = [
+    (
+        ((5, 128, (5, 1), 96, 0b1), 0),
+        (0, 1),
+        (
+            Some(Refusal::NotResynced(0)),
+            Some(Refusal::NotResynced(0)),
+        ),
+    ),
+    (
+        ((5, 128, (5, 1), 96, 0b1), 0),
+        (8, 24),
+        (None, Some(Refusal::NotResynced(0))),
+    ),
+    (((5, 128, (5, 1), 96, 0b1), 32), (0, 32), (None, None)),
+    (
+        ((5, 128, (5, 1), 96, 0b1), 32),
+        (8, 25),
+        (None, Some(Refusal::NotResynced(0))),
+    ),
+    (((5, 128, (5, 1), 96, 0b0), 0), (0, 128), (None, None)),
+    (
+        ((5, 128, (5, 1), 96, 0b11), 0),
+        (0, 1),
+        (
+            Some(Refusal::TooManyMissing(2, 1)),
+            Some(Refusal::TooManyMissing(2, 1)),
+        ),
+    ),
+];
+
+#[test]
+fn refused_in_a_resync(rt: HostRuntime) -> Result<(), Fail> {
+    for ((made, relied), (at, count), (read, write)) in &PENDING {
+        let members = members_of(rt.alloc(), *made)?;
+        assert!(rt; are_fit(&members));
+        let visible = visible(&members, None);
+        let (at, count) = (u64::from(*at), u64::from(*count));
+        let relied = u64::from(*relied);
+        assert!(rt; unread_from(&members, None, visible, relied, at, count) == *read);
+        assert!(rt; unwritten_from(&members, visible, relied, at, count) == *write);
+        let hidden = Some(Span { lo: 0, hi: 1 });
+        let beside = unread_from(&members, hidden, visible, relied, at, count);
+        match read {
+            Some(Refusal::NotResynced(_)) => assert!(rt; beside == None),
+            _ => assert!(rt; beside == *read),
+        }
     }
     Ok(())
 }

@@ -30,7 +30,7 @@ use Rattle.running_words.specs.Parts.{left_in}
 use Rattle.moving_laws.specs.Ready.{bytes_in}
 use Rattle.running_words.specs.Calls.{IsCopyDue}
 use Rattle.running_words.proofs.Called.{not_254, called, alone-lossless}
-use Rattle.moving_laws.proofs.Copied.{due-is, IsStripeTried, copied-more, copied-kept, uncopied-kept}
+use Rattle.moving_laws.proofs.Copied.{due-is, left-falls, IsStripeTried, copied-more, copied-kept, uncopied-kept}
 use Rattle.moving_laws.proofs.Kept.{ready, ready-moved, shapes-same, shapes-moved, alone-keeps, behind-keeps, behind-whole, with-buffer, live-of}
 use Rattle.moving_laws.proofs.Settled.{risen-told, many-of}
 use Rattle.moving.proofs.state.Moving.copy.Goals as goal
@@ -226,3 +226,10 @@ overflow_add-self g c =
     let short = list-short a.members.newest fit in
     let more = due.1 in
     omega (arith, below, inside, short, more)
+
+pub returns-clause-left : goal.returns-clause-left
+returns-clause-left g c =
+    let a = c.self.inside in
+    let due = due-is _ c.in-Entered.span c.in-Entered.copied c.in-Entered.sectioned (subst (λ p. IsCopyDue p) (sym c.self.view_is) c.requires.due) c.in-Entered.is in
+    rw (← c.self.view_is) (left-falls (g.B.Bank.given a.bank) a.members c.copy_next-moved.new.members a.work.resync a.course a.ahead c.in-Entered.span c.in-Entered.copied c.in-Entered.sectioned
+    c.self.invariant.kept.members_are.active due.0 due.1 c.copy_next-moved.ensures.moved)

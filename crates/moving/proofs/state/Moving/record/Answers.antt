@@ -27,7 +27,7 @@ use Rattle.moving_laws.specs.Ready.{bytes_in}
 use Rattle.running_words.proofs.Called.{not_254, called, alone-lossless}
 use Rattle.moving_laws.proofs.Kept.{ready, ready-moved, shapes-same, shapes-moved, alone-keeps, behind-keeps, behind-whole, live-of}
 use Rattle.moving_laws.proofs.Settled.{many-of}
-use Rattle.moving_laws.proofs.RecordLaws.{window-next, same-span, all_copied, moved-if, moved-none, safe-none-of, shapes-past, since-past, record-refused, record-done}
+use Rattle.moving_laws.proofs.RecordLaws.{window-next, same-span, all_copied, record-left, moved-if, moved-none, safe-none-of, shapes-past, since-past, record-refused, record-done}
 use Rattle.moving.proofs.state.Moving.record.Goals as goal
 
 -- ---- refused before anything is done
@@ -238,3 +238,15 @@ returns-clause-called g c =
 
 pub returns-clause-caused : goal.returns-clause-caused
 returns-clause-caused g c = rw (← c.self.view_is) (omega arith, λ refusal many. never-both c.self.inside.members refusal c.in_default.ensures many)
+
+pub returns-clause-left : goal.returns-clause-left
+returns-clause-left g c =
+    let a = c.self.inside in
+    let given = g.B.Bank.given a.bank in
+    let m = c.record-done.new.members in
+    let due = subst (λ p. IsRecordDue p) (sym c.self.view_is) c.requires.due in
+    let same : c.in-Entered.span ≡ due.span = same-span c.in-Entered.span due.span c.in-Entered.copied _ c.in-Entered.sectioned due.sectioned (sym c.in-Entered.is ∙ ap (λ (k : Course). k.window) due.is) in
+    let is : a.course ≡ all_copied a.members c.in-Entered.span due.sectioned = due.is ∙ ap (λ (s : Span). all_copied a.members s due.sectioned) (sym same) in
+    let moved = moved-none given c.in-Entered.span a.members m c.record-done.result.refusal c.in_default-refusal.is c.record-done.ensures.moved in
+    rw (← c.self.view_is) (record-left given a.members m a.work.resync c.in-Entered.span due.sectioned a.ahead moved c.self.invariant.kept.members_are.active
+    ∙ sym (ap (λ (k : Course). left_in a.work a.members k a.ahead) is))
