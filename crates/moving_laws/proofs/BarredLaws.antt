@@ -120,3 +120,8 @@ refused-err result refusal is = cc
 pub err-any : {T E : Type 0} {P : Type 0} (result : Result T E) → P → OnErr result P
 err-any (Ok x) is = tt
 err-any (Err e) is = is
+
+-- what fails isn't done
+pub never-done : {T E : Type 0} (result : Result T E) (x : T) → result ≡ Ok x → IsErr result → ⊥
+never-done (Ok y) x is failed = absurd (cc)
+never-done (Err e) x is failed = absurd (cc)

@@ -1,9 +1,10 @@
-use Rattle.std.proofs.Common.{None, ◌≡◌, ◌≤◌, inl, inr, ℕ, ◌-◌, ◌*◌, List, [], ◌∷◌, ◌++◌, length, take, Some, refl, sym, ◌∙◌, ap, subst, arith}
+use Rattle.std.proofs.Common.{None, ◌≡◌, ◌≤◌, inl, inr, ℕ, ◌-◌, ◌*◌, List, [], ◌∷◌, ◌++◌, length, take, Option, Some, refl, sym, ◌∙◌, ap, subst, arith}
 use Rattle.std.specs.Vec.{with_items}
 use Rattle.bank.specs.Tape.{disk}
 use Rattle.md_base.specs.declared.answers.Refusal.{Refusal}
 use Rattle.md_base.specs.declared.places.Span.{Span}
-use Rattle.superblocks.specs.Reading.{next_window}
+use Rattle.geometry.specs.Geometry.{is_critical}
+use Rattle.superblocks.specs.Reading.{is_backward, shape_of, final_shape, next_window}
 use Rattle.flat_history.specs.declared.events.Event.TheVariants.{Refused, Step}
 use Rattle.flat_history.specs.declared.events.StepKind.TheVariants.{Entered as EntersWindow}
 use Rattle.flat_history.specs.Plain.{entries_of}
@@ -20,6 +21,7 @@ use Rattle.kept_history.specs.Safe.{world_in}
 use Rattle.grow_asked.specs.declared.window.Window.TheVariants.{Unsure}
 use Rattle.course_kept.specs.declared.course.Course.{Course}
 use Rattle.course_kept.specs.Course.{IsStored}
+use Rattle.course_kept.specs.Laws.{entered}
 use Rattle.moving_kept.specs.Moving.{IsMoving}
 use Rattle.moving_kept.proofs.Refusals.{quiet-refusal, refused-right}
 use Rattle.moving_kept.proofs.Resting.{resting-moves}
@@ -273,3 +275,18 @@ returns-clause-left g c =
     } in
     rw (← c.self.view_is) (enter-left a.course a.ahead tried.window span written c.args.who c.ops-end-2.result tried.roles tried.spares shut at was.kept synced was.full c.in_default.ensures goes c.requires.caller
     c.ops-end-2.ensures.count did.grows next c.is_window_critical-sectioned.result (when-none _ _ tried.refusal c.in_default-refusal.is did.window))
+
+pub returns-clause-opened : goal.returns-clause-opened
+returns-clause-opened g c =
+    let a = c.self.inside in
+    let n = a.members.newest in
+    let tried = c.enter_next-tried.result in
+    let span = c.in-Some-next_window_of.span in
+    let due = subst (λ p. IsEnterDue p) (sym c.self.view_is) c.requires.due in
+    let shut = closed-of a.course due.span a.members due.is (subst (λ p. (s : Span) → p.course.window ≡ Unsure s → (refusal : Refusal) × AreTooMany p.parts.members refusal) (sym c.self.view_is) c.requires.sure) c.in_default.ensures in
+    rw (← c.self.view_is) (λ other next.
+        let same : span ≡ other = (let both : ◌≡◌ {A = Option Span} (Some span) (Some other) = c.in-Some-next_window_of.ensures.value ∙ next in cc) in
+        ap (λ (k : Course). record k { window = tried.window }) shut
+        ∙ ap course_in (when-none _ _ tried.refusal c.in_default-refusal.is c.enter_next-tried.ensures.window)
+        ∙ ap (entered span 0) c.is_window_critical-sectioned.ensures
+        ∙ ap (λ (s : Span). entered s 0 (is_critical (shape_of n) (final_shape n) n.size (is_backward n) s)) same)
