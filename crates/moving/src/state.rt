@@ -87,12 +87,7 @@ impl<B: Bank> Model for Moving<B> {
 }
 
 // The steps that are left, of the reshape, of a pending resync and of the phases ahead.
-pub(crate) fn steps_left(
-    members: &Members,
-    work: &Work,
-    course: &Course,
-    ahead: &PhasesLeft,
-) -> u64
+pub(crate) fn steps_left(members: &Members, work: &Work, course: &Course, ahead: &PhasesLeft) -> u64
     requires fit { AreShapesFit members.now.newest }
     requires reshape { IsReshapeUnderWay members.now.newest }
     requires open { IsWindowRight members.now.newest course.now.window }

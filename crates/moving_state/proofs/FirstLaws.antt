@@ -107,7 +107,7 @@ module _ (m : Members) (hidden : Option Span) (relied from to : ℕ) (part : Spa
     where
       by : (b : Bool) → covers hidden x ≡ b → covers hidden x ≡ false
       by false here = here
-      by true here = absurd (let at = (are x).1 (low, high, here) in let over = at.0 in let under = at.1 in elim out [ | inl before ↦ omega (arith, before, over) | inr behind ↦ omega (arith, behind, under) ])
+      by true here = absurd (let at = (are x).1 (low, high, here) in let over = at.0 in let under = at.1 in elim out [ inl before ↦ omega (arith, before, over) | inr behind ↦ omega (arith, behind, under) ])
 
   -- so a refusal of one of these is one of the request
   around : (x : ℕ) (refusal : Refusal) → from ≤ x → x < to → (x < part.lo) ⊎ (part.hi ≤ x) → LacksTooMany (shape_for m.newest x) m refusal ⊎ ((refusal ≡ Unsynced (place_by m.newest x).role) × IsUnrelied relied m x)

@@ -174,20 +174,13 @@ fn refused_requests(rt: HostRuntime) -> Result<(), Fail> {
 
 /// Members in a resync up to a sector of the list, the sectors asked for, and why they aren't read and written: role 0 has the first
 /// chunk of the first stripe.
-type Pending = (
-    (Made, u32),
-    (u32, u32),
-    (Option<Refusal>, Option<Refusal>),
-);
+type Pending = ((Made, u32), (u32, u32), (Option<Refusal>, Option<Refusal>));
 
 const PENDING: [Pending; 6] = [
     (
         ((5, 128, (5, 1), 96, 0b1), 0),
         (0, 1),
-        (
-            Some(Refusal::NotResynced(0)),
-            Some(Refusal::NotResynced(0)),
-        ),
+        (Some(Refusal::NotResynced(0)), Some(Refusal::NotResynced(0))),
     ),
     (
         ((5, 128, (5, 1), 96, 0b1), 0),

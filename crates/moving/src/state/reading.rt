@@ -1,6 +1,6 @@
 //! Reads of an array in a reshape.
 
-ghost use Rattle.std.specs.Prelude.{◌≡◌, ◌≢◌, ◌+◌, ◌-◌, ◌*◌, ◌/◌, ◌^◌, ◌<◌, ◌≤◌, length, IfSome, OnOk, OnErr};
+ghost use Rattle.std.specs.Prelude.{◌≡◌, ◌≢◌, ◌+◌, ◌-◌, ◌*◌, ◌/◌, ◌^◌, ◌<◌, ◌≤◌, length, None, IfSome, OnOk, OnErr};
 ghost use Rattle.bank.specs.Tape.{AreSectors};
 ghost use Rattle.md_base.specs.Sectors.{IsWhole, sectors_of};
 ghost use Rattle.superblocks.specs.Reading.{is_clean, list_length};
@@ -11,7 +11,7 @@ ghost use Rattle.flat_history.specs.declared.events.Event.TheVariants.{Read};
 ghost use Rattle.flat_history.specs.declared.events.Request.TheVariants.{Read as AsksRead};
 ghost use Rattle.shape_changes.specs.Marking.{AreOthersPresent};
 ghost use Rattle.views.specs.Lacking.{HaveRolesFailed};
-ghost use Rattle.array_kept.specs.Calls.{IsAnswered, IsCausedBy, OnNoMemory};
+ghost use Rattle.array_kept.specs.Calls.{IsAnswered, IsCausedBy, IsRefusalOf, OnNoMemory};
 ghost use Rattle.region_mends.specs.Mends.{relied_sector};
 ghost use Rattle.course_kept.specs.Course.{hidden_in};
 ghost use Rattle.moving_state.specs.First.{IsUnreadAround};
@@ -45,6 +45,67 @@ fn bytes_of(hidden: Option<Span>, most: usize) -> usize
 }
 
 impl<B: Bank> Moving<B> {
+    // Reads the list's sectors from `at` on, one or more, into `bytes` and then into `into`, where nothing speaks against it.
+    fn read_some(
+        &mut self,
+        who: Who,
+        at: u64,
+        mut bytes: Vec<u8>,
+        into: &mut [u8],
+    ) -> Result<(), Fault>
+        requires next { who.number ≡ next_number who.caller self.old.parts.entries }
+        requires caller { who.caller ≢ 254 }
+        requires room { 1 ≤ self.old.parts.steps }
+        requires whole { IsWhole into.old }
+        requires some { 0 < length into.old / 512 }
+        requires same { length bytes.items ≡ length into.old }
+        requires fine { IsRefusalOf (list_length self.old.parts.members.newest) (at + length into.old / 512) (IsUnreadAround (hidden_in self.old.course.window)
+            (relied_sector self.old.parts.members.newest self.old.parts.work.resync) at (at + length into.old / 512)) self.old.parts.members None }
+        ensures answered { IsAnswered (list_length self.old.parts.members.newest) (AsksRead at (length into.old / 512)) who self.old.parts.entries self.new.parts.entries (Read at (sectors_of into.new)) result }
+        ensures holds { OnOk result (B.tells → IsReliable (moving_world (B.given self.new.parts.bank) (B.tape self.new.parts.bank) self.new) self.new.parts.entries
+            → AreSectors (now (opening_list (moving_world (B.given self.old.parts.bank) (B.tape self.old.parts.bank) self.old)) self.old.parts.entries) at into.new) }
+        ensures unread { OnErr result (into.new ≡ into.old) }
+        ensures memory { OnNoMemory result ⊥ }
+        ensures called { IsCalled B.tells (B.given self.old.parts.bank) (B.tape self.old.parts.bank) (B.tape self.new.parts.bank) (B.faults_of self.old.parts.bank) (B.faults_of self.new.parts.bank) self.old self.new }
+        ensures others { B.tells → AreOthersPresent (present (B.given self.old.parts.bank) (B.tape self.old.parts.bank)) (present (B.given self.old.parts.bank) (B.tape self.new.parts.bank)) }
+        ensures clean { is_clean self.new.parts.members.newest ≡ is_clean self.old.parts.members.newest }
+        ensures caused { IsCausedBy (list_length self.old.parts.members.newest) (at + length into.old / 512) (IsUnreadAround (hidden_in self.old.course.window)
+            (relied_sector self.old.parts.members.newest self.old.parts.work.resync) at (at + length into.old / 512)) self.old.parts.members self.new.parts.members result }
+        ensures failed { HaveRolesFailed self.old.parts.members self.new.parts.members (B.faults_of self.old.parts.bank) (B.faults_of self.new.parts.bank) }
+        ensures course { self.new.course ≡ self.old.course }
+        ensures given { B.given self.new.parts.bank ≡ B.given self.old.parts.bank }
+    {
+        self.steps -= 1;
+        check_number(&self.epoch.entries, who);
+        let hidden = hidden_span(&self.course);
+        let relied = relied_sector(&self.members, self.work.resync);
+        let count = self.members.roles.len() as u32;
+        let before = vacant_roles(&self.members, count);
+        let wide = bytes_of(hidden, self.window.len());
+        let fetched = fetch_beside(
+            &mut self.members,
+            &mut self.bank,
+            hidden,
+            &self.window.as_slice()[..wide],
+            at,
+            bytes.as_mut_slice(),
+            self.buffer.as_mut_slice(),
+            relied,
+        );
+        let roles = newly_vacant(&self.members, count, before);
+        let end = self.bank.ops();
+        if let Some(refusal) = fetched.refusal {
+            let event = Event::Refused { refusal };
+            enter_behind(&mut self.epoch, who, end, roles, fetched.spares, event);
+            return Err(Fault::Refused(refusal));
+        }
+        into.copy_from_slice(bytes.as_slice());
+        let body = Sectors::from_bytes(bytes);
+        let event = Event::Read { at, body };
+        enter_behind(&mut self.epoch, who, end, roles, fetched.spares, event);
+        Ok(())
+    }
+
     /// Fills `into`, of whole sectors, with those of the list from `at` on: those of a window whose section is stored from its buffer, and
     /// each other by the shape of its region; what a missing member held is filled in from the others. Refusals: `PastEnd`,
     /// `TooManyMissing` where more roles are missing than a shape tolerates that places one of them, and `NotResynced` where a resync is
@@ -72,7 +133,7 @@ impl<B: Bank> Moving<B> {
             Ok(bytes) => bytes,
             Err(fault) => return Err(fault),
         };
-        match self.epoch.entries.make_room(50) {
+        match self.epoch.entries.make_room(51) {
             Ok(()) => {}
             Err(_) => return Err(Fault::NoMemory),
         }
@@ -93,30 +154,7 @@ impl<B: Bank> Moving<B> {
             enter(&mut self.epoch, who, end, Event::Read { at, body });
             return Ok(());
         }
-        let count = self.members.roles.len() as u32;
-        let before = vacant_roles(&self.members, count);
-        let wide = bytes_of(hidden, self.window.len());
-        let fetched = fetch_beside(
-            &mut self.members,
-            &mut self.bank,
-            hidden,
-            &self.window.as_slice()[..wide],
-            at,
-            bytes.as_mut_slice(),
-            self.buffer.as_mut_slice(),
-            relied,
-        );
-        let roles = newly_vacant(&self.members, count, before);
-        let end = self.bank.ops();
-        if let Some(refusal) = fetched.refusal {
-            let event = Event::Refused { refusal };
-            enter_behind(&mut self.epoch, who, end, roles, fetched.spares, event);
-            return Err(Fault::Refused(refusal));
-        }
-        into.copy_from_slice(bytes.as_slice());
-        let body = Sectors::from_bytes(bytes);
-        let event = Event::Read { at, body };
-        enter_behind(&mut self.epoch, who, end, roles, fetched.spares, event);
-        Ok(())
+        self.steps = 1;
+        self.read_some(who, at, bytes, into)
     }
 }
