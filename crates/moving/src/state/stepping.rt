@@ -1,9 +1,7 @@
 //! The step of a reshape that is due.
 
 ghost use Rattle.std.specs.Prelude.{◌≡◌, ◌≢◌, ◌⊎◌, ◌+◌, ◌≤◌, None, OnOk, OnErr};
-ghost use Rattle.md_base.specs.declared.places.Span.{Span};
 ghost use Rattle.superblocks.specs.Reading.{is_clean};
-ghost use Rattle.course_kept.specs.Laws.{unsure};
 ghost use Rattle.kept_history.specs.Recorded.{IsCallGoing};
 ghost use Rattle.moving_state.specs.Due.{due_of};
 ghost use Rattle.moving_state.specs.declared.stepping.Due.TheVariants.{Finish as EndsReshape};

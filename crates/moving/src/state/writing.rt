@@ -1,6 +1,6 @@
 //! Writes to an array in a reshape.
 
-ghost use Rattle.std.specs.Prelude.{◌≡◌, ◌≢◌, ◌⊎◌, ◌+◌, ◌/◌, ◌^◌, ◌<◌, ◌≤◌, ℕ, length, false, Err, IfSome, OnOk, OnErr};
+ghost use Rattle.std.specs.Prelude.{◌≡◌, ◌≢◌, ◌⊎◌, ◌+◌, ◌/◌, ◌^◌, ◌<◌, ◌≤◌, ℕ, length, false, Err, IfSome, OnOk};
 ghost use Rattle.md_base.specs.Sectors.{IsWhole, sectors_of};
 ghost use Rattle.md_base.specs.declared.answers.Fault.TheVariants.{Refused as IsRefusedWith};
 ghost use Rattle.md_base.specs.declared.answers.Refusal.TheVariants.{BackupFault};

@@ -1,23 +1,21 @@
-use Rattle.std.proofs.Common.{inl, ◌≡◌, ◌≤◌, ◌<◌, ◌+◌, ◌/◌, ℕ, None, List, [], length, refl, sym, ◌∙◌, ap, subst, arith, append-nil}
+use Rattle.std.proofs.Common.{◌≡◌, ◌+◌, ◌/◌, None, List, [], length, refl, sym, ◌∙◌, ap, subst, arith, append-nil}
 use Rattle.std.proofs.lemmas.List.Elements.{All-nil}
 use Rattle.md_base.specs.Sectors.{sectors_of}
 use Rattle.md_base.proofs.SectorLaws.{length-sectors_of}
 use Rattle.superblocks.specs.Reading.{list_length}
-use Rattle.superblocks.specs.declared.members.Members.{Members}
 use Rattle.flat_history.specs.declared.events.Entry.{Entry}
 use Rattle.flat_history.specs.Flat.{length_of, limit_of}
 use Rattle.flat_history.specs.Transfers.{last_end_from}
 use Rattle.views.specs.Rebuilding.{Held}
-use Rattle.views.specs.Lacking.{HaveRolesFailed}
 use Rattle.views.proofs.MovedLaws.{grows-none, moved-same}
 use Rattle.array_kept.specs.Calls.{IsLossBy}
 use Rattle.region_mends.specs.Mends.{relied_sector}
 use Rattle.running_words.specs.Parts.{left_in}
 use Rattle.running_words.proofs.Called.{called}
-use Rattle.moving_laws.specs.Writing.{IsRefusedAlone, TouchesUnsure}
+use Rattle.moving_laws.specs.Writing.{IsRefusedAlone}
 use Rattle.moving_laws.proofs.Kept.{roomier}
-use Rattle.moving_laws.proofs.WriteLaws.{roomed, called-roomed}
-use Rattle.moving_laws.proofs.BarredLaws.{alone-err, barred-entered, barred-replied}
+use Rattle.moving_laws.proofs.WriteLaws.{called-roomed}
+use Rattle.moving_laws.proofs.BarredLaws.{barred-entered, barred-replied}
 use Rattle.moving.proofs.state.Moving.bar_write.Goals as goal
 
 -- ---- memory is short

@@ -285,8 +285,8 @@ returns-clause-opened g c =
     let due = subst (λ p. IsEnterDue p) (sym c.self.view_is) c.requires.due in
     let shut = closed-of a.course due.span a.members due.is (subst (λ p. (s : Span) → p.course.window ≡ Unsure s → (refusal : Refusal) × AreTooMany p.parts.members refusal) (sym c.self.view_is) c.requires.sure) c.in_default.ensures in
     rw (← c.self.view_is) (λ other next.
-        let same : span ≡ other = (let both : ◌≡◌ {A = Option Span} (Some span) (Some other) = c.in-Some-next_window_of.ensures.value ∙ next in cc) in
-        ap (λ (k : Course). record k { window = tried.window }) shut
-        ∙ ap course_in (when-none _ _ tried.refusal c.in_default-refusal.is c.enter_next-tried.ensures.window)
-        ∙ ap (entered span 0) c.is_window_critical-sectioned.ensures
-        ∙ ap (λ (s : Span). entered s 0 (is_critical (shape_of n) (final_shape n) n.size (is_backward n) s)) same)
+    let same : span ≡ other = (let both : ◌≡◌ {A = Option Span} (Some span) (Some other) = c.in-Some-next_window_of.ensures.value ∙ next in cc) in
+    ap (λ (k : Course). record k { window = tried.window }) shut
+    ∙ ap course_in (when-none _ _ tried.refusal c.in_default-refusal.is c.enter_next-tried.ensures.window)
+    ∙ ap (entered span 0) c.is_window_critical-sectioned.ensures
+    ∙ ap (λ (s : Span). entered s 0 (is_critical (shape_of n) (final_shape n) n.size (is_backward n) s)) same)

@@ -1,6 +1,4 @@
-use Rattle.std.proofs.Common.{◌≡◌, sym, subst}
-use Rattle.md_base.specs.declared.places.Span.{Span}
-use Rattle.course_kept.specs.Laws.{unsure}
+use Rattle.std.proofs.Common.{subst}
 use Rattle.moving_state.specs.Due.{IsDue}
 use Rattle.running_words.specs.Calls.{IsEnterDue}
 use Rattle.moving_laws.proofs.DueSteps.{enter-due}

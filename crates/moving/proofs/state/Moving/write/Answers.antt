@@ -1,4 +1,4 @@
-use Rattle.std.proofs.Common.{◌≡◌, ◌≤◌, ◌<◌, ◌+◌, ◌/◌, ℕ, true, false, Option, length, sym, ◌∙◌, subst}
+use Rattle.std.proofs.Common.{◌≡◌, ◌+◌, ◌/◌, true, false, Option, length, sym, ◌∙◌, subst}
 use Rattle.md_base.specs.Sectors.{sectors_of}
 use Rattle.md_base.specs.declared.places.Span.{Span}
 use Rattle.superblocks.specs.Reading.{list_length}
@@ -35,9 +35,9 @@ returns-clause-caused g c =
     let to = c.args.at + length c.args.from.now / 512 in
     sure-caused old.course.window (list_length old.parts.members.newest) (relied_sector old.parts.members.newest old.parts.work.resync) c.args.at to old.parts.members c.write_sure.new.self.parts.members c.write_sure.result
     (λ touched.
-        let no = subst (λ p. covers (unsure_in p.course.window) touched.0 ≡ false) c.self.view_is
-            (subst (λ (s : Option Span). covers s touched.0 ≡ false) c.unsure_span.ensures (c.meets.ensures.no c.if-meets.false touched.0 touched.1 touched.2)) in
-        let both : true ≡ false = sym touched.3 ∙ no in cc)
+    let no = subst (λ p. covers (unsure_in p.course.window) touched.0 ≡ false) c.self.view_is
+    (subst (λ (s : Option Span). covers s touched.0 ≡ false) c.unsure_span.ensures (c.meets.ensures.no c.if-meets.false touched.0 touched.1 touched.2)) in
+    let both : true ≡ false = sym touched.3 ∙ no in cc)
     c.write_sure.ensures.caused
 
 pub returns-clause-answered : goal.returns-clause-answered
