@@ -10,6 +10,7 @@ ghost use Rattle.running_words.specs.Parts.{left_in};
 
 mod adding;
 mod asking;
+mod clearing;
 mod ending;
 mod entering;
 mod examining;

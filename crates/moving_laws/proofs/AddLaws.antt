@@ -63,6 +63,7 @@ with-room {tells = tells} {given = given} {tape = tape} {scope = scope} {first =
       planned = was.planned;
       wide = was.wide;
       failed = was.failed;
+      dead = was.dead;
       room_left = left;
       rows_fit = was.rows_fit;
       buffer_fits = was.buffer_fits;

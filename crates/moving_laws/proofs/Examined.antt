@@ -1,5 +1,6 @@
 -- What an array in a reshape keeps over a bank of which only counts of faults have risen.
 use Rattle.std.proofs.Common.{◌≡◌, ℕ, ◌≤◌, Bool, List, Option, sym, subst, arith}
+use Rattle.std.specs.Prelude.{unwrap_or}
 use Rattle.bank.specs.Given.{Given}
 use Rattle.bank.specs.declared.bank.Operation.{Operation}
 use Rattle.superblocks.specs.declared.members.Members.{Members}
@@ -13,7 +14,7 @@ use Rattle.moving_kept.specs.Moving.{IsMoving}
 use Rattle.moving_laws.specs.Ready.{IsReady}
 
 -- nothing was written
-moving-still : {tells : Type 0} {given : Given} {tape tape' : List Operation} {scope : Scope} {first : ℕ} {entries : List Entry} {members : Members} {carried : ℕ → Bool} {resync : Option ℕ} {course : Course} {buffer : List ℕ} {left : ℕ}
+pub moving-still : {tells : Type 0} {given : Given} {tape tape' : List Operation} {scope : Scope} {first : ℕ} {entries : List Entry} {members : Members} {carried : ℕ → Bool} {resync : Option ℕ} {course : Course} {buffer : List ℕ} {left : ℕ}
     → (tells → tape' ≡ tape) → IsMoving tells given tape scope first entries members carried resync course buffer left → IsMoving tells given tape' scope first entries members carried resync course buffer left
 moving-still {tells = tells} {given = given} {tape' = tape'} {scope = scope} {first = first} {entries = entries} {members = members} {carried = carried} {resync = resync} {course = course} {buffer = buffer} {left = left} same was = record {
   slots = was.slots;
@@ -52,6 +53,7 @@ ready-still {tells = tells} {given = given} {tape' = tape'} {uuid = uuid} {slots
       planned = was.planned;
       wide = was.wide;
       failed = λ slot lt lost. let before = was.failed slot lt lost in let more = rose slot in omega (arith, before, more);
+      dead = λ span is. let before = was.dead span is in let more = rose (unwrap_or backup 0) in omega (arith, before, more);
       room_left = was.room_left;
       rows_fit = was.rows_fit;
       buffer_fits = was.buffer_fits;

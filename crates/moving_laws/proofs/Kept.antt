@@ -1,11 +1,12 @@
 -- What an array in a reshape keeps, after a call.
-use Rattle.std.proofs.Common.{◌≡◌, ℕ, ◌+◌, ◌-◌, ◌*◌, ◌<◌, ◌≤◌, ◌==◌, ◌||◌, Bool, true, false, inl, inr, cond, Option, None, List, [], ◌∷◌, ◌++◌, length, take, take_all, drop, refl, sym, ◌∙◌, ap, subst, arith}
+use Rattle.std.proofs.Common.{◌≡◌, ◌⊎◌, ℕ, ◌+◌, ◌-◌, ◌*◌, ◌<◌, ◌≤◌, ◌==◌, ◌||◌, Bool, true, false, inl, inr, cond, Option, None, List, [], ◌∷◌, ◌++◌, length, take, take_all, drop, refl, sym, ◌∙◌, ap, subst, arith}
 use Rattle.std.specs.Prelude.{min, fold}
 use Rattle.std.specs.List.{list_any}
 use Rattle.std.proofs.lemmas.Bool.Decides.{nat_tests}
 use Rattle.std.proofs.lemmas.List.{take-append-le}
 use Rattle.std.proofs.lemmas.List.Folds.{list_any-append}
 use Rattle.md_base.specs.Shapes.{data_disks}
+use Rattle.md_base.specs.declared.places.Span.{Span}
 use Rattle.md_base.specs.declared.wishes.Phase.{Phase}
 use Rattle.bank.specs.declared.bank.Operation.{Operation}
 use Rattle.md_base.specs.declared.answers.Who.{Who}
@@ -31,7 +32,7 @@ use Rattle.flat_history.specs.Plain.{entries_of}
 use Rattle.flat_history.specs.Losses.{loses}
 use Rattle.flat_history.specs.World.{World}
 use Rattle.flat_history.specs.Stands.{reach_of}
-use Rattle.shape_views.specs.Regions.{DoWithout}
+use Rattle.shape_views.specs.Regions.{backup_of, DoWithout}
 use Rattle.shape_changes.specs.Safety.{HasLiveSlot}
 use Rattle.views.specs.Placed.{AreWhole, HaveSameReshape}
 use Rattle.views.specs.declared.work.Work.{Work}
@@ -158,19 +159,20 @@ takes-before {tape = tape} {tape' = tape'} given scope first entries added grows
 
 -- ---- after a call's last step in memory
 
--- where the work may have changed too
-pub ready-with : {tells : Type 0} {given given' : Given} {tape tape' : List Operation} {scope scope' : Scope} {first first' : ℕ} {entries mid entries' : List Entry} {members members' : Members}
+-- where the course has changed, but for a window that became unsure while its backup is there
+pub ready-moved : {tells : Type 0} {given given' : Given} {tape tape' : List Operation} {scope scope' : Scope} {first first' : ℕ} {entries mid entries' : List Entry} {members members' : Members}
     {work work' : Work} {course course' : Course} {ahead : PhasesLeft} {window window' : List ℕ} {steps steps' room room' rows buffer far_rows far_buffer : ℕ} {before after : ℕ → ℕ} (added : List Entry)
     → IsReady tells given tape scope first entries members work course ahead window before steps room rows buffer far_rows far_buffer
     → Grows tells tape tape' → AreSameShapes members.newest members'.newest
     → IsMoving tells given tape' scope first (entries ++ added) members' (is_carried work') work'.resync course' (bytes_in course'.window window') (left_in work' members' course' ahead)
+    → ((span : Span) → course'.window ≡ Unsure span → (course.window ≡ Unsure span) ⊎ (0 < after (backup_of scope)))
     → length window' ≡ length window → NeverFalls before after → IsLengthKept added
     → (TakesNone (world_in given tape' scope first) (entries ++ added) → AreWhole members → AreWhole members')
     → given' ≡ given → scope' ≡ scope → first' ≡ first → mid ≡ entries → entries' ≡ mid ++ added → 50 * steps' < room'
     → IsReady tells given' tape' scope' first' entries' members' work' course' ahead window' after steps' room' rows buffer far_rows far_buffer
-ready-with {tells = tells} {given = given} {given' = given'} {tape' = tape'} {scope = scope} {scope' = scope'} {first = first} {first' = first'} {entries = entries} {mid = mid} {members = members} {members' = members'}
+ready-moved {tells = tells} {given = given} {given' = given'} {tape' = tape'} {scope = scope} {scope' = scope'} {first = first} {first' = first'} {entries = entries} {mid = mid} {members = members} {members' = members'}
     {work' = work'} {course' = course'} {ahead = ahead} {window' = window'} {steps' = steps'} {room' = room'} {rows = rows} {buffer = buffer} {far_rows = far_rows} {far_buffer = far_buffer} {after = after}
-    added was grows same kept long rises quiet whole same_given scope_is first_is mid_is is room_left =
+    added was grows same kept dead long rises quiet whole same_given scope_is first_is mid_is is room_left =
     subst (λ (l : List Entry). IsReady tells given' tape' scope' first' l members' work' course' ahead window' after steps' room' rows buffer far_rows far_buffer) (sym (is ∙ ap (λ (l : List Entry). l ++ added) mid_is))
     (subst (λ (n : ℕ). IsReady tells given' tape' scope' n (entries ++ added) members' work' course' ahead window' after steps' room' rows buffer far_rows far_buffer) (sym first_is)
     (subst (λ (s : Scope). IsReady tells given' tape' s first (entries ++ added) members' work' course' ahead window' after steps' room' rows buffer far_rows far_buffer) (sym scope_is)
@@ -185,6 +187,10 @@ ready-with {tells = tells} {given = given} {given' = given'} {tape' = tape'} {sc
           (subst (λ s. AreSound s members.newest.size (phases_of ahead)) (sym same.final) was.planned);
       wide = let wide = was.wide in let reach = reach-same members.newest members'.newest same in omega (arith, wide, reach, long);
       failed = λ slot lt out. let had = was.failed slot lt out in let more = rises slot in omega (arith, had, more);
+      dead = λ span is. elim (dead span is) [
+        | inl before ↦ let had = was.dead span before in let more = rises (backup_of scope) in omega (arith, had, more)
+        | inr now ↦ now
+      ];
       room_left = room_left;
       rows_fit = was.rows_fit;
       buffer_fits = was.buffer_fits;
@@ -192,16 +198,28 @@ ready-with {tells = tells} {given = given} {given' = given'} {tape' = tape'} {sc
       far_buffer_fits = was.far_buffer_fits;
     }))))
 
--- where it is as it was
-pub ready : {tells : Type 0} {given given' : Given} {tape tape' : List Operation} {scope scope' : Scope} {first first' : ℕ} {entries mid entries' : List Entry} {members members' : Members}
-    {work : Work} {course course' : Course} {ahead : PhasesLeft} {window window' : List ℕ} {steps steps' room room' rows buffer far_rows far_buffer : ℕ} {before after : ℕ → ℕ} (added : List Entry)
+-- where the work may have changed too, and the stripes that are zeroed
+pub ready-with : {tells : Type 0} {given given' : Given} {tape tape' : List Operation} {scope scope' : Scope} {first first' : ℕ} {entries mid entries' : List Entry} {members members' : Members}
+    {work work' : Work} {course : Course} {zeroed : ℕ} {ahead : PhasesLeft} {window window' : List ℕ} {steps steps' room room' rows buffer far_rows far_buffer : ℕ} {before after : ℕ → ℕ} (added : List Entry)
     → IsReady tells given tape scope first entries members work course ahead window before steps room rows buffer far_rows far_buffer
     → Grows tells tape tape' → AreSameShapes members.newest members'.newest
-    → IsMoving tells given tape' scope first (entries ++ added) members' (is_carried work) work.resync course' (bytes_in course'.window window') (left_in work members' course' ahead)
+    → IsMoving tells given tape' scope first (entries ++ added) members' (is_carried work') work'.resync (record course { zeroed = zeroed }) (bytes_in course.window window') (left_in work' members' (record course { zeroed = zeroed }) ahead)
     → length window' ≡ length window → NeverFalls before after → IsLengthKept added
     → (TakesNone (world_in given tape' scope first) (entries ++ added) → AreWhole members → AreWhole members')
     → given' ≡ given → scope' ≡ scope → first' ≡ first → mid ≡ entries → entries' ≡ mid ++ added → 50 * steps' < room'
-    → IsReady tells given' tape' scope' first' entries' members' work course' ahead window' after steps' room' rows buffer far_rows far_buffer
+    → IsReady tells given' tape' scope' first' entries' members' work' (record course { zeroed = zeroed }) ahead window' after steps' room' rows buffer far_rows far_buffer
+ready-with added was grows same kept = ready-moved added was grows same kept (λ span is. inl is)
+
+-- where it is as it was
+pub ready : {tells : Type 0} {given given' : Given} {tape tape' : List Operation} {scope scope' : Scope} {first first' : ℕ} {entries mid entries' : List Entry} {members members' : Members}
+    {work : Work} {course : Course} {zeroed : ℕ} {ahead : PhasesLeft} {window window' : List ℕ} {steps steps' room room' rows buffer far_rows far_buffer : ℕ} {before after : ℕ → ℕ} (added : List Entry)
+    → IsReady tells given tape scope first entries members work course ahead window before steps room rows buffer far_rows far_buffer
+    → Grows tells tape tape' → AreSameShapes members.newest members'.newest
+    → IsMoving tells given tape' scope first (entries ++ added) members' (is_carried work) work.resync (record course { zeroed = zeroed }) (bytes_in course.window window') (left_in work members' (record course { zeroed = zeroed }) ahead)
+    → length window' ≡ length window → NeverFalls before after → IsLengthKept added
+    → (TakesNone (world_in given tape' scope first) (entries ++ added) → AreWhole members → AreWhole members')
+    → given' ≡ given → scope' ≡ scope → first' ≡ first → mid ≡ entries → entries' ≡ mid ++ added → 50 * steps' < room'
+    → IsReady tells given' tape' scope' first' entries' members' work (record course { zeroed = zeroed }) ahead window' after steps' room' rows buffer far_rows far_buffer
 ready added was grows same kept = ready-with added was grows same kept
 
 -- with another buffer for rows
@@ -217,6 +235,7 @@ with-buffer fits was = record {
   planned = was.planned;
   wide = was.wide;
   failed = was.failed;
+  dead = was.dead;
   room_left = was.room_left;
   rows_fit = was.rows_fit;
   buffer_fits = fits;
@@ -239,6 +258,7 @@ roomier {tells = tells} {given = given} {tape = tape} {scope = scope} {first = f
       planned = was.planned;
       wide = was.wide;
       failed = was.failed;
+      dead = was.dead;
       room_left = (let had = was.room_left in omega (arith, had, more));
       rows_fit = was.rows_fit;
       buffer_fits = was.buffer_fits;

@@ -11,6 +11,7 @@ pub mod AddLaws
 pub mod Examined
 pub mod WriteLaws
 pub mod WriteReplies
+pub mod BarredLaws
 pub mod EnterLaws
 pub mod Entered
 pub mod Reading

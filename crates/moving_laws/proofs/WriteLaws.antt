@@ -141,6 +141,7 @@ roomed {tells = tells} {given = given} {tape = tape} {scope = scope} {first = fi
       planned = was.planned;
       wide = was.wide;
       failed = was.failed;
+      dead = was.dead;
       room_left = fits;
       rows_fit = was.rows_fit;
       buffer_fits = was.buffer_fits;
@@ -162,6 +163,7 @@ with-rooms one two three four was = record {
   planned = was.planned;
   wide = was.wide;
   failed = was.failed;
+  dead = was.dead;
   room_left = was.room_left;
   rows_fit = let had = was.rows_fit in omega (arith, had, one);
   buffer_fits = let had = was.buffer_fits in omega (arith, had, two);

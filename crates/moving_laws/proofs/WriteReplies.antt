@@ -140,7 +140,7 @@ finished-before window at to body who old mid left (inr (none, is)) = nothing-be
 
 -- ---- the write
 
-lacked-missing : (window : Window) (relied from to : ℕ) (m : Members) (refusal : Refusal) → IsWriteLacked window relied from to m refusal → IsOfMissing refusal
+pub lacked-missing : (window : Window) (relied from to : ℕ) (m : Members) (refusal : Refusal) → IsWriteLacked window relied from to m refusal → IsOfMissing refusal
 lacked-missing window relied from to m refusal (inl unwritten) = torn-missing relied from to m refusal unwritten
 lacked-missing window relied from to m refusal (inr (touches, many)) = too-many-of m refusal many
 

@@ -1,6 +1,7 @@
 -- What an array in a reshape keeps between its calls.
 use Rattle.std.specs.Prelude.{◌≡◌, ℕ, ◌-◌, ◌*◌, ◌<◌, ◌≤◌, false, List, [], length, take, None}
 use Rattle.md_base.specs.Shapes.{has_slot}
+use Rattle.md_base.specs.declared.places.Span.{Span}
 use Rattle.bank.specs.declared.bank.Operation.{Operation}
 use Rattle.bank.specs.Given.{Given}
 use Rattle.superblocks.specs.declared.members.Members.{Members}
@@ -9,6 +10,7 @@ use Rattle.grow_plan.specs.Plans.{AreSound}
 use Rattle.flat_history.specs.declared.events.Entry.{Entry}
 use Rattle.flat_history.specs.Flat.{length_of, limit_of}
 use Rattle.flat_history.specs.Stands.{reach_of}
+use Rattle.shape_views.specs.Regions.{backup_of}
 use Rattle.views.specs.declared.work.Work.{Work}
 use Rattle.views.specs.Numbers.{is_carried}
 use Rattle.grow_asked.specs.declared.window.Window.{Window}
@@ -28,7 +30,7 @@ bytes_in (Entered span copied sectioned) buffer = take (512 * (span.hi - span.lo
 bytes_in (Unsure span) buffer = take (512 * (span.hi - span.lo)) buffer
 
 -- The array keeps the record of its reshape. The entries tell the length of its list and limit it nowhere, where none of them takes a role's
--- holder no role is missing, each slot that wasn't found sound has failed, the window's buffer has room for each window, and there is room for the entries of so many
+-- holder no role is missing, each slot that wasn't found sound has failed, and the backup where a window is unsure, the window's buffer has room for each window, and there is room for the entries of so many
 -- steps and of its end, and for the rows of one call in two regions.
 pub record IsReady (tells : Type 0) (given : Given) (tape : List Operation) (scope : Scope) (first : ℕ) (entries : List Entry)
     (members : Members) (work : Work) (course : Course) (ahead : PhasesLeft) (window : List ℕ) (faults : ℕ → ℕ) (steps room rows buffer far_rows far_buffer : ℕ) : Type 0 where
@@ -39,6 +41,7 @@ pub record IsReady (tells : Type 0) (given : Given) (tape : List Operation) (sco
   pub planned : AreSound (final_shape members.newest) members.newest.size (phases_of ahead)
   pub wide : 512 * reach_of members.newest ≤ length window
   pub failed : (slot : ℕ) → slot < given.slots → has_slot scope.given slot ≡ false → 0 < faults slot
+  pub dead : (span : Span) → course.window ≡ Unsure span → 0 < faults (backup_of scope)
   pub room_left : 50 * steps < room
   pub rows_fit : 128 ≤ rows
   pub buffer_fits : 1048576 ≤ buffer

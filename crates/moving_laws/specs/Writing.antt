@@ -5,6 +5,7 @@ use Rattle.md_base.specs.Sectors.{Sector}
 use Rattle.md_base.specs.declared.answers.Fault.{Fault}
 use Rattle.md_base.specs.declared.answers.Fault.TheVariants.{Refused as IsRefusedWith, NoMemory}
 use Rattle.md_base.specs.declared.answers.Refusal.{Refusal}
+use Rattle.md_base.specs.declared.answers.Refusal.TheVariants.{BackupFault}
 use Rattle.md_base.specs.declared.answers.Who.{Who}
 use Rattle.md_base.specs.declared.places.Span.{Span}
 use Rattle.sb1.specs.declared.sb.Sb.{Sb}
@@ -27,7 +28,7 @@ use Rattle.grow_asked.specs.declared.window.Window.{Window}
 use Rattle.grow_asked.specs.declared.window.Window.TheVariants.{Closed, Entered, Unsure}
 use Rattle.grow_asked.specs.Left.{stripes_in}
 use Rattle.course_kept.specs.Laws.{entered}
-use Rattle.moving_state.specs.Due.{open_in}
+use Rattle.moving_state.specs.Due.{open_in, unsure_in}
 use Rattle.running_words.specs.Parts.{RunningParts}
 
 -- a window is entered
@@ -51,11 +52,25 @@ TouchesWindow window from to = (x : ℕ) × (from ≤ x) × (x < to) × (covers 
 abbrev pub IsWriteLacked : Window → ℕ → ℕ → ℕ → Members → Refusal → Type 0
 IsWriteLacked window relied from to m refusal = IsListUnwritten relied from to m refusal ⊎ (TouchesWindow window from to × AreTooMany m refusal)
 
+-- one of them lies in a window that is unsure
+abbrev pub TouchesUnsure : Window → ℕ → ℕ → Type 0
+TouchesUnsure window from to = (x : ℕ) × (from ≤ x) × (x < to) × (covers (unsure_in window) x ≡ true)
+
+-- So it is of each write; but one that touches an unsure window isn't done, as the backup has failed.
+abbrev pub IsWriteBarred : Window → ℕ → ℕ → ℕ → Members → Refusal → Type 0
+IsWriteBarred window relied from to m refusal = IsWriteLacked window relied from to m refusal ⊎ (TouchesUnsure window from to × (refusal ≡ BackupFault))
+
 -- A call entered what it lost, and behind it that the sectors are written, or why they aren't, behind what it tore.
 abbrev pub IsPutEntered : {T : Type 0} → Who → List Entry → List Entry → ℕ → List Sector → Result T Fault → Type 0
 IsPutEntered who old new at body (Ok x) = IsBehind who old new (Wrote at body)
 IsPutEntered who old new at body (Err (IsRefusedWith refusal)) = (roles : ℕ) × (spares : ℕ) × (torn : Bool) × (end : ℕ) × (new ≡ old ++ entries_of who end (failure_events roles spares torn at body refusal))
 IsPutEntered who old new at body (Err NoMemory) = ⊥
+
+-- a call entered nothing but why it isn't done
+abbrev pub IsRefusedAlone : {T : Type 0} → Who → List Entry → List Entry → Result T Fault → Type 0
+IsRefusedAlone who old new (Ok x) = ⊥
+IsRefusedAlone who old new (Err (IsRefusedWith refusal)) = (end : ℕ) × (new ≡ old ++ entry_of who end (Refused refusal) ∷ [])
+IsRefusedAlone who old new (Err NoMemory) = ⊥
 
 -- If it touches the entered window, what was lost as that was finished, and that it was, with the steps that were left then, stand before.
 abbrev pub IsFinishedFirst : Window → ℕ → ℕ → Who → List Entry → List Entry → ℕ → Type 0
@@ -84,3 +99,10 @@ abbrev pub IsWriteAnswered : {T : Type 0} → ℕ → ℕ → List Sector → Wh
 IsWriteAnswered size at body who old new (Ok x) = IsRepliedBehind size (AsksWrite at body) who old new (Wrote at body)
 IsWriteAnswered size at body who old new (Err (IsRefusedWith refusal)) = IsRepliedBehind size (AsksWrite at body) who old new (Refused refusal)
 IsWriteAnswered size at body who old new (Err NoMemory) = new ≡ old
+
+-- So it is of each write; but where the backup has failed, its refusal is all that was entered.
+abbrev pub IsWriteReplied : {T : Type 0} → ℕ → ℕ → List Sector → Who → List Entry → List Entry → Result T Fault → Type 0
+IsWriteReplied size at body who old new (Ok x) = IsRepliedBehind size (AsksWrite at body) who old new (Wrote at body)
+IsWriteReplied size at body who old new (Err (IsRefusedWith BackupFault)) = (end : ℕ) × (new ≡ old ++ entry_of who end (Refused BackupFault) ∷ [])
+IsWriteReplied size at body who old new (Err (IsRefusedWith refusal)) = IsRepliedBehind size (AsksWrite at body) who old new (Refused refusal)
+IsWriteReplied size at body who old new (Err NoMemory) = new ≡ old

@@ -86,10 +86,10 @@ IsStepTaken who old new kind left (Ok x) = IsBehind who old new (Step kind left)
 IsStepTaken who old new kind left (Err (IsRefusedWith refusal)) = IsBehind who old new (Refused refusal)
 IsStepTaken who old new kind left (Err NoMemory) = ⊥
 
--- no window is open, and the next one is to be entered
+-- no window is open, but one may be unsure, and the next one is to be entered
 pub record IsEnterDue {B : Type 0} (array : RunningParts B) : Type 0 where
   pub span : Span
-  pub is : array.course ≡ closed 0
+  pub is : (array.course ≡ closed 0) ⊎ (array.course ≡ unsure span)
   pub next : next_window array.parts.members.newest ≡ Some span
 
 -- the window that was the next is entered, with nothing copied, and its section is stored exactly where it is critical

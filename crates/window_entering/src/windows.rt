@@ -1,6 +1,6 @@
 //! The next window is entered.
 
-ghost use Rattle.std.specs.Prelude.{◌≡◌, ◌≢◌, ◌⊎◌, ◌+◌, ◌-◌, ◌*◌, ◌<◌, ◌≤◌, ℕ, true, false, length, take, None, Some, IsErr, MatchOption};
+ghost use Rattle.std.specs.Prelude.{◌≡◌, ◌≢◌, ◌⊎◌, ◌+◌, ◌-◌, ◌*◌, ◌<◌, ◌≤◌, ℕ, true, length, take, None, Some, IsErr, MatchOption};
 ghost use Rattle.md_base.specs.Sectors.{Sector};
 ghost use Rattle.md_base.specs.declared.answers.Refusal.TheVariants.{BackupFault};
 ghost use Rattle.bank.specs.Given.{IsFaulted, NeverFalls};

@@ -1,9 +1,7 @@
 //! The step that is due.
 
 ghost use Rattle.std.specs.Prelude.{◌≡◌, ◌≢◌, ◌⊎◌, ◌+◌, ◌≤◌, OnOk, OnErr};
-ghost use Rattle.md_base.specs.declared.places.Span.{Span};
 ghost use Rattle.array_kept.specs.Calls.{by_answer};
-ghost use Rattle.course_kept.specs.Laws.{unsure};
 ghost use Rattle.kept_history.specs.Recorded.{IsCallGoing};
 ghost use Rattle.moving_state.specs.Due.{due_of};
 ghost use Rattle.moving_state.specs.declared.stepping.Due.TheVariants.{Finish as EndsReshape};
@@ -18,16 +16,14 @@ use md_base::{Fault, Who};
 use moving_state::stepping::{Due, due_step};
 
 impl<B: Bank> Moving<B> {
-    /// The step that is due, but for the end of the reshape, while no window is unsure: a stripe of the entered window is copied, or it
-    /// is recorded; of a pending resync the next stripe is mended, or it ends; the next window is entered, or a stripe behind the list is
-    /// zeroed. Refusals: `TooManyMissing`, `NotResynced` where a stripe is to be mended, and `BackupFault` where a window is to be
+    /// The step that is due, but for the end of the reshape: a stripe of the entered window is copied, or it is recorded; of a pending
+    /// resync the next stripe is mended, or it ends; the next window is entered, or a stripe behind the list is zeroed. Refusals: `TooManyMissing`, `NotResynced` where a stripe is to be mended, and `BackupFault` where a window is to be
     /// entered. It takes no memory.
     pub fn step(&mut self, who: Who) -> Result<(), Fault>
         requires open { IsCallGoing self.old.parts.entries who }
         requires caller { who.caller ≢ 254 }
         requires room { 1 ≤ self.old.parts.steps }
         requires due { due_of self.old.parts.members.newest self.old.course self.old.parts.work.resync ≢ EndsReshape }
-        requires sure { (span : Span) → self.old.course ≡ unsure span → ⊥ }
         ensures entered { IsStepTaken who self.old.parts.entries self.new.parts.entries (kind_of (due_of self.old.parts.members.newest self.old.course self.old.parts.work.resync)) (left_in self.new.parts.work self.new.parts.members self.new.course self.new.ahead) result }
         ensures called { IsMendCalled B.tells (B.given self.old.parts.bank) (B.tape self.old.parts.bank) (B.tape self.new.parts.bank) (B.faults_of self.old.parts.bank) (B.faults_of self.new.parts.bank) self.old self.new }
         ensures work { self.new.parts.work ≡ record self.old.parts.work {

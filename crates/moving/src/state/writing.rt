@@ -1,7 +1,10 @@
 //! Writes to an array in a reshape.
 
-ghost use Rattle.std.specs.Prelude.{◌≡◌, ◌≢◌, ◌⊎◌, ◌+◌, ◌/◌, ◌^◌, ◌<◌, ◌≤◌, ℕ, length, false, OnOk, OnErr};
+ghost use Rattle.std.specs.Prelude.{◌≡◌, ◌≢◌, ◌⊎◌, ◌+◌, ◌/◌, ◌^◌, ◌<◌, ◌≤◌, ℕ, length, false, Err, IfSome, OnOk};
 ghost use Rattle.md_base.specs.Sectors.{IsWhole, sectors_of};
+ghost use Rattle.md_base.specs.declared.answers.Fault.TheVariants.{Refused as IsRefusedWith};
+ghost use Rattle.md_base.specs.declared.answers.Refusal.TheVariants.{BackupFault};
+ghost use Rattle.bank.specs.Given.{IsFaulted};
 ghost use Rattle.superblocks.specs.Reading.{is_clean, list_length, role_count};
 ghost use Rattle.flat_history.specs.Flat.{next_number};
 ghost use Rattle.flat_history.specs.Stands.{covers};
@@ -17,7 +20,7 @@ ghost use Rattle.course_kept.specs.Laws.{closed};
 ghost use Rattle.moving_state.specs.Due.{unsure_in};
 ghost use Rattle.running_words.specs.Parts.{left_in};
 ghost use Rattle.running_words.specs.Calls.{IsCalled, IsStepTaken};
-ghost use Rattle.moving_laws.specs.Writing.{IsWindowOpen, TouchesWindow, IsWriteLacked, IsPutEntered, IsWriteEntered, IsWriteAnswered};
+ghost use Rattle.moving_laws.specs.Writing.{IsWindowOpen, TouchesWindow, IsWriteLacked, IsWriteBarred, IsPutEntered, IsWriteEntered, IsWriteAnswered, IsWriteReplied};
 
 use crate::state::Moving;
 use crate::state::moves::check_going;
@@ -27,7 +30,7 @@ use flat_history::Event;
 use md_base::{Fault, Refusal, Sectors, Who};
 use moving_state::refusing::unwritten_from;
 use moving_state::reshape::list_sectors;
-use moving_state::windows::{meets, open_span};
+use moving_state::windows::{meets, open_span, unsure_span};
 use region_mends::stripes::relied_sector;
 use region_writes::writing::put_list;
 use safe_updates::naming::newly_vacant;
@@ -35,7 +38,7 @@ use safe_updates::roles::vacant_roles;
 use superblocks::Members;
 
 // Why so many sectors from one on aren't written, before any row is read, where parity is to be relied on up to sector `relied`.
-fn unwritten_here(members: &Members, relied: u64, at: u64, count: u64) -> Option<Refusal>
+pub(crate) fn unwritten_here(members: &Members, relied: u64, at: u64, count: u64) -> Option<Refusal>
     requires fit { AreShapesFit members.now.newest }
     requires roles { length members.now.roles ≡ role_count members.now.newest }
     requires some { 0 < count }
@@ -141,11 +144,8 @@ impl<B: Bank> Moving<B> {
         self.finish_window(who)
     }
 
-    /// Makes the list hold `from`, of 1 to 128 whole sectors, from `at` on. Where some lie in the open window, that is finished first.
-    /// Refusals: `PastEnd`, `TooManyMissing` where more roles of the shape of one of them are missing than it tolerates, or, where
-    /// the window has to be finished, of either shape, and `NotResynced` where a resync is pending, of a missing role that has data in the
-    /// shape of one of them that lies in a stripe that isn't mended.
-    pub fn write(&mut self, who: Who, at: u64, from: &[u8]) -> Result<(), Fault>
+    // Makes the list hold `from` from `at` on, where none of its sectors lies in an unsure window.
+    fn write_sure(&mut self, who: Who, at: u64, from: &[u8]) -> Result<(), Fault>
         requires next { who.number ≡ next_number who.caller self.old.parts.entries }
         requires caller { who.caller ≢ 254 }
         requires whole { IsWhole from.now }
@@ -183,5 +183,35 @@ impl<B: Bank> Moving<B> {
             Err(fault) => return Err(fault),
         }
         self.write_beside(who, at, from, body)
+    }
+    /// Makes the list hold `from`, of 1 to 128 whole sectors, from `at` on. Where some lie in the open window, that is finished first.
+    /// Refusals: `PastEnd`, `TooManyMissing` where more roles of the shape of one of them are missing than it tolerates, or, where
+    /// the window has to be finished, of either shape, `BackupFault` where some lie in an unsure window, and `NotResynced` where a resync is pending, of a missing role that has data in the
+    /// shape of one of them that lies in a stripe that isn't mended.
+    pub fn write(&mut self, who: Who, at: u64, from: &[u8]) -> Result<(), Fault>
+        requires next { who.number ≡ next_number who.caller self.old.parts.entries }
+        requires caller { who.caller ≢ 254 }
+        requires whole { IsWhole from.now }
+        requires some { 0 < length from.now / 512 }
+        requires few { length from.now / 512 ≤ 128 }
+        requires short { at + length from.now / 512 < 2 ^ 63 }
+        ensures answered { IsWriteReplied (list_length self.old.parts.members.newest) at (sectors_of from.now) who self.old.parts.entries self.new.parts.entries result }
+        ensures entered { IsWriteEntered self.old.course.window at (at + length from.now / 512) (sectors_of from.now) who self.old.parts.entries self.new.parts.entries (left_in self.new.parts.work self.new.parts.members self.new.course self.new.ahead) result }
+        ensures unchanged { OnNoMemory result (self.new ≡ self.old) }
+        ensures called { IsCalled B.tells (B.given self.old.parts.bank) (B.tape self.old.parts.bank) (B.tape self.new.parts.bank) (B.faults_of self.old.parts.bank) (B.faults_of self.new.parts.bank) self.old self.new }
+        ensures caused { IsCausedBy (list_length self.old.parts.members.newest) (at + length from.now / 512)
+            (IsWriteBarred self.old.course.window (relied_sector self.old.parts.members.newest self.old.parts.work.resync) at (at + length from.now / 512)) self.old.parts.members self.new.parts.members result }
+        ensures failed { HaveRolesFailed self.old.parts.members self.new.parts.members (B.faults_of self.old.parts.bank) (B.faults_of self.new.parts.bank) }
+        ensures backup { result ≡ Err (IsRefusedWith BackupFault) → IfSome self.old.parts.backup (λ slot. IsFaulted slot (B.faults_of self.old.parts.bank) (B.faults_of self.new.parts.bank)) }
+        ensures dirty { OnOk result (is_clean self.new.parts.members.newest ≡ false) }
+        ensures course { (TouchesWindow self.old.course.window at (at + length from.now / 512) → ⊥) → self.new.course ≡ self.old.course }
+        ensures closed { OnOk result (TouchesWindow self.old.course.window at (at + length from.now / 512) → self.new.course ≡ closed 0) }
+        ensures given { B.given self.new.parts.bank ≡ B.given self.old.parts.bank }
+    {
+        let count = (from.len() / 512) as u64;
+        if meets(unsure_span(&self.course), at, at + count) {
+            return self.bar_write(who, at, from);
+        }
+        self.write_sure(who, at, from)
     }
 }

@@ -31,7 +31,7 @@ use Rattle.moving_laws.specs.Ready.{bytes_in}
 use Rattle.running_words.specs.Calls.{IsCopyDue}
 use Rattle.running_words.proofs.Called.{not_254, called, alone-lossless}
 use Rattle.moving_laws.proofs.Copied.{due-is, left-falls, IsStripeTried, copied-more, copied-kept, uncopied-kept}
-use Rattle.moving_laws.proofs.Kept.{ready, shapes-same, shapes-moved, alone-keeps, behind-keeps, behind-whole, with-buffer, live-of}
+use Rattle.moving_laws.proofs.Kept.{ready, ready-moved, shapes-same, shapes-moved, alone-keeps, behind-keeps, behind-whole, with-buffer, live-of}
 use Rattle.moving_laws.proofs.Settled.{risen-told, many-of}
 use Rattle.moving.proofs.state.Moving.copy.Goals as goal
 
@@ -164,7 +164,7 @@ invariant_of-self-2 g c =
     c.in-Entered.span c.in-Entered.copied c.in-Entered.sectioned c.args.who end roles spares was.kept due.0 (live-of was.kept c.in_default.ensures) due.1 goes (not_254 c.args.who.caller c.requires.caller) c.ops-end-2.ensures.count did.grows tried
     left c.steps_left-left.ensures (λ t list copied. did.stands c.in_default-refusal.is t list (subst (λ (l : List ℕ). IsCopied span (take (512 * (span.hi - span.lo)) l) (tail_of a.members.newest) list) (sym c.as_slice.ensures.value) copied)) in
     with-buffer (let len = (with_items a.buffer c.copy_next-moved.new.scratch).ok.0 in let ok = a.buffer.ok.0 in omega (arith, len, ok, was.buffer_fits))
-    (ready (entries_of c.args.who end (losses_of roles spares ++ Step CopiesStripe left ∷ [])) was did.grows (shapes-moved given a.members m did.moved) kept
+    (ready-moved (entries_of c.args.who end (losses_of roles spares ++ Step CopiesStripe left ∷ [])) was did.grows (shapes-moved given a.members m did.moved) kept (λ span is. absurd (cc))
     refl did.counts (behind-keeps c.args.who end roles spares (Step CopiesStripe left) (λ n. refl) refl) (behind-whole tape' (scope_in given a.epoch.uuid a.epoch.given (Some a.backup)) a.epoch.first a.epoch.entries.items c.args.who end roles spares (Step CopiesStripe left) did.moved (missing-since roles did.moved did.since.vacant)) did.given (scope-same given (Some a.backup) did.given c.enter_behind-2.ensures.uuid c.enter_behind-2.ensures.given) c.enter_behind-2.ensures.first refl c.enter_behind-2.ensures.items
     (let had = was.room_left in let room = c.enter_behind-2.ensures.room in omega (arith, room, had, steps)))
 

@@ -1,266 +1,45 @@
-use Rattle.std.proofs.Common.{None, ◌≡◌, ◌≤◌, inl, inr, ℕ, ◌-◌, ◌*◌, List, [], ◌∷◌, ◌++◌, length, take, Some, refl, sym, ◌∙◌, ap, subst, arith}
-use Rattle.std.specs.Vec.{with_items}
-use Rattle.bank.specs.Tape.{disk}
-use Rattle.superblocks.specs.Reading.{next_window}
-use Rattle.flat_history.specs.declared.events.Event.TheVariants.{Refused, Step}
+use Rattle.std.proofs.Common.{◌≡◌, inl, ap, subst}
+use Rattle.md_base.specs.declared.answers.Refusal.{Refusal}
+use Rattle.md_base.specs.declared.answers.Refusal.TheVariants.{BackupFault}
+use Rattle.md_base.specs.declared.places.Span.{Span}
+use Rattle.superblocks.specs.Reading.{is_clean}
+use Rattle.superblocks.specs.declared.members.Members.{Members}
 use Rattle.flat_history.specs.declared.events.StepKind.TheVariants.{Entered as EntersWindow}
-use Rattle.flat_history.specs.Plain.{entries_of}
-use Rattle.views.specs.Numbers.{is_carried}
-use Rattle.views.proofs.LackingLaws.{never-both}
-use Rattle.views.proofs.MovedLaws.{grows-none, moved-same}
-use Rattle.call_entries.specs.Losing.{losses_of}
-use Rattle.array_kept.specs.Kept.{scope_in}
-use Rattle.array_kept.proofs.LossLaws.{losses-behind, ended-behind, behind-alone}
-use Rattle.array_kept.proofs.ReadyLaws.{scope-same}
-use Rattle.kept_history.specs.Recorded.{IsCallGoing}
-use Rattle.kept_history.specs.Safe.{world_in, OpensOnCourse}
-use Rattle.course_kept.specs.declared.course.Course.{Course}
-use Rattle.course_kept.specs.Course.{IsStored}
-use Rattle.moving_kept.specs.Moving.{IsMoving}
-use Rattle.moving_kept.proofs.Refusals.{quiet-refusal, refused-right}
-use Rattle.moving_kept.proofs.Resting.{resting-moves}
-use Rattle.moving_kept.proofs.Steps.{missing-since}
-use Rattle.running_words.specs.Calls.{IsEnterDue}
+use Rattle.views.specs.Lacking.{AreTooMany}
+use Rattle.grow_asked.specs.declared.window.Window.TheVariants.{Unsure}
 use Rattle.running_words.specs.Parts.{left_in}
-use Rattle.moving_laws.specs.Ready.{bytes_in}
-use Rattle.moving_laws.proofs.Settled.{risen-told}
-use Rattle.running_words.proofs.Called.{not_254, called, alone-lossless}
-use Rattle.moving_laws.proofs.Kept.{ready, shapes-same, shapes-moved, alone-keeps, behind-keeps, behind-whole, with-buffer, written-whole}
-use Rattle.moving_laws.proofs.EnterLaws.{backup-for}
-use Rattle.moving_laws.proofs.Entered.{course_in, IsNextTried, when-some, when-none, enter-refused, enter-left, enter-done}
+use Rattle.moving_laws.proofs.BarredLaws.{alone-taken, barred-enter, refused-err, err-ok, err-any}
 use Rattle.moving.proofs.state.Moving.enter.Goals as goal
 
--- ---- the members lack too many
+-- ---- a window is unsure
 
-pub invariant_of-self : goal.invariant_of-self
-invariant_of-self g c =
-    let was = c.self.invariant in
-    let a = c.self.inside in
-    let given = g.B.Bank.given a.bank in
-    let scope = scope_in given a.epoch.uuid a.epoch.given (Some a.backup) in
-    let goes : IsCallGoing a.epoch.entries.items c.args.who = subst (λ p. IsCallGoing p.parts.entries c.args.who) (sym c.self.view_is) c.requires.open in
-    let steps : 1 ≤ a.steps = subst (λ p. 1 ≤ p.parts.steps) (sym c.self.view_is) c.requires.room in
-    let tape = g.B.Bank.tape a.bank in
-    let end = c.ops-end.result in
-    let refusal = c.in-Some.refusal in
-    let kept = resting-moves g.B.Bank.tells given tape scope a.epoch.first a.epoch.entries.items a.members (is_carried a.work) a.work.resync a.course (bytes_in a.course.window a.window.items) (left_in a.work a.members a.course a.ahead)
-    c.args.who end (Refused refusal) was.kept goes (not_254 c.args.who.caller c.requires.caller) c.ops-end.ensures.count (quiet-refusal refusal) (λ told is. is)
-    (λ t right. refused-right (world_in given tape scope a.epoch.first) a.epoch.entries.items given a.members was.kept.members_are.placed (was.kept.gone t right) (was.kept.levelled t right) refusal c.in-Some.ensures) in
-    ready (entries_of c.args.who end (Refused refusal ∷ [])) was (grows-none (λ t. refl)) (shapes-same a.members.newest) kept
-    refl (λ slot. omega arith) (alone-keeps c.args.who end (Refused refusal) (λ n. refl) refl) (λ none whole. whole) refl (scope-same given (Some a.backup) refl c.enter.ensures.uuid c.enter.ensures.given) c.enter.ensures.first refl c.enter.ensures.items
-    (let had = was.room_left in let room = c.enter.ensures.room in omega (arith, room, had, steps))
+pub clear-requires-clause-unsure : goal.clear-requires-clause-unsure
+clear-requires-clause-unsure g c = subst (λ p. (span : Span) × (p.course.window ≡ Unsure span)) c.self.view_is (c.is_barred.ensures.yes c.if-is_barred.true).0
 
-pub returns-in-Some-clause-called : goal.returns-in-Some-clause-called
-returns-in-Some-clause-called g c =
-    let was = c.self.invariant in
-    let a = c.self.inside in
-    let given = g.B.Bank.given a.bank in
-    let faults = g.B.Bank.faults_of a.bank in
-    let end = c.ops-end.result in
-    let refusal = c.in-Some.refusal in
-    rw (← c.self.view_is) (called (grows-none (λ t. refl)) (moved-same given given a.members a.members refl refl was.kept.members_are.placed was.kept.members_are.unlost)
-    (ended-behind (g.B.Bank.tape a.bank) c.enter.new.epoch.first a.epoch.entries.items c.args.who end [] (Refused refusal) c.enter.ensures.items c.ops-end.ensures.count)
-    (alone-lossless a.members faults faults a.epoch.entries.items a.epoch.entries.items c.enter.new.epoch.entries.items c.args.who end (Refused refusal) tt refl c.enter.ensures.items)
-    (λ slot. omega arith)
-    (record { uuid = c.enter.ensures.uuid; given = c.enter.ensures.given; first = c.enter.ensures.first; backup = refl; work = refl; ahead = refl })
-    (λ t. (was.kept.recorded t).begun))
+pub returns-then-is_barred-clause-entered : goal.returns-then-is_barred-clause-entered
+returns-then-is_barred-clause-entered g c =
+    let new = c.clear.new.self in
+    alone-taken c.args.who c.args.self.now.parts.entries new.parts.entries EntersWindow (left_in new.parts.work new.parts.members new.course new.ahead) c.clear.result c.clear.ensures.alone
 
-pub returns-in-Some-clause-entered : goal.returns-in-Some-clause-entered
-returns-in-Some-clause-entered g c =
-    rw (← c.self.view_is) (behind-alone c.args.who c.ops-end.result (Refused c.in-Some.refusal) refl c.enter.ensures.items)
+pub returns-then-is_barred-clause-clean : goal.returns-then-is_barred-clause-clean
+returns-then-is_barred-clause-clean g c = ap (λ (m : Members). is_clean m.newest) c.clear.ensures.members
 
--- ---- the backup
+pub returns-then-is_barred-clause-caused : goal.returns-then-is_barred-clause-caused
+returns-then-is_barred-clause-caused g c =
+    barred-enter c.args.self.now.parts.backup c.args.self.now.parts.members c.clear.new.self.parts.members (g.B.Bank.faults_of c.args.self.now.parts.bank) (g.B.Bank.faults_of c.clear.new.self.parts.bank) c.clear.result
+    c.clear.ensures.refused c.clear.ensures.backup
 
-pub enter_next-tried-requires-clause-slot : goal.enter_next-tried-requires-clause-slot
-enter_next-tried-requires-clause-slot g c =
-    let a = c.self.inside in
-    (backup-for (g.B.Bank.given a.bank) a.epoch.uuid a.epoch.given a.backup a.members c.in-Some-next_window_of.span c.self.invariant.kept.members_are (sym c.in-Some-next_window_of.ensures.value)).slot
+pub returns-then-is_barred-clause-left : goal.returns-then-is_barred-clause-left
+returns-then-is_barred-clause-left g c = err-ok _ c.clear.result (refused-err c.clear.result BackupFault c.clear.ensures.refused)
 
-pub enter_next-tried-requires-clause-within : goal.enter_next-tried-requires-clause-within
-enter_next-tried-requires-clause-within g c =
-    let a = c.self.inside in
-    (backup-for (g.B.Bank.given a.bank) a.epoch.uuid a.epoch.given a.backup a.members c.in-Some-next_window_of.span c.self.invariant.kept.members_are (sym c.in-Some-next_window_of.ensures.value)).within
+pub returns-then-is_barred-clause-opened : goal.returns-then-is_barred-clause-opened
+returns-then-is_barred-clause-opened g c = err-ok _ c.clear.result (refused-err c.clear.result BackupFault c.clear.ensures.refused)
 
--- ---- it is refused
+pub returns-then-is_barred-clause-course : goal.returns-then-is_barred-clause-course
+returns-then-is_barred-clause-course g c = err-any c.clear.result (inl c.clear.ensures.course)
 
-pub invariant_of-self-in-Some-refusal : goal.invariant_of-self-in-Some-refusal
-invariant_of-self-in-Some-refusal g c =
-    let was = c.self.invariant in
-    let a = c.self.inside in
-    let given = g.B.Bank.given a.bank in
-    let scope = scope_in given a.epoch.uuid a.epoch.given (Some a.backup) in
-    let tape = g.B.Bank.tape a.bank in
-    let tape' = g.B.Bank.tape c.enter_next-tried.new.bank in
-    let m = c.enter_next-tried.new.members in
-    let did = c.enter_next-tried.ensures in
-    let tried = c.enter_next-tried.result in
-    let span = c.in-Some-next_window_of.span in
-    let due = subst (λ p. IsEnterDue p) (sym c.self.view_is) c.requires.due in
-    let synced : a.work.resync ≡ None = ap (λ p. p.parts.work.resync) c.self.view_is ∙ c.requires.synced in
-    let at : next_window a.members.newest ≡ Some span = sym c.in-Some-next_window_of.ensures.value in
-    let goes : IsCallGoing a.epoch.entries.items c.args.who = subst (λ p. IsCallGoing p.parts.entries c.args.who) (sym c.self.view_is) c.requires.open in
-    let steps : 1 ≤ a.steps = subst (λ p. 1 ≤ p.parts.steps) (sym c.self.view_is) c.requires.room in
-    let its = (backup-for given a.epoch.uuid a.epoch.given a.backup a.members span was.kept.members_are at).is in
-    let stored = λ (t : g.B.Bank.tells) (on : OpensOnCourse (world_in given tape scope a.epoch.first)). subst (λ (k : Course). IsStored scope a.members k.window (bytes_in k.window a.window.items) (disk given.start tape)) due.is (was.kept.stored t on) in
-    let written = c.enter_next-tried.new.window in
-    let next : IsNextTried g.B.Bank.tells given tape tape' scope a.epoch.first a.members m tried.window (take (512 * (span.hi - span.lo)) written) tried.roles = record {
-      moved = did.moved;
-      since = missing-since tried.roles did.moved did.since.vacant;
-      clean = did.clean;
-      rise = risen-told did.rise;
-      kept = did.kept;
-      has = did.has;
-      stored = λ t on. did.stored t scope its was.kept.members_are (stored t on).section (stored t on).headers;
-      safe = λ t on told list room gone unclean stands filled allowed before. did.safe t (world_in given tape scope a.epoch.first) told list room gone unclean its (stored t on).section stands filled allowed before;
-    } in
-    let refusal = c.in-Some-refusal.refusal in
-    let end = c.ops-end-2.result in
-    let whole : (with_items a.window written).items ≡ written = written-whole a.window.len a.window.items written (c.enter_next-tried.auto.window ∙ ap (λ (l : List ℕ). length l) c.as_mut_slice.ensures.value) a.window.ok.0 in
-    let kept = subst (λ (l : List ℕ). IsMoving g.B.Bank.tells given tape' scope a.epoch.first (a.epoch.entries.items ++ entries_of c.args.who end (losses_of tried.roles tried.spares ++ Refused refusal ∷ [])) m (is_carried a.work) a.work.resync
-    (record a.course { window = tried.window }) (bytes_in tried.window l) (left_in a.work m (record a.course { window = tried.window }) a.ahead)) (sym whole)
-    (enter-refused a.course a.ahead tried.window span written c.args.who c.ops-end-2.result tried.roles tried.spares due.is at was.kept synced was.full c.in_default.ensures goes c.requires.caller c.ops-end-2.ensures.count did.grows next
-    (elim (when-some _ _ tried.refusal refusal c.in-Some-refusal.is did.window) [ inl none ↦ inl none | inr unsure ↦ inr unsure.0 ])
-    refusal (elim (when-some _ _ tried.refusal refusal c.in-Some-refusal.is did.refused) [ inl many ↦ inl many | inr fault ↦ inr fault.0 ])) in
-    with-buffer (let len = (with_items a.buffer c.enter_next-tried.new.scratch).ok.0 in let ok = a.buffer.ok.0 in omega (arith, len, ok, was.buffer_fits))
-    (ready (entries_of c.args.who end (losses_of tried.roles tried.spares ++ Refused refusal ∷ [])) was did.grows (shapes-moved given a.members m did.moved) kept
-    (let len = (with_items a.window written).ok.0 in let ok = a.window.ok.0 in omega (arith, len, ok)) did.counts (behind-keeps c.args.who end tried.roles tried.spares (Refused refusal) (λ n. refl) refl)
-    (behind-whole tape' scope a.epoch.first a.epoch.entries.items c.args.who end tried.roles tried.spares (Refused refusal) did.moved (missing-since tried.roles did.moved did.since.vacant))
-    did.given (scope-same given (Some a.backup) did.given c.enter_behind.ensures.uuid c.enter_behind.ensures.given) c.enter_behind.ensures.first refl c.enter_behind.ensures.items
-    (let had = was.room_left in let room = c.enter_behind.ensures.room in omega (arith, room, had, steps)))
+-- ---- none is, or too many roles are missing anyway
 
-pub returns-in-Some-refusal-clause-called : goal.returns-in-Some-refusal-clause-called
-returns-in-Some-refusal-clause-called g c =
-    let was = c.self.invariant in
-    let a = c.self.inside in
-    let m = c.enter_next-tried.new.members in
-    let did = c.enter_next-tried.ensures in
-    let tried = c.enter_next-tried.result in
-    let before = g.B.Bank.faults_of a.bank in
-    let after = g.B.Bank.faults_of c.enter_next-tried.new.bank in
-    let end = c.ops-end-2.result in
-    let event = Refused c.in-Some-refusal.refusal in
-    rw (← c.self.view_is) (called did.grows did.moved
-    (ended-behind (g.B.Bank.tape c.enter_next-tried.new.bank) c.enter_behind.new.epoch.first a.epoch.entries.items c.args.who end (losses_of tried.roles tried.spares) event c.enter_behind.ensures.items c.ops-end-2.ensures.count)
-    (losses-behind a.members m before after a.epoch.entries.items a.epoch.entries.items c.enter_behind.new.epoch.entries.items c.args.who end tried.roles tried.spares event did.since tt refl c.enter_behind.ensures.items)
-    did.counts
-    (record { uuid = c.enter_behind.ensures.uuid; given = c.enter_behind.ensures.given; first = c.enter_behind.ensures.first; backup = refl; work = refl; ahead = refl })
-    (λ t. (was.kept.recorded t).begun))
-
-pub returns-in-Some-refusal-clause-caused : goal.returns-in-Some-refusal-clause-caused
-returns-in-Some-refusal-clause-caused g c = rw (← c.self.view_is) (when-some _ _ c.enter_next-tried.result.refusal c.in-Some-refusal.refusal c.in-Some-refusal.is c.enter_next-tried.ensures.refused)
-
-pub returns-in-Some-refusal-clause-course : goal.returns-in-Some-refusal-clause-course
-returns-in-Some-refusal-clause-course g c =
-    let a = c.self.inside in
-    let tried = c.enter_next-tried.result in
-    let span = c.in-Some-next_window_of.span in
-    let due = subst (λ p. IsEnterDue p) (sym c.self.view_is) c.requires.due in
-    let synced : a.work.resync ≡ None = ap (λ p. p.parts.work.resync) c.self.view_is ∙ c.requires.synced in
-    let with_it : record a.course { window = tried.window } ≡ course_in tried.window = ap (λ (k : Course). record k { window = tried.window }) due.is in
-    rw (← c.self.view_is) (elim (when-some _ _ tried.refusal c.in-Some-refusal.refusal c.in-Some-refusal.is c.enter_next-tried.ensures.window) [
-      | inl none ↦ inl (with_it ∙ ap course_in none ∙ sym due.is)
-      | inr unsure ↦ inr (span, sym c.in-Some-next_window_of.ensures.value, sym c.is_window_critical-sectioned.ensures ∙ unsure.1, with_it ∙ ap course_in unsure.0)
-    ])
-
--- ---- it is entered
-
-pub invariant_of-self-2 : goal.invariant_of-self-2
-invariant_of-self-2 g c =
-    let was = c.self.invariant in
-    let a = c.self.inside in
-    let given = g.B.Bank.given a.bank in
-    let scope = scope_in given a.epoch.uuid a.epoch.given (Some a.backup) in
-    let tape = g.B.Bank.tape a.bank in
-    let tape' = g.B.Bank.tape c.enter_next-tried.new.bank in
-    let m = c.enter_next-tried.new.members in
-    let did = c.enter_next-tried.ensures in
-    let tried = c.enter_next-tried.result in
-    let span = c.in-Some-next_window_of.span in
-    let due = subst (λ p. IsEnterDue p) (sym c.self.view_is) c.requires.due in
-    let synced : a.work.resync ≡ None = ap (λ p. p.parts.work.resync) c.self.view_is ∙ c.requires.synced in
-    let at : next_window a.members.newest ≡ Some span = sym c.in-Some-next_window_of.ensures.value in
-    let goes : IsCallGoing a.epoch.entries.items c.args.who = subst (λ p. IsCallGoing p.parts.entries c.args.who) (sym c.self.view_is) c.requires.open in
-    let steps : 1 ≤ a.steps = subst (λ p. 1 ≤ p.parts.steps) (sym c.self.view_is) c.requires.room in
-    let its = (backup-for given a.epoch.uuid a.epoch.given a.backup a.members span was.kept.members_are at).is in
-    let stored = λ (t : g.B.Bank.tells) (on : OpensOnCourse (world_in given tape scope a.epoch.first)). subst (λ (k : Course). IsStored scope a.members k.window (bytes_in k.window a.window.items) (disk given.start tape)) due.is (was.kept.stored t on) in
-    let written = c.enter_next-tried.new.window in
-    let next : IsNextTried g.B.Bank.tells given tape tape' scope a.epoch.first a.members m tried.window (take (512 * (span.hi - span.lo)) written) tried.roles = record {
-      moved = did.moved;
-      since = missing-since tried.roles did.moved did.since.vacant;
-      clean = did.clean;
-      rise = risen-told did.rise;
-      kept = did.kept;
-      has = did.has;
-      stored = λ t on. did.stored t scope its was.kept.members_are (stored t on).section (stored t on).headers;
-      safe = λ t on told list room gone unclean stands filled allowed before. did.safe t (world_in given tape scope a.epoch.first) told list room gone unclean its (stored t on).section stands filled allowed before;
-    } in
-    let left = c.steps_left-left.result in
-    let end = c.ops-end-2.result in
-    let whole : (with_items a.window written).items ≡ written = written-whole a.window.len a.window.items written (c.enter_next-tried.auto.window ∙ ap (λ (l : List ℕ). length l) c.as_mut_slice.ensures.value) a.window.ok.0 in
-    let kept = subst (λ (l : List ℕ). IsMoving g.B.Bank.tells given tape' scope a.epoch.first (a.epoch.entries.items ++ entries_of c.args.who end (losses_of tried.roles tried.spares ++ Step EntersWindow left ∷ [])) m (is_carried a.work) a.work.resync
-    (record a.course { window = tried.window }) (bytes_in tried.window l) (left_in a.work m (record a.course { window = tried.window }) a.ahead)) (sym whole)
-    (enter-done a.course a.ahead tried.window span written c.args.who c.ops-end-2.result tried.roles tried.spares due.is at was.kept synced was.full c.in_default.ensures goes c.requires.caller c.ops-end-2.ensures.count did.grows next
-    c.is_window_critical-sectioned.result (when-none _ _ tried.refusal c.in_default-refusal.is did.window) (λ critical. c.is_window_critical-sectioned.ensures ∙ critical) left c.steps_left-left.ensures) in
-    with-buffer (let len = (with_items a.buffer c.enter_next-tried.new.scratch).ok.0 in let ok = a.buffer.ok.0 in omega (arith, len, ok, was.buffer_fits))
-    (ready (entries_of c.args.who end (losses_of tried.roles tried.spares ++ Step EntersWindow left ∷ [])) was did.grows (shapes-moved given a.members m did.moved) kept
-    (let len = (with_items a.window written).ok.0 in let ok = a.window.ok.0 in omega (arith, len, ok)) did.counts (behind-keeps c.args.who end tried.roles tried.spares (Step EntersWindow left) (λ n. refl) refl)
-    (behind-whole tape' scope a.epoch.first a.epoch.entries.items c.args.who end tried.roles tried.spares (Step EntersWindow left) did.moved (missing-since tried.roles did.moved did.since.vacant))
-    did.given (scope-same given (Some a.backup) did.given c.enter_behind-2.ensures.uuid c.enter_behind-2.ensures.given) c.enter_behind-2.ensures.first refl c.enter_behind-2.ensures.items
-    (let had = was.room_left in let room = c.enter_behind-2.ensures.room in omega (arith, room, had, steps)))
-
-pub returns-clause-called : goal.returns-clause-called
-returns-clause-called g c =
-    let was = c.self.invariant in
-    let a = c.self.inside in
-    let m = c.enter_next-tried.new.members in
-    let did = c.enter_next-tried.ensures in
-    let tried = c.enter_next-tried.result in
-    let before = g.B.Bank.faults_of a.bank in
-    let after = g.B.Bank.faults_of c.enter_next-tried.new.bank in
-    let end = c.ops-end-2.result in
-    let event = Step EntersWindow c.steps_left-left.result in
-    rw (← c.self.view_is) (called did.grows did.moved
-    (ended-behind (g.B.Bank.tape c.enter_next-tried.new.bank) c.enter_behind-2.new.epoch.first a.epoch.entries.items c.args.who end (losses_of tried.roles tried.spares) event c.enter_behind-2.ensures.items c.ops-end-2.ensures.count)
-    (losses-behind a.members m before after a.epoch.entries.items a.epoch.entries.items c.enter_behind-2.new.epoch.entries.items c.args.who end tried.roles tried.spares event did.since tt refl c.enter_behind-2.ensures.items)
-    did.counts
-    (record { uuid = c.enter_behind-2.ensures.uuid; given = c.enter_behind-2.ensures.given; first = c.enter_behind-2.ensures.first; backup = refl; work = refl; ahead = refl })
-    (λ t. (was.kept.recorded t).begun))
-
-pub returns-clause-caused : goal.returns-clause-caused
-returns-clause-caused g c = rw (← c.self.view_is) (
-  λ refusal many. never-both c.self.inside.members refusal c.in_default.ensures many,
-  λ refusal many. never-both c.enter_next-tried.new.members refusal (when-none _ _ c.enter_next-tried.result.refusal c.in_default-refusal.is c.enter_next-tried.ensures.refused) many,
-)
-
-pub returns-clause-left : goal.returns-clause-left
-returns-clause-left g c =
-    let was = c.self.invariant in
-    let a = c.self.inside in
-    let given = g.B.Bank.given a.bank in
-    let scope = scope_in given a.epoch.uuid a.epoch.given (Some a.backup) in
-    let tape = g.B.Bank.tape a.bank in
-    let tape' = g.B.Bank.tape c.enter_next-tried.new.bank in
-    let m = c.enter_next-tried.new.members in
-    let did = c.enter_next-tried.ensures in
-    let tried = c.enter_next-tried.result in
-    let span = c.in-Some-next_window_of.span in
-    let due = subst (λ p. IsEnterDue p) (sym c.self.view_is) c.requires.due in
-    let synced : a.work.resync ≡ None = ap (λ p. p.parts.work.resync) c.self.view_is ∙ c.requires.synced in
-    let at : next_window a.members.newest ≡ Some span = sym c.in-Some-next_window_of.ensures.value in
-    let goes : IsCallGoing a.epoch.entries.items c.args.who = subst (λ p. IsCallGoing p.parts.entries c.args.who) (sym c.self.view_is) c.requires.open in
-    let steps : 1 ≤ a.steps = subst (λ p. 1 ≤ p.parts.steps) (sym c.self.view_is) c.requires.room in
-    let its = (backup-for given a.epoch.uuid a.epoch.given a.backup a.members span was.kept.members_are at).is in
-    let stored = λ (t : g.B.Bank.tells) (on : OpensOnCourse (world_in given tape scope a.epoch.first)). subst (λ (k : Course). IsStored scope a.members k.window (bytes_in k.window a.window.items) (disk given.start tape)) due.is (was.kept.stored t on) in
-    let written = c.enter_next-tried.new.window in
-    let next : IsNextTried g.B.Bank.tells given tape tape' scope a.epoch.first a.members m tried.window (take (512 * (span.hi - span.lo)) written) tried.roles = record {
-      moved = did.moved;
-      since = missing-since tried.roles did.moved did.since.vacant;
-      clean = did.clean;
-      rise = risen-told did.rise;
-      kept = did.kept;
-      has = did.has;
-      stored = λ t on. did.stored t scope its was.kept.members_are (stored t on).section (stored t on).headers;
-      safe = λ t on told list room gone unclean stands filled allowed before. did.safe t (world_in given tape scope a.epoch.first) told list room gone unclean its (stored t on).section stands filled allowed before;
-    } in
-    rw (← c.self.view_is) (enter-left a.course a.ahead tried.window span written c.args.who c.ops-end-2.result tried.roles tried.spares due.is at was.kept synced was.full c.in_default.ensures goes c.requires.caller
-    c.ops-end-2.ensures.count did.grows next c.is_window_critical-sectioned.result (when-none _ _ tried.refusal c.in_default-refusal.is did.window))
+pub enter_sure-requires-clause-sure : goal.enter_sure-requires-clause-sure
+enter_sure-requires-clause-sure g c =
+    subst (λ p. (span : Span) → p.course.window ≡ Unsure span → (refusal : Refusal) × AreTooMany p.parts.members refusal) c.self.view_is (c.is_barred.ensures.no c.if-is_barred.false)

@@ -30,7 +30,7 @@ use Rattle.running_words.specs.Parts.{left_in}
 use Rattle.moving_laws.specs.Ready.{bytes_in}
 use Rattle.moving_laws.specs.Writing.{IsWindowOpen}
 use Rattle.running_words.proofs.Called.{not_254, called, alone-lossless}
-use Rattle.moving_laws.proofs.Kept.{ready, shapes-same, shapes-moved, alone-keeps, behind-keeps, behind-whole, with-buffer}
+use Rattle.moving_laws.proofs.Kept.{ready, ready-moved, shapes-same, shapes-moved, alone-keeps, behind-keeps, behind-whole, with-buffer}
 use Rattle.moving_laws.proofs.RecordLaws.{moved-if, moved-none, shapes-past}
 use Rattle.moving_laws.proofs.Settled.{many-of}
 use Rattle.moving_laws.proofs.WriteLaws.{finish-relied, finished-missing, open-is, finish-left, finish-done, finish-refused}
@@ -215,7 +215,7 @@ invariant_of-self-2 g c =
     left none c.steps_left-left.ensures in
     let moved = moved-none given span a.members m c.finish_rest-rest.result.refusal none did.moved in
     with-buffer (let len = (with_items a.buffer c.finish_rest-rest.new.scratch).ok.0 in let ok = a.buffer.ok.0 in omega (arith, len, ok, was.buffer_fits))
-    (ready (entries_of c.args.who end (losses_of roles spares ++ Step FinishesWindow left ∷ [])) was did.grows (shapes-past given a.members m span moved) kept
+    (ready-moved (entries_of c.args.who end (losses_of roles spares ++ Step FinishesWindow left ∷ [])) was did.grows (shapes-past given a.members m span moved) kept (λ span is. absurd (cc))
     refl did.counts (behind-keeps c.args.who end roles spares (Step FinishesWindow left) (λ n. refl) refl)
     (behind-whole {old = moved_past span a.members} tape' scope a.epoch.first a.epoch.entries.items c.args.who end roles spares (Step FinishesWindow left) moved (missing-since {old = moved_past span a.members} roles moved did.since.vacant)) did.given (scope-same given (Some a.backup) did.given c.enter_behind-2.ensures.uuid c.enter_behind-2.ensures.given) c.enter_behind-2.ensures.first refl c.enter_behind-2.ensures.items
     (let had = was.room_left in let room = c.enter_behind-2.ensures.room in omega (arith, room, had, steps)))

@@ -1,6 +1,4 @@
-use Rattle.std.proofs.Common.{◌≡◌, None, sym, subst}
-use Rattle.md_base.specs.declared.places.Span.{Span}
-use Rattle.course_kept.specs.Laws.{unsure}
+use Rattle.std.proofs.Common.{◌≡◌, None, subst}
 use Rattle.moving_state.specs.Due.{IsDue}
 use Rattle.moving_state.specs.declared.stepping.Due.TheVariants.{Enter, Zero}
 use Rattle.running_words.specs.Calls.{IsEnterDue}
@@ -26,8 +24,7 @@ end_resync-requires-clause-due g c =
 pub enter-requires-clause-due : goal.enter-requires-clause-due
 enter-requires-clause-due g c =
     let a = c.self.inside in
-    let sure = subst (λ p. (span : Span) → p.course ≡ unsure span → ⊥) (sym c.self.view_is) c.requires.sure in
-    subst (λ p. IsEnterDue p) c.self.view_is (enter-due _ a.work.resync sure (subst (λ due. IsDue a.members.newest a.course a.work.resync due) c.in-Enter.is c.due_step.ensures.ready))
+    subst (λ p. IsEnterDue p) c.self.view_is (enter-due _ a.work.resync (subst (λ due. IsDue a.members.newest a.course a.work.resync due) c.in-Enter.is c.due_step.ensures.ready))
 
 pub enter-requires-clause-synced : goal.enter-requires-clause-synced
 enter-requires-clause-synced g c =

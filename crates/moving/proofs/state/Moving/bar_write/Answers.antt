@@ -1,0 +1,65 @@
+use Rattle.std.proofs.Common.{◌≡◌, ◌+◌, ◌/◌, None, List, [], length, refl, sym, ◌∙◌, ap, subst, arith, append-nil}
+use Rattle.std.proofs.lemmas.List.Elements.{All-nil}
+use Rattle.md_base.specs.Sectors.{sectors_of}
+use Rattle.md_base.proofs.SectorLaws.{length-sectors_of}
+use Rattle.superblocks.specs.Reading.{list_length}
+use Rattle.flat_history.specs.declared.events.Entry.{Entry}
+use Rattle.flat_history.specs.Flat.{length_of, limit_of}
+use Rattle.flat_history.specs.Transfers.{last_end_from}
+use Rattle.views.specs.Rebuilding.{Held}
+use Rattle.views.proofs.MovedLaws.{grows-none, moved-same}
+use Rattle.array_kept.specs.Calls.{IsLossBy}
+use Rattle.region_mends.specs.Mends.{relied_sector}
+use Rattle.running_words.specs.Parts.{left_in}
+use Rattle.running_words.proofs.Called.{called}
+use Rattle.moving_laws.specs.Writing.{IsRefusedAlone}
+use Rattle.moving_laws.proofs.Kept.{roomier}
+use Rattle.moving_laws.proofs.WriteLaws.{called-roomed}
+use Rattle.moving_laws.proofs.BarredLaws.{barred-entered, barred-replied}
+use Rattle.moving.proofs.state.Moving.bar_write.Goals as goal
+
+-- ---- memory is short
+
+pub invariant_of-self : goal.invariant_of-self
+invariant_of-self g c = roomier c.self.invariant c.make_room.ensures.items c.make_room.ensures.keeps
+
+pub returns-in-Err-clause-called : goal.returns-in-Err-clause-called
+returns-in-Err-clause-called g c =
+    let was = c.self.invariant in
+    let a = c.self.inside in
+    let given = g.B.Bank.given a.bank in
+    let faults = g.B.Bank.faults_of a.bank in
+    rw (← c.self.view_is) (called (grows-none (λ t. refl)) (moved-same given given a.members a.members refl refl was.kept.members_are.placed was.kept.members_are.unlost)
+    (λ t. ap (λ (l : List Entry). last_end_from a.epoch.first l) c.make_room.ensures.items ∙ (was.kept.recorded t).ended)
+    (record { more = []; grown = c.make_room.ensures.items ∙ sym (append-nil a.epoch.entries.items); failed = All-nil (λ e. IsLossBy (Held a.members) faults faults e.event) })
+    (λ slot. omega arith)
+    (record { uuid = refl; given = refl; first = refl; backup = refl; work = refl; ahead = refl })
+    (λ t. (was.kept.recorded t).begun))
+
+-- ---- there is room
+
+pub returns-clause-called : goal.returns-clause-called
+returns-clause-called g c = rw (← c.self.view_is) (called-roomed _ c.refuse_write.new.self _ 2 c.make_room.ensures.items c.refuse_write.ensures.called)
+
+pub returns-clause-entered : goal.returns-clause-entered
+returns-clause-entered g c =
+    let old = c.args.self.now in
+    let new = c.refuse_write.new.self in
+    barred-entered old.course.window c.args.at (c.args.at + length c.args.from.now / 512) (sectors_of c.args.from.now) c.args.who old.parts.entries c.make_room.new.self.items new.parts.entries
+    (left_in new.parts.work new.parts.members new.course new.ahead) c.refuse_write.result (c.make_room.ensures.items ∙ ap (λ p. p.parts.entries) c.self.view_is) c.refuse_write.ensures.alone
+
+pub returns-clause-caused : goal.returns-clause-caused
+returns-clause-caused g c = rw (← c.self.view_is) c.refuse_write.ensures.caused
+
+pub returns-clause-replied : goal.returns-clause-replied
+returns-clause-replied g c =
+    let old = c.args.self.now in
+    let new = c.refuse_write.new.self in
+    let at = c.args.at in
+    let long = length-sectors_of c.args.from.now in
+    let sized = subst (λ p. length_of (list_length p.parts.members.newest) p.parts.entries ≡ list_length p.parts.members.newest) c.self.view_is c.self.invariant.sized in
+    let unlimited = subst (λ p. limit_of p.parts.entries ≡ None) c.self.view_is c.self.invariant.unlimited in
+    barred-replied old.course.window (list_length old.parts.members.newest) (relied_sector old.parts.members.newest old.parts.work.resync) at (at + length c.args.from.now / 512) (sectors_of c.args.from.now) c.args.who
+    old.parts.entries new.parts.entries old.parts.members new.parts.members (left_in new.parts.work new.parts.members new.course new.ahead) (omega (arith, long)) c.requires.next sized unlimited c.refuse_write.result
+    (subst (λ (l : List Entry). IsRefusedAlone c.args.who l new.parts.entries c.refuse_write.result) (c.make_room.ensures.items ∙ ap (λ p. p.parts.entries) c.self.view_is) c.refuse_write.ensures.alone)
+    (returns-clause-caused g c)

@@ -1,0 +1,109 @@
+use Rattle.std.proofs.Common.{inr, ◌≡◌, ◌≤◌, ◌+◌, ℕ, [], ◌∷◌, Some, refl, sym, subst, arith}
+use Rattle.std.specs.Prelude.{Result, Err}
+use Rattle.md_base.specs.declared.answers.Fault.{Fault as AnyFault}
+use Rattle.md_base.specs.declared.answers.Fault.TheVariants.{Refused as IsRefusedWith}
+use Rattle.md_base.specs.declared.answers.Refusal.{Refusal}
+use Rattle.md_base.specs.declared.answers.Refusal.TheVariants.{BackupFault}
+use Rattle.md_base.specs.declared.places.Span.{Span}
+use Rattle.superblocks.specs.declared.members.Members.{Members}
+use Rattle.superblocks.specs.Reading.{list_length}
+use Rattle.flat_history.specs.declared.events.Event.TheVariants.{Refused}
+use Rattle.flat_history.specs.Plain.{entries_of}
+use Rattle.views.specs.Numbers.{is_carried}
+use Rattle.views.proofs.MovedLaws.{grows-none, moved-same}
+use Rattle.array_kept.specs.Kept.{scope_in}
+use Rattle.array_kept.specs.Calls.{IsRefusedFor, IsCausedBy}
+use Rattle.array_kept.proofs.LossLaws.{ended-behind}
+use Rattle.array_kept.proofs.ReadyLaws.{scope-same}
+use Rattle.grow_asked.specs.declared.window.Window.{Window}
+use Rattle.grow_asked.specs.declared.window.Window.TheVariants.{Closed, Entered, Unsure}
+use Rattle.region_writes.specs.Runs.{IsListUnwritten}
+use Rattle.region_mends.specs.Mends.{relied_sector}
+use Rattle.kept_history.specs.Recorded.{IsCallGoing}
+use Rattle.moving_kept.proofs.Refusals.{quiet-refusal}
+use Rattle.moving_kept.proofs.Resting.{resting-moves}
+use Rattle.running_words.specs.Parts.{left_in}
+use Rattle.running_words.proofs.Called.{not_254, called, alone-lossless}
+use Rattle.moving_laws.specs.Ready.{bytes_in}
+use Rattle.moving_laws.specs.Writing.{TouchesUnsure, IsWriteBarred}
+use Rattle.moving_laws.proofs.Kept.{ready, shapes-same, alone-keeps}
+use Rattle.moving_laws.proofs.WriteLaws.{first-right, torn-missing}
+use Rattle.moving_laws.proofs.BarredLaws.{unwritten-barred}
+use Rattle.moving.proofs.state.Moving.refuse_write.Goals as goal
+
+-- ---- refused before the backup is asked
+
+pub invariant_of-self : goal.invariant_of-self
+invariant_of-self g c =
+    let was = c.self.invariant in
+    let a = c.self.inside in
+    let given = g.B.Bank.given a.bank in
+    let scope = scope_in given a.epoch.uuid a.epoch.given (Some a.backup) in
+    let goes : IsCallGoing a.epoch.entries.items c.args.who = subst (λ p. IsCallGoing p.parts.entries c.args.who) (sym c.self.view_is) c.requires.open in
+    let steps : 1 ≤ a.steps = subst (λ p. 1 ≤ p.parts.steps) (sym c.self.view_is) c.requires.room in
+    let tape = g.B.Bank.tape a.bank in
+    let end = c.ops-end.result in
+    let refusal = c.in-Some.refusal in
+    let kept = resting-moves g.B.Bank.tells given tape scope a.epoch.first a.epoch.entries.items a.members (is_carried a.work) a.work.resync a.course (bytes_in a.course.window a.window.items) (left_in a.work a.members a.course a.ahead)
+    c.args.who end (Refused refusal) was.kept goes (not_254 c.args.who.caller c.requires.caller) c.ops-end.ensures.count (quiet-refusal refusal) (λ told is. is)
+    (λ t right. first-right was.kept was.unlimited c.relied_sector-relied.result c.args.at (c.args.at + c.args.count) refusal c.relied_sector-relied.ensures.value c.in-Some.ensures t right) in
+    ready (entries_of c.args.who end (Refused refusal ∷ [])) was (grows-none (λ t. refl)) (shapes-same a.members.newest) kept
+    refl (λ slot. omega arith) (alone-keeps c.args.who end (Refused refusal) (λ n. refl) refl) (λ none whole. whole) refl (scope-same given (Some a.backup) refl c.enter.ensures.uuid c.enter.ensures.given) c.enter.ensures.first refl c.enter.ensures.items
+    (let had = was.room_left in let room = c.enter.ensures.room in omega (arith, room, had, steps))
+
+pub returns-in-Some-clause-called : goal.returns-in-Some-clause-called
+returns-in-Some-clause-called g c =
+    let was = c.self.invariant in
+    let a = c.self.inside in
+    let given = g.B.Bank.given a.bank in
+    let faults = g.B.Bank.faults_of a.bank in
+    let end = c.ops-end.result in
+    let refusal = c.in-Some.refusal in
+    rw (← c.self.view_is) (called (grows-none (λ t. refl)) (moved-same given given a.members a.members refl refl was.kept.members_are.placed was.kept.members_are.unlost)
+    (ended-behind (g.B.Bank.tape a.bank) c.enter.new.epoch.first a.epoch.entries.items c.args.who end [] (Refused refusal) c.enter.ensures.items c.ops-end.ensures.count)
+    (alone-lossless a.members faults faults a.epoch.entries.items a.epoch.entries.items c.enter.new.epoch.entries.items c.args.who end (Refused refusal) tt refl c.enter.ensures.items)
+    (λ slot. omega arith)
+    (record { uuid = c.enter.ensures.uuid; given = c.enter.ensures.given; first = c.enter.ensures.first; backup = refl; work = refl; ahead = refl })
+    (λ t. (was.kept.recorded t).begun))
+
+-- a sector lies in an unsure window only where there is one
+unsure-touched : (window : Window) (from to : ℕ) → TouchesUnsure window from to → (span : Span) × (window ≡ Unsure span)
+unsure-touched Closed from to touched = absurd (let covered = touched.3 in cc)
+unsure-touched (Entered span copied sectioned) from to touched = absurd (let covered = touched.3 in cc)
+unsure-touched (Unsure span) from to touched = (span, refl)
+
+-- no write beside it is refused for the backup
+unwritten-never : {P : Type 0} (visible relied at to : ℕ) (m : Members) (refusal : Refusal) → IsRefusedFor visible to (IsListUnwritten relied at to) m m refusal → refusal ≡ BackupFault → P
+unwritten-never visible relied at to m refusal why is =
+    let told = subst (λ (r : Refusal). IsRefusedFor visible to (IsListUnwritten relied at to) m m r) is why in
+    absurd ((torn-missing relied at to m BackupFault told.1).0)
+
+backup-caused : {T : Type 0} (window : Window) (visible relied at to : ℕ) (old new : Members) (result : Result T AnyFault) → result ≡ Err (IsRefusedWith BackupFault) → to ≤ visible → TouchesUnsure window at to
+    → IsCausedBy visible to (IsWriteBarred window relied at to) old new result
+backup-caused {T = T} window visible relied at to old new result is within touches =
+    subst (λ (r : Result T AnyFault). IsCausedBy visible to (IsWriteBarred window relied at to) old new r) (sym is) (within, inr (touches, refl))
+
+pub returns-in-Some-clause-caused : goal.returns-in-Some-clause-caused
+returns-in-Some-clause-caused g c =
+    let a = c.self.inside in
+    let to = c.args.at + c.args.count in
+    let relied = relied_sector a.members.newest a.work.resync in
+    rw (← c.self.view_is) (unwritten-barred a.course.window (list_length a.members.newest) relied c.args.at to a.members c.in-Some.refusal
+    (subst (λ (n : ℕ). IsRefusedFor (list_length a.members.newest) to (IsListUnwritten n c.args.at to) a.members a.members c.in-Some.refusal) c.relied_sector-relied.ensures.value c.in-Some.ensures))
+
+pub returns-in-Some-clause-backup : goal.returns-in-Some-clause-backup
+returns-in-Some-clause-backup g c = λ is.
+    unwritten-never (list_length c.self.inside.members.newest) c.relied_sector-relied.result c.args.at (c.args.at + c.args.count) c.self.inside.members c.in-Some.refusal c.in-Some.ensures (let same = is in cc)
+
+-- ---- the backup fails
+
+pub clear-requires-clause-unsure : goal.clear-requires-clause-unsure
+clear-requires-clause-unsure g c = unsure-touched c.args.self.now.course.window c.args.at (c.args.at + c.args.count) c.requires.touches
+
+pub returns-clause-caused : goal.returns-clause-caused
+returns-clause-caused g c =
+    let old = c.args.self.now in
+    let to = c.args.at + c.args.count in
+    let within = subst (λ p. to ≤ list_length p.parts.members.newest) c.self.view_is c.in_default.ensures.0 in
+    backup-caused old.course.window (list_length old.parts.members.newest) (relied_sector old.parts.members.newest old.parts.work.resync) c.args.at to old.parts.members c.clear.new.self.parts.members c.clear.result
+    c.clear.ensures.refused within c.requires.touches

@@ -1,0 +1,201 @@
+use Rattle.std.proofs.Common.{inl, ◌≡◌, ◌≤◌, ◌<◌, ◌+◌, ◌/◌, ℕ, true, false, Option, None, Err, List, [], length, refl, sym, ◌∙◌, ap, subst, arith, append-nil}
+use Rattle.std.proofs.lemmas.List.Elements.{All-nil}
+use Rattle.md_base.specs.Sectors.{sectors_of}
+use Rattle.md_base.proofs.SectorLaws.{length-sectors_of}
+use Rattle.md_base.specs.declared.places.Span.{Span}
+use Rattle.superblocks.specs.Reading.{list_length}
+use Rattle.flat_history.specs.declared.events.Entry.{Entry}
+use Rattle.flat_history.specs.declared.events.Event.TheVariants.{Step}
+use Rattle.flat_history.specs.declared.events.StepKind.TheVariants.{WindowFinished as FinishesWindow}
+use Rattle.flat_history.specs.Flat.{length_of, limit_of}
+use Rattle.flat_history.specs.Stands.{covers}
+use Rattle.flat_history.specs.Transfers.{last_end_from}
+use Rattle.views.specs.Rebuilding.{Held}
+use Rattle.views.proofs.MovedLaws.{grows-none, moved-same}
+use Rattle.array_kept.specs.Calls.{IsLossBy, IsBehind, IsCausedBy}
+use Rattle.course_kept.specs.Laws.{closed}
+use Rattle.moving_state.specs.Due.{open_in, unsure_in}
+use Rattle.region_mends.specs.Mends.{relied_sector}
+use Rattle.running_words.specs.Parts.{left_in}
+use Rattle.moving_laws.specs.Writing.{TouchesWindow, IsWriteLacked, IsWriteEntered}
+use Rattle.running_words.proofs.Called.{called}
+use Rattle.moving_laws.proofs.Kept.{roomier, long-same}
+use Rattle.moving_laws.proofs.WriteLaws.{failed-then, beside-of, touched-open, roomed, called-then, called-roomed, alone-caused, refused-caused, behind-caused, alone-entered, refused-entered, behind-entered, untouched, never-ok}
+use Rattle.moving_laws.proofs.WriteReplies.{write-answered}
+use Rattle.moving.proofs.state.Moving.write_sure.Goals as goal
+
+-- ---- memory is short
+
+pub invariant_of-self : goal.invariant_of-self
+invariant_of-self g c = roomier c.self.invariant c.make_room.ensures.items c.make_room.ensures.keeps
+
+pub returns-in-Err-make_room-clause-called : goal.returns-in-Err-make_room-clause-called
+returns-in-Err-make_room-clause-called g c =
+    let was = c.self.invariant in
+    let a = c.self.inside in
+    let given = g.B.Bank.given a.bank in
+    let faults = g.B.Bank.faults_of a.bank in
+    rw (← c.self.view_is) (called (grows-none (λ t. refl)) (moved-same given given a.members a.members refl refl was.kept.members_are.placed was.kept.members_are.unlost)
+    (λ t. ap (λ (l : List Entry). last_end_from a.epoch.first l) c.make_room.ensures.items ∙ (was.kept.recorded t).ended)
+    (record { more = []; grown = c.make_room.ensures.items ∙ sym (append-nil a.epoch.entries.items); failed = All-nil (λ e. IsLossBy (Held a.members) faults faults e.event) })
+    (λ slot. omega arith)
+    (record { uuid = refl; given = refl; first = refl; backup = refl; work = refl; ahead = refl })
+    (λ t. (was.kept.recorded t).begun))
+
+-- ---- it doesn't touch the window
+
+pub invariant_of-self-then-not-meets : goal.invariant_of-self-then-not-meets
+invariant_of-self-then-not-meets g c = roomed c.make_room.ensures.items (let room = c.in-Ok-make_room.ensures.ok in omega (arith, room)) c.self.invariant
+
+pub write_beside-requires-clause-beside : goal.write_beside-requires-clause-beside
+write_beside-requires-clause-beside g c = λ x low high.
+    let a = c.self.inside in
+    let to = c.args.at + length c.args.from.now / 512 in
+    let sure = subst (λ p. (x : ℕ) → c.args.at ≤ x → x < to → covers (unsure_in p.course.window) x ≡ false) (sym c.self.view_is) c.requires.sure in
+    beside-of a.course.window x (subst (λ (s : Option Span). covers s x ≡ false) c.open_span.ensures (c.meets.ensures.no c.if-not-meets.true x low high)) (sure x low high)
+
+pub returns-then-not-meets-clause-entered : goal.returns-then-not-meets-clause-entered
+returns-then-not-meets-clause-entered g c =
+    let a = c.self.inside in
+    let to = c.args.at + length c.args.from.now / 512 in
+    let out : (x : ℕ) → c.args.at ≤ x → x < to → covers (open_in a.course.window) x ≡ false =
+    λ x low high. subst (λ (s : Option Span). covers s x ≡ false) c.open_span.ensures (c.meets.ensures.no c.if-not-meets.true x low high) in
+    let new = c.write_beside.new.self in
+    rw (← c.self.view_is) (alone-entered a.course.window c.args.at to (sectors_of c.args.from.now) c.args.who a.epoch.entries.items c.make_room.new.self.items new.parts.entries (left_in new.parts.work new.parts.members new.course new.ahead) c.write_beside.result
+    c.make_room.ensures.items (untouched a.course.window c.args.at to out) c.write_beside.ensures.entered)
+
+pub returns-then-not-meets-clause-called : goal.returns-then-not-meets-clause-called
+returns-then-not-meets-clause-called g c = rw (← c.self.view_is) (called-roomed _ c.write_beside.new.self _ 2 c.make_room.ensures.items c.write_beside.ensures.called)
+
+pub returns-then-not-meets-clause-caused : goal.returns-then-not-meets-clause-caused
+returns-then-not-meets-clause-caused g c =
+    let a = c.self.inside in
+    let to = c.args.at + length c.args.from.now / 512 in
+    let out : (x : ℕ) → c.args.at ≤ x → x < to → covers (open_in a.course.window) x ≡ false =
+    λ x low high. subst (λ (s : Option Span). covers s x ≡ false) c.open_span.ensures (c.meets.ensures.no c.if-not-meets.true x low high) in
+    rw (← c.self.view_is) (alone-caused a.course.window (list_length a.members.newest) (relied_sector a.members.newest a.work.resync) c.args.at to a.members c.write_beside.new.self.parts.members c.write_beside.result (untouched a.course.window c.args.at to out) c.write_beside.ensures.caused)
+
+pub returns-then-not-meets-clause-closed : goal.returns-then-not-meets-clause-closed
+returns-then-not-meets-clause-closed g c =
+    let a = c.self.inside in
+    let to = c.args.at + length c.args.from.now / 512 in
+    let out : (x : ℕ) → c.args.at ≤ x → x < to → covers (open_in a.course.window) x ≡ false =
+    λ x low high. subst (λ (s : Option Span). covers s x ≡ false) c.open_span.ensures (c.meets.ensures.no c.if-not-meets.true x low high) in
+    rw (← c.self.view_is) (never-ok c.write_beside.result (TouchesWindow a.course.window c.args.at to) (c.write_beside.new.self.course ≡ closed 0) (untouched a.course.window c.args.at to out))
+
+-- ---- the window is to be finished
+
+pub invariant_of-self-else-not-meets : goal.invariant_of-self-else-not-meets
+invariant_of-self-else-not-meets g c = roomed c.make_room.ensures.items (let room = c.in-Ok-make_room.ensures.ok in omega (arith, room)) c.self.invariant
+
+pub finish_for-requires-clause-due : goal.finish_for-requires-clause-due
+finish_for-requires-clause-due g c =
+    let met = c.meets.ensures.yes c.if-not-meets.false in
+    touched-open _ c.self.invariant.kept.course_is met.0 (subst (λ (s : Option Span). covers s met.0 ≡ true) c.open_span.ensures met.3)
+
+pub returns-in-Err-finish_for-clause-entered : goal.returns-in-Err-finish_for-clause-entered
+returns-in-Err-finish_for-clause-entered g c =
+    let a = c.self.inside in
+    let to = c.args.at + length c.args.from.now / 512 in
+    let new = c.finish_for.new.self in
+    subst (λ p. IsWriteEntered {T = ℕ} p.course.window c.args.at to (sectors_of c.args.from.now) c.args.who p.parts.entries new.parts.entries (left_in new.parts.work new.parts.members new.course new.ahead) (Err c.in-Err-finish_for.fault)) c.self.view_is
+    (refused-entered ℕ a.course.window c.args.at to (sectors_of c.args.from.now) c.args.who a.epoch.entries.items c.make_room.new.self.items new.parts.entries (left_in new.parts.work new.parts.members new.course new.ahead)
+    (left_in new.parts.work new.parts.members new.course new.ahead) c.in-Err-finish_for.fault c.make_room.ensures.items c.in-Err-finish_for.ensures.entered)
+
+pub returns-in-Err-finish_for-clause-called : goal.returns-in-Err-finish_for-clause-called
+returns-in-Err-finish_for-clause-called g c = rw (← c.self.view_is) (called-roomed _ c.finish_for.new.self _ 2 c.make_room.ensures.items c.in-Err-finish_for.ensures.called)
+
+pub returns-in-Err-finish_for-clause-caused : goal.returns-in-Err-finish_for-clause-caused
+returns-in-Err-finish_for-clause-caused g c =
+    let a = c.self.inside in
+    let to = c.args.at + length c.args.from.now / 512 in
+    let met = c.meets.ensures.yes c.if-not-meets.false in
+    let touches : TouchesWindow a.course.window c.args.at to = (met.0, met.1, met.2, subst (λ (s : Option Span). covers s met.0 ≡ true) c.open_span.ensures met.3) in
+    subst (λ p. IsCausedBy {T = ℕ} (list_length p.parts.members.newest) to (IsWriteLacked p.course.window (relied_sector p.parts.members.newest p.parts.work.resync) c.args.at to) p.parts.members c.finish_for.new.self.parts.members (Err c.in-Err-finish_for.fault)) c.self.view_is
+    (refused-caused ℕ a.course.window (list_length a.members.newest) (relied_sector a.members.newest a.work.resync) c.args.at to a.members c.finish_for.new.self.parts.members c.in-Err-finish_for.fault touches c.in-Err-finish_for.ensures.caused)
+
+-- ---- and the sectors are written behind it
+
+pub returns-clause-entered : goal.returns-clause-entered
+returns-clause-entered g c =
+    let a = c.self.inside in
+    let to = c.args.at + length c.args.from.now / 512 in
+    let mid = c.finish_for.new.self in
+    let new = c.write_beside-2.new.self in
+    let before = left_in mid.parts.work mid.parts.members mid.course mid.ahead in
+    let met = c.meets.ensures.yes c.if-not-meets.false in
+    let touches : TouchesWindow a.course.window c.args.at to = (met.0, met.1, met.2, subst (λ (s : Option Span). covers s met.0 ≡ true) c.open_span.ensures met.3) in
+    rw (← c.self.view_is) (behind-entered a.course.window c.args.at to (sectors_of c.args.from.now) c.args.who a.epoch.entries.items mid.parts.entries new.parts.entries (left_in new.parts.work new.parts.members new.course new.ahead) before c.write_beside-2.result
+    touches c.write_beside-2.ensures.left (subst (λ (l : List Entry). IsBehind c.args.who l mid.parts.entries (Step FinishesWindow before)) c.make_room.ensures.items c.in-Ok-finish_for.ensures.entered) c.write_beside-2.ensures.entered)
+
+pub returns-clause-called : goal.returns-clause-called
+returns-clause-called g c =
+    rw (← c.self.view_is) (called-roomed _ c.write_beside-2.new.self _ 2 c.make_room.ensures.items (called-then c.in-Ok-finish_for.ensures.given c.in-Ok-finish_for.ensures.called c.write_beside-2.ensures.called))
+
+pub returns-clause-caused : goal.returns-clause-caused
+returns-clause-caused g c =
+    let a = c.self.inside in
+    let to = c.args.at + length c.args.from.now / 512 in
+    let mid = c.finish_for.new.self in
+    let new = c.write_beside-2.new.self in
+    let same = c.in-Ok-finish_for.ensures.called.same in
+    let long : list_length mid.parts.members.newest ≡ list_length a.members.newest = long-same a.members.newest mid.parts.members.newest (record { shape = same.array.shape; final = same.final; size = same.array.size }) in
+    rw (← c.self.view_is) (behind-caused a.course.window (list_length a.members.newest) (list_length mid.parts.members.newest) (relied_sector a.members.newest a.work.resync) (relied_sector mid.parts.members.newest mid.parts.work.resync) c.args.at to a.members mid.parts.members new.parts.members c.write_beside-2.result c.args.who
+    mid.parts.entries new.parts.entries (sectors_of c.args.from.now) long c.in-Ok-finish_for.ensures.relied c.in-Ok-finish_for.ensures.caused c.write_beside-2.ensures.entered c.write_beside-2.ensures.caused)
+
+-- ---- what failed
+
+pub returns-in-Err-clause-failed : goal.returns-in-Err-clause-failed
+returns-in-Err-clause-failed g c = λ role slot held. inl held
+
+pub returns-in-Err-make_room-clause-failed : goal.returns-in-Err-make_room-clause-failed
+returns-in-Err-make_room-clause-failed g c = rw (← c.self.view_is) (λ role slot held. inl held)
+
+pub returns-then-not-meets-clause-failed : goal.returns-then-not-meets-clause-failed
+returns-then-not-meets-clause-failed g c = rw (← c.self.view_is) c.write_beside.ensures.failed
+
+pub returns-in-Err-finish_for-clause-failed : goal.returns-in-Err-finish_for-clause-failed
+returns-in-Err-finish_for-clause-failed g c = rw (← c.self.view_is) c.in-Err-finish_for.ensures.failed
+
+pub returns-clause-failed : goal.returns-clause-failed
+returns-clause-failed g c =
+    let a = c.self.inside in
+    let mid = c.finish_for.new.self in
+    let new = c.write_beside-2.new.self in
+    rw (← c.self.view_is) (failed-then a.members mid.parts.members new.parts.members (g.B.Bank.faults_of a.bank) (g.B.Bank.faults_of mid.parts.bank) (g.B.Bank.faults_of new.parts.bank)
+    c.in-Ok-finish_for.ensures.called.never_falls c.write_beside-2.ensures.called.never_falls c.in-Ok-finish_for.ensures.failed c.write_beside-2.ensures.failed)
+
+-- ---- its reply
+
+pub returns-then-not-meets-clause-answered : goal.returns-then-not-meets-clause-answered
+returns-then-not-meets-clause-answered g c =
+    let old = c.args.self.now in
+    let new = c.write_beside.new.self in
+    let at = c.args.at in
+    let long = length-sectors_of c.args.from.now in
+    let sized = subst (λ p. length_of (list_length p.parts.members.newest) p.parts.entries ≡ list_length p.parts.members.newest) c.self.view_is c.self.invariant.sized in
+    let unlimited = subst (λ p. limit_of p.parts.entries ≡ None) c.self.view_is c.self.invariant.unlimited in
+    write-answered old.course.window (list_length old.parts.members.newest) (relied_sector old.parts.members.newest old.parts.work.resync) at (at + length c.args.from.now / 512) (sectors_of c.args.from.now) c.args.who old.parts.entries new.parts.entries old.parts.members new.parts.members
+    (left_in new.parts.work new.parts.members new.course new.ahead) (omega (arith, long)) c.requires.next sized unlimited c.write_beside.result (returns-then-not-meets-clause-entered g c) (returns-then-not-meets-clause-caused g c)
+
+pub returns-in-Err-finish_for-clause-answered : goal.returns-in-Err-finish_for-clause-answered
+returns-in-Err-finish_for-clause-answered g c =
+    let old = c.args.self.now in
+    let new = c.finish_for.new.self in
+    let at = c.args.at in
+    let long = length-sectors_of c.args.from.now in
+    let sized = subst (λ p. length_of (list_length p.parts.members.newest) p.parts.entries ≡ list_length p.parts.members.newest) c.self.view_is c.self.invariant.sized in
+    let unlimited = subst (λ p. limit_of p.parts.entries ≡ None) c.self.view_is c.self.invariant.unlimited in
+    write-answered old.course.window (list_length old.parts.members.newest) (relied_sector old.parts.members.newest old.parts.work.resync) at (at + length c.args.from.now / 512) (sectors_of c.args.from.now) c.args.who old.parts.entries new.parts.entries old.parts.members new.parts.members
+    (left_in new.parts.work new.parts.members new.course new.ahead) (omega (arith, long)) c.requires.next sized unlimited {T = ℕ} (Err c.in-Err-finish_for.fault) (returns-in-Err-finish_for-clause-entered g c) (returns-in-Err-finish_for-clause-caused g c)
+
+pub returns-clause-answered : goal.returns-clause-answered
+returns-clause-answered g c =
+    let old = c.args.self.now in
+    let new = c.write_beside-2.new.self in
+    let at = c.args.at in
+    let long = length-sectors_of c.args.from.now in
+    let sized = subst (λ p. length_of (list_length p.parts.members.newest) p.parts.entries ≡ list_length p.parts.members.newest) c.self.view_is c.self.invariant.sized in
+    let unlimited = subst (λ p. limit_of p.parts.entries ≡ None) c.self.view_is c.self.invariant.unlimited in
+    write-answered old.course.window (list_length old.parts.members.newest) (relied_sector old.parts.members.newest old.parts.work.resync) at (at + length c.args.from.now / 512) (sectors_of c.args.from.now) c.args.who old.parts.entries new.parts.entries old.parts.members new.parts.members
+    (left_in new.parts.work new.parts.members new.course new.ahead) (omega (arith, long)) c.requires.next sized unlimited c.write_beside-2.result (returns-clause-entered g c) (returns-clause-caused g c)
