@@ -211,6 +211,7 @@ with-buffers rows_fit buffer_fits was = record {
   full = was.full;
   planned = was.planned;
   wide = was.wide;
+  dead = was.dead;
   failed = was.failed;
   room_left = was.room_left;
   rows_fit = rows_fit;

@@ -17,7 +17,7 @@ use Rattle.array_kept.specs.Kept.{scope_in}
 use Rattle.array_kept.proofs.LossLaws.{losses-behind, ended-behind, behind-alone}
 use Rattle.array_kept.proofs.ReadyLaws.{scope-same}
 use Rattle.kept_history.specs.Recorded.{IsCallGoing}
-use Rattle.kept_history.specs.Safe.{world_in}
+use Rattle.kept_history.specs.Safe.{world_in, OpensOnCourse}
 use Rattle.grow_asked.specs.declared.window.Window.TheVariants.{Unsure}
 use Rattle.course_kept.specs.declared.course.Course.{Course}
 use Rattle.course_kept.specs.Course.{IsStored}
@@ -109,7 +109,7 @@ invariant_of-self-in-Some-refusal g c =
     let goes : IsCallGoing a.epoch.entries.items c.args.who = subst (λ p. IsCallGoing p.parts.entries c.args.who) (sym c.self.view_is) c.requires.open in
     let steps : 1 ≤ a.steps = subst (λ p. 1 ≤ p.parts.steps) (sym c.self.view_is) c.requires.room in
     let its = (backup-for given a.epoch.uuid a.epoch.given a.backup a.members span was.kept.members_are at).is in
-    let stored = λ (t : g.B.Bank.tells). subst (λ (k : Course). IsStored scope a.members k.window (bytes_in k.window a.window.items) (disk given.start tape)) shut (was.kept.stored t) in
+    let stored = λ (t : g.B.Bank.tells) (on : OpensOnCourse (world_in given tape scope a.epoch.first)). subst (λ (k : Course). IsStored scope a.members k.window (bytes_in k.window a.window.items) (disk given.start tape)) shut (was.kept.stored t on) in
     let written = c.enter_next-tried.new.window in
     let next : IsNextTried g.B.Bank.tells given tape tape' scope a.epoch.first a.members m tried.window (take (512 * (span.hi - span.lo)) written) tried.roles = record {
       moved = did.moved;
@@ -118,8 +118,8 @@ invariant_of-self-in-Some-refusal g c =
       rise = risen-told did.rise;
       kept = did.kept;
       has = did.has;
-      stored = λ t. did.stored t scope its (stored t).section (stored t).headers;
-      safe = λ t told list room gone unclean stands filled allowed before. did.safe t (world_in given tape scope a.epoch.first) told list room gone unclean its (stored t).section stands filled allowed before;
+      stored = λ t on. did.stored t scope its (stored t on).section (stored t on).headers;
+      safe = λ t on told list room gone unclean stands filled allowed before. did.safe t (world_in given tape scope a.epoch.first) told list room gone unclean its (stored t on).section stands filled allowed before;
     } in
     let refusal = c.in-Some-refusal.refusal in
     let end = c.ops-end-2.result in
@@ -192,7 +192,7 @@ invariant_of-self-2 g c =
     let goes : IsCallGoing a.epoch.entries.items c.args.who = subst (λ p. IsCallGoing p.parts.entries c.args.who) (sym c.self.view_is) c.requires.open in
     let steps : 1 ≤ a.steps = subst (λ p. 1 ≤ p.parts.steps) (sym c.self.view_is) c.requires.room in
     let its = (backup-for given a.epoch.uuid a.epoch.given a.backup a.members span was.kept.members_are at).is in
-    let stored = λ (t : g.B.Bank.tells). subst (λ (k : Course). IsStored scope a.members k.window (bytes_in k.window a.window.items) (disk given.start tape)) shut (was.kept.stored t) in
+    let stored = λ (t : g.B.Bank.tells) (on : OpensOnCourse (world_in given tape scope a.epoch.first)). subst (λ (k : Course). IsStored scope a.members k.window (bytes_in k.window a.window.items) (disk given.start tape)) shut (was.kept.stored t on) in
     let written = c.enter_next-tried.new.window in
     let next : IsNextTried g.B.Bank.tells given tape tape' scope a.epoch.first a.members m tried.window (take (512 * (span.hi - span.lo)) written) tried.roles = record {
       moved = did.moved;
@@ -201,8 +201,8 @@ invariant_of-self-2 g c =
       rise = risen-told did.rise;
       kept = did.kept;
       has = did.has;
-      stored = λ t. did.stored t scope its (stored t).section (stored t).headers;
-      safe = λ t told list room gone unclean stands filled allowed before. did.safe t (world_in given tape scope a.epoch.first) told list room gone unclean its (stored t).section stands filled allowed before;
+      stored = λ t on. did.stored t scope its (stored t on).section (stored t on).headers;
+      safe = λ t on told list room gone unclean stands filled allowed before. did.safe t (world_in given tape scope a.epoch.first) told list room gone unclean its (stored t on).section stands filled allowed before;
     } in
     let left = c.steps_left-left.result in
     let end = c.ops-end-2.result in
@@ -261,7 +261,7 @@ returns-clause-left g c =
     let goes : IsCallGoing a.epoch.entries.items c.args.who = subst (λ p. IsCallGoing p.parts.entries c.args.who) (sym c.self.view_is) c.requires.open in
     let steps : 1 ≤ a.steps = subst (λ p. 1 ≤ p.parts.steps) (sym c.self.view_is) c.requires.room in
     let its = (backup-for given a.epoch.uuid a.epoch.given a.backup a.members span was.kept.members_are at).is in
-    let stored = λ (t : g.B.Bank.tells). subst (λ (k : Course). IsStored scope a.members k.window (bytes_in k.window a.window.items) (disk given.start tape)) shut (was.kept.stored t) in
+    let stored = λ (t : g.B.Bank.tells) (on : OpensOnCourse (world_in given tape scope a.epoch.first)). subst (λ (k : Course). IsStored scope a.members k.window (bytes_in k.window a.window.items) (disk given.start tape)) shut (was.kept.stored t on) in
     let written = c.enter_next-tried.new.window in
     let next : IsNextTried g.B.Bank.tells given tape tape' scope a.epoch.first a.members m tried.window (take (512 * (span.hi - span.lo)) written) tried.roles = record {
       moved = did.moved;
@@ -270,8 +270,8 @@ returns-clause-left g c =
       rise = risen-told did.rise;
       kept = did.kept;
       has = did.has;
-      stored = λ t. did.stored t scope its (stored t).section (stored t).headers;
-      safe = λ t told list room gone unclean stands filled allowed before. did.safe t (world_in given tape scope a.epoch.first) told list room gone unclean its (stored t).section stands filled allowed before;
+      stored = λ t on. did.stored t scope its (stored t on).section (stored t on).headers;
+      safe = λ t on told list room gone unclean stands filled allowed before. did.safe t (world_in given tape scope a.epoch.first) told list room gone unclean its (stored t on).section stands filled allowed before;
     } in
     rw (← c.self.view_is) (enter-left a.course a.ahead tried.window span written c.args.who c.ops-end-2.result tried.roles tried.spares shut at was.kept synced was.full c.in_default.ensures goes c.requires.caller
     c.ops-end-2.ensures.count did.grows next c.is_window_critical-sectioned.result (when-none _ _ tried.refusal c.in_default-refusal.is did.window))
