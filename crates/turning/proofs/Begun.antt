@@ -386,6 +386,7 @@ module _ {tells : Type 0} {given : Given} {tape tape' : List Operation} {first :
             (subst (λ (s : Shape). AreSound s old.newest.size (phases_of behind)) (sym did.newest.new) sound.2);
         wide = let reach = begun-reach old.newest new.newest to did.newest in omega (arith, wide, reach);
         failed = λ slot lt out. let had = was.failed slot lt out in let more = did.counts slot in omega (arith, had, more);
+        dead = λ span is. absurd (cc);
         room_left = room_left;
         rows_fit = was.rows_fit;
         buffer_fits = was.buffer_fits;
