@@ -1,9 +1,11 @@
 //! A request to grow an array: it is judged, and planned where nothing speaks against it; in a reshape it is refused.
 #![tactic(auto)]
 
+mod backing;
 mod judging;
 mod planning;
 mod refusing;
 
+pub use backing::can_back;
 pub use planning::{PlannedGrow, plan_grow};
 pub use refusing::refuse_grow;
