@@ -86,9 +86,14 @@ fn steps_of_a_resync(rt: HostRuntime) -> Result<(), Fail> {
         let course = course_of(&members, *copied, 0);
         assert!(rt; course.is_some());
         if let Some(course) = course {
-            let mended = resync.unwrap_or(0);
-            assert!(rt; mended <= mend_stripes(&members));
-            assert!(rt; due_step(&members, &course, *resync) == *wanted);
+            let due = match resync {
+                None => due_step(&members, &course, None),
+                Some(mended) => {
+                    assert!(rt; *mended <= mend_stripes(&members));
+                    due_step(&members, &course, Some(*mended))
+                }
+            };
+            assert!(rt; due == *wanted);
         }
     }
     Ok(())
