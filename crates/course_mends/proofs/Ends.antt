@@ -17,7 +17,7 @@ use Rattle.shape_views.proofs.UnderWay.{shape-on}
 use Rattle.views.specs.Lacking.{IsOfStripe}
 use Rattle.views.proofs.Stripes.{sector-in_stripes}
 use Rattle.region_mends.specs.Mends.{low_shape, low_stripes}
-use Rattle.region_writes.proofs.Sides.{low-valid, low-is, low-fits, low-ends, low-before, low-reach}
+use Rattle.region_mends.proofs.region_writes_Sides.{low-valid, low-is, low-fits, low-ends, low-before, low-reach}
 use Rattle.region_mends.proofs.StripeRows.{in-stripe}
 use Rattle.course_mends.specs.Mended.{TailsAreEnds}
 

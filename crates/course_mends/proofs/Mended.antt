@@ -24,9 +24,9 @@ use Rattle.views.specs.Lacking.{AreOtherRowsKept}
 use Rattle.views.proofs.Fit.{for-alike, list-alike}
 use Rattle.views.proofs.HeldRows.{held-moved}
 use Rattle.views.proofs.LackingWrites.{others-same}
-use Rattle.window_steps.specs.Zeroing.{IsThrough}
-use Rattle.window_steps.proofs.CopyLaws.{row-later}
-use Rattle.region_rows.specs.Stretches.{RowsStandIn}
+use Rattle.course_kept.specs.window_steps_Zeroing.{IsThrough}
+use Rattle.course_kept.proofs.window_steps_CopyLaws.{row-later}
+use Rattle.region_mends.specs.region_rows_Stretches.{RowsStandIn}
 use Rattle.region_mends.specs.Mends.{low_shape, low_stripes, mend_stripes, stripe_behind, relied_sector, IsMendRow, AreEndsStanding}
 use Rattle.region_mends.proofs.Alike.{low-alike, low-stripes-alike, relied-alike}
 use Rattle.region_mends.proofs.ReliedLaws.{to-all}

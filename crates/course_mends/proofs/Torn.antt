@@ -10,9 +10,9 @@ use Rattle.flat_history.specs.Stands.{shape_for}
 use Rattle.shape_views.specs.Regions.{place_by}
 use Rattle.views.proofs.Fit.{for-alike, list-alike}
 use Rattle.views.proofs.HeldRows.{held-moved}
-use Rattle.window_steps.proofs.CopyLaws.{row-later}
-use Rattle.region_writes.proofs.LowRuns.{low-rows}
-use Rattle.region_writes.proofs.Together.{rows-together, together-shape}
+use Rattle.course_kept.proofs.window_steps_CopyLaws.{row-later}
+use Rattle.region_mends.proofs.region_writes_LowRuns.{low-rows}
+use Rattle.region_mends.proofs.region_writes_Together.{rows-together, together-shape}
 use Rattle.region_mends.specs.Mends.{low_shape, low_stripes}
 use Rattle.region_mends.proofs.Alike.{low-alike, low-stripes-alike, relied-alike}
 use Rattle.course_kept.proofs.Writes.{torn-writes-go-on}

@@ -20,8 +20,8 @@ use Rattle.shape_changes.specs.Marking.{AreOthersPresent}
 use Rattle.views.specs.Placed.{IsPlaced}
 use Rattle.views.specs.Moving.{IsMoved}
 use Rattle.views.specs.Lacking.{IsOfStripe, AreOtherRowsKept}
-use Rattle.region_rows.specs.Stretches.{ListStandsIn, RowsStandIn}
-use Rattle.region_writes.specs.Runs.{IsListTouched}
+use Rattle.region_mends.specs.region_rows_Stretches.{ListStandsIn, RowsStandIn}
+use Rattle.region_mends.specs.region_writes_Runs.{IsListTouched}
 use Rattle.region_mends.specs.Mends.{low_shape, low_stripes, mend_stripes, stripe_behind, relied_sector, IsMendRow, AreEndsStanding}
 use Rattle.grow_asked.specs.declared.window.Window.{Window}
 use Rattle.grow_asked.specs.declared.window.Window.TheVariants.{Closed, Entered, Unsure}

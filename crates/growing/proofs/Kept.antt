@@ -23,11 +23,11 @@ use Rattle.grow_asked.specs.declared.window.PhasesLeft.{PhasesLeft}
 use Rattle.grow_asked.specs.Asked.{Asked, window_for, grow_refusal}
 use Rattle.grow_asked.specs.Left.{phases_of}
 use Rattle.kept_history.proofs.Records.{begins-going}
-use Rattle.still_kept.specs.Still.{IsStill}
-use Rattle.still_kept.proofs.Resting.{resting-stands}
-use Rattle.running_words.specs.Parts.{still_left}
-use Rattle.running_words.proofs.Called.{not_254}
-use Rattle.still_laws.specs.Ready.{IsReady}
+use Rattle.still.specs.still_kept_Still.{IsStill}
+use Rattle.still.proofs.still_kept_Resting.{resting-stands}
+use Rattle.still.specs.running_words_Parts.{still_left}
+use Rattle.still.proofs.running_words_Called.{not_254}
+use Rattle.still.specs.still_laws_Ready.{IsReady}
 use Rattle.growing.specs.Planned.{HasWideBackup}
 use Rattle.growing.proofs.Idle.{nothing-against}
 

@@ -25,7 +25,7 @@ use Rattle.call_entries.proofs.CallLaws.{AreLossEvents, losses-are}
 use Rattle.kept_history.specs.Recorded.{entry_of, IsCallGoing, MayGoOn, IsLengthKept, IsOpenBehind}
 use Rattle.kept_history.proofs.Growing.{contents-grown}
 use Rattle.history_calls.specs.Reliable.{IsReliable}
-use Rattle.still_laws.specs.Steps.{IsCallUnbroken}
+use Rattle.still.specs.still_laws_Steps.{IsCallUnbroken}
 use Rattle.growing.proofs.PlanLaws.{reliable-before}
 
 -- ---- lengths that were kept are so later

@@ -15,7 +15,7 @@ use Rattle.flat_history.specs.World.{World}
 use Rattle.views.specs.Rebuilding.{Held}
 use Rattle.grow_asked.specs.Left.{phases_of}
 use Rattle.history_calls.specs.Reliable.{IsReliable}
-use Rattle.running_words.specs.Parts.{RunningParts}
+use Rattle.still.specs.running_words_Parts.{RunningParts}
 use Rattle.growing.specs.Planned.{HasWideBackup}
 
 -- each plan that is open goes to this shape

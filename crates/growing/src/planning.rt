@@ -9,8 +9,8 @@ ghost use Rattle.flat_history.specs.declared.events.Event.TheVariants.{Planned, 
 ghost use Rattle.array_kept.specs.Calls.{OnNoMemory, IsEndOf};
 ghost use Rattle.grow_asked.specs.Asked.{grow_refusal};
 ghost use Rattle.grow_asked.specs.Left.{phases_of};
-ghost use Rattle.running_words.specs.Parts.{still_left};
-ghost use Rattle.running_words.specs.Calls.{moving_world};
+ghost use Rattle.still.specs.running_words_Parts.{still_left};
+ghost use Rattle.still.specs.running_words_Calls.{moving_world};
 ghost use Rattle.growing.specs.Planned.{asked_in, IsGrowJudged, IsGrowReply, IsGrowAnswered, IsAsBefore, IsGrowPlanned};
 ghost use Rattle.growing.specs.Plans.{GoesTo};
 

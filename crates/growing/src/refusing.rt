@@ -7,7 +7,7 @@ ghost use Rattle.superblocks.specs.Reading.{list_length};
 ghost use Rattle.flat_history.specs.Flat.{next_number, visible_of};
 ghost use Rattle.flat_history.specs.declared.events.Event.TheVariants.{Refused};
 ghost use Rattle.array_kept.specs.Calls.{OnNoMemory, IsEndOf};
-ghost use Rattle.running_words.specs.Calls.{moving_world};
+ghost use Rattle.still.specs.running_words_Calls.{moving_world};
 ghost use Rattle.growing.specs.Planned.{asked_in, IsGrowJudged, IsGrowAnswered, IsAsBefore};
 
 use crate::planning::PlannedGrow;

@@ -1,1 +1,29 @@
 pub mod Resync
+pub use Rattle.moving_kept.proofs.AddedSpare as moving_kept_AddedSpare
+pub use Rattle.moving_kept.proofs.BackupKept as moving_kept_BackupKept
+pub use Rattle.moving_kept.proofs.Failing as moving_kept_Failing
+pub use Rattle.moving_kept.proofs.FinishedCall as moving_kept_FinishedCall
+pub use Rattle.moving_kept.proofs.Flushing as moving_kept_Flushing
+pub use Rattle.moving_kept.proofs.Going as moving_kept_Going
+pub use Rattle.moving_kept.proofs.MembersMove as moving_kept_MembersMove
+pub use Rattle.moving_kept.proofs.MoreSteps as moving_kept_MoreSteps
+pub use Rattle.moving_kept.proofs.NoneLeft as moving_kept_NoneLeft
+pub use Rattle.moving_kept.proofs.Pending as moving_kept_Pending
+pub use Rattle.moving_kept.proofs.Quiet as moving_kept_Quiet
+pub use Rattle.moving_kept.proofs.Refusals as moving_kept_Refusals
+pub use Rattle.moving_kept.proofs.Resting as moving_kept_Resting
+pub use Rattle.moving_kept.proofs.Settling as moving_kept_Settling
+pub use Rattle.moving_kept.proofs.Staying as moving_kept_Staying
+pub use Rattle.moving_kept.proofs.Steps as moving_kept_Steps
+pub use Rattle.moving_kept.proofs.Writing as moving_kept_Writing
+pub use Rattle.moving_kept.proofs.course_kept_Courses
+pub use Rattle.moving_kept.proofs.course_kept_Frames
+pub use Rattle.moving_kept.proofs.course_mends_Mended
+pub use Rattle.moving_kept.proofs.course_mends_Windows
+pub use Rattle.moving_kept.proofs.region_mends_LeftLaws
+pub use Rattle.moving_kept.proofs.region_mends_RefusalLaws
+pub use Rattle.moving_kept.proofs.region_mends_ReliedLaws
+pub use Rattle.moving_kept.proofs.region_writes_Sides
+pub use Rattle.moving_kept.proofs.region_writes_Together
+pub use Rattle.moving_kept.proofs.window_steps_CopyLaws
+pub use Rattle.moving_kept.proofs.window_steps_PastLaws

@@ -42,11 +42,11 @@ use Rattle.safe_updates.specs.Unused.{IsUnusedKept}
 use Rattle.call_entries.specs.Losing.{losses_of}
 use Rattle.call_entries.proofs.CallLaws.{losses-are, ends-losses}
 use Rattle.call_entries.proofs.LeftLaws.{left-behind, left-more}
-use Rattle.region_rows.specs.Stretches.{ListStandsIn, RowsStandIn}
-use Rattle.region_mends.specs.Mends.{low_shape, mend_stripes, mend_shape, relied_sector, IsMendRow, IsNotMended, AreEndsStanding}
-use Rattle.region_mends.proofs.Alike.{low-alike, mends-alike}
-use Rattle.region_mends.proofs.ReliedLaws.{relied-within}
-use Rattle.region_mends.proofs.StripeLaws.{is-next}
+use Rattle.moving_kept.specs.region_rows_Stretches.{ListStandsIn, RowsStandIn}
+use Rattle.moving_kept.specs.region_mends_Mends.{low_shape, mend_stripes, mend_shape, relied_sector, IsMendRow, IsNotMended, AreEndsStanding}
+use Rattle.moving_kept.proofs.region_mends_Alike.{low-alike, mends-alike}
+use Rattle.moving_kept.proofs.region_mends_ReliedLaws.{relied-within}
+use Rattle.moving_kept.proofs.region_mends_StripeLaws.{is-next}
 use Rattle.kept_history.specs.Recorded.{IsCallGoing, entry_of}
 use Rattle.kept_history.specs.Safe.{world_in, IsFilledRight}
 use Rattle.kept_history.specs.Told.{told_now}
@@ -56,11 +56,11 @@ use Rattle.kept_history.proofs.Lists.{newest-in}
 use Rattle.history_calls.specs.Reliable.{AreToldGone}
 use Rattle.grow_asked.specs.declared.window.Window.{Window}
 use Rattle.grow_asked.specs.declared.window.Window.TheVariants.{Closed, Entered, Unsure}
-use Rattle.course_kept.specs.declared.course.Course.{Course}
-use Rattle.course_kept.specs.Course.{hidden_in}
-use Rattle.course_kept.proofs.Frames.{does-for}
-use Rattle.course_mends.specs.Mended.{IsAside, IsMending, IsMended, StandsMended}
-use Rattle.course_mends.proofs.Mended.{mends-go-on}
+use Rattle.moving_kept.specs.course_kept_the_Course.{Course}
+use Rattle.moving_kept.specs.course_kept_Course.{hidden_in}
+use Rattle.moving_kept.proofs.course_kept_Frames.{does-for}
+use Rattle.moving_kept.specs.course_mends_Mended.{IsAside, IsMending, IsMended, StandsMended}
+use Rattle.moving_kept.proofs.course_mends_Mended.{mends-go-on}
 use Rattle.moving_kept.specs.Moving.{HasListInCourse, IsMoving}
 use Rattle.moving_kept.proofs.BackupKept.{stored-kept}
 use Rattle.moving_kept.proofs.Flushing.{AreFlushed, AreSettled, settled-moves, unsettled-moves}

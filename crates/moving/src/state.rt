@@ -6,7 +6,7 @@ ghost use Rattle.superblocks.specs.Reading.{final_shape};
 ghost use Rattle.shape_views.specs.Regions.{AreShapesFit};
 ghost use Rattle.flat_history.specs.Flat.{next_number};
 ghost use Rattle.grow_asked.specs.Left.{phases_of, zeroed_by, IsReshapeUnderWay, IsWindowRight};
-ghost use Rattle.running_words.specs.Parts.{left_in};
+ghost use Rattle.moving_laws.specs.running_words_Parts.{left_in};
 
 mod adding;
 mod asking;
@@ -60,7 +60,7 @@ pub struct Moving<B: Bank> {
 impl<B: Bank> Model for Moving<B> {
     ghost use Rattle.std.specs.Prelude.{vec_capacity, length, Some};
     ghost use Rattle.array_kept.specs.Kept.{scope_in};
-    ghost use Rattle.running_words.specs.Parts.{RunningParts};
+    ghost use Rattle.moving_laws.specs.running_words_Parts.{RunningParts};
     ghost use Rattle.moving_laws.specs.Ready.{IsReady};
 
     ghost Value = { RunningParts B };

@@ -73,11 +73,11 @@ use Rattle.kept_history.proofs.Tests.{or-right}
 use Rattle.kept_history.proofs.Turned.{filled-before}
 use Rattle.kept_history.proofs.Turns.{either-call, resized-call}
 use Rattle.reshape_ends.specs.Finished.{IsFinishable}
-use Rattle.course_kept.specs.Course.{AnyShape, StandsInCourse}
-use Rattle.course_kept.specs.Laws.{closed}
-use Rattle.course_kept.proofs.Frames.{stands-whole, list-whole, rows-whole}
-use Rattle.course_mends.proofs.Mended.{none-pending}
-use Rattle.course_kept.proofs.Courses.{zeroes-are-all}
+use Rattle.moving_kept.specs.course_kept_Course.{AnyShape, StandsInCourse}
+use Rattle.moving_kept.specs.course_kept_Laws.{closed}
+use Rattle.moving_kept.proofs.course_kept_Frames.{stands-whole, list-whole, rows-whole}
+use Rattle.moving_kept.proofs.course_mends_Mended.{none-pending}
+use Rattle.moving_kept.proofs.course_kept_Courses.{zeroes-are-all}
 use Rattle.history_calls.specs.Reliable.{IsReliable, AreToldGone, IsNonePast}
 use Rattle.history_calls.proofs.LastStep.{last-behind, last-step}
 use Rattle.moving_kept.specs.Moving.{HasListInCourse, HasListStill, IsMoving}

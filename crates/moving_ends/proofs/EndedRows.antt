@@ -37,10 +37,10 @@ use Rattle.views.proofs.Fit.{fit-alike, valid, multiple}
 use Rattle.views.proofs.HeldRows.{rows-same}
 use Rattle.views.proofs.Still.{length-still, placed-two, backup-still}
 use Rattle.reshape_ends.specs.Finished.{IsZeroBehind}
-use Rattle.course_kept.specs.Course.{AnyShape, StandsInCourse}
-use Rattle.course_kept.specs.Laws.{closed}
-use Rattle.course_kept.proofs.Frames.{list-whole, rows-whole}
-use Rattle.course_kept.proofs.Courses.{courses-move, zeroes-are-all}
+use Rattle.moving_kept.specs.course_kept_Course.{AnyShape, StandsInCourse}
+use Rattle.moving_kept.specs.course_kept_Laws.{closed}
+use Rattle.moving_kept.proofs.course_kept_Frames.{list-whole, rows-whole}
+use Rattle.moving_kept.proofs.course_kept_Courses.{courses-move, zeroes-are-all}
 use Rattle.moving_kept.specs.Moving.{HasListStill}
 use Rattle.moving_kept.proofs.MembersMove.{backed-moved}
 

@@ -59,12 +59,12 @@ use Rattle.call_entries.proofs.LeftLaws.{TellLeft, left-behind, left-more}
 use Rattle.array_kept.specs.Calls.{IsUnaddable}
 use Rattle.kept_history.specs.Recorded.{IsCallGoing, entry_of}
 use Rattle.kept_history.specs.Safe.{world_in, OpensOnCourse}
-use Rattle.course_kept.specs.declared.course.Course.{Course}
+use Rattle.course_mends.specs.course_kept_the_Course.{Course}
 use Rattle.grow_asked.specs.declared.window.Window.{Window}
 use Rattle.grow_asked.specs.declared.window.Window.TheVariants.{Closed, Entered, Unsure}
-use Rattle.course_kept.specs.Course.{IsStored, IsSectionKept, IsBackupKept}
-use Rattle.course_kept.proofs.Courses.{stored-moves}
-use Rattle.course_kept.proofs.Spares.{spares-without, spares-stored, differ-with}
+use Rattle.course_mends.specs.course_kept_Course.{IsStored, IsSectionKept, IsBackupKept}
+use Rattle.course_mends.proofs.course_kept_Courses.{stored-moves}
+use Rattle.course_mends.proofs.course_kept_Spares.{spares-without, spares-stored, differ-with}
 use Rattle.course_mends.specs.Mended.{StandsMended}
 use Rattle.course_mends.proofs.Mended.{mended-courses-move}
 use Rattle.course_mends.proofs.Spares.{spares-leave-mended}

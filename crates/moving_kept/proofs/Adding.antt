@@ -25,8 +25,8 @@ use Rattle.call_entries.specs.Losing.{losses_of}
 use Rattle.kept_history.specs.Recorded.{IsCallGoing, entry_of, IsHistoryKept, IsLegalCall}
 use Rattle.kept_history.specs.Safe.{world_in, IsFilledRight, OpensOnCourse}
 use Rattle.kept_history.specs.Told.{told_now}
-use Rattle.course_kept.specs.declared.course.Course.{Course}
-use Rattle.course_kept.specs.Course.{IsCourseOf, IsStored}
+use Rattle.course_mends.specs.course_kept_the_Course.{Course}
+use Rattle.course_mends.specs.course_kept_Course.{IsCourseOf, IsStored}
 use Rattle.history_calls.specs.Reliable.{IsReliable, AreToldGone}
 use Rattle.history_calls.proofs.Behind.{AreLostOrMissing, IsAmong, AreFirst, first-of, early-losses, legal-losses, and-true}
 use Rattle.history_calls.proofs.LastStep.{IsWithin, AreWithin, losses-within}

@@ -22,8 +22,8 @@ use Rattle.reshape_updates.specs.Beginning.{beginning}
 use Rattle.reshape_ends.specs.Begun.{begun_plan, IsBackupOf}
 use Rattle.grow_asked.specs.declared.window.Window.{Window}
 use Rattle.grow_asked.specs.declared.window.Window.TheVariants.{Closed, Entered, Unsure}
-use Rattle.course_kept.specs.Course.{IsSectionKept, IsBackupKept, IsStored}
-use Rattle.course_kept.proofs.Courses.{stored-moves}
+use Rattle.course_mends.specs.course_kept_Course.{IsSectionKept, IsBackupKept, IsStored}
+use Rattle.course_mends.proofs.course_kept_Courses.{stored-moves}
 use Rattle.moving_kept.specs.Moving.{AreReshaping}
 
 -- ---- a call

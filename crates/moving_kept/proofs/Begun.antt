@@ -38,9 +38,9 @@ use Rattle.kept_history.specs.Recorded.{IsHistoryKept, IsCallGoing, IsOpenBehind
 use Rattle.kept_history.specs.Safe.{world_in, IsFilledRight}
 use Rattle.kept_history.proofs.Growing.{fit-grown, alike-before, room-before}
 use Rattle.kept_history.proofs.Turned.{filled-before}
-use Rattle.course_kept.specs.Laws.{closed}
-use Rattle.course_kept.proofs.Frames.{does-or}
-use Rattle.course_kept.proofs.Courses.{begins-stand}
+use Rattle.course_mends.specs.course_kept_Laws.{closed}
+use Rattle.course_mends.proofs.course_kept_Frames.{does-or}
+use Rattle.course_mends.proofs.course_kept_Courses.{begins-stand}
 use Rattle.course_mends.specs.Mended.{StandsMended}
 use Rattle.course_mends.proofs.Mended.{none-pending}
 use Rattle.history_calls.specs.Reliable.{IsReliable, HasLastStep}

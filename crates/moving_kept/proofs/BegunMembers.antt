@@ -41,7 +41,7 @@ use Rattle.reshape_ends.specs.Begun.{begun_plan}
 use Rattle.reshape_ends.proofs.BeginLaws.{gives-live, begun-placed}
 use Rattle.kept_history.specs.Recorded.{IsCallGoing, IsOpenBehind}
 use Rattle.kept_history.specs.Safe.{world_in}
-use Rattle.course_kept.specs.Laws.{closed}
+use Rattle.course_mends.specs.course_kept_Laws.{closed}
 use Rattle.moving_kept.specs.Moving.{IsStillKept, IsMoving}
 use Rattle.moving_kept.proofs.BackupKept.{begun-aside}
 use Rattle.moving_kept.proofs.Beginning.{IsBeginningCall}

@@ -28,7 +28,7 @@ use Rattle.call_entries.proofs.CallLaws.{losses-are}
 use Rattle.call_entries.proofs.LeftLaws.{left-behind, left-more}
 use Rattle.kept_history.specs.Recorded.{IsCallGoing}
 use Rattle.kept_history.specs.Safe.{world_in}
-use Rattle.course_kept.specs.declared.course.Course.{Course}
+use Rattle.course_mends.specs.course_kept_the_Course.{Course}
 use Rattle.course_mends.proofs.Mended.{mended-courses-move}
 use Rattle.moving_kept.specs.Moving.{IsMoving}
 use Rattle.history_calls.proofs.Behind.{AreLostOrMissing}

@@ -34,8 +34,8 @@ use Rattle.window_rows.specs.Copies.{tail_of, IsCopied}
 use Rattle.window_calls.specs.Finishing.{IsOfRest, AreStripesCopied, IsOpenWindow}
 use Rattle.call_entries.specs.Losing.{losses_of}
 use Rattle.kept_history.specs.Recorded.{IsCallGoing, MayGoOn}
-use Rattle.course_kept.specs.declared.course.Course.{Course}
-use Rattle.course_kept.specs.Laws.{closed, entered}
+use Rattle.course_mends.specs.course_kept_the_Course.{Course}
+use Rattle.course_mends.specs.course_kept_Laws.{closed, entered}
 use Rattle.moving_kept.specs.Moving.{IsMoving}
 use Rattle.moving_kept.proofs.Steps.{AreMissingSince}
 use Rattle.moving_kept.proofs.Going.{going-on}

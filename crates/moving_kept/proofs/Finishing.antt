@@ -38,9 +38,9 @@ use Rattle.kept_history.specs.Recorded.{IsCallGoing}
 use Rattle.kept_history.specs.Safe.{world_in, IsFilledRight}
 use Rattle.kept_history.specs.Told.{told_now}
 use Rattle.kept_history.proofs.Lists.{newest-in}
-use Rattle.course_kept.specs.Course.{AnyShape}
-use Rattle.course_kept.specs.Laws.{closed, entered}
-use Rattle.course_kept.proofs.Courses.{courses-copied, list-beside, rows-beside}
+use Rattle.course_mends.specs.course_kept_Course.{AnyShape}
+use Rattle.course_mends.specs.course_kept_Laws.{closed, entered}
+use Rattle.course_mends.proofs.course_kept_Courses.{courses-copied, list-beside, rows-beside}
 use Rattle.course_mends.specs.Mended.{StandsMended}
 use Rattle.course_mends.proofs.Windows.{mended-rests-go-on, mended-finishes-close}
 use Rattle.moving_kept.specs.Moving.{HasListInCourse, IsMoving}

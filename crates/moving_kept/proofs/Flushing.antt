@@ -39,10 +39,10 @@ use Rattle.call_entries.proofs.LeftLaws.{left-behind, left-more}
 use Rattle.kept_history.specs.Recorded.{IsCallGoing, entry_of, ends_reshape}
 use Rattle.kept_history.specs.Safe.{world_in, IsFilledRight}
 use Rattle.kept_history.proofs.Entered.{values-more}
-use Rattle.course_kept.specs.declared.course.Course.{Course}
-use Rattle.course_kept.specs.Course.{AnyShape}
-use Rattle.course_kept.proofs.Under.{courses-stand-under}
-use Rattle.region_mends.specs.Mends.{mend_stripes}
+use Rattle.course_mends.specs.course_kept_the_Course.{Course}
+use Rattle.course_mends.specs.course_kept_Course.{AnyShape}
+use Rattle.course_mends.proofs.course_kept_Under.{courses-stand-under}
+use Rattle.course_mends.specs.region_mends_Mends.{mend_stripes}
 use Rattle.course_mends.specs.Mended.{StandsMended}
 use Rattle.course_mends.proofs.Mended.{none-pending, mended-courses-move}
 use Rattle.history_calls.proofs.Settling.{IsSettlement}

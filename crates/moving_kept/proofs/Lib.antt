@@ -25,3 +25,18 @@ pub mod BegunCall
 pub mod BegunMembers
 pub mod Shortening
 pub mod Shortened
+pub use Rattle.course_mends.proofs.Ends as course_mends_Ends
+pub use Rattle.course_mends.proofs.Mended as course_mends_Mended
+pub use Rattle.course_mends.proofs.Windows as course_mends_Windows
+pub use Rattle.course_mends.proofs.course_kept_Courses
+pub use Rattle.course_mends.proofs.course_kept_Frames
+pub use Rattle.course_mends.proofs.course_kept_Under
+pub use Rattle.course_mends.proofs.region_mends_Alike
+pub use Rattle.course_mends.proofs.region_mends_LeftLaws
+pub use Rattle.course_mends.proofs.region_mends_RefusalLaws
+pub use Rattle.course_mends.proofs.region_mends_ReliedLaws
+pub use Rattle.course_mends.proofs.region_mends_StripeLaws
+pub use Rattle.course_mends.proofs.region_writes_Sides
+pub use Rattle.course_mends.proofs.region_writes_Together
+pub use Rattle.course_mends.proofs.window_steps_CopyLaws
+pub use Rattle.course_mends.proofs.window_steps_PastLaws

@@ -16,7 +16,7 @@ use Rattle.views.specs.Placed.{HaveSameReshape}
 use Rattle.views.specs.Moving.{IsMoved}
 use Rattle.views.proofs.Fit.{list-alike}
 use Rattle.safe_updates.proofs.Unused.{unused-moved}
-use Rattle.window_steps.proofs.PastLaws.{free-moved}
+use Rattle.course_mends.proofs.window_steps_PastLaws.{free-moved}
 use Rattle.moving_kept.specs.Moving.{AreReshaping}
 
 -- the backup's room is the same

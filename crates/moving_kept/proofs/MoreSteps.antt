@@ -34,17 +34,17 @@ use Rattle.call_entries.specs.Losing.{losses_of}
 use Rattle.call_entries.proofs.CallLaws.{losses-are}
 use Rattle.window_rows.specs.Copies.{tail_of, IsZeroIn}
 use Rattle.safe_updates.specs.Unused.{IsUnusedKept}
-use Rattle.window_steps.specs.Recording.{IsCopiedWindow}
-use Rattle.window_steps.specs.Zeroing.{IsThrough}
-use Rattle.window_steps.proofs.ZeroLaws.{through-moved}
+use Rattle.course_mends.specs.window_steps_Recording.{IsCopiedWindow}
+use Rattle.course_mends.specs.window_steps_Zeroing.{IsThrough}
+use Rattle.course_mends.proofs.window_steps_ZeroLaws.{through-moved}
 use Rattle.kept_history.specs.Recorded.{IsCallGoing, entry_of}
 use Rattle.kept_history.specs.Safe.{world_in, IsFilledRight}
 use Rattle.kept_history.specs.Told.{told_now}
 use Rattle.kept_history.proofs.Lists.{newest-in}
 use Rattle.grow_asked.specs.declared.window.Window.TheVariants.{Closed}
-use Rattle.course_kept.specs.Course.{AnyShape, IsCourseOf, past_stripe}
-use Rattle.course_kept.specs.Laws.{closed, entered, IsWindowCopied}
-use Rattle.course_kept.proofs.Courses.{zeroes-go-on, windows-copied}
+use Rattle.course_mends.specs.course_kept_Course.{AnyShape, IsCourseOf, past_stripe}
+use Rattle.course_mends.specs.course_kept_Laws.{closed, entered, IsWindowCopied}
+use Rattle.course_mends.proofs.course_kept_Courses.{zeroes-go-on, windows-copied}
 use Rattle.course_mends.specs.Mended.{StandsMended}
 use Rattle.course_mends.proofs.Windows.{mended-records-close}
 use Rattle.moving_kept.specs.Moving.{HasListInCourse, IsMoving}

@@ -20,11 +20,11 @@ use Rattle.kept_history.proofs.Entered.{AreAdding, settle-none}
 use Rattle.kept_history.proofs.Growing.{unsynced-grown}
 use Rattle.kept_history.proofs.Ledgers.{unsynced-still, none-ends}
 use Rattle.history_calls.proofs.Quiet.{IsLeftBehind}
-use Rattle.region_mends.specs.Mends.{low_shape, mend_stripes}
-use Rattle.region_mends.proofs.Alike.{mends-alike}
-use Rattle.course_kept.specs.declared.course.Course.{Course}
-use Rattle.course_kept.specs.Course.{AnyShape, StandsInCourse}
-use Rattle.course_kept.proofs.Frames.{stands-less, stands-whole, does-for}
+use Rattle.course_mends.specs.region_mends_Mends.{low_shape, mend_stripes}
+use Rattle.course_mends.proofs.region_mends_Alike.{mends-alike}
+use Rattle.course_mends.specs.course_kept_the_Course.{Course}
+use Rattle.course_mends.specs.course_kept_Course.{AnyShape, StandsInCourse}
+use Rattle.course_mends.proofs.course_kept_Frames.{stands-less, stands-whole, does-for}
 use Rattle.course_mends.specs.Mended.{IsAside, IsUnmended, StandsMended}
 use Rattle.course_mends.proofs.Mended.{none-pending, resyncs-end}
 use Rattle.moving_kept.specs.Moving.{IsMoving}

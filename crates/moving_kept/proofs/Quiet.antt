@@ -30,8 +30,8 @@ use Rattle.call_entries.proofs.CallLaws.{losses-are, last_end-behind}
 use Rattle.kept_history.specs.Recorded.{IsHistoryKept, IsLegalCall, IsCallGoing, entry_of, ends_reshape}
 use Rattle.kept_history.specs.Safe.{world_in, IsFilledRight, IsSafeHistory, OpensOnCourse}
 use Rattle.kept_history.specs.Told.{told_now}
-use Rattle.course_kept.specs.declared.course.Course.{Course}
-use Rattle.course_kept.specs.Course.{IsCourseOf, IsStored}
+use Rattle.course_mends.specs.course_kept_the_Course.{Course}
+use Rattle.course_mends.specs.course_kept_Course.{IsCourseOf, IsStored}
 use Rattle.course_mends.specs.Mended.{StandsMended}
 use Rattle.kept_history.proofs.Calls.{now-live}
 use Rattle.kept_history.proofs.Entered.{adds_only}

@@ -18,7 +18,7 @@ use Rattle.call_entries.proofs.LeftLaws.{TellLeft, left-more}
 use Rattle.kept_history.specs.Recorded.{IsCallGoing, entry_of}
 use Rattle.kept_history.specs.Safe.{world_in}
 use Rattle.kept_history.proofs.Entered.{adds_only}
-use Rattle.course_kept.specs.declared.course.Course.{Course}
+use Rattle.course_mends.specs.course_kept_the_Course.{Course}
 use Rattle.history_calls.specs.Reliable.{IsReliable}
 use Rattle.moving_kept.specs.Moving.{IsMoving}
 use Rattle.history_calls.proofs.Behind.{early-none, and-true}

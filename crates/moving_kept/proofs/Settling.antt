@@ -31,8 +31,8 @@ use Rattle.call_entries.proofs.LeftLaws.{TellLeft}
 use Rattle.kept_history.specs.Recorded.{IsCallGoing, entry_of, ends_reshape, gives_some}
 use Rattle.kept_history.specs.Safe.{world_in, IsFilledRight, OpensOnCourse}
 use Rattle.kept_history.specs.Told.{told_now}
-use Rattle.course_kept.specs.declared.course.Course.{Course}
-use Rattle.course_kept.specs.Course.{IsCourseOf, IsStored}
+use Rattle.course_mends.specs.course_kept_the_Course.{Course}
+use Rattle.course_mends.specs.course_kept_Course.{IsCourseOf, IsStored}
 use Rattle.history_calls.proofs.Behind.{AreLostOrMissing, IsAmong}
 use Rattle.history_calls.proofs.Quiet.{IsLeftBehind, last-left}
 use Rattle.history_calls.proofs.Settling.{IsSettlement, IsSettledBy, takes-newest, settling-ends, settling-leaves, settled-same}

@@ -54,9 +54,9 @@ use Rattle.kept_history.proofs.Calls.{now-live}
 use Rattle.kept_history.proofs.Growing.{fit-grown, alike-before, room-before, room-now}
 use Rattle.kept_history.proofs.Lengths.{now-drawn}
 use Rattle.kept_history.proofs.Turned.{filled-before}
-use Rattle.course_kept.specs.Laws.{closed}
-use Rattle.course_kept.proofs.Frames.{does-or}
-use Rattle.course_kept.proofs.Courses.{begins-stand}
+use Rattle.course_mends.specs.course_kept_Laws.{closed}
+use Rattle.course_mends.proofs.course_kept_Frames.{does-or}
+use Rattle.course_mends.proofs.course_kept_Courses.{begins-stand}
 use Rattle.course_mends.specs.Mended.{StandsMended}
 use Rattle.course_mends.proofs.Mended.{none-pending}
 use Rattle.history_calls.specs.Reliable.{IsReliable, HasLastStep}

@@ -32,15 +32,15 @@ use Rattle.views.proofs.Fit.{list-alike}
 use Rattle.call_entries.specs.Losing.{losses_of}
 use Rattle.call_entries.proofs.CallLaws.{losses-are}
 use Rattle.call_entries.proofs.LeftLaws.{TellLeft, left-behind, left-more}
-use Rattle.window_steps.proofs.CopyLaws.{window-alike, critical-alike}
-use Rattle.window_steps.proofs.ZeroLaws.{through-moved}
+use Rattle.course_mends.proofs.window_steps_CopyLaws.{window-alike, critical-alike}
+use Rattle.course_mends.proofs.window_steps_ZeroLaws.{through-moved}
 use Rattle.kept_history.specs.Recorded.{IsCallGoing, entry_of}
 use Rattle.kept_history.specs.Safe.{world_in, IsFilledRight}
 use Rattle.kept_history.specs.Told.{told_now}
-use Rattle.course_kept.specs.declared.course.Course.{Course}
+use Rattle.course_mends.specs.course_kept_the_Course.{Course}
 use Rattle.grow_asked.specs.declared.window.Window.{Window}
 use Rattle.grow_asked.specs.declared.window.Window.TheVariants.{Closed, Entered, Unsure}
-use Rattle.course_kept.specs.Course.{IsWindowOf, IsCourseOf}
+use Rattle.course_mends.specs.course_kept_Course.{IsWindowOf, IsCourseOf}
 use Rattle.course_mends.specs.Mended.{StandsMended}
 use Rattle.history_calls.specs.Reliable.{IsReliable, AreToldGone}
 use Rattle.moving_kept.specs.Moving.{IsMoving}

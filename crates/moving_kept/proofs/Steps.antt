@@ -44,11 +44,11 @@ use Rattle.call_entries.proofs.LeftLaws.{left-behind, left-more, fold-left}
 use Rattle.window_rows.specs.Copies.{tail_of, IsCopied}
 use Rattle.kept_history.specs.Recorded.{IsCallGoing, entry_of}
 use Rattle.kept_history.specs.Safe.{world_in}
-use Rattle.window_steps.proofs.CopyLaws.{window-alike, critical-alike}
+use Rattle.course_mends.proofs.window_steps_CopyLaws.{window-alike, critical-alike}
 use Rattle.grow_asked.specs.declared.window.Window.TheVariants.{Entered}
-use Rattle.course_kept.specs.Course.{IsWindowOf, IsCourseOf, IsStoredAs, IsStored}
-use Rattle.course_kept.specs.Laws.{entered, next_stripe}
-use Rattle.course_kept.proofs.Courses.{courses-copied}
+use Rattle.course_mends.specs.course_kept_Course.{IsWindowOf, IsCourseOf, IsStoredAs, IsStored}
+use Rattle.course_mends.specs.course_kept_Laws.{entered, next_stripe}
+use Rattle.course_mends.proofs.course_kept_Courses.{courses-copied}
 use Rattle.course_mends.proofs.Windows.{mended-copies-go-on}
 use Rattle.moving_kept.specs.Moving.{HasListInCourse, IsMoving}
 use Rattle.moving_kept.proofs.BackupKept.{stored-kept}

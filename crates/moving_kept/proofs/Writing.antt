@@ -51,10 +51,10 @@ use Rattle.call_entries.proofs.LeftLaws.{TellLeft, left-behind, left-more}
 use Rattle.call_entries.proofs.LosingLaws.{entries-both}
 use Rattle.array_kept.proofs.LedgerLaws.{written-allowed, wrote-in, torn-in}
 use Rattle.array_kept.proofs.NowLaws.{wrote-is}
-use Rattle.region_rows.specs.Stretches.{relied_rows, IsShapeOf, ListStandsIn, RowsStandIn}
-use Rattle.region_writes.specs.Runs.{IsListTouched, MayBeHidden, IsListTorn, IsListUnwritten}
-use Rattle.region_writes.proofs.Together.{shape-force}
-use Rattle.region_writes.proofs.RunLists.{written-same}
+use Rattle.course_mends.specs.region_rows_Stretches.{relied_rows, IsShapeOf, ListStandsIn, RowsStandIn}
+use Rattle.course_mends.specs.region_writes_Runs.{IsListTouched, MayBeHidden, IsListTorn, IsListUnwritten}
+use Rattle.course_mends.proofs.region_writes_Together.{shape-force}
+use Rattle.course_mends.proofs.region_writes_RunLists.{written-same}
 use Rattle.kept_history.specs.Recorded.{IsCallGoing, IsLegalCall, entry_of}
 use Rattle.kept_history.specs.Safe.{world_in, IsFilledRight}
 use Rattle.kept_history.specs.Told.{told_now}
@@ -62,13 +62,13 @@ use Rattle.kept_history.proofs.Entered.{AreAdding, settle-none, values-more, len
 use Rattle.kept_history.proofs.Growing.{opening-grown, unsynced-grown}
 use Rattle.kept_history.proofs.Ledgers.{unsynced-still, none-ends}
 use Rattle.kept_history.proofs.Lists.{newest-in}
-use Rattle.course_kept.specs.declared.course.Course.{Course}
+use Rattle.course_mends.specs.course_kept_the_Course.{Course}
 use Rattle.grow_asked.specs.declared.window.Window.{Window}
 use Rattle.grow_asked.specs.declared.window.Window.TheVariants.{Closed, Entered, Unsure}
-use Rattle.course_kept.specs.Course.{IsWindowOf, hidden_in, span_in}
-use Rattle.course_kept.specs.Laws.{IsOtherTouched}
-use Rattle.region_mends.specs.Mends.{relied_sector, AreEndsStanding}
-use Rattle.region_mends.proofs.Alike.{low-alike, relied-alike}
+use Rattle.course_mends.specs.course_kept_Course.{IsWindowOf, hidden_in, span_in}
+use Rattle.course_mends.specs.course_kept_Laws.{IsOtherTouched}
+use Rattle.course_mends.specs.region_mends_Mends.{relied_sector, AreEndsStanding}
+use Rattle.course_mends.proofs.region_mends_Alike.{low-alike, relied-alike}
 use Rattle.course_mends.specs.Mended.{StandsMended}
 use Rattle.course_mends.proofs.Mended.{whole-on, mended-writes-go-on}
 use Rattle.course_mends.proofs.Torn.{mended-torn-writes-go-on}

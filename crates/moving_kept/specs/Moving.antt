@@ -29,9 +29,9 @@ use Rattle.safe_updates.specs.Unused.{IsUnused}
 use Rattle.kept_history.specs.Recorded.{IsHistoryKept}
 use Rattle.kept_history.specs.Safe.{world_in, OpensOnCourse, IsFilledRight, IsSafeHistory}
 use Rattle.history_calls.specs.Reliable.{IsReliable, AreToldGone, IsNonePast, HasLastStep}
-use Rattle.course_kept.specs.declared.course.Course.{Course}
-use Rattle.course_kept.specs.Course.{IsCourseOf, IsStored}
-use Rattle.region_mends.specs.Mends.{mend_stripes}
+use Rattle.course_mends.specs.course_kept_the_Course.{Course}
+use Rattle.course_mends.specs.course_kept_Course.{IsCourseOf, IsStored}
+use Rattle.course_mends.specs.region_mends_Mends.{mend_stripes}
 use Rattle.course_mends.specs.Mended.{IsAside, IsUnmended, StandsMended}
 
 -- The members of an array in a reshape: each has its place, the backup has room for the sections, holds no role and is no spare, and no slot recovers a role.

@@ -31,9 +31,9 @@ use Rattle.calls_kept.proofs.AddLaws.{slot-free}
 use Rattle.calls_kept.proofs.AddedKept.{AddsSafe, with_carried, carries-number, carries-only}
 use Rattle.calls_kept.proofs.AddedLosses.{IsAddDone, spares-added}
 use Rattle.grow_asked.specs.declared.window.PhasesLeft.{PhasesLeft}
-use Rattle.course_kept.specs.declared.course.Course.{Course}
-use Rattle.moving_kept.proofs.AddedSpare.{IsSpareMade}
-use Rattle.moving_kept.proofs.Steps.{missing-since}
+use Rattle.mending_kept.specs.course_kept_the_Course.{Course}
+use Rattle.mending_kept.proofs.moving_kept_AddedSpare.{IsSpareMade}
+use Rattle.mending_kept.proofs.moving_kept_Steps.{missing-since}
 use Rattle.running_words.specs.Parts.{RunningParts}
 use Rattle.running_words.specs.Calls.{IsCalled}
 use Rattle.running_words.specs.Adding.{IsAddCalled}

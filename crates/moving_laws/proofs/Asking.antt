@@ -21,9 +21,9 @@ use Rattle.kept_history.specs.Recorded.{entry_of}
 use Rattle.kept_history.proofs.Records.{begins-going}
 use Rattle.history_calls.specs.Reliable.{IsReliable}
 use Rattle.history_calls.proofs.Quiet.{IsQuiet}
-use Rattle.course_kept.specs.declared.course.Course.{Course}
-use Rattle.moving_kept.specs.Moving.{IsMoving}
-use Rattle.moving_kept.proofs.Resting.{resting-moves}
+use Rattle.mending_kept.specs.course_kept_the_Course.{Course}
+use Rattle.mending_kept.specs.moving_kept_Moving.{IsMoving}
+use Rattle.mending_kept.proofs.moving_kept_Resting.{resting-moves}
 use Rattle.running_words.specs.Parts.{RunningParts}
 use Rattle.running_words.specs.Calls.{IsStatusFor, IsEpochKept}
 

@@ -20,9 +20,9 @@ use Rattle.array_kept.specs.Calls.{IsRefusedFor, IsCausedBy}
 use Rattle.array_kept.proofs.LossLaws.{behind-alone}
 use Rattle.grow_asked.specs.declared.window.Window.{Window}
 use Rattle.grow_asked.specs.declared.window.Window.TheVariants.{Unsure}
-use Rattle.course_kept.specs.declared.course.Course.{Course}
-use Rattle.course_kept.specs.Laws.{closed, unsure}
-use Rattle.region_writes.specs.Runs.{IsListUnwritten}
+use Rattle.mending_kept.specs.course_kept_the_Course.{Course}
+use Rattle.mending_kept.specs.course_kept_Laws.{closed, unsure}
+use Rattle.mending_kept.specs.region_writes_Runs.{IsListUnwritten}
 use Rattle.running_words.specs.Calls.{IsStepTaken, IsEnterCaused}
 use Rattle.flat_history.specs.declared.events.StepKind.{StepKind}
 use Rattle.moving_laws.specs.Writing.{TouchesUnsure, IsWriteLacked, IsWriteBarred, IsWriteEntered, IsWriteAnswered, IsWriteReplied, IsRefusedAlone}

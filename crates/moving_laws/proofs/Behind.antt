@@ -9,7 +9,7 @@ use Rattle.shape_views.proofs.Stands.{window-inside}
 use Rattle.grow_asked.specs.declared.window.Window.{Window}
 use Rattle.grow_asked.specs.declared.window.Window.TheVariants.{Closed, Entered, Unsure}
 use Rattle.grow_asked.specs.Left.{IsWindowRight}
-use Rattle.region_mends.specs.Left.{position_behind}
+use Rattle.mending_kept.specs.region_mends_Left.{position_behind}
 
 pub position-within : (newest : Sb) (window : Window) → AreShapesFit newest → is_reshaping newest ≡ true → IsWindowRight newest window → position_behind newest window ≤ list_length newest
 position-within newest Closed fit active is = fit.position active

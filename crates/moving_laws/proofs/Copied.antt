@@ -42,14 +42,14 @@ use Rattle.grow_asked.proofs.LeftLaws.{copying}
 use Rattle.window_rows.specs.Copies.{tail_of, IsCopied}
 use Rattle.kept_history.specs.Recorded.{IsCallGoing, MayGoOn}
 use Rattle.kept_history.specs.Safe.{world_in}
-use Rattle.course_kept.specs.declared.course.Course.{Course}
-use Rattle.course_kept.specs.Laws.{entered, next_stripe}
-use Rattle.region_mends.specs.Left.{resync_left}
-use Rattle.course_mends.proofs.Windows.{mended-copies-go-on}
-use Rattle.moving_kept.specs.Moving.{IsMoving}
-use Rattle.moving_kept.proofs.Pending.{unmended-of}
-use Rattle.moving_kept.proofs.Staying.{refused-moves}
-use Rattle.moving_kept.proofs.Steps.{AreMissingSince, able-kept, plain-of, copied-moves}
+use Rattle.mending_kept.specs.course_kept_the_Course.{Course}
+use Rattle.mending_kept.specs.course_kept_Laws.{entered, next_stripe}
+use Rattle.mending_kept.specs.region_mends_Left.{resync_left}
+use Rattle.mending_kept.proofs.course_mends_Windows.{mended-copies-go-on}
+use Rattle.mending_kept.specs.moving_kept_Moving.{IsMoving}
+use Rattle.mending_kept.proofs.moving_kept_Pending.{unmended-of}
+use Rattle.mending_kept.proofs.moving_kept_Staying.{refused-moves}
+use Rattle.mending_kept.proofs.moving_kept_Steps.{AreMissingSince, able-kept, plain-of, copied-moves}
 use Rattle.running_words.specs.Parts.{RunningParts}
 use Rattle.moving_laws.specs.Ready.{bytes_in}
 use Rattle.running_words.specs.Calls.{IsCopyDue}

@@ -12,7 +12,7 @@ use Rattle.flat_history.specs.Stands.{reach_of}
 use Rattle.array_kept.specs.Kept.{scope_in}
 use Rattle.window_entering.specs.Backup.{IsBackupFor}
 use Rattle.moving_state.proofs.ReshapeLaws.{window-reach}
-use Rattle.moving_kept.specs.Moving.{AreReshaping}
+use Rattle.mending_kept.specs.moving_kept_Moving.{AreReshaping}
 
 -- ---- the backup
 

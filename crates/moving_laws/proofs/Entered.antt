@@ -41,7 +41,7 @@ use Rattle.views.proofs.Fit.{list-alike}
 use Rattle.call_entries.specs.Losing.{losses_of}
 use Rattle.call_entries.proofs.CallLaws.{losses-are}
 use Rattle.call_entries.proofs.LeftLaws.{left-behind, left-more}
-use Rattle.window_steps.proofs.CopyLaws.{window-alike, critical-alike}
+use Rattle.mending_kept.proofs.window_steps_CopyLaws.{window-alike, critical-alike}
 use Rattle.grow_asked.specs.declared.window.Window.{Window}
 use Rattle.grow_asked.specs.declared.window.Window.TheVariants.{Closed, Entered, Unsure}
 use Rattle.grow_asked.specs.declared.window.PhasesLeft.{PhasesLeft}
@@ -56,20 +56,20 @@ use Rattle.history_calls.proofs.Adding.{IsAdding, ChangesEarly, changing-leaves}
 use Rattle.history_calls.proofs.Behind.{IsAmong, and-true, early-losses, first-of, legal-losses}
 use Rattle.history_calls.proofs.LastStep.{IsWithin, losses-within}
 use Rattle.history_calls.proofs.Quiet.{IsQuiet, IsLeftBehind, fit-later, quiet-now, last-left}
-use Rattle.course_kept.specs.declared.course.Course.{Course}
-use Rattle.course_kept.specs.Course.{HasWindowIn, IsCourseOf, IsStored, StandsInCourse}
-use Rattle.course_kept.specs.Laws.{closed}
-use Rattle.course_kept.proofs.Courses.{enters-stand}
-use Rattle.course_kept.proofs.Frames.{stands-on, stands-whole}
-use Rattle.course_mends.specs.Mended.{IsUnmended, StandsMended}
+use Rattle.mending_kept.specs.course_kept_the_Course.{Course}
+use Rattle.mending_kept.specs.course_kept_Course.{HasWindowIn, IsCourseOf, IsStored, StandsInCourse}
+use Rattle.mending_kept.specs.course_kept_Laws.{closed}
+use Rattle.mending_kept.proofs.course_kept_Courses.{enters-stand}
+use Rattle.mending_kept.proofs.course_kept_Frames.{stands-on, stands-whole}
+use Rattle.mending_kept.specs.course_mends_Mended.{IsUnmended, StandsMended}
 use Rattle.moving_state.proofs.LeftLaws.{plans-counted, some-left}
 use Rattle.moving_state.proofs.ReshapeLaws.{under-way-of}
-use Rattle.moving_kept.specs.Moving.{HasListInCourse, IsMoving}
-use Rattle.moving_kept.proofs.Pending.{HasResync, resync-of, resync-moved, pending-on, none-stands, none-on, mended-later}
-use Rattle.moving_kept.proofs.Quiet.{safe-now, course-earlier}
-use Rattle.moving_kept.proofs.MembersMove.{reshaping-moved}
-use Rattle.moving_kept.proofs.Refusals.{quiet-refusal, refused-right}
-use Rattle.moving_kept.proofs.Steps.{AreMissingSince, missing-moved, quiet-step, step-is, told-behind, told-step}
+use Rattle.mending_kept.specs.moving_kept_Moving.{HasListInCourse, IsMoving}
+use Rattle.mending_kept.proofs.moving_kept_Pending.{HasResync, resync-of, resync-moved, pending-on, none-stands, none-on, mended-later}
+use Rattle.mending_kept.proofs.moving_kept_Quiet.{safe-now, course-earlier}
+use Rattle.mending_kept.proofs.moving_kept_MembersMove.{reshaping-moved}
+use Rattle.mending_kept.proofs.moving_kept_Refusals.{quiet-refusal, refused-right}
+use Rattle.mending_kept.proofs.moving_kept_Steps.{AreMissingSince, missing-moved, quiet-step, step-is, told-behind, told-step}
 use Rattle.moving_laws.specs.Ready.{bytes_in}
 use Rattle.running_words.proofs.Called.{not_254}
 use Rattle.moving_laws.proofs.Kept.{left_by, left-moved, behind-whole, takes-before}

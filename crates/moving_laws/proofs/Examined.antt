@@ -9,8 +9,8 @@ use Rattle.flat_history.specs.declared.events.Entry.{Entry}
 use Rattle.views.specs.declared.work.Work.{Work}
 use Rattle.array_kept.specs.Kept.{scope_in}
 use Rattle.grow_asked.specs.declared.window.PhasesLeft.{PhasesLeft}
-use Rattle.course_kept.specs.declared.course.Course.{Course}
-use Rattle.moving_kept.specs.Moving.{IsMoving}
+use Rattle.mending_kept.specs.course_kept_the_Course.{Course}
+use Rattle.mending_kept.specs.moving_kept_Moving.{IsMoving}
 use Rattle.moving_laws.specs.Ready.{IsReady}
 
 -- nothing was written

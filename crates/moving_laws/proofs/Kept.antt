@@ -48,11 +48,11 @@ use Rattle.kept_history.proofs.Entered.{lost-taken}
 use Rattle.kept_history.proofs.Growing.{takes-grown}
 use Rattle.kept_history.proofs.Tests.{neither, none-before}
 use Rattle.history_calls.proofs.Behind.{early-losses}
-use Rattle.course_kept.specs.declared.course.Course.{Course}
-use Rattle.moving_kept.specs.Moving.{IsMoving}
-use Rattle.moving_kept.proofs.Steps.{AreMissingSince, missing-moved}
-use Rattle.region_mends.specs.Left.{resync_left}
-use Rattle.region_mends.proofs.LeftLaws.{left-stays}
+use Rattle.mending_kept.specs.course_kept_the_Course.{Course}
+use Rattle.mending_kept.specs.moving_kept_Moving.{IsMoving}
+use Rattle.mending_kept.proofs.moving_kept_Steps.{AreMissingSince, missing-moved}
+use Rattle.mending_kept.specs.region_mends_Left.{resync_left}
+use Rattle.mending_kept.proofs.region_mends_LeftLaws.{left-stays}
 use Rattle.running_words.specs.Parts.{left_in}
 use Rattle.moving_laws.specs.Ready.{bytes_in, IsReady}
 

@@ -17,3 +17,14 @@ pub mod Entered
 pub mod Reading
 pub mod DueSteps
 pub mod MendLaws
+pub use Rattle.mending_kept.proofs.Resync as mending_kept_Resync
+pub use Rattle.mending_kept.proofs.moving_kept_AddedSpare
+pub use Rattle.mending_kept.proofs.moving_kept_Failing
+pub use Rattle.mending_kept.proofs.moving_kept_FinishedCall
+pub use Rattle.mending_kept.proofs.moving_kept_Flushing
+pub use Rattle.mending_kept.proofs.moving_kept_Going
+pub use Rattle.mending_kept.proofs.moving_kept_Refusals
+pub use Rattle.mending_kept.proofs.moving_kept_Resting
+pub use Rattle.mending_kept.proofs.moving_kept_Steps
+pub use Rattle.mending_kept.proofs.moving_kept_Writing
+pub use Rattle.running_words.proofs.Called as running_words_Called

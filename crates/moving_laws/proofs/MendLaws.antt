@@ -45,23 +45,23 @@ use Rattle.grow_asked.specs.declared.window.Window.{Window}
 use Rattle.grow_asked.specs.declared.window.Window.TheVariants.{Closed, Entered, Unsure}
 use Rattle.grow_asked.specs.declared.window.PhasesLeft.{PhasesLeft}
 use Rattle.grow_asked.specs.Left.{phases_of, grow_left, reshape_left, IsWindowRight}
-use Rattle.region_rows.specs.Stretches.{ListStandsIn, RowsStandIn}
-use Rattle.region_writes.proofs.Sides.{low-some, low-fits, list-few}
-use Rattle.region_mends.specs.Mends.{low_end, low_shape, low_stripes, high_shape, high_stripe, mend_stripes, mend_shape, relied_sector, IsMendRow, AreEndsStanding, mend_refusal, IsNotMended}
-use Rattle.region_mends.specs.Left.{position_behind, resync_left}
-use Rattle.region_mends.proofs.LeftLaws.{mending-takes-one, resync-ends-last}
-use Rattle.region_mends.proofs.RefusalLaws.{none-found}
+use Rattle.mending_kept.specs.region_rows_Stretches.{ListStandsIn, RowsStandIn}
+use Rattle.mending_kept.proofs.region_writes_Sides.{low-some, low-fits, list-few}
+use Rattle.mending_kept.specs.region_mends_Mends.{low_end, low_shape, low_stripes, high_shape, high_stripe, mend_stripes, mend_shape, relied_sector, IsMendRow, AreEndsStanding, mend_refusal, IsNotMended}
+use Rattle.mending_kept.specs.region_mends_Left.{position_behind, resync_left}
+use Rattle.mending_kept.proofs.region_mends_LeftLaws.{mending-takes-one, resync-ends-last}
+use Rattle.mending_kept.proofs.region_mends_RefusalLaws.{none-found}
 use Rattle.kept_history.specs.Recorded.{IsCallGoing}
 use Rattle.kept_history.specs.Safe.{world_in}
-use Rattle.course_kept.specs.declared.course.Course.{Course}
-use Rattle.course_kept.specs.Course.{IsCourseOf, hidden_in}
-use Rattle.course_mends.specs.Mended.{IsAside}
+use Rattle.mending_kept.specs.course_kept_the_Course.{Course}
+use Rattle.mending_kept.specs.course_kept_Course.{IsCourseOf, hidden_in}
+use Rattle.mending_kept.specs.course_mends_Mended.{IsAside}
 use Rattle.moving_state.specs.Due.{open_in}
 use Rattle.moving_state.proofs.LeftLaws.{plans-counted, some-left}
-use Rattle.moving_kept.specs.Moving.{IsMoving}
-use Rattle.moving_kept.proofs.Flushing.{AreFlushed, AreSettled}
-use Rattle.moving_kept.proofs.Staying.{course-moved}
-use Rattle.moving_kept.proofs.Steps.{missing-since}
+use Rattle.mending_kept.specs.moving_kept_Moving.{IsMoving}
+use Rattle.mending_kept.proofs.moving_kept_Flushing.{AreFlushed, AreSettled}
+use Rattle.mending_kept.proofs.moving_kept_Staying.{course-moved}
+use Rattle.mending_kept.proofs.moving_kept_Steps.{missing-since}
 use Rattle.mending_kept.proofs.Resync.{IsMendingMoving, AreRowsMended, mended-moves, unmended-moves, resynced-moves, unresynced-moves}
 use Rattle.running_words.specs.Parts.{RunningParts, left_in}
 use Rattle.running_words.specs.Calls.{IsCalled}

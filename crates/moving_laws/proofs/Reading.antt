@@ -53,10 +53,10 @@ use Rattle.call_entries.proofs.LosingLaws.{entries-both}
 use Rattle.array_kept.specs.Calls.{IsRefusedFor, IsReplied}
 use Rattle.array_kept.proofs.NowLaws.{sectors_of-at}
 use Rattle.array_kept.proofs.ReplyLaws.{IsOfMissing, unread-of, refused_reply, read_kind}
-use Rattle.region_rows.specs.Stretches.{ListStandsIn, RowsStandIn}
-use Rattle.region_writes.proofs.Together.{shape-force}
+use Rattle.mending_kept.specs.region_rows_Stretches.{ListStandsIn, RowsStandIn}
+use Rattle.mending_kept.proofs.region_writes_Together.{shape-force}
 use Rattle.window_rows.specs.Copies.{HasWindow, IsRoomFor}
-use Rattle.window_calls.specs.Fetching.{IsShapeBeside, IsUnreadBeside}
+use Rattle.mending_kept.specs.window_calls_Fetching.{IsShapeBeside, IsUnreadBeside}
 use Rattle.kept_history.specs.Recorded.{IsCallGoing}
 use Rattle.kept_history.specs.Safe.{world_in, TakesNone}
 use Rattle.kept_history.proofs.Entered.{adds_only, values-more, length-more}
@@ -66,22 +66,22 @@ use Rattle.kept_history.proofs.Tests.{none-before}
 use Rattle.history_calls.specs.Reliable.{IsReliable, AreToldGone}
 use Rattle.history_calls.proofs.Behind.{IsAmong, and-true, early-losses, legal-losses}
 use Rattle.history_calls.proofs.Quiet.{IsQuiet, LeavesList, IsLeftBehind, quiet-leaves, quiet-now, last-left}
-use Rattle.course_kept.specs.declared.course.Course.{Course}
+use Rattle.mending_kept.specs.course_kept_the_Course.{Course}
 use Rattle.grow_asked.specs.declared.window.Window.{Window}
 use Rattle.grow_asked.specs.declared.window.Window.TheVariants.{Closed, Entered, Unsure}
-use Rattle.course_kept.specs.Course.{HasWindowIn, IsWindowOf, hidden_in}
-use Rattle.region_mends.specs.Mends.{relied_sector}
-use Rattle.course_mends.specs.Mended.{StandsMended}
-use Rattle.course_mends.proofs.Mended.{mended-courses-move}
-use Rattle.moving_kept.specs.Moving.{IsMoving}
-use Rattle.moving_kept.proofs.BackupKept.{stored-kept}
-use Rattle.moving_kept.proofs.MembersMove.{reshaping-moved}
-use Rattle.moving_kept.proofs.NoneLeft.{shape-left}
-use Rattle.moving_kept.proofs.Pending.{HasResync, resync-of, resync-moved, pending-on, mended-later}
-use Rattle.moving_kept.proofs.Quiet.{safe-now, listed-later, course-earlier}
-use Rattle.moving_kept.proofs.Refusals.{quiet-refusal, lacking-right}
-use Rattle.moving_kept.proofs.Staying.{course-moved, stays-moves}
-use Rattle.moving_kept.proofs.Steps.{AreMissingSince, missing-moved}
+use Rattle.mending_kept.specs.course_kept_Course.{HasWindowIn, IsWindowOf, hidden_in}
+use Rattle.mending_kept.specs.region_mends_Mends.{relied_sector}
+use Rattle.mending_kept.specs.course_mends_Mended.{StandsMended}
+use Rattle.mending_kept.proofs.course_mends_Mended.{mended-courses-move}
+use Rattle.mending_kept.specs.moving_kept_Moving.{IsMoving}
+use Rattle.mending_kept.proofs.moving_kept_BackupKept.{stored-kept}
+use Rattle.mending_kept.proofs.moving_kept_MembersMove.{reshaping-moved}
+use Rattle.mending_kept.proofs.moving_kept_NoneLeft.{shape-left}
+use Rattle.mending_kept.proofs.moving_kept_Pending.{HasResync, resync-of, resync-moved, pending-on, mended-later}
+use Rattle.mending_kept.proofs.moving_kept_Quiet.{safe-now, listed-later, course-earlier}
+use Rattle.mending_kept.proofs.moving_kept_Refusals.{quiet-refusal, lacking-right}
+use Rattle.mending_kept.proofs.moving_kept_Staying.{course-moved, stays-moves}
+use Rattle.mending_kept.proofs.moving_kept_Steps.{AreMissingSince, missing-moved}
 use Rattle.moving_state.specs.First.{IsUnreadAround}
 use Rattle.moving_state.proofs.ReshapeLaws.{window-reach}
 use Rattle.moving_laws.specs.Ready.{bytes_in}

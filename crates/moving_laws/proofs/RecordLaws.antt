@@ -33,25 +33,25 @@ use Rattle.views.specs.Lacking.{AreTooMany, AreLostSince, HaveFailedSince}
 use Rattle.views.proofs.LackingLaws.{AreVacant, AreNewlyVacant, lost-since}
 use Rattle.safe_updates.specs.Unused.{IsUnusedKept}
 use Rattle.call_entries.specs.Losing.{losses_of}
-use Rattle.window_steps.specs.Recording.{IsCopiedWindow}
-use Rattle.window_steps.proofs.PastLaws.{past-placed}
+use Rattle.mending_kept.specs.window_steps_Recording.{IsCopiedWindow}
+use Rattle.mending_kept.proofs.window_steps_PastLaws.{past-placed}
 use Rattle.grow_asked.specs.declared.window.Window.TheVariants.{Closed, Entered}
 use Rattle.grow_asked.specs.declared.window.PhasesLeft.{PhasesLeft}
 use Rattle.grow_asked.specs.Left.{phases_of, reshape_left, grow_left, IsPast}
 use Rattle.grow_asked.proofs.LeftLaws.{recording}
 use Rattle.kept_history.specs.Recorded.{IsCallGoing}
 use Rattle.kept_history.specs.Safe.{world_in}
-use Rattle.course_kept.specs.declared.course.Course.{Course}
-use Rattle.course_kept.specs.Course.{IsCourseOf}
-use Rattle.course_kept.specs.Laws.{closed, entered}
-use Rattle.region_mends.specs.Left.{resync_left}
-use Rattle.region_mends.proofs.LeftLaws.{records-leave}
-use Rattle.course_mends.proofs.Mended.{mended-courses-move}
+use Rattle.mending_kept.specs.course_kept_the_Course.{Course}
+use Rattle.mending_kept.specs.course_kept_Course.{IsCourseOf}
+use Rattle.mending_kept.specs.course_kept_Laws.{closed, entered}
+use Rattle.mending_kept.specs.region_mends_Left.{resync_left}
+use Rattle.mending_kept.proofs.region_mends_LeftLaws.{records-leave}
+use Rattle.mending_kept.proofs.course_mends_Mended.{mended-courses-move}
 use Rattle.moving_state.proofs.LeftLaws.{plans-counted, some-left}
-use Rattle.moving_kept.specs.Moving.{IsMoving}
-use Rattle.moving_kept.proofs.MoreSteps.{recorded-moves}
-use Rattle.moving_kept.proofs.Staying.{refused-moves}
-use Rattle.moving_kept.proofs.Steps.{AreMissingSince, missing-since}
+use Rattle.mending_kept.specs.moving_kept_Moving.{IsMoving}
+use Rattle.mending_kept.proofs.moving_kept_MoreSteps.{recorded-moves}
+use Rattle.mending_kept.proofs.moving_kept_Staying.{refused-moves}
+use Rattle.mending_kept.proofs.moving_kept_Steps.{AreMissingSince, missing-since}
 use Rattle.running_words.proofs.Called.{not_254}
 use Rattle.moving_laws.proofs.Kept.{AreSameShapes, left_by, left-moved}
 use Rattle.moving_laws.proofs.Settled.{risen-told}

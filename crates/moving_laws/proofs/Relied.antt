@@ -28,12 +28,12 @@ use Rattle.kept_history.specs.Safe.{world_in}
 use Rattle.kept_history.proofs.Growing.{unsynced-grown}
 use Rattle.kept_history.proofs.Ledgers.{unsynced-still}
 use Rattle.history_calls.specs.Reliable.{AreToldGone}
-use Rattle.region_rows.specs.Stretches.{relied_rows}
-use Rattle.region_writes.proofs.Together.{shape-force}
-use Rattle.region_mends.specs.Mends.{relied_sector}
-use Rattle.course_kept.specs.declared.course.Course.{Course}
-use Rattle.moving_kept.specs.Moving.{IsMoving}
-use Rattle.moving_kept.proofs.Writing.{unrelied-short}
+use Rattle.mending_kept.specs.region_rows_Stretches.{relied_rows}
+use Rattle.mending_kept.proofs.region_writes_Together.{shape-force}
+use Rattle.mending_kept.specs.region_mends_Mends.{relied_sector}
+use Rattle.mending_kept.specs.course_kept_the_Course.{Course}
+use Rattle.mending_kept.specs.moving_kept_Moving.{IsMoving}
+use Rattle.mending_kept.proofs.moving_kept_Writing.{unrelied-short}
 
 short-pending : (newest : Sb) (resync : Option ℕ) (relied : ℕ) → relied ≡ relied_sector newest resync → relied < list_length newest → is_some resync ≡ true
 short-pending newest None relied relies short = absurd (let all : relied ≡ list_length newest = relies in omega (arith, all, short))

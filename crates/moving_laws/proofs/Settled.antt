@@ -9,7 +9,7 @@ use Rattle.flat_history.specs.Flat.{length_after, limit_after}
 use Rattle.shape_changes.specs.Safety.{IsRisen}
 use Rattle.views.specs.Lacking.{AreTooMany}
 use Rattle.array_kept.specs.Calls.{IsSettling}
-use Rattle.moving_kept.proofs.Settling as law
+use Rattle.mending_kept.proofs.moving_kept_Settling as law
 
 -- a flush or a stop settles
 pub settles-so : (event : Event) → IsSettling event → law.IsSettling event

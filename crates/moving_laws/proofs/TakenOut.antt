@@ -23,7 +23,7 @@ use Rattle.safe_updates.proofs.Unused.{unused-moved, rest-unused}
 use Rattle.array_kept.proofs.KeptLaws.{NamesSafe}
 use Rattle.calls_kept.proofs.FailedLaws.{placed-out, moved-out, out-only, clean-out, rise-out, named-out}
 use Rattle.history_calls.proofs.Failed.{IsFailedOrAmong}
-use Rattle.moving_kept.proofs.Failing.{IsTakenOut}
+use Rattle.mending_kept.proofs.moving_kept_Failing.{IsTakenOut}
 
 module _ (given : Given) (old mid new : Members) (lost slot role : ℕ) (was : IsPlaced given old) (unlost : AreUnlost old) (is : mid ≡ members_without lost old) (alone : (s : ℕ) → has_slot lost s ≡ (slot == s))
     (held : holder (role_state (reading_of old) role) ≡ Some slot) (moved : IsMoved given mid new) where

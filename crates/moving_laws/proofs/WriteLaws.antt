@@ -45,8 +45,8 @@ use Rattle.call_entries.specs.Losing.{losses_of, failure_events}
 use Rattle.call_entries.proofs.CallLaws.{losses-are, length-losses, limit-losses}
 use Rattle.array_kept.specs.Calls.{IsRoleLossBy, IsLossBy, AreLossesOf, IsBehind, IsRefusedFor, IsCausedBy}
 use Rattle.array_kept.proofs.ReplyLaws.{IsOfMissing, unwritten-of}
-use Rattle.region_writes.specs.Runs.{IsListUnwritten}
-use Rattle.region_writes.proofs.Together.{shape-force}
+use Rattle.mending_kept.specs.region_writes_Runs.{IsListUnwritten}
+use Rattle.mending_kept.proofs.region_writes_Together.{shape-force}
 use Rattle.grow_asked.specs.declared.window.Window.{Window}
 use Rattle.grow_asked.specs.declared.window.Window.TheVariants.{Closed, Entered, Unsure}
 use Rattle.grow_asked.specs.declared.window.PhasesLeft.{PhasesLeft}
@@ -56,21 +56,21 @@ use Rattle.kept_history.specs.Recorded.{IsCallGoing}
 use Rattle.kept_history.specs.Safe.{world_in, TakesNone}
 use Rattle.history_calls.proofs.Behind.{early-losses}
 use Rattle.history_calls.specs.Reliable.{IsReliable}
-use Rattle.course_kept.specs.declared.course.Course.{Course}
-use Rattle.course_kept.specs.Course.{IsWindowOf, IsCourseOf, span_in}
-use Rattle.course_kept.specs.Laws.{closed, entered}
-use Rattle.region_mends.specs.Left.{resync_left}
-use Rattle.region_mends.specs.Mends.{relied_sector}
-use Rattle.region_mends.proofs.LeftLaws.{records-leave}
-use Rattle.region_mends.proofs.ReliedLaws.{relied-reaches}
-use Rattle.course_mends.specs.Mended.{IsUnmended}
+use Rattle.mending_kept.specs.course_kept_the_Course.{Course}
+use Rattle.mending_kept.specs.course_kept_Course.{IsWindowOf, IsCourseOf, span_in}
+use Rattle.mending_kept.specs.course_kept_Laws.{closed, entered}
+use Rattle.mending_kept.specs.region_mends_Left.{resync_left}
+use Rattle.mending_kept.specs.region_mends_Mends.{relied_sector}
+use Rattle.mending_kept.proofs.region_mends_LeftLaws.{records-leave}
+use Rattle.mending_kept.proofs.region_mends_ReliedLaws.{relied-reaches}
+use Rattle.mending_kept.specs.course_mends_Mended.{IsUnmended}
 use Rattle.moving_state.specs.Due.{open_in, unsure_in}
-use Rattle.moving_kept.specs.Moving.{IsMoving}
-use Rattle.moving_kept.proofs.NoneLeft.{shape-left}
-use Rattle.moving_kept.proofs.FinishedCall.{IsFinishedBy, finish-moves}
-use Rattle.moving_kept.proofs.Refusals.{lacking-right}
-use Rattle.moving_kept.proofs.Steps.{AreMissingSince, missing-since, missing-moved}
-use Rattle.moving_kept.proofs.Writing.{ArePut, AreWritten, AreUnwritten, written-moves, unwritten-moves}
+use Rattle.mending_kept.specs.moving_kept_Moving.{IsMoving}
+use Rattle.mending_kept.proofs.moving_kept_NoneLeft.{shape-left}
+use Rattle.mending_kept.proofs.moving_kept_FinishedCall.{IsFinishedBy, finish-moves}
+use Rattle.mending_kept.proofs.moving_kept_Refusals.{lacking-right}
+use Rattle.mending_kept.proofs.moving_kept_Steps.{AreMissingSince, missing-since, missing-moved}
+use Rattle.mending_kept.proofs.moving_kept_Writing.{ArePut, AreWritten, AreUnwritten, written-moves, unwritten-moves}
 use Rattle.running_words.specs.Calls.{IsCalled, IsStepTaken}
 use Rattle.running_words.specs.Parts.{RunningParts}
 use Rattle.moving_laws.specs.Ready.{bytes_in, IsReady}

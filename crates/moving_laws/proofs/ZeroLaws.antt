@@ -33,19 +33,19 @@ use Rattle.grow_asked.specs.Left.{zeroed_by, phases_of, grow_left, reshape_left}
 use Rattle.grow_asked.proofs.LeftLaws.{zeroing}
 use Rattle.kept_history.specs.Recorded.{IsCallGoing}
 use Rattle.kept_history.specs.Safe.{world_in}
-use Rattle.course_kept.specs.declared.course.Course.{Course}
-use Rattle.course_kept.specs.Course.{past_stripe}
-use Rattle.course_kept.specs.Laws.{closed}
-use Rattle.course_kept.proofs.Courses.{zeroes-go-on}
-use Rattle.region_mends.specs.Left.{resync_left}
-use Rattle.course_mends.specs.Mended.{StandsMended}
+use Rattle.mending_kept.specs.course_kept_the_Course.{Course}
+use Rattle.mending_kept.specs.course_kept_Course.{past_stripe}
+use Rattle.mending_kept.specs.course_kept_Laws.{closed}
+use Rattle.mending_kept.proofs.course_kept_Courses.{zeroes-go-on}
+use Rattle.mending_kept.specs.region_mends_Left.{resync_left}
+use Rattle.mending_kept.specs.course_mends_Mended.{StandsMended}
 use Rattle.moving_state.proofs.LeftLaws.{plans-counted, some-left}
 use Rattle.moving_state.proofs.ReshapeLaws.{through-of}
-use Rattle.moving_kept.specs.Moving.{IsMoving}
-use Rattle.moving_kept.proofs.MoreSteps.{zeroed-moves}
-use Rattle.moving_kept.proofs.Pending.{none-on}
-use Rattle.moving_kept.proofs.Staying.{refused-moves}
-use Rattle.moving_kept.proofs.Steps.{AreMissingSince, missing-since}
+use Rattle.mending_kept.specs.moving_kept_Moving.{IsMoving}
+use Rattle.mending_kept.proofs.moving_kept_MoreSteps.{zeroed-moves}
+use Rattle.mending_kept.proofs.moving_kept_Pending.{none-on}
+use Rattle.mending_kept.proofs.moving_kept_Staying.{refused-moves}
+use Rattle.mending_kept.proofs.moving_kept_Steps.{AreMissingSince, missing-since}
 use Rattle.running_words.proofs.Called.{not_254}
 use Rattle.moving_laws.proofs.Kept.{left_by, left-moved}
 use Rattle.moving_laws.proofs.Settled.{risen-told}

@@ -7,9 +7,9 @@ use Rattle.bank.specs.Tape.{Contents}
 use Rattle.superblocks.specs.declared.members.Members.{Members}
 use Rattle.superblocks.specs.Reading.{list_length}
 use Rattle.views.specs.Lacking.{DoesWithout}
-use Rattle.region_rows.specs.Stretches.{RowsStandIn}
-use Rattle.region_mends.specs.Mends.{mend_stripes}
-use Rattle.course_mends.specs.Mended.{IsAside}
+use Rattle.mending_kept.specs.region_rows_Stretches.{RowsStandIn}
+use Rattle.mending_kept.specs.region_mends_Mends.{mend_stripes}
+use Rattle.mending_kept.specs.course_mends_Mended.{IsAside}
 use Rattle.running_words.specs.Parts.{RunningParts}
 use Rattle.running_words.specs.Calls.{IsCalled}
 

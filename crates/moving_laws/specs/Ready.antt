@@ -20,8 +20,8 @@ use Rattle.grow_asked.specs.Left.{phases_of}
 use Rattle.running_words.specs.Parts.{left_in}
 use Rattle.views.specs.Placed.{AreWhole}
 use Rattle.kept_history.specs.Safe.{world_in, TakesNone}
-use Rattle.course_kept.specs.declared.course.Course.{Course}
-use Rattle.moving_kept.specs.Moving.{IsMoving}
+use Rattle.mending_kept.specs.course_kept_the_Course.{Course}
+use Rattle.mending_kept.specs.moving_kept_Moving.{IsMoving}
 
 -- the bytes of a buffer that have the window's sectors
 abbrev pub bytes_in : Window → List ℕ → List ℕ

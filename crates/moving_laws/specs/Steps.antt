@@ -6,7 +6,7 @@ use Rattle.superblocks.specs.Reading.{is_clean, list_length}
 use Rattle.flat_history.specs.declared.events.StepKind.{StepKind}
 use Rattle.flat_history.specs.declared.events.StepKind.TheVariants.{Entered, Copied, Checkpointed, Zeroed, Finished, ResyncStripe, ResyncEnded}
 use Rattle.views.specs.Lacking.{AreTooMany}
-use Rattle.region_mends.specs.Mends.{mend_shape, IsNotMended}
+use Rattle.mending_kept.specs.region_mends_Mends.{mend_shape, IsNotMended}
 use Rattle.array_kept.specs.Calls.{one_more, IsCausedBy}
 use Rattle.moving_state.specs.declared.stepping.Due.{Due}
 use Rattle.moving_state.specs.declared.stepping.Due.TheVariants.{Copy, Record, Mend, EndResync, Enter, Zero, Finish}

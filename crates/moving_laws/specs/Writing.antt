@@ -23,11 +23,11 @@ use Rattle.views.specs.Lacking.{AreTooMany}
 use Rattle.call_entries.specs.Losing.{failure_events}
 use Rattle.array_kept.specs.Calls.{IsBehind, StandsInside}
 use Rattle.kept_history.specs.Recorded.{entry_of}
-use Rattle.region_writes.specs.Runs.{IsListUnwritten}
+use Rattle.mending_kept.specs.region_writes_Runs.{IsListUnwritten}
 use Rattle.grow_asked.specs.declared.window.Window.{Window}
 use Rattle.grow_asked.specs.declared.window.Window.TheVariants.{Closed, Entered, Unsure}
 use Rattle.grow_asked.specs.Left.{stripes_in}
-use Rattle.course_kept.specs.Laws.{entered}
+use Rattle.mending_kept.specs.course_kept_Laws.{entered}
 use Rattle.moving_state.specs.Due.{open_in, unsure_in}
 use Rattle.running_words.specs.Parts.{RunningParts}
 

@@ -37,12 +37,12 @@ use Rattle.shape_views.proofs.UnderWay.{shape-on, side-or}
 use Rattle.shape_views.proofs.WindowLaws.{open-window}
 use Rattle.grow_asked.specs.declared.window.Window.{Window}
 use Rattle.views.specs.Placed.{IsPlaced}
-use Rattle.region_mends.specs.Mends.{low_shape, low_stripes, AreEndsStanding}
-use Rattle.region_writes.proofs.Sides.{low-valid, low-is, low-before, low-few}
-use Rattle.course_kept.specs.Course.{hidden_in, HasWindowIn, IsCopiedRow, past_stripe, AnyShape, StandsInCourse}
-use Rattle.course_kept.proofs.Courses.{none-of-none}
-use Rattle.course_mends.specs.Mended.{IsMendSector}
-use Rattle.course_mends.proofs.Ends.{tails-are-ends}
+use Rattle.moving_kept.specs.region_mends_Mends.{low_shape, low_stripes, AreEndsStanding}
+use Rattle.moving_kept.proofs.region_writes_Sides.{low-valid, low-is, low-before, low-few}
+use Rattle.moving_kept.specs.course_kept_Course.{hidden_in, HasWindowIn, IsCopiedRow, past_stripe, AnyShape, StandsInCourse}
+use Rattle.moving_kept.proofs.course_kept_Courses.{none-of-none}
+use Rattle.moving_kept.specs.course_mends_Mended.{IsMendSector}
+use Rattle.moving_kept.proofs.course_mends_Ends.{tails-are-ends}
 use Rattle.reshape_openings.specs.Finding.{window_for, IsFoundIn}
 use Rattle.moving_opens.specs.Opening.{found_course}
 use Rattle.moving_opens.proofs.Regions.{for-same, beside-window, past-tail, past-old}

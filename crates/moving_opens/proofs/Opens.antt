@@ -55,15 +55,15 @@ use Rattle.kept_history.proofs.Turned.{fills-on_course}
 use Rattle.history_calls.specs.Reliable.{IsReliable, AreToldGone, HasLastStep}
 use Rattle.history_calls.proofs.LastStep.{opened-last}
 use Rattle.grow_asked.specs.declared.window.Window.{Window}
-use Rattle.course_kept.specs.Course.{IsStoredAs, HasSection, IsStored, AnyShape, StandsInCourse}
-use Rattle.course_kept.proofs.Frames.{stands-without}
-use Rattle.course_kept.proofs.Courses.{courses-move}
-use Rattle.course_kept.proofs.Under.{courses-stand-under}
-use Rattle.region_mends.specs.Mends.{mend_stripes}
-use Rattle.course_mends.specs.Mended.{IsUnmended, StandsMended}
-use Rattle.course_mends.proofs.Mended.{none-pending, mended-courses-move}
-use Rattle.course_mends.proofs.Windows.{resyncs-begin}
-use Rattle.moving_state.proofs.ReshapeLaws.{window-reach}
+use Rattle.moving_kept.specs.course_kept_Course.{IsStoredAs, HasSection, IsStored, AnyShape, StandsInCourse}
+use Rattle.moving_kept.proofs.course_kept_Frames.{stands-without}
+use Rattle.moving_kept.proofs.course_kept_Courses.{courses-move}
+use Rattle.moving_kept.proofs.course_kept_Under.{courses-stand-under}
+use Rattle.moving_kept.specs.region_mends_Mends.{mend_stripes}
+use Rattle.moving_kept.specs.course_mends_Mended.{IsUnmended, StandsMended}
+use Rattle.moving_kept.proofs.course_mends_Mended.{none-pending, mended-courses-move}
+use Rattle.moving_kept.proofs.course_mends_Windows.{resyncs-begin}
+use Rattle.reshape_openings.proofs.moving_state_ReshapeLaws.{window-reach}
 use Rattle.moving_kept.specs.Moving.{HasListInCourse}
 use Rattle.found_members.specs.Found.{AreStored}
 use Rattle.found_members.proofs.Elected.{elected-does}

@@ -16,8 +16,8 @@ use Rattle.shape_views.specs.Regions.{header_in, open_by}
 use Rattle.array_kept.specs.Kept.{scope_in}
 use Rattle.array_kept.specs.Adopting.{opener, absent_losses}
 use Rattle.grow_asked.specs.declared.window.Window.{Window}
-use Rattle.course_kept.specs.Course.{IsWindowOf}
-use Rattle.course_kept.specs.declared.course.Course.{Course}
+use Rattle.moving_kept.specs.course_kept_Course.{IsWindowOf}
+use Rattle.moving_kept.specs.course_kept_the_Course.{Course}
 use Rattle.moving_kept.specs.Moving.{IsMoving}
 use Rattle.found_members.specs.Found.{AreElected, AreStored}
 use Rattle.reshape_openings.specs.Finding.{IsLookedFor, window_for, bytes_for, IsFoundIn}

@@ -17,7 +17,7 @@ use Rattle.grow_asked.specs.Left.{steps_from, stripes_in, zeroed_by, reshape_lef
 use Rattle.grow_asked.proofs.LeftLaws.{entering, copying, recording, finishing, zeroing}
 use Rattle.course_kept.specs.Course.{IsWindowOf}
 use Rattle.course_kept.specs.Laws.{entered, closed}
-use Rattle.window_steps.specs.Zeroing.{IsThrough}
+use Rattle.course_kept.specs.window_steps_Zeroing.{IsThrough}
 use Rattle.moving_state.specs.Left.{LeftStays, EnteringTakesOne, CopyingTakesOne, RecordingTakesOne, FinishingTakesTheRest, ZeroingTakesOne, EndLeavesPlanned, PlansAreCounted}
 use Rattle.moving_state.proofs.ReshapeLaws.{forced, under-way-of, active-of}
 

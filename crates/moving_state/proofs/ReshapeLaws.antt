@@ -15,7 +15,7 @@ use Rattle.shape_views.specs.Regions.{AreShapesFit}
 use Rattle.shape_views.proofs.Stands.{window-inside}
 use Rattle.shape_views.proofs.UnderWay.{is-reshaping, window-is}
 use Rattle.grow_asked.specs.Left.{zeroed_by, IsReshapeUnderWay}
-use Rattle.window_steps.specs.Zeroing.{IsThrough}
+use Rattle.course_kept.specs.window_steps_Zeroing.{IsThrough}
 
 -- ---- the shapes in force
 

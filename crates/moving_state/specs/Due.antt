@@ -6,7 +6,7 @@ use Rattle.superblocks.specs.Reading.{next_window}
 use Rattle.grow_asked.specs.declared.window.Window.{Window}
 use Rattle.grow_asked.specs.declared.window.Window.TheVariants.{Closed, Entered, Unsure}
 use Rattle.grow_asked.specs.Left.{stripes_in, zeroed_by}
-use Rattle.window_steps.specs.Zeroing.{IsThrough}
+use Rattle.course_kept.specs.window_steps_Zeroing.{IsThrough}
 use Rattle.region_mends.specs.Mends.{mend_stripes}
 use Rattle.course_kept.specs.declared.course.Course.{Course}
 use Rattle.course_kept.specs.Laws.{entered, closed, unsure}

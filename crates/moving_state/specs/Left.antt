@@ -12,7 +12,7 @@ use Rattle.grow_asked.specs.Left.{stripes_in, zeroed_by, reshape_left, grow_left
 use Rattle.shape_views.specs.Regions.{AreShapesFit}
 use Rattle.shape_views.specs.Windows.{moved_past}
 use Rattle.views.specs.Moving.{IsMoved}
-use Rattle.window_steps.specs.Zeroing.{IsThrough}
+use Rattle.course_kept.specs.window_steps_Zeroing.{IsThrough}
 use Rattle.course_kept.specs.declared.course.Course.{Course}
 use Rattle.course_kept.specs.Laws.{entered, closed, unsure}
 

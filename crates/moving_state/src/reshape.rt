@@ -7,7 +7,7 @@ ghost use Rattle.flat_history.specs.Stands.{reach_of};
 ghost use Rattle.shape_views.specs.Regions.{AreShapesFit};
 ghost use Rattle.grow_asked.specs.Left.{stripes_in, zeroed_by};
 ghost use Rattle.window_rows.specs.Copies.{IsStripeOf, IsPastStripe};
-ghost use Rattle.window_steps.specs.Zeroing.{IsThrough};
+ghost use Rattle.course_kept.specs.window_steps_Zeroing.{IsThrough};
 ghost use Rattle.course_kept.specs.Course.{past_stripe};
 ghost use Rattle.course_kept.specs.Laws.{next_stripe};
 

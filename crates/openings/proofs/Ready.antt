@@ -18,9 +18,9 @@ use Rattle.kept_history.specs.Safe.{world_in, TakesNone}
 use Rattle.grow_asked.specs.declared.window.PhasesLeft.{PhasesLeft}
 use Rattle.grow_asked.specs.declared.window.Window.{Window}
 use Rattle.grow_asked.specs.declared.window.Window.TheVariants.{Closed, Entered, Unsure}
-use Rattle.still_kept.proofs.Whole.{whole-told}
-use Rattle.running_words.specs.Parts.{left_in}
-use Rattle.moving_laws.specs.Ready.{bytes_in, IsReady}
+use Rattle.still.proofs.still_kept_Whole.{whole-told}
+use Rattle.moving.specs.running_words_Parts.{left_in}
+use Rattle.moving.specs.moving_laws_Ready.{bytes_in, IsReady}
 use Rattle.reshape_openings.specs.Finding.{bytes_for}
 use Rattle.reshape_openings.specs.Recovering.{AreRecovering}
 use Rattle.moving_opens.specs.Opening.{scope_of, IsOpenedMoving, opening_entries, AreAmong, found_course}

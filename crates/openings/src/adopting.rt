@@ -8,7 +8,7 @@ ghost use Rattle.row_io.specs.Rows.{reading_of};
 ghost use Rattle.flat_history.specs.Stands.{reach_of};
 ghost use Rattle.shape_views.specs.Regions.{AreShapesFit};
 ghost use Rattle.views.specs.Flushing.{OnlyItsSlotsFail};
-ghost use Rattle.moving_laws.specs.Ready.{bytes_in};
+ghost use Rattle.moving.specs.moving_laws_Ready.{bytes_in};
 ghost use Rattle.moving_opens.specs.Opening.{AreOpenedMoving, IsOpenedMoving};
 ghost use Rattle.openings.specs.Adopted.{moving_work, IsMovingAdopted, IsNotAdopted};
 

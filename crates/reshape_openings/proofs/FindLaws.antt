@@ -14,7 +14,7 @@ use Rattle.shape_views.specs.Regions.{header_in, open_by}
 use Rattle.shape_views.proofs.BackupLaws.{found-open}
 use Rattle.grow_asked.specs.declared.window.Window.{Window}
 use Rattle.grow_asked.specs.declared.window.Window.TheVariants.{Closed, Entered}
-use Rattle.course_kept.specs.Course.{IsWindowOf}
+use Rattle.moving_state.specs.course_kept_Course.{IsWindowOf}
 use Rattle.reshape_openings.specs.Finding.{IsLookedFor, window_for, bytes_for, AreOfSection, IsFoundIn}
 
 -- ---- the window

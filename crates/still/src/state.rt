@@ -7,7 +7,7 @@ ghost use Rattle.superblocks.specs.Reading.{shape_of};
 ghost use Rattle.flat_history.specs.Flat.{next_number};
 ghost use Rattle.views.specs.Status.{stripes_of};
 ghost use Rattle.grow_asked.specs.Left.{phases_of};
-ghost use Rattle.running_words.specs.Parts.{still_left};
+ghost use Rattle.still_laws.specs.running_words_Parts.{still_left};
 
 mod adding;
 mod adopting;
@@ -55,8 +55,8 @@ pub struct Still<B: Bank> {
 impl<B: Bank> Model for Still<B> {
     ghost use Rattle.std.specs.Prelude.{vec_capacity, length};
     ghost use Rattle.array_kept.specs.Kept.{scope_in};
-    ghost use Rattle.course_kept.specs.Laws.{closed};
-    ghost use Rattle.running_words.specs.Parts.{RunningParts};
+    ghost use Rattle.still_laws.specs.course_kept_Laws.{closed};
+    ghost use Rattle.still_laws.specs.running_words_Parts.{RunningParts};
     ghost use Rattle.still_laws.specs.Ready.{IsReady};
 
     ghost Value = { RunningParts B };

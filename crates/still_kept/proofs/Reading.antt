@@ -41,7 +41,7 @@ use Rattle.views.proofs.LiveLeft.{without-left}
 use Rattle.call_entries.specs.Losing.{losses_of}
 use Rattle.call_entries.proofs.CallLaws.{losses-are, length-losses, limit-losses, values-losses}
 use Rattle.array_kept.proofs.NowLaws.{sectors_of-at}
-use Rattle.region_rows.specs.Stretches.{relied_rows, IsListUnread}
+use Rattle.moving_kept.specs.region_rows_Stretches.{relied_rows, IsListUnread}
 use Rattle.kept_history.specs.Recorded.{IsCallGoing}
 use Rattle.kept_history.specs.Safe.{world_in}
 use Rattle.kept_history.proofs.Entered.{values-more, length-more}

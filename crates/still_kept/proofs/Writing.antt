@@ -54,8 +54,8 @@ use Rattle.array_kept.proofs.DegradedLaws.{written-whole, rows-same}
 use Rattle.array_kept.proofs.KeptLaws.{left-lost}
 use Rattle.array_kept.proofs.LedgerLaws.{torn-adds, written-allowed, torn-in}
 use Rattle.array_kept.proofs.NowLaws.{wrote-is}
-use Rattle.region_rows.specs.Stretches.{relied_rows}
-use Rattle.region_writes.specs.Runs.{IsListUnwritten}
+use Rattle.moving_kept.specs.region_rows_Stretches.{relied_rows}
+use Rattle.moving_kept.specs.region_writes_Runs.{IsListUnwritten}
 use Rattle.kept_history.specs.Recorded.{IsCallGoing, IsLegalCall, entry_of, ends_reshape, gives_some}
 use Rattle.kept_history.specs.Safe.{world_in, IsFilledRight}
 use Rattle.kept_history.proofs.Entered.{AreAdding, values-more, length-adding}

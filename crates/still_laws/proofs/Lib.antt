@@ -11,3 +11,29 @@ pub mod MendLaws
 pub mod RebuildLaws
 pub mod AddLaws
 pub mod AnswerLaws
+pub use Rattle.running_words.proofs.Called as running_words_Called
+pub use Rattle.running_words.proofs.Lengths as running_words_Lengths
+pub use Rattle.running_words.proofs.TakenOut as running_words_TakenOut
+pub use Rattle.still_kept.proofs.Bridges as still_kept_Bridges
+pub use Rattle.still_kept.proofs.Ending as still_kept_Ending
+pub use Rattle.still_kept.proofs.Failing as still_kept_Failing
+pub use Rattle.still_kept.proofs.Flushing as still_kept_Flushing
+pub use Rattle.still_kept.proofs.Leaving as still_kept_Leaving
+pub use Rattle.still_kept.proofs.Quiet as still_kept_Quiet
+pub use Rattle.still_kept.proofs.Reading as still_kept_Reading
+pub use Rattle.still_kept.proofs.Rebuilding as still_kept_Rebuilding
+pub use Rattle.still_kept.proofs.Refusals as still_kept_Refusals
+pub use Rattle.still_kept.proofs.Resting as still_kept_Resting
+pub use Rattle.still_kept.proofs.Resync as still_kept_Resync
+pub use Rattle.still_kept.proofs.Staying as still_kept_Staying
+pub use Rattle.still_kept.proofs.Stood as still_kept_Stood
+pub use Rattle.still_kept.proofs.Whole as still_kept_Whole
+pub use Rattle.still_kept.proofs.Writing as still_kept_Writing
+pub use Rattle.still_kept.proofs.course_mends_Mended
+pub use Rattle.still_kept.proofs.moving_kept_BegunCall
+pub use Rattle.still_kept.proofs.moving_kept_BegunMembers
+pub use Rattle.still_kept.proofs.moving_kept_Refusals
+pub use Rattle.still_kept.proofs.moving_kept_Resting
+pub use Rattle.still_kept.proofs.moving_kept_Shortened
+pub use Rattle.still_kept.proofs.moving_kept_Staying
+pub use Rattle.still_kept.proofs.moving_kept_Steps

@@ -21,8 +21,8 @@ use Rattle.views.specs.Status.{stripes_of, rebuilt_of, vacant_count, spare_count
 use Rattle.views.specs.Lacking.{AreTooMany}
 use Rattle.array_kept.specs.Calls.{IsCausedBy, IsUnmendable}
 use Rattle.views.specs.Rebuilding.{MayHold}
-use Rattle.running_words.specs.Parts.{RunningParts}
-use Rattle.still_laws.specs.Steps.{IsStepped}
+use Rattle.still.specs.running_words_Parts.{RunningParts}
+use Rattle.still.specs.still_laws_Steps.{IsStepped}
 use Rattle.still_steps.specs.Resyncing.{is_at_end, IsUnmended}
 use Rattle.still_steps.specs.Resyncing as resync
 use Rattle.still_steps.specs.Rebuilding.{recovers, first_recovering, first_vacant, first_spare, IsRebuildNext, rebuild_kind, IsHeldOrNext}

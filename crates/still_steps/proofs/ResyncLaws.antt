@@ -17,7 +17,7 @@ use Rattle.views.specs.Status.{stripes_of}
 use Rattle.array_kept.specs.Calls.{IsBehind, IsCausedBy, AreValuesKept}
 use Rattle.call_entries.proofs.CallLaws.{losses-are, values-losses}
 use Rattle.array_kept.proofs.NowLaws.{values-more}
-use Rattle.running_words.specs.Calls.{IsStepTaken}
+use Rattle.still.specs.running_words_Calls.{IsStepTaken}
 use Rattle.still_steps.specs.Resyncing.{is_at_end, IsUnmended}
 
 -- ---- the list

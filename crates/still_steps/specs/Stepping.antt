@@ -12,7 +12,7 @@ use Rattle.views.specs.declared.work.Work.{Work}
 use Rattle.views.specs.Lacking.{AreTooMany}
 use Rattle.views.specs.Rebuilding.{Held}
 use Rattle.array_kept.specs.Calls.{IsRebuildStepped}
-use Rattle.running_words.specs.Calls.{IsStepTaken}
+use Rattle.still.specs.running_words_Calls.{IsStepTaken}
 use Rattle.still_steps.specs.Resyncing.{is_at_end, IsUnmended}
 use Rattle.still_steps.specs.Resyncing as resync
 use Rattle.still_steps.specs.Rebuilding.{first_spare, rebuilt_role, rebuild_kind, rebuild_events, after_rebuild}

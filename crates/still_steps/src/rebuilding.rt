@@ -12,9 +12,9 @@ ghost use Rattle.views.specs.Lacking.{AreTooMany, RowsStand};
 ghost use Rattle.shape_views.specs.Regions.{DoWithout};
 ghost use Rattle.array_kept.specs.Calls.{AreHeldOrSpare, IsWholeOrLost, by_answer, AreStepsFewer, AreStepsKept, AreValuesKept, IsRebuildStepped, IsCausedBy};
 ghost use Rattle.kept_history.specs.Recorded.{IsCallGoing};
-ghost use Rattle.running_words.specs.Parts.{still_left};
-ghost use Rattle.running_words.specs.Calls.{moving_world};
-ghost use Rattle.still_laws.specs.Steps.{IsStepped, MayLeaveNone, IsCallUnbroken};
+ghost use Rattle.still.specs.running_words_Parts.{still_left};
+ghost use Rattle.still.specs.running_words_Calls.{moving_world};
+ghost use Rattle.still.specs.still_laws_Steps.{IsStepped, MayLeaveNone, IsCallUnbroken};
 ghost use Rattle.still_steps.specs.Rebuilding.{rebuilt_role, rebuild_kind, rebuild_events, after_rebuild, IsRebuildNext, IsGivenToSpare, IsHeldOrNext};
 
 use crate::choosing::{first_recovering, first_spare, first_vacant};

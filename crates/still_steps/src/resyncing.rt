@@ -12,9 +12,9 @@ ghost use Rattle.views.specs.Rebuilding.{Held};
 ghost use Rattle.shape_views.specs.Regions.{DoWithout};
 ghost use Rattle.array_kept.specs.Calls.{AreSparesFewer, by_answer, AreStepsFewer, AreStepsKept, AreValuesKept, IsCausedBy};
 ghost use Rattle.kept_history.specs.Recorded.{IsCallGoing};
-ghost use Rattle.running_words.specs.Parts.{still_left};
-ghost use Rattle.running_words.specs.Calls.{moving_world, IsStepTaken};
-ghost use Rattle.still_laws.specs.Steps.{IsStepped, MayLeaveNone};
+ghost use Rattle.still.specs.running_words_Parts.{still_left};
+ghost use Rattle.still.specs.running_words_Calls.{moving_world, IsStepTaken};
+ghost use Rattle.still.specs.still_laws_Steps.{IsStepped, MayLeaveNone};
 ghost use Rattle.still_steps.specs.Resyncing.{is_at_end, next_kind, after_step, IsUnmended};
 
 use bank::Bank;

@@ -37,14 +37,14 @@ use Rattle.kept_history.specs.Recorded.{IsCallGoing}
 use Rattle.kept_history.specs.Safe.{world_in}
 use Rattle.course_kept.specs.declared.course.Course.{Course}
 use Rattle.course_kept.specs.Laws.{closed}
-use Rattle.moving_kept.specs.Moving.{IsMoving}
+use Rattle.still.specs.moving_kept_Moving.{IsMoving}
 use Rattle.moving_ends.proofs.Ended.{IsPlannedTo, IsStepped}
 use Rattle.moving_ends.proofs.Ending.{length_by, grown_to, ending_events}
-use Rattle.running_words.specs.Parts.{left_in, still_left}
-use Rattle.running_words.proofs.Called.{not_254}
-use Rattle.still_laws.specs.Ready.{IsReady as IsReadyStill}
-use Rattle.moving_laws.specs.Ready.{IsReady as IsReadyMoving, bytes_in}
-use Rattle.moving_laws.proofs.Kept.{left_by, takes-before}
+use Rattle.still.specs.running_words_Parts.{left_in, still_left}
+use Rattle.still.proofs.running_words_Called.{not_254}
+use Rattle.still.specs.still_laws_Ready.{IsReady as IsReadyStill}
+use Rattle.moving.specs.moving_laws_Ready.{IsReady as IsReadyMoving, bytes_in}
+use Rattle.moving.proofs.moving_laws_Kept.{left_by, takes-before}
 use Rattle.turning.specs.Ended.{AreKeptOrFailed, ArePlansTo}
 use Rattle.turning.proofs.EndedStill.{IsFinished, plans-of, ahead-none, ended-still, ended-sized, ended-free}
 

@@ -32,8 +32,8 @@ use Rattle.history_calls.proofs.Behind.{IsAmong}
 use Rattle.course_kept.specs.Laws.{closed}
 use Rattle.moving_ends.proofs.Ended.{IsStepped}
 use Rattle.moving_ends.proofs.Ending.{only-lost}
-use Rattle.running_words.specs.Parts.{still_left}
-use Rattle.moving_laws.proofs.Kept.{left_by}
+use Rattle.still.specs.running_words_Parts.{still_left}
+use Rattle.moving.proofs.moving_laws_Kept.{left_by}
 
 -- ---- nothing is to be rebuilt
 

@@ -62,16 +62,16 @@ use Rattle.kept_history.proofs.Ledgers.{unsynced-still}
 use Rattle.kept_history.proofs.Tests.{neither}
 use Rattle.history_calls.proofs.Behind.{IsAmong}
 use Rattle.course_kept.specs.Laws.{closed}
-use Rattle.moving_kept.specs.Moving.{IsMoving, IsStillKept}
+use Rattle.still.specs.moving_kept_Moving.{IsMoving, IsStillKept}
 use Rattle.moving_ends.proofs.Ended.{IsPlannedTo, IsStepped}
 use Rattle.moving_ends.proofs.EndedCall.{IsEndedBy, ended-since}
 use Rattle.moving_ends.proofs.EndedMembers.{array-ends}
 use Rattle.moving_ends.proofs.Ending.{length_by, grown_to, ending_events, ending-length, ending-lost, ending-late, ArePlannedTo}
-use Rattle.still_kept.specs.Still.{IsStill, AreNoneMissing}
-use Rattle.still_kept.proofs.Bridges.{kept-again}
-use Rattle.still_kept.proofs.Leaving.{unsynced-later}
-use Rattle.running_words.specs.Parts.{still_left}
-use Rattle.moving_laws.proofs.Kept.{left_by}
+use Rattle.still.specs.still_kept_Still.{IsStill, AreNoneMissing}
+use Rattle.still.proofs.still_kept_Bridges.{kept-again}
+use Rattle.still.proofs.still_kept_Leaving.{unsynced-later}
+use Rattle.still.specs.running_words_Parts.{still_left}
+use Rattle.moving.proofs.moving_laws_Kept.{left_by}
 
 -- ---- what is entered
 

@@ -29,11 +29,11 @@ use Rattle.array_kept.proofs.KeptLaws.{left-lost}
 use Rattle.kept_history.specs.Recorded.{IsCallGoing}
 use Rattle.kept_history.specs.Safe.{world_in}
 use Rattle.history_calls.proofs.Behind.{AreEarly}
-use Rattle.still_kept.specs.Still.{HasListStood, IsStill}
-use Rattle.still_kept.proofs.Quiet.{early-stands}
-use Rattle.still_kept.proofs.Refusals.{quiet-refusal, IsRefusedStill, refused-right}
-use Rattle.still_kept.proofs.Resting.{resting-stands}
-use Rattle.running_words.proofs.Called.{not_254, risen-told}
+use Rattle.still.specs.still_kept_Still.{HasListStood, IsStill}
+use Rattle.still.proofs.still_kept_Quiet.{early-stands}
+use Rattle.still.proofs.still_kept_Refusals.{quiet-refusal, IsRefusedStill, refused-right}
+use Rattle.still.proofs.still_kept_Resting.{resting-stands}
+use Rattle.still.proofs.running_words_Called.{not_254, risen-told}
 use Rattle.turning.specs.Begun.{IsUnbegun, IsPlain}
 
 -- ---- refusals

@@ -35,8 +35,8 @@ use Rattle.grow_asked.specs.Left.{IsAtStartOf}
 use Rattle.grow_asked.specs.Asked.{lowest_missing}
 use Rattle.kept_history.specs.Recorded.{IsCallGoing}
 use Rattle.course_kept.specs.Laws.{closed}
-use Rattle.still_kept.specs.Still.{AreNoneMissing}
-use Rattle.running_words.specs.Parts.{RunningParts, left_in, still_left}
+use Rattle.still.specs.still_kept_Still.{AreNoneMissing}
+use Rattle.still.specs.running_words_Parts.{RunningParts, left_in, still_left}
 
 -- ---- what is asked
 

@@ -27,7 +27,7 @@ use Rattle.views.specs.Placed.{is_vacant, AreStillHeld, AreWhole}
 use Rattle.array_kept.specs.Calls.{AreLossesOf, IsEndOf, TellNoLoss}
 use Rattle.grow_asked.specs.Left.{phases_of}
 use Rattle.course_kept.specs.Laws.{closed}
-use Rattle.running_words.specs.Parts.{RunningParts, left_in, still_left}
+use Rattle.still.specs.running_words_Parts.{RunningParts, left_in, still_left}
 use Rattle.turning.specs.Begun.{StaysItself, AreSparesKeptOrFailed}
 
 -- ---- what is asked

@@ -20,8 +20,8 @@ ghost use Rattle.grow_asked.specs.declared.window.Window.TheVariants.{Closed};
 ghost use Rattle.grow_asked.specs.Left.{phases_of, grow_left, IsReshapeUnderWay};
 ghost use Rattle.kept_history.specs.Recorded.{IsCallGoing};
 ghost use Rattle.course_kept.specs.Laws.{closed};
-ghost use Rattle.running_words.specs.Parts.{RunningParts};
-ghost use Rattle.still_laws.specs.Ready.{IsReady};
+ghost use Rattle.still.specs.running_words_Parts.{RunningParts};
+ghost use Rattle.still.specs.still_laws_Ready.{IsReady};
 ghost use Rattle.turning.specs.Begun.{begun_length, HasKeptLength, IsBackupAt, IsPlain, IsReshapeBegun, IsGivenBack, IsBeginRefused};
 
 use crate::refusing::unbegun;

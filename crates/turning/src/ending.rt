@@ -18,8 +18,8 @@ ghost use Rattle.grow_asked.specs.Left.{phases_of};
 ghost use Rattle.moving_state.specs.Due.{due_of};
 ghost use Rattle.moving_state.specs.declared.stepping.Due.TheVariants.{Finish};
 ghost use Rattle.kept_history.specs.Recorded.{IsCallGoing};
-ghost use Rattle.running_words.specs.Calls.{IsCalled, moving_world};
-ghost use Rattle.running_words.specs.Parts.{still_left};
+ghost use Rattle.still.specs.running_words_Calls.{IsCalled, moving_world};
+ghost use Rattle.still.specs.running_words_Parts.{still_left};
 ghost use Rattle.turning.specs.Ended.{ended_length, ArePlansEnding, IsReshapeEnded};
 
 use crate::beginning::check_going;

@@ -25,7 +25,7 @@ use Rattle.shape_changes.proofs.Drawn.{disk-somewhere}
 use Rattle.shape_changes.proofs.Steady.{steady-seen}
 use Rattle.window_rows.specs.Copies.{HasWindow, IsRoomFor}
 use Rattle.window_entering.specs.Backup.{IsBackupFor}
-use Rattle.window_steps.proofs.SteadyLaws.{sections-steady, clearing-steady}
+use Rattle.course_kept.proofs.window_steps_SteadyLaws.{sections-steady, clearing-steady}
 
 -- ---- the window
 

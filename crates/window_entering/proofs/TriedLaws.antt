@@ -27,7 +27,7 @@ use Rattle.views.proofs.LackingWrites.{others-same}
 use Rattle.safe_updates.specs.Unused.{IsUnused, IsUnusedKept}
 use Rattle.safe_updates.proofs.Unused.{unused-moved, unused-role}
 use Rattle.window_rows.specs.Copies.{HasWindow, IsRoomFor}
-use Rattle.window_steps.proofs.CopyLaws.{open-alike}
+use Rattle.course_kept.proofs.window_steps_CopyLaws.{open-alike}
 use Rattle.grow_asked.specs.declared.window.Window.{Window}
 use Rattle.grow_asked.specs.declared.window.Window.TheVariants.{Closed, Entered, Unsure}
 use Rattle.course_kept.specs.Course.{HasWindowIn}

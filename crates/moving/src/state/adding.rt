@@ -12,7 +12,7 @@ ghost use Rattle.shape_changes.specs.Marking.{AreOthersPresent};
 ghost use Rattle.views.specs.Lacking.{HaveRolesFailed, AreUnnamed};
 ghost use Rattle.views.specs.Numbers.{free_number};
 ghost use Rattle.array_kept.specs.Calls.{IsUnaddable, IsAddedFor, IsAddedAs, IsAnswered, OnNoMemory};
-ghost use Rattle.running_words.specs.Adding.{IsAddCalled};
+ghost use Rattle.moving_laws.specs.running_words_Adding.{IsAddCalled};
 
 use crate::state::Moving;
 use array_state::adding::{spare_for, unaddable};

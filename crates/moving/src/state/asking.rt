@@ -5,7 +5,7 @@ ghost use Rattle.superblocks.specs.Reading.{list_length};
 ghost use Rattle.flat_history.specs.Flat.{next_number};
 ghost use Rattle.flat_history.specs.declared.events.Event.TheVariants.{Shown};
 ghost use Rattle.array_kept.specs.Calls.{IsEntered, IsEndOf};
-ghost use Rattle.running_words.specs.Calls.{moving_world, IsStatusFor, IsSameReshape};
+ghost use Rattle.moving_laws.specs.running_words_Calls.{moving_world, IsStatusFor, IsSameReshape};
 
 use crate::state::Moving;
 use array_state::asking::{copy_roles, copy_slots};

@@ -13,8 +13,8 @@ ghost use Rattle.array_kept.specs.Calls.{IsCausedBy, OnNoMemory};
 ghost use Rattle.grow_asked.specs.declared.window.Window.TheVariants.{Unsure as IsUnsureWindow};
 ghost use Rattle.kept_history.specs.Recorded.{IsCallGoing};
 ghost use Rattle.region_mends.specs.Mends.{relied_sector};
-ghost use Rattle.running_words.specs.Calls.{IsCalled};
-ghost use Rattle.running_words.specs.Parts.{left_in};
+ghost use Rattle.moving_laws.specs.running_words_Calls.{IsCalled};
+ghost use Rattle.moving_laws.specs.running_words_Parts.{left_in};
 ghost use Rattle.moving_laws.specs.Writing.{TouchesUnsure, IsWriteBarred, IsRefusedAlone, IsWriteEntered, IsWriteReplied};
 
 use crate::state::Moving;

@@ -12,7 +12,7 @@ ghost use Rattle.views.specs.Moving.{Grows};
 ghost use Rattle.views.specs.Lacking.{AreTooMany, HaveRolesFailed};
 ghost use Rattle.array_kept.specs.Calls.{IsEntered, IsBehind, IsUnsettled, IsFaultFor, AreLossesOf, IsEndOf};
 ghost use Rattle.history_calls.specs.Reliable.{IsReliable};
-ghost use Rattle.running_words.specs.Calls.{IsCalled, IsEpochKept};
+ghost use Rattle.moving_laws.specs.running_words_Calls.{IsCalled, IsEpochKept};
 
 use crate::state::Moving;
 use bank::Bank;

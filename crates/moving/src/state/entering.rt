@@ -10,8 +10,8 @@ ghost use Rattle.shape_views.specs.Regions.{DoWithout};
 ghost use Rattle.views.specs.Lacking.{AreTooMany};
 ghost use Rattle.grow_asked.specs.declared.window.Window.TheVariants.{Unsure as IsUnsureWindow};
 ghost use Rattle.kept_history.specs.Recorded.{IsCallGoing};
-ghost use Rattle.running_words.specs.Parts.{left_in};
-ghost use Rattle.running_words.specs.Calls.{IsCalled, IsStepTaken, IsEnterDue, IsEnterCaused, IsNextOpen, IsNextUnsure};
+ghost use Rattle.moving_laws.specs.running_words_Parts.{left_in};
+ghost use Rattle.moving_laws.specs.running_words_Calls.{IsCalled, IsStepTaken, IsEnterDue, IsEnterCaused, IsNextOpen, IsNextUnsure};
 
 use crate::state::moves::check_going;
 use crate::state::{Moving, steps_left};

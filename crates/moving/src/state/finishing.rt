@@ -26,8 +26,8 @@ ghost use Rattle.array_kept.specs.Calls.{IsCausedBy};
 ghost use Rattle.kept_history.specs.Recorded.{IsCallGoing};
 ghost use Rattle.region_mends.specs.Mends.{relied_sector};
 ghost use Rattle.course_kept.specs.Laws.{closed};
-ghost use Rattle.running_words.specs.Parts.{left_in};
-ghost use Rattle.running_words.specs.Calls.{IsCalled, IsStepTaken};
+ghost use Rattle.moving_laws.specs.running_words_Parts.{left_in};
+ghost use Rattle.moving_laws.specs.running_words_Calls.{IsCalled, IsStepTaken};
 ghost use Rattle.moving_laws.specs.Writing.{IsWindowOpen, steps_in};
 
 use crate::state::moves::check_going;

@@ -12,8 +12,8 @@ ghost use Rattle.safe_updates.specs.First.{IsFirstRefused};
 ghost use Rattle.region_mends.specs.Mends.{mend_shape, mend_refusal, IsNotMended};
 ghost use Rattle.array_kept.specs.Calls.{one_more, by_answer, IsCausedBy};
 ghost use Rattle.kept_history.specs.Recorded.{IsCallGoing};
-ghost use Rattle.running_words.specs.Parts.{left_in};
-ghost use Rattle.running_words.specs.Calls.{moving_world, IsStepTaken};
+ghost use Rattle.moving_laws.specs.running_words_Parts.{left_in};
+ghost use Rattle.moving_laws.specs.running_words_Calls.{moving_world, IsStepTaken};
 ghost use Rattle.moving_laws.specs.Mending.{IsMendDue, IsResyncEndDue, IsMendCalled, AreRowsGood};
 
 use crate::state::moves::check_going;

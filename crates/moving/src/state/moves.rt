@@ -24,8 +24,8 @@ ghost use Rattle.window_rows.specs.Copies.{tail_of, IsCopied};
 ghost use Rattle.course_kept.specs.Laws.{entered, next_stripe};
 ghost use Rattle.array_kept.specs.Calls.{IsCausedBy};
 ghost use Rattle.kept_history.specs.Recorded.{IsCallGoing};
-ghost use Rattle.running_words.specs.Parts.{left_in};
-ghost use Rattle.running_words.specs.Calls.{IsCalled, IsStepTaken, IsCopyDue};
+ghost use Rattle.moving_laws.specs.running_words_Parts.{left_in};
+ghost use Rattle.moving_laws.specs.running_words_Calls.{IsCalled, IsStepTaken, IsCopyDue};
 
 use crate::state::{Moving, steps_left};
 use bank::Bank;

@@ -16,7 +16,7 @@ ghost use Rattle.region_mends.specs.Mends.{relied_sector};
 ghost use Rattle.course_kept.specs.Course.{hidden_in};
 ghost use Rattle.moving_state.specs.First.{IsUnreadAround};
 ghost use Rattle.history_calls.specs.Reliable.{IsReliable};
-ghost use Rattle.running_words.specs.Calls.{moving_world, IsCalled};
+ghost use Rattle.moving_laws.specs.running_words_Calls.{moving_world, IsCalled};
 
 use crate::state::Moving;
 use array_state::room::zeros;

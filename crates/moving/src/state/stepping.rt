@@ -5,8 +5,8 @@ ghost use Rattle.array_kept.specs.Calls.{by_answer};
 ghost use Rattle.kept_history.specs.Recorded.{IsCallGoing};
 ghost use Rattle.moving_state.specs.Due.{due_of};
 ghost use Rattle.moving_state.specs.declared.stepping.Due.TheVariants.{Finish as EndsReshape};
-ghost use Rattle.running_words.specs.Parts.{left_in};
-ghost use Rattle.running_words.specs.Calls.{IsStepTaken, IsNextUnsure};
+ghost use Rattle.moving_laws.specs.running_words_Parts.{left_in};
+ghost use Rattle.moving_laws.specs.running_words_Calls.{IsStepTaken, IsNextUnsure};
 ghost use Rattle.moving_laws.specs.Mending.{IsMendCalled};
 ghost use Rattle.moving_laws.specs.Steps.{kind_of, resync_behind, IsMarkedBehind, IsStepCaused};
 

@@ -18,8 +18,8 @@ ghost use Rattle.kept_history.specs.Recorded.{IsCallGoing};
 ghost use Rattle.course_kept.specs.Course.{span_in};
 ghost use Rattle.course_kept.specs.Laws.{closed};
 ghost use Rattle.moving_state.specs.Due.{unsure_in};
-ghost use Rattle.running_words.specs.Parts.{left_in};
-ghost use Rattle.running_words.specs.Calls.{IsCalled, IsStepTaken};
+ghost use Rattle.moving_laws.specs.running_words_Parts.{left_in};
+ghost use Rattle.moving_laws.specs.running_words_Calls.{IsCalled, IsStepTaken};
 ghost use Rattle.moving_laws.specs.Writing.{IsWindowOpen, TouchesWindow, IsWriteLacked, IsWriteBarred, IsPutEntered, IsWriteEntered, IsWriteAnswered, IsWriteReplied};
 
 use crate::state::Moving;

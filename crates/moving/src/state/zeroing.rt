@@ -7,8 +7,8 @@ ghost use Rattle.views.specs.Lacking.{AreTooMany};
 ghost use Rattle.array_kept.specs.Calls.{IsCausedBy};
 ghost use Rattle.kept_history.specs.Recorded.{IsCallGoing};
 ghost use Rattle.course_kept.specs.Laws.{closed};
-ghost use Rattle.running_words.specs.Parts.{left_in};
-ghost use Rattle.running_words.specs.Calls.{IsCalled, IsStepTaken, IsZeroDue};
+ghost use Rattle.moving_laws.specs.running_words_Parts.{left_in};
+ghost use Rattle.moving_laws.specs.running_words_Calls.{IsCalled, IsStepTaken, IsZeroDue};
 
 use crate::state::moves::check_going;
 use crate::state::{Moving, steps_left};

@@ -6,8 +6,8 @@ ghost use Rattle.flat_history.specs.Flat.{next_number};
 ghost use Rattle.flat_history.specs.declared.events.Event.TheVariants.{Shown};
 ghost use Rattle.views.specs.Status.{stripes_of, rebuilt_of};
 ghost use Rattle.array_kept.specs.Calls.{IsEntered, IsEndOf};
-ghost use Rattle.running_words.specs.Calls.{moving_world, IsSameReshape};
-ghost use Rattle.running_words.specs.Still.{IsStillStatus};
+ghost use Rattle.still_laws.specs.running_words_Calls.{moving_world, IsSameReshape};
+ghost use Rattle.still_laws.specs.running_words_Still.{IsStillStatus};
 
 use crate::state::Still;
 use array_state::asking::{copy_roles, copy_slots, visible};

@@ -17,9 +17,9 @@ ghost use Rattle.views.specs.Lacking.{AreTooMany, HaveRolesFailed};
 ghost use Rattle.array_kept.specs.Calls.{IsEntered, IsBehind, IsUnsettled, IsFaultFor, AreLossesOf, IsEndOf};
 ghost use Rattle.kept_history.specs.Safe.{IsFilledRight};
 ghost use Rattle.history_calls.specs.Reliable.{IsReliable};
-ghost use Rattle.still_kept.specs.Still.{HasListStood};
-ghost use Rattle.running_words.specs.Calls.{moving_world, IsCalled, IsEpochKept};
-ghost use Rattle.running_words.specs.Still.{AreLeftSettled};
+ghost use Rattle.still_laws.specs.still_kept_Still.{HasListStood};
+ghost use Rattle.still_laws.specs.running_words_Calls.{moving_world, IsCalled, IsEpochKept};
+ghost use Rattle.still_laws.specs.running_words_Still.{AreLeftSettled};
 
 use crate::state::Still;
 use bank::Bank;

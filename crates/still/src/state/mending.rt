@@ -14,8 +14,8 @@ ghost use Rattle.views.specs.Rebuilding.{Held};
 ghost use Rattle.safe_updates.specs.First.{write_refusal, IsFirstRefused};
 ghost use Rattle.array_kept.specs.Calls.{AreSparesFewer, HasStripeLeft, IsAllMended, one_more, AreStepsFewer, AreStepsKept, by_answer, IsCausedBy, IsUnmendable};
 ghost use Rattle.kept_history.specs.Recorded.{IsCallGoing};
-ghost use Rattle.running_words.specs.Parts.{still_left};
-ghost use Rattle.running_words.specs.Calls.{moving_world, IsStepTaken};
+ghost use Rattle.still_laws.specs.running_words_Parts.{still_left};
+ghost use Rattle.still_laws.specs.running_words_Calls.{moving_world, IsStepTaken};
 ghost use Rattle.still_laws.specs.Steps.{IsStepped, MayLeaveNone};
 
 use crate::state::steps::check_going;

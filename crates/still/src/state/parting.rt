@@ -2,7 +2,7 @@
 
 ghost use Rattle.std.specs.Prelude.{◌≡◌, length, vec_capacity};
 ghost use Rattle.array_kept.specs.Kept.{scope_in};
-ghost use Rattle.course_kept.specs.Laws.{closed};
+ghost use Rattle.still_laws.specs.course_kept_Laws.{closed};
 ghost use Rattle.still_laws.specs.Ready.{IsReady};
 
 use super::Still;

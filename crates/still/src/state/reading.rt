@@ -17,7 +17,7 @@ ghost use Rattle.views.specs.Status.{stripes_of};
 ghost use Rattle.safe_updates.specs.First.{read_refusal, call_refusal, IsFirstRefused};
 ghost use Rattle.array_kept.specs.Calls.{IsAnswered, IsCausedBy, IsRefusalOf, OnNoMemory};
 ghost use Rattle.kept_history.specs.Safe.{IsFilledRight};
-ghost use Rattle.running_words.specs.Calls.{moving_world, IsCalled};
+ghost use Rattle.still_laws.specs.running_words_Calls.{moving_world, IsCalled};
 
 use crate::state::Still;
 use array_state::refusing::unread_from;

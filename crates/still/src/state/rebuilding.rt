@@ -17,8 +17,8 @@ ghost use Rattle.views.specs.Rebuilding.{Held};
 ghost use Rattle.views.specs.Status.{rebuilt_of};
 ghost use Rattle.array_kept.specs.Calls.{AreSparesFewer, IsHeldOrGiven, AreHeldOrSpare, HasStripeUnbuilt, AreStripesRebuilt, IsWholeOrLost, IsRecoveredOrLost, with_rebuilt, by_answer, AreStepsFewer, AreStepsKept, IsRebuildStepped, IsCausedBy};
 ghost use Rattle.kept_history.specs.Recorded.{IsCallGoing};
-ghost use Rattle.running_words.specs.Parts.{still_left};
-ghost use Rattle.running_words.specs.Calls.{moving_world};
+ghost use Rattle.still_laws.specs.running_words_Parts.{still_left};
+ghost use Rattle.still_laws.specs.running_words_Calls.{moving_world};
 ghost use Rattle.still_laws.specs.Steps.{IsStepped, MayLeaveNone, IsCallUnbroken};
 
 use crate::state::steps::check_going;

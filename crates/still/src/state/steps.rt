@@ -7,7 +7,7 @@ ghost use Rattle.views.specs.Rebuilding.{Held};
 ghost use Rattle.views.specs.Lacking.{AreTooMany};
 ghost use Rattle.array_kept.specs.Calls.{IsBehind, IsEntered, IsUnmendable, AreSparesFewer, AreStepsKept};
 ghost use Rattle.kept_history.specs.Recorded.{IsCallGoing};
-ghost use Rattle.running_words.specs.Parts.{still_left};
+ghost use Rattle.still_laws.specs.running_words_Parts.{still_left};
 ghost use Rattle.still_laws.specs.Steps.{IsStepped, MayLeaveNone, IsStepsReplyNow};
 
 use crate::state::Still;

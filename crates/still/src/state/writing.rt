@@ -13,7 +13,7 @@ ghost use Rattle.views.specs.Lacking.{HaveRolesFailed, IsUnwritten, are_mended, 
 ghost use Rattle.views.specs.Status.{stripes_of};
 ghost use Rattle.safe_updates.specs.First.{write_refusal, call_refusal, IsFirstRefused};
 ghost use Rattle.array_kept.specs.Calls.{IsAnswered, IsCausedBy, IsRefusalOf, OnNoMemory, has_torn};
-ghost use Rattle.running_words.specs.Calls.{IsCalled};
+ghost use Rattle.still_laws.specs.running_words_Calls.{IsCalled};
 
 use crate::state::Still;
 use array_state::refusing::{are_mended, unwritten_from};

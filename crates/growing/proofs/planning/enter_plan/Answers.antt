@@ -17,7 +17,7 @@ use Rattle.grow_asked.specs.Asked.{asked_of, grow_refusal}
 use Rattle.grow_asked.specs.Left.{phases_of}
 use Rattle.grow_asked.proofs.FirstLaws.{unrefused-plan}
 use Rattle.history_calls.specs.Reliable.{IsReliable}
-use Rattle.still_kept.proofs.Stood.{within-count}
+use Rattle.still.proofs.still_kept_Stood.{within-count}
 use Rattle.growing.specs.Planned.{asked_in, HasWideBackup}
 use Rattle.growing.specs.Plans.{GoTo}
 use Rattle.growing.proofs.Idle.{planned-whole, planned-idle, some-steps}

@@ -10,9 +10,9 @@ use Rattle.array_kept.proofs.ReadyLaws.{scope-same}
 use Rattle.grow_asked.specs.Asked.{asked_of, grow_refusal}
 use Rattle.grow_asked.specs.Left.{phases_of}
 use Rattle.kept_history.proofs.Records.{begins-going}
-use Rattle.running_words.proofs.Lengths.{alone-keeps}
-use Rattle.still_laws.proofs.Kept.{ready, rows-same}
-use Rattle.still_laws.proofs.StepLaws.{refused-going}
+use Rattle.still.proofs.running_words_Lengths.{alone-keeps}
+use Rattle.still.proofs.still_laws_Kept.{ready, rows-same}
+use Rattle.still.proofs.still_laws_StepLaws.{refused-going}
 use Rattle.growing.specs.Planned.{asked_in}
 use Rattle.growing.proofs.Idle.{grow-plain}
 use Rattle.growing.proofs.Fitting.{told-by, first-of, refusal-fits}

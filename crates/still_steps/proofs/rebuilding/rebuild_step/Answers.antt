@@ -2,7 +2,7 @@ use Rattle.std.proofs.Common.{◌≡◌, inl, inr, ℕ, Option, Some, None, sym,
 use Rattle.superblocks.specs.declared.members.Members.{Members}
 use Rattle.std.specs.Prelude.{unwrap_or}
 use Rattle.flat_history.specs.declared.events.StepKind.TheVariants.{RebuildTaken, RebuildStripe, RebuildEnded}
-use Rattle.running_words.specs.Parts.{still_left}
+use Rattle.still.specs.running_words_Parts.{still_left}
 use Rattle.array_kept.specs.Calls.{IsHeldOrGiven}
 use Rattle.views.specs.Rebuilding.{Held}
 use Rattle.still_steps.specs.Rebuilding.{first_recovering, first_vacant, first_spare, IsRebuildNext, IsHeldOrNext, rebuild_kind}

@@ -1,7 +1,7 @@
 use Rattle.std.proofs.Common.{true, false, ◌∙◌, sym}
 use Rattle.flat_history.specs.declared.events.StepKind.TheVariants.{ResyncStripe, ResyncEnded}
 use Rattle.superblocks.specs.Reading.{list_length}
-use Rattle.running_words.specs.Parts.{still_left}
+use Rattle.still.specs.running_words_Parts.{still_left}
 use Rattle.still_steps.specs.Resyncing.{is_at_end}
 use Rattle.still_steps.proofs.ResyncLaws.{kept-settled, at_end-is, caused-as, ok-so}
 use Rattle.still_steps.proofs.resyncing.resync_step.Goals as goal

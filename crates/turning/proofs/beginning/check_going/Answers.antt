@@ -1,5 +1,5 @@
 use Rattle.std.proofs.Common.{◌≤◌, length, subst, ℕ}
-use Rattle.still_laws.proofs.Going.{going-few}
+use Rattle.still.proofs.still_laws_Going.{going-few}
 use Rattle.turning.proofs.beginning.check_going.Goals as goal
 
 pub returns : goal.returns

@@ -2,8 +2,8 @@ use Rattle.std.proofs.Common.{[], ◌∷◌, refl, arith}
 use Rattle.flat_history.specs.declared.events.Event.TheVariants.{Refused}
 use Rattle.flat_history.specs.Plain.{entries_of}
 use Rattle.array_kept.proofs.ReadyLaws.{scope-same}
-use Rattle.running_words.proofs.Lengths.{alone-keeps}
-use Rattle.still_laws.proofs.Kept.{ready, rows-same}
+use Rattle.still.proofs.running_words_Lengths.{alone-keeps}
+use Rattle.still.proofs.still_laws_Kept.{ready, rows-same}
 use Rattle.turning.proofs.GivenBack.{plain-stands}
 use Rattle.turning.proofs.beginning.give_back.Goals as goal
 

@@ -6,7 +6,7 @@ use Rattle.views.specs.Placed.{AreWhole}
 use Rattle.views.proofs.Fit.{list-alike}
 use Rattle.views.proofs.LackingLaws.{lost-since}
 use Rattle.region_rows.specs.Stretches.{IsShapeOf}
-use Rattle.window_steps.proofs.CopyLaws.{window-alike}
+use Rattle.course_kept.proofs.window_steps_CopyLaws.{window-alike}
 use Rattle.window_entering.proofs.WindowReads.{window-end, refused-many, none-read, stands-in, rows-in, has-window}
 use Rattle.window_entering.proofs.reading.read_next.Goals as goal
 

@@ -20,7 +20,7 @@ use Rattle.views.proofs.LackingWrites.{others-same}
 use Rattle.views.proofs.LiveLeft.{without-left}
 use Rattle.views.proofs.MovedLaws.{grows-then}
 use Rattle.views.proofs.SafeStretch.{allowed-later, grows-longer, over-at, keeps-from, safe-then}
-use Rattle.window_steps.proofs.CopyLaws.{window-alike}
+use Rattle.course_kept.proofs.window_steps_CopyLaws.{window-alike}
 use Rattle.grow_asked.specs.declared.window.Window.{Window}
 use Rattle.grow_asked.specs.declared.window.Window.TheVariants.{Closed, Entered, Unsure}
 use Rattle.course_kept.specs.Course.{HasWindowIn, IsStored}

@@ -18,11 +18,11 @@ use Rattle.array_kept.proofs.LossLaws.{ended-behind}
 use Rattle.array_kept.proofs.ReadyLaws.{scope-same}
 use Rattle.calls_kept.proofs.AddLaws.{slot-there, unadded_reply}
 use Rattle.kept_history.proofs.Records.{begins-going}
-use Rattle.moving_kept.proofs.AddedSpare.{unadded-moves}
-use Rattle.running_words.specs.Parts.{left_in}
+use Rattle.moving_laws.proofs.moving_kept_AddedSpare.{unadded-moves}
+use Rattle.moving_laws.specs.running_words_Parts.{left_in}
 use Rattle.moving_laws.specs.Ready.{bytes_in}
 use Rattle.moving_laws.proofs.AddLaws.{with-room, still-called, none-added}
-use Rattle.running_words.proofs.Called.{not_254, called, alone-lossless}
+use Rattle.moving_laws.proofs.running_words_Called.{not_254, called, alone-lossless}
 use Rattle.moving_laws.proofs.Kept.{ready, shapes-same, alone-keeps}
 use Rattle.moving.proofs.state.Moving.add.Goals as goal
 

@@ -10,8 +10,8 @@ use Rattle.views.specs.Rebuilding.{Held}
 use Rattle.views.proofs.MovedLaws.{grows-none, moved-same}
 use Rattle.array_kept.specs.Calls.{IsLossBy}
 use Rattle.region_mends.specs.Mends.{relied_sector}
-use Rattle.running_words.specs.Parts.{left_in}
-use Rattle.running_words.proofs.Called.{called}
+use Rattle.moving_laws.specs.running_words_Parts.{left_in}
+use Rattle.moving_laws.proofs.running_words_Called.{called}
 use Rattle.moving_laws.specs.Writing.{IsRefusedAlone}
 use Rattle.moving_laws.proofs.Kept.{roomier}
 use Rattle.moving_laws.proofs.WriteLaws.{called-roomed}

@@ -15,11 +15,11 @@ use Rattle.grow_asked.specs.declared.window.Window.TheVariants.{Unsure}
 use Rattle.kept_history.specs.Recorded.{IsCallGoing}
 use Rattle.course_kept.specs.declared.course.Course.{Course}
 use Rattle.course_kept.specs.Course.{IsWindowOf, IsCourseOf}
-use Rattle.moving_kept.specs.Moving.{AreReshaping}
-use Rattle.moving_kept.proofs.Refusals.{quiet-refusal}
-use Rattle.moving_kept.proofs.Resting.{resting-moves}
-use Rattle.running_words.specs.Parts.{left_in}
-use Rattle.running_words.proofs.Called.{not_254, called, alone-lossless}
+use Rattle.moving_laws.specs.moving_kept_Moving.{AreReshaping}
+use Rattle.moving_laws.proofs.moving_kept_Refusals.{quiet-refusal}
+use Rattle.moving_laws.proofs.moving_kept_Resting.{resting-moves}
+use Rattle.moving_laws.specs.running_words_Parts.{left_in}
+use Rattle.moving_laws.proofs.running_words_Called.{not_254, called, alone-lossless}
 use Rattle.moving_laws.specs.Ready.{bytes_in}
 use Rattle.moving_laws.proofs.Kept.{ready, shapes-same, alone-keeps}
 use Rattle.moving_laws.proofs.Examined.{moving-still}

@@ -23,13 +23,13 @@ use Rattle.kept_history.specs.Safe.{world_in}
 use Rattle.course_kept.specs.declared.course.Course.{Course}
 use Rattle.course_kept.specs.Course.{IsWindowOf}
 use Rattle.moving_state.proofs.ReshapeLaws.{window-reach, list-short}
-use Rattle.moving_kept.proofs.Refusals.{quiet-refusal, refused-right}
-use Rattle.moving_kept.proofs.Resting.{resting-moves}
-use Rattle.moving_kept.proofs.Steps.{missing-since}
-use Rattle.running_words.specs.Parts.{left_in}
+use Rattle.moving_laws.proofs.moving_kept_Refusals.{quiet-refusal, refused-right}
+use Rattle.moving_laws.proofs.moving_kept_Resting.{resting-moves}
+use Rattle.moving_laws.proofs.moving_kept_Steps.{missing-since}
+use Rattle.moving_laws.specs.running_words_Parts.{left_in}
 use Rattle.moving_laws.specs.Ready.{bytes_in}
-use Rattle.running_words.specs.Calls.{IsCopyDue}
-use Rattle.running_words.proofs.Called.{not_254, called, alone-lossless}
+use Rattle.moving_laws.specs.running_words_Calls.{IsCopyDue}
+use Rattle.moving_laws.proofs.running_words_Called.{not_254, called, alone-lossless}
 use Rattle.moving_laws.proofs.Copied.{due-is, left-falls, IsStripeTried, copied-more, copied-kept, uncopied-kept}
 use Rattle.moving_laws.proofs.Kept.{ready, ready-moved, shapes-same, shapes-moved, alone-keeps, behind-keeps, behind-whole, with-buffer, live-of}
 use Rattle.moving_laws.proofs.Settled.{risen-told, many-of}

@@ -15,12 +15,12 @@ use Rattle.array_kept.proofs.ReadyLaws.{scope-same}
 use Rattle.array_kept.proofs.ReplyLaws.{refused-for, too-many-of}
 use Rattle.kept_history.specs.Recorded.{IsCallGoing}
 use Rattle.kept_history.specs.Safe.{world_in}
-use Rattle.moving_kept.proofs.Flushing.{AreFlushed, AreSettled}
-use Rattle.moving_kept.proofs.Refusals.{quiet-refusal, refused-right}
-use Rattle.moving_kept.proofs.Resting.{resting-moves}
-use Rattle.moving_kept.proofs.Steps.{missing-since}
-use Rattle.running_words.specs.Parts.{left_in}
-use Rattle.running_words.proofs.Called.{not_254, called, alone-lossless, risen-told, many-of}
+use Rattle.moving_laws.proofs.moving_kept_Flushing.{AreFlushed, AreSettled}
+use Rattle.moving_laws.proofs.moving_kept_Refusals.{quiet-refusal, refused-right}
+use Rattle.moving_laws.proofs.moving_kept_Resting.{resting-moves}
+use Rattle.moving_laws.proofs.moving_kept_Steps.{missing-since}
+use Rattle.moving_laws.specs.running_words_Parts.{left_in}
+use Rattle.moving_laws.proofs.running_words_Called.{not_254, called, alone-lossless, risen-told, many-of}
 use Rattle.moving_laws.specs.Mending.{IsResyncEndDue}
 use Rattle.moving_laws.specs.Ready.{bytes_in}
 use Rattle.moving_laws.proofs.Kept.{ready, ready-with, shapes-same, shapes-moved, alone-keeps, behind-keeps, behind-whole}

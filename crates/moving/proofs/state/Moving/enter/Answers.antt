@@ -7,7 +7,7 @@ use Rattle.superblocks.specs.declared.members.Members.{Members}
 use Rattle.flat_history.specs.declared.events.StepKind.TheVariants.{Entered as EntersWindow}
 use Rattle.views.specs.Lacking.{AreTooMany}
 use Rattle.grow_asked.specs.declared.window.Window.TheVariants.{Unsure}
-use Rattle.running_words.specs.Parts.{left_in}
+use Rattle.moving_laws.specs.running_words_Parts.{left_in}
 use Rattle.moving_laws.proofs.BarredLaws.{alone-taken, barred-enter, refused-err, err-ok, err-any}
 use Rattle.moving.proofs.state.Moving.enter.Goals as goal
 

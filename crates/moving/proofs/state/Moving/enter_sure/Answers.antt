@@ -22,15 +22,15 @@ use Rattle.grow_asked.specs.declared.window.Window.TheVariants.{Unsure}
 use Rattle.course_kept.specs.declared.course.Course.{Course}
 use Rattle.course_kept.specs.Course.{IsStored}
 use Rattle.course_kept.specs.Laws.{entered}
-use Rattle.moving_kept.specs.Moving.{IsMoving}
-use Rattle.moving_kept.proofs.Refusals.{quiet-refusal, refused-right}
-use Rattle.moving_kept.proofs.Resting.{resting-moves}
-use Rattle.moving_kept.proofs.Steps.{missing-since}
-use Rattle.running_words.specs.Calls.{IsEnterDue}
-use Rattle.running_words.specs.Parts.{left_in}
+use Rattle.moving_laws.specs.moving_kept_Moving.{IsMoving}
+use Rattle.moving_laws.proofs.moving_kept_Refusals.{quiet-refusal, refused-right}
+use Rattle.moving_laws.proofs.moving_kept_Resting.{resting-moves}
+use Rattle.moving_laws.proofs.moving_kept_Steps.{missing-since}
+use Rattle.moving_laws.specs.running_words_Calls.{IsEnterDue}
+use Rattle.moving_laws.specs.running_words_Parts.{left_in}
 use Rattle.moving_laws.specs.Ready.{bytes_in}
 use Rattle.moving_laws.proofs.Settled.{risen-told}
-use Rattle.running_words.proofs.Called.{not_254, called, alone-lossless}
+use Rattle.moving_laws.proofs.running_words_Called.{not_254, called, alone-lossless}
 use Rattle.moving_laws.proofs.Kept.{ready, ready-moved, shapes-same, shapes-moved, alone-keeps, behind-keeps, behind-whole, with-buffer, written-whole}
 use Rattle.moving_laws.proofs.EnterLaws.{backup-for}
 use Rattle.moving_laws.proofs.BarredLaws.{closed-of}

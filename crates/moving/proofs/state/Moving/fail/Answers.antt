@@ -22,13 +22,13 @@ use Rattle.array_kept.proofs.LossLaws.{losses-failed, ended-behind}
 use Rattle.calls_kept.proofs.FailedLaws.{placed-out, unlost-out, moved-out, out-vacant}
 use Rattle.kept_history.specs.Safe.{world_in}
 use Rattle.kept_history.proofs.Records.{begins-going}
-use Rattle.moving_kept.specs.Moving.{IsMoving}
-use Rattle.moving_kept.proofs.Failing.{failed-moves}
-use Rattle.moving_kept.proofs.Refusals.{quiet-refusal}
-use Rattle.moving_kept.proofs.Resting.{resting-moves}
-use Rattle.running_words.specs.Parts.{left_in}
+use Rattle.moving_laws.specs.moving_kept_Moving.{IsMoving}
+use Rattle.moving_laws.proofs.moving_kept_Failing.{failed-moves}
+use Rattle.moving_laws.proofs.moving_kept_Refusals.{quiet-refusal}
+use Rattle.moving_laws.proofs.moving_kept_Resting.{resting-moves}
+use Rattle.moving_laws.specs.running_words_Parts.{left_in}
 use Rattle.moving_laws.specs.Ready.{bytes_in}
-use Rattle.running_words.proofs.Called.{not_254, called, alone-lossless}
+use Rattle.moving_laws.proofs.running_words_Called.{not_254, called, alone-lossless}
 use Rattle.moving_laws.proofs.Kept.{ready, shapes-same, shapes-moved, left-moved, alone-keeps, behind-keeps, takes-lost, lost-here}
 use Rattle.moving_laws.proofs.TakenOut.{moved-all, since-out, taken-out}
 use Rattle.moving.proofs.state.Moving.fail.Goals as goal

@@ -7,8 +7,8 @@ use Rattle.flat_history.specs.Plain.{entries_of}
 use Rattle.views.specs.Numbers.{is_carried}
 use Rattle.array_kept.specs.Kept.{scope_in}
 use Rattle.array_kept.proofs.ReadyLaws.{scope-same}
-use Rattle.moving_kept.specs.Moving.{IsMoving}
-use Rattle.running_words.specs.Parts.{left_in}
+use Rattle.moving_laws.specs.moving_kept_Moving.{IsMoving}
+use Rattle.moving_laws.specs.running_words_Parts.{left_in}
 use Rattle.moving_laws.specs.Ready.{bytes_in}
 use Rattle.moving_laws.proofs.Asking.{halted-moves, epoch-kept}
 use Rattle.moving.proofs.state.Moving.halt.Goals as goal

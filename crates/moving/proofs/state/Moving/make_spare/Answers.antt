@@ -27,12 +27,12 @@ use Rattle.calls_kept.proofs.AddLaws.{slot-there, slot-free, slot-does, slot-uns
 use Rattle.calls_kept.proofs.AddedKept.{AddsSafe, with_carried}
 use Rattle.calls_kept.proofs.AddedLosses.{add-done, others-lost, since-added}
 use Rattle.kept_history.proofs.Records.{begins-going}
-use Rattle.moving_kept.specs.Moving.{IsMoving}
-use Rattle.moving_kept.proofs.AddedSpare.{looked-moves, added-moves, added-lost-moves}
-use Rattle.running_words.specs.Parts.{left_in}
+use Rattle.moving_laws.specs.moving_kept_Moving.{IsMoving}
+use Rattle.moving_laws.proofs.moving_kept_AddedSpare.{looked-moves, added-moves, added-lost-moves}
+use Rattle.moving_laws.specs.running_words_Parts.{left_in}
 use Rattle.moving_laws.specs.Ready.{bytes_in}
 use Rattle.moving_laws.proofs.AddLaws.{apart-from, looked-grows, spare-made, still-called, none-added, add-called}
-use Rattle.running_words.proofs.Called.{not_254, called, alone-lossless}
+use Rattle.moving_laws.proofs.running_words_Called.{not_254, called, alone-lossless}
 use Rattle.moving_laws.proofs.Kept.{ready, ready-with, shapes-same, shapes-moved, left-moved, alone-keeps, behind-keeps, behind-whole, live-of}
 use Rattle.moving.proofs.state.Moving.make_spare.Goals as goal
 

@@ -14,12 +14,12 @@ use Rattle.array_kept.proofs.LossLaws.{losses-behind, ended-behind, behind-alone
 use Rattle.array_kept.proofs.ReadyLaws.{scope-same}
 use Rattle.kept_history.specs.Recorded.{IsCallGoing}
 use Rattle.region_mends.specs.Mends.{mend_shape, mend_refusal, IsNotMended}
-use Rattle.moving_kept.proofs.Steps.{missing-since}
-use Rattle.mending_kept.proofs.Resync.{untried-moves}
-use Rattle.running_words.specs.Parts.{left_in}
+use Rattle.moving_laws.proofs.moving_kept_Steps.{missing-since}
+use Rattle.moving_laws.proofs.mending_kept_Resync.{untried-moves}
+use Rattle.moving_laws.specs.running_words_Parts.{left_in}
 use Rattle.moving_laws.specs.Mending.{IsMendDue}
 use Rattle.moving_laws.specs.Ready.{bytes_in}
-use Rattle.running_words.proofs.Called.{not_254, called, alone-lossless}
+use Rattle.moving_laws.proofs.running_words_Called.{not_254, called, alone-lossless}
 use Rattle.moving_laws.proofs.Kept.{ready, ready-with, shapes-same, shapes-moved, alone-keeps, behind-keeps, behind-whole}
 use Rattle.moving_laws.proofs.MendLaws.{next-of, aside-right, with-buffers, mends-short, not-mended-for, mendable-for, first-for, one-more, refused-why, done-why, mend-step, mend-refused, mend-done, mend-left, was-dirty}
 use Rattle.moving.proofs.state.Moving.mend_stripe.Goals as goal

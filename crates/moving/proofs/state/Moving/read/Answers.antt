@@ -27,13 +27,13 @@ use Rattle.moving_state.specs.First.{IsUnreadAround}
 use Rattle.kept_history.specs.Safe.{world_in}
 use Rattle.kept_history.proofs.Records.{begins-going}
 use Rattle.history_calls.specs.Reliable.{IsReliable}
-use Rattle.moving_kept.proofs.Refusals.{quiet-refusal}
-use Rattle.moving_kept.proofs.Resting.{resting-moves}
-use Rattle.running_words.specs.Parts.{left_in}
+use Rattle.moving_laws.proofs.moving_kept_Refusals.{quiet-refusal}
+use Rattle.moving_laws.proofs.moving_kept_Resting.{resting-moves}
+use Rattle.moving_laws.specs.running_words_Parts.{left_in}
 use Rattle.moving_laws.specs.Ready.{bytes_in}
-use Rattle.running_words.specs.Calls.{moving_world}
+use Rattle.moving_laws.specs.running_words_Calls.{moving_world}
 use Rattle.moving_laws.proofs.Kept.{ready, shapes-same, alone-keeps}
-use Rattle.running_words.proofs.Called.{not_254, alone-lossless, called}
+use Rattle.moving_laws.proofs.running_words_Called.{not_254, alone-lossless, called}
 use Rattle.moving_laws.proofs.Reading.{none-read, read-quiet, no-sectors, first-right, first-reply}
 use Rattle.md_base.specs.declared.answers.Fault.{Fault as AnyFault}
 use Rattle.md_base.specs.declared.answers.Fault.TheVariants.{Refused as IsRefusedWith, NoMemory}

@@ -33,12 +33,12 @@ use Rattle.window_calls.specs.Fetching.{IsUnreadBeside}
 use Rattle.kept_history.specs.Safe.{world_in}
 use Rattle.kept_history.proofs.Records.{begins-going}
 use Rattle.history_calls.specs.Reliable.{IsReliable}
-use Rattle.moving_kept.specs.Moving.{IsMoving}
-use Rattle.moving_kept.proofs.Steps.{missing-since}
+use Rattle.moving_laws.specs.moving_kept_Moving.{IsMoving}
+use Rattle.moving_laws.proofs.moving_kept_Steps.{missing-since}
 use Rattle.moving_laws.specs.Ready.{bytes_in}
-use Rattle.running_words.specs.Calls.{moving_world}
+use Rattle.moving_laws.specs.running_words_Calls.{moving_world}
 use Rattle.moving_laws.proofs.Kept.{ready, with-buffer, shapes-moved, left-moved, behind-keeps, behind-whole, written-whole}
-use Rattle.running_words.proofs.Called.{not_254, called}
+use Rattle.moving_laws.proofs.running_words_Called.{not_254, called}
 use Rattle.moving_laws.proofs.Settled.{risen-told}
 use Rattle.moving_laws.proofs.Reading.{IsFetched, read-live, read-some, room-taken, unread-moves, read-moves, holds-read, beside-unread, unread-missing, read-does, asked-is, hidden-fits, holds-sliced}
 use Rattle.moving.proofs.state.Moving.read_some.Goals as goal

@@ -18,13 +18,13 @@ use Rattle.kept_history.specs.Safe.{world_in}
 use Rattle.views.specs.Numbers.{is_carried}
 use Rattle.md_base.specs.declared.places.Span.{Span}
 use Rattle.course_kept.specs.declared.course.Course.{Course}
-use Rattle.moving_kept.proofs.Refusals.{quiet-refusal, refused-right}
-use Rattle.moving_kept.proofs.Resting.{resting-moves}
-use Rattle.moving_kept.proofs.Steps.{missing-since}
-use Rattle.running_words.specs.Calls.{IsRecordDue}
-use Rattle.running_words.specs.Parts.{left_in}
+use Rattle.moving_laws.proofs.moving_kept_Refusals.{quiet-refusal, refused-right}
+use Rattle.moving_laws.proofs.moving_kept_Resting.{resting-moves}
+use Rattle.moving_laws.proofs.moving_kept_Steps.{missing-since}
+use Rattle.moving_laws.specs.running_words_Calls.{IsRecordDue}
+use Rattle.moving_laws.specs.running_words_Parts.{left_in}
 use Rattle.moving_laws.specs.Ready.{bytes_in}
-use Rattle.running_words.proofs.Called.{not_254, called, alone-lossless}
+use Rattle.moving_laws.proofs.running_words_Called.{not_254, called, alone-lossless}
 use Rattle.moving_laws.proofs.Kept.{ready, ready-moved, shapes-same, shapes-moved, alone-keeps, behind-keeps, behind-whole, live-of}
 use Rattle.moving_laws.proofs.Settled.{many-of}
 use Rattle.moving_laws.proofs.RecordLaws.{window-next, same-span, all_copied, record-left, moved-if, moved-none, safe-none-of, shapes-past, since-past, record-refused, record-done}

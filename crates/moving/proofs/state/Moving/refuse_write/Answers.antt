@@ -20,10 +20,10 @@ use Rattle.grow_asked.specs.declared.window.Window.TheVariants.{Closed, Entered,
 use Rattle.region_writes.specs.Runs.{IsListUnwritten}
 use Rattle.region_mends.specs.Mends.{relied_sector}
 use Rattle.kept_history.specs.Recorded.{IsCallGoing}
-use Rattle.moving_kept.proofs.Refusals.{quiet-refusal}
-use Rattle.moving_kept.proofs.Resting.{resting-moves}
-use Rattle.running_words.specs.Parts.{left_in}
-use Rattle.running_words.proofs.Called.{not_254, called, alone-lossless}
+use Rattle.moving_laws.proofs.moving_kept_Refusals.{quiet-refusal}
+use Rattle.moving_laws.proofs.moving_kept_Resting.{resting-moves}
+use Rattle.moving_laws.specs.running_words_Parts.{left_in}
+use Rattle.moving_laws.proofs.running_words_Called.{not_254, called, alone-lossless}
 use Rattle.moving_laws.specs.Ready.{bytes_in}
 use Rattle.moving_laws.specs.Writing.{TouchesUnsure, IsWriteBarred}
 use Rattle.moving_laws.proofs.Kept.{ready, shapes-same, alone-keeps}

@@ -12,15 +12,15 @@ use Rattle.array_kept.proofs.ReadyLaws.{scope-same, list-same}
 use Rattle.kept_history.specs.Safe.{world_in}
 use Rattle.kept_history.proofs.Records.{begins-going}
 use Rattle.views.specs.Numbers.{is_carried}
-use Rattle.moving_kept.specs.Moving.{IsMoving}
-use Rattle.moving_kept.proofs.Flushing.{flushed-moves, unflushed-moves, AreFlushed}
-use Rattle.moving_kept.proofs.Refusals.{quiet-refusal, refused-right}
-use Rattle.moving_kept.proofs.Resting.{resting-moves}
-use Rattle.moving_kept.proofs.Steps.{missing-since}
-use Rattle.running_words.specs.Parts.{left_in}
+use Rattle.moving_laws.specs.moving_kept_Moving.{IsMoving}
+use Rattle.moving_laws.proofs.moving_kept_Flushing.{flushed-moves, unflushed-moves, AreFlushed}
+use Rattle.moving_laws.proofs.moving_kept_Refusals.{quiet-refusal, refused-right}
+use Rattle.moving_laws.proofs.moving_kept_Resting.{resting-moves}
+use Rattle.moving_laws.proofs.moving_kept_Steps.{missing-since}
+use Rattle.moving_laws.specs.running_words_Parts.{left_in}
 use Rattle.moving_laws.specs.Ready.{bytes_in}
 use Rattle.moving_laws.proofs.Kept.{ready, shapes-same, shapes-moved, left-moved, alone-keeps, behind-keeps, behind-whole, live-of}
-use Rattle.running_words.proofs.Called.{not_254, alone-lossless}
+use Rattle.moving_laws.proofs.running_words_Called.{not_254, alone-lossless}
 use Rattle.moving_laws.proofs.Settled.{settling-long, settling-free, settles-so, risen-told, many-of}
 use Rattle.moving.proofs.state.Moving.settle_entering.Goals as goal
 

@@ -8,7 +8,7 @@ use Rattle.flat_history.specs.declared.events.Event.TheVariants.{Shown}
 use Rattle.views.proofs.MovedLaws.{grows-none}
 use Rattle.array_kept.proofs.LossLaws.{ended-behind}
 use Rattle.array_kept.proofs.ReadyLaws.{scope-same}
-use Rattle.running_words.specs.Parts.{left_in}
+use Rattle.moving_laws.specs.running_words_Parts.{left_in}
 use Rattle.moving_laws.proofs.Kept.{ready, roomier, shapes-same, alone-keeps}
 use Rattle.moving_laws.proofs.Asking.{status-same, shown-moves}
 use Rattle.moving.proofs.state.Moving.status.Goals as goal

@@ -1,7 +1,7 @@
 use Rattle.std.proofs.Common.{◌≡◌, None, subst}
 use Rattle.moving_state.specs.Due.{IsDue}
 use Rattle.moving_state.specs.declared.stepping.Due.TheVariants.{Enter, Zero}
-use Rattle.running_words.specs.Calls.{IsEnterDue}
+use Rattle.moving_laws.specs.running_words_Calls.{IsEnterDue}
 use Rattle.moving_laws.specs.Mending.{IsMendDue, IsResyncEndDue}
 use Rattle.moving_laws.proofs.DueSteps.{enter-due}
 use Rattle.moving_laws.proofs.MendLaws.{mend-due, end-due}

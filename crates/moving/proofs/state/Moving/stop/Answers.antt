@@ -4,7 +4,7 @@ use Rattle.flat_history.specs.Epochs.{world_of}
 use Rattle.flat_history.specs.Growing.{EndBy}
 use Rattle.array_kept.specs.Calls.{IsEndOf}
 use Rattle.history_calls.specs.Reliable.{IsReliable}
-use Rattle.running_words.specs.Calls.{IsEpochKept}
+use Rattle.moving_laws.specs.running_words_Calls.{IsEpochKept}
 use Rattle.moving.proofs.state.Moving.stop.Goals as goal
 
 pub returns-in-Ok-clause-right : goal.returns-in-Ok-clause-right

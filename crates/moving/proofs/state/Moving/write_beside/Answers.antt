@@ -24,13 +24,13 @@ use Rattle.region_mends.specs.Mends.{relied_sector}
 use Rattle.region_writes.specs.Runs.{IsTornTouched, IsListTorn, IsListUnwritten}
 use Rattle.kept_history.specs.Recorded.{IsCallGoing}
 use Rattle.course_kept.specs.Course.{span_in}
-use Rattle.moving_kept.proofs.Refusals.{quiet-refusal}
-use Rattle.moving_kept.proofs.Resting.{resting-moves}
-use Rattle.moving_kept.proofs.Steps.{missing-since}
-use Rattle.moving_kept.proofs.Writing.{ArePut}
-use Rattle.running_words.specs.Parts.{left_in}
+use Rattle.moving_laws.proofs.moving_kept_Refusals.{quiet-refusal}
+use Rattle.moving_laws.proofs.moving_kept_Resting.{resting-moves}
+use Rattle.moving_laws.proofs.moving_kept_Steps.{missing-since}
+use Rattle.moving_laws.proofs.moving_kept_Writing.{ArePut}
+use Rattle.moving_laws.specs.running_words_Parts.{left_in}
 use Rattle.moving_laws.specs.Ready.{bytes_in}
-use Rattle.running_words.proofs.Called.{not_254, called, alone-lossless}
+use Rattle.moving_laws.proofs.running_words_Called.{not_254, called, alone-lossless}
 use Rattle.moving_laws.proofs.Kept.{ready, shapes-same, shapes-moved, alone-keeps, behind-keeps, behind-whole, left-moved}
 use Rattle.moving_laws.proofs.Settled.{risen-told}
 use Rattle.moving_laws.proofs.WriteLaws.{first-right, wrote-kept, unwritten-kept, with-rooms, failure-keeps, failure-whole, torn-missing}

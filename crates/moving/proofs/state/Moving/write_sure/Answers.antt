@@ -16,9 +16,9 @@ use Rattle.array_kept.specs.Calls.{IsLossBy, IsBehind, IsCausedBy}
 use Rattle.course_kept.specs.Laws.{closed}
 use Rattle.moving_state.specs.Due.{open_in, unsure_in}
 use Rattle.region_mends.specs.Mends.{relied_sector}
-use Rattle.running_words.specs.Parts.{left_in}
+use Rattle.moving_laws.specs.running_words_Parts.{left_in}
 use Rattle.moving_laws.specs.Writing.{TouchesWindow, IsWriteLacked, IsWriteEntered}
-use Rattle.running_words.proofs.Called.{called}
+use Rattle.moving_laws.proofs.running_words_Called.{called}
 use Rattle.moving_laws.proofs.Kept.{roomier, long-same}
 use Rattle.moving_laws.proofs.WriteLaws.{failed-then, beside-of, touched-open, roomed, called-then, called-roomed, alone-caused, refused-caused, behind-caused, alone-entered, refused-entered, behind-entered, untouched, never-ok}
 use Rattle.moving_laws.proofs.WriteReplies.{write-answered}

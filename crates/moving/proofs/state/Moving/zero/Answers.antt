@@ -20,14 +20,14 @@ use Rattle.course_kept.specs.declared.course.Course.{Course}
 use Rattle.kept_history.specs.Recorded.{IsCallGoing}
 use Rattle.kept_history.specs.Safe.{world_in}
 use Rattle.views.specs.Numbers.{is_carried}
-use Rattle.moving_kept.proofs.Refusals.{quiet-refusal, refused-right}
-use Rattle.moving_kept.proofs.Resting.{resting-moves}
-use Rattle.moving_kept.proofs.Steps.{missing-since}
+use Rattle.moving_laws.proofs.moving_kept_Refusals.{quiet-refusal, refused-right}
+use Rattle.moving_laws.proofs.moving_kept_Resting.{resting-moves}
+use Rattle.moving_laws.proofs.moving_kept_Steps.{missing-since}
 use Rattle.moving_state.proofs.ReshapeLaws.{through-of}
-use Rattle.running_words.specs.Calls.{IsZeroDue}
-use Rattle.running_words.specs.Parts.{left_in}
+use Rattle.moving_laws.specs.running_words_Calls.{IsZeroDue}
+use Rattle.moving_laws.specs.running_words_Parts.{left_in}
 use Rattle.moving_laws.specs.Ready.{bytes_in}
-use Rattle.running_words.proofs.Called.{not_254, called, alone-lossless}
+use Rattle.moving_laws.proofs.running_words_Called.{not_254, called, alone-lossless}
 use Rattle.moving_laws.proofs.Kept.{ready, shapes-same, shapes-moved, alone-keeps, behind-keeps, behind-whole, with-buffer, live-of}
 use Rattle.moving_laws.proofs.Settled.{many-of}
 use Rattle.moving_laws.proofs.ZeroLaws.{closed-at, zero-step, rows-zeroed, zero-refused, zero-done}

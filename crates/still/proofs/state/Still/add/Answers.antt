@@ -16,8 +16,8 @@ use Rattle.array_kept.proofs.LossLaws.{ended-behind}
 use Rattle.array_kept.proofs.ReadyLaws.{scope-same}
 use Rattle.calls_kept.proofs.AddLaws.{slot-there, unadded_reply}
 use Rattle.kept_history.proofs.Records.{begins-going}
-use Rattle.running_words.proofs.Called.{alone-lossless}
-use Rattle.running_words.proofs.Lengths.{alone-keeps}
+use Rattle.still_laws.proofs.running_words_Called.{alone-lossless}
+use Rattle.still_laws.proofs.running_words_Lengths.{alone-keeps}
 use Rattle.still_laws.proofs.Kept.{ready, rows-same}
 use Rattle.still_laws.proofs.StepLaws.{shapes-same, stepped, refused-going}
 use Rattle.still_laws.proofs.AddLaws.{unaddable-refused}

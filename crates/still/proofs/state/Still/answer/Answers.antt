@@ -5,7 +5,7 @@ use Rattle.views.proofs.MovedLaws.{grows-none}
 use Rattle.array_kept.proofs.LossLaws.{ended-behind}
 use Rattle.array_kept.proofs.ReadyLaws.{scope-same}
 use Rattle.kept_history.specs.Recorded.{IsCallGoing}
-use Rattle.running_words.proofs.Called.{alone-lossless}
+use Rattle.still_laws.proofs.running_words_Called.{alone-lossless}
 use Rattle.still_laws.specs.Steps.{MayLeaveNone, IsStepsReplyNow}
 use Rattle.still_laws.proofs.Kept.{ready, rows-same}
 use Rattle.still_laws.proofs.StepLaws.{shapes-same, stepped}

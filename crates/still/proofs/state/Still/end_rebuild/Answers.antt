@@ -31,11 +31,11 @@ use Rattle.calls_kept.proofs.RebuildEnded.{whole-vacant, whole-after, failed-sti
 use Rattle.calls_kept.proofs.RebuildGiven.{receiver-recovering}
 use Rattle.calls_kept.proofs.RebuildLaws.{losses-open, losses-end}
 use Rattle.kept_history.specs.Safe.{world_in}
-use Rattle.still_kept.proofs.Ending.{IsMadeWhole}
-use Rattle.running_words.specs.Calls.{moving_world}
+use Rattle.still_laws.proofs.still_kept_Ending.{IsMadeWhole}
+use Rattle.still_laws.specs.running_words_Calls.{moving_world}
 use Rattle.still_laws.specs.Steps.{MayLeaveNone, IsCallUnbroken}
-use Rattle.running_words.proofs.Called.{risen-told}
-use Rattle.running_words.proofs.Lengths.{behind-keeps}
+use Rattle.still_laws.proofs.running_words_Called.{risen-told}
+use Rattle.still_laws.proofs.running_words_Lengths.{behind-keeps}
 use Rattle.still_laws.proofs.Kept.{ready, rows-moved}
 use Rattle.still_laws.proofs.Going.{still-going}
 use Rattle.still_laws.proofs.StepLaws.{shapes-moved, planned-same, stepped, fewer-more, losses-keep}

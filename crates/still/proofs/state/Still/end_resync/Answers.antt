@@ -15,10 +15,10 @@ use Rattle.array_kept.proofs.ReadyLaws.{scope-same}
 use Rattle.array_kept.proofs.ReplyLaws.{too-many-of, refused-for}
 use Rattle.array_kept.proofs.StepsLeft.{left-ended, steps-fewer, steps-kept}
 use Rattle.kept_history.specs.Recorded.{IsCallGoing}
-use Rattle.still_kept.proofs.Flushing.{IsFlushedStill, IsSettledStill}
+use Rattle.still_laws.proofs.still_kept_Flushing.{IsFlushedStill, IsSettledStill}
 use Rattle.still_laws.specs.Steps.{MayLeaveNone}
-use Rattle.running_words.proofs.Called.{risen-told}
-use Rattle.running_words.proofs.Lengths.{alone-keeps, behind-keeps}
+use Rattle.still_laws.proofs.running_words_Called.{risen-told}
+use Rattle.still_laws.proofs.running_words_Lengths.{alone-keeps, behind-keeps}
 use Rattle.still_laws.proofs.Kept.{ready, rows-moved}
 use Rattle.still_laws.proofs.Going.{step-going}
 use Rattle.still_laws.proofs.StepLaws.{refused-of, shapes-moved, planned-same, stepped, fewer-more, kept-more}

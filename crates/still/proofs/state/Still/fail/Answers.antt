@@ -18,11 +18,11 @@ use Rattle.array_kept.proofs.ReplyLaws.{fail_reply, no_role_reply}
 use Rattle.array_kept.proofs.LossLaws.{losses-failed, ended-behind}
 use Rattle.calls_kept.proofs.FailedLaws.{placed-out, unlost-out, moved-out, out-vacant, clean-out, rise-out, named-out}
 use Rattle.kept_history.proofs.Records.{begins-going}
-use Rattle.still_kept.proofs.Failing.{IsTakenOut, failed-stands}
-use Rattle.running_words.specs.Parts.{still_left}
-use Rattle.running_words.proofs.Called.{not_254, called, alone-lossless, risen-told}
-use Rattle.running_words.proofs.Lengths.{alone-keeps, behind-keeps}
-use Rattle.running_words.proofs.TakenOut.{behind-loss, moved-all, since-out, missing-out}
+use Rattle.still_laws.proofs.still_kept_Failing.{IsTakenOut, failed-stands}
+use Rattle.still_laws.specs.running_words_Parts.{still_left}
+use Rattle.still_laws.proofs.running_words_Called.{not_254, called, alone-lossless, risen-told}
+use Rattle.still_laws.proofs.running_words_Lengths.{alone-keeps, behind-keeps}
+use Rattle.still_laws.proofs.running_words_TakenOut.{behind-loss, moved-all, since-out, missing-out}
 use Rattle.still_laws.proofs.Asking.{refused-alone}
 use Rattle.still_laws.proofs.Kept.{ready, rows-same, rows-moved}
 use Rattle.still.proofs.state.Still.fail.Goals as goal

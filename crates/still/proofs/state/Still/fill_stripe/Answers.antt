@@ -26,11 +26,11 @@ use Rattle.array_kept.proofs.ReplyLaws.{too-many-of, refused-for}
 use Rattle.array_kept.proofs.StepsLeft.{left-filled, steps-fewer, steps-kept}
 use Rattle.calls_kept.proofs.RebuildLaws.{losses-open, losses-end}
 use Rattle.kept_history.specs.Recorded.{IsCallGoing}
-use Rattle.still_kept.specs.Still.{IsStill}
-use Rattle.still_kept.proofs.Rebuilding.{IsFillingStill}
-use Rattle.running_words.specs.Parts.{still_left}
-use Rattle.running_words.proofs.Called.{risen-told}
-use Rattle.running_words.proofs.Lengths.{alone-keeps, behind-keeps}
+use Rattle.still_laws.specs.still_kept_Still.{IsStill}
+use Rattle.still_laws.proofs.still_kept_Rebuilding.{IsFillingStill}
+use Rattle.still_laws.specs.running_words_Parts.{still_left}
+use Rattle.still_laws.proofs.running_words_Called.{risen-told}
+use Rattle.still_laws.proofs.running_words_Lengths.{alone-keeps, behind-keeps}
 use Rattle.still_laws.proofs.Kept.{ready, rows-moved, with-buffers}
 use Rattle.still_laws.proofs.Going.{still-going, step-going}
 use Rattle.still_laws.proofs.StepLaws.{refused-of, shapes-moved, planned-same, stepped, fewer-more, kept-more, losses-keep}

@@ -7,8 +7,8 @@ use Rattle.flat_history.specs.Growing.{EndBy}
 use Rattle.flat_history.specs.Plain.{entries_of}
 use Rattle.array_kept.specs.Kept.{scope_in}
 use Rattle.array_kept.proofs.ReadyLaws.{scope-same}
-use Rattle.still_kept.specs.Still.{IsStill}
-use Rattle.running_words.specs.Parts.{still_left}
+use Rattle.still_laws.specs.still_kept_Still.{IsStill}
+use Rattle.still_laws.specs.running_words_Parts.{still_left}
 use Rattle.still_laws.proofs.Asking.{halted-stands, epoch-kept}
 use Rattle.still.proofs.state.Still.halt.Goals as goal
 

@@ -26,10 +26,10 @@ use Rattle.array_kept.proofs.ReadyLaws.{scope-same}
 use Rattle.calls_kept.proofs.AddLaws.{slot-there, slot-free, slot-does, slot-unspare, slot-fits, slot-room, slot-of-scope, is-free, second-half, stored-as, added_reply, faulted_reply}
 use Rattle.calls_kept.proofs.AddedKept.{AddsSafe, with_carried, carries-number, carries-only}
 use Rattle.calls_kept.proofs.AddedLosses.{add-done, others-lost, since-added, spares-added}
-use Rattle.still_kept.specs.Still.{IsStill}
-use Rattle.running_words.specs.Parts.{still_left}
-use Rattle.running_words.proofs.Called.{alone-lossless}
-use Rattle.running_words.proofs.Lengths.{alone-keeps, behind-keeps}
+use Rattle.still_laws.specs.still_kept_Still.{IsStill}
+use Rattle.still_laws.specs.running_words_Parts.{still_left}
+use Rattle.still_laws.proofs.running_words_Called.{alone-lossless}
+use Rattle.still_laws.proofs.running_words_Lengths.{alone-keeps, behind-keeps}
 use Rattle.still_laws.proofs.Kept.{ready, rows-same, rows-moved}
 use Rattle.still_laws.proofs.StepLaws.{shapes-same, shapes-moved, stepped}
 use Rattle.still_laws.proofs.AddLaws.{looked-refused}

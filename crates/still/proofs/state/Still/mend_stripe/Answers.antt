@@ -18,9 +18,9 @@ use Rattle.array_kept.proofs.StepsLeft.{left-mended, steps-fewer, steps-kept}
 use Rattle.array_state.proofs.UnmendableLaws.{unmendable-of, unwritten-then}
 use Rattle.calls_kept.proofs.MendLaws.{is-pending, next-stripe}
 use Rattle.kept_history.specs.Recorded.{IsCallGoing}
-use Rattle.still_kept.proofs.Resync.{IsMendingStill}
-use Rattle.running_words.proofs.Called.{risen-told}
-use Rattle.running_words.proofs.Lengths.{alone-keeps, behind-keeps}
+use Rattle.still_laws.proofs.still_kept_Resync.{IsMendingStill}
+use Rattle.still_laws.proofs.running_words_Called.{risen-told}
+use Rattle.still_laws.proofs.running_words_Lengths.{alone-keeps, behind-keeps}
 use Rattle.still_laws.proofs.Kept.{ready, rows-moved, with-buffers}
 use Rattle.still_laws.proofs.Going.{step-going}
 use Rattle.still_laws.proofs.StepLaws.{refused-of, shapes-moved, planned-same, stepped, fewer-more, kept-more}

@@ -36,15 +36,15 @@ use Rattle.calls_kept.proofs.ReadLaws.{some-of}
 use Rattle.array_state.proofs.FirstLaws.{call-within}
 use Rattle.kept_history.specs.Safe.{world_in, IsFilledRight}
 use Rattle.kept_history.proofs.Records.{begins-going}
-use Rattle.still_kept.proofs.Leaving.{rest-moved}
-use Rattle.still_kept.proofs.Reading.{read-stands}
-use Rattle.still_kept.proofs.Staying.{IsNamedStill, refused-stands}
-use Rattle.still_kept.proofs.Stood.{mended-moved}
+use Rattle.still_laws.proofs.still_kept_Leaving.{rest-moved}
+use Rattle.still_laws.proofs.still_kept_Reading.{read-stands}
+use Rattle.still_laws.proofs.still_kept_Staying.{IsNamedStill, refused-stands}
+use Rattle.still_laws.proofs.still_kept_Stood.{mended-moved}
 use Rattle.views.proofs.LiveLeft.{without-left}
-use Rattle.running_words.specs.Parts.{still_left}
-use Rattle.running_words.specs.Calls.{moving_world}
-use Rattle.running_words.proofs.Called.{not_254, called, alone-lossless, risen-told}
-use Rattle.running_words.proofs.Lengths.{alone-keeps, behind-keeps}
+use Rattle.still_laws.specs.running_words_Parts.{still_left}
+use Rattle.still_laws.specs.running_words_Calls.{moving_world}
+use Rattle.still_laws.proofs.running_words_Called.{not_254, called, alone-lossless, risen-told}
+use Rattle.still_laws.proofs.running_words_Lengths.{alone-keeps, behind-keeps}
 use Rattle.still_laws.proofs.Asking.{refused-alone}
 use Rattle.still_laws.proofs.Kept.{ready, rows-same, rows-moved, with-buffers}
 use Rattle.still_laws.proofs.Left.{left-alike}

@@ -7,8 +7,8 @@ use Rattle.array_kept.specs.Calls.{IsUnmendable}
 use Rattle.array_kept.proofs.LossLaws.{ended-behind, behind-alone}
 use Rattle.array_kept.proofs.ReadyLaws.{scope-same}
 use Rattle.kept_history.specs.Recorded.{IsCallGoing}
-use Rattle.running_words.proofs.Called.{alone-lossless}
-use Rattle.running_words.proofs.Lengths.{alone-keeps}
+use Rattle.still_laws.proofs.running_words_Called.{alone-lossless}
+use Rattle.still_laws.proofs.running_words_Lengths.{alone-keeps}
 use Rattle.still_laws.proofs.Kept.{ready, rows-same}
 use Rattle.still_laws.proofs.Going.{still-going}
 use Rattle.still_laws.proofs.StepLaws.{shapes-same, stepped, step-refused, refused-going}

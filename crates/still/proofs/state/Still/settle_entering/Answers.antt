@@ -11,10 +11,10 @@ use Rattle.array_kept.specs.Kept.{scope_in}
 use Rattle.array_kept.proofs.LossLaws.{losses-behind, ended-behind, behind-alone, settling-no-loss}
 use Rattle.array_kept.proofs.ReadyLaws.{scope-same}
 use Rattle.kept_history.proofs.Records.{begins-going}
-use Rattle.still_kept.proofs.Flushing.{IsFlushedStill, all-mended, unflushed-stands}
-use Rattle.running_words.specs.Parts.{still_left}
-use Rattle.running_words.proofs.Called.{not_254, called, alone-lossless, risen-told, many-of}
-use Rattle.running_words.proofs.Lengths.{alone-keeps, behind-keeps}
+use Rattle.still_laws.proofs.still_kept_Flushing.{IsFlushedStill, all-mended, unflushed-stands}
+use Rattle.still_laws.specs.running_words_Parts.{still_left}
+use Rattle.still_laws.proofs.running_words_Called.{not_254, called, alone-lossless, risen-told, many-of}
+use Rattle.still_laws.proofs.running_words_Lengths.{alone-keeps, behind-keeps}
 use Rattle.still_laws.proofs.Asking.{many-alone}
 use Rattle.still_laws.proofs.Kept.{ready, rows-same, rows-moved}
 use Rattle.still_laws.proofs.Left.{left-alike}

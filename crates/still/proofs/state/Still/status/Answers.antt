@@ -7,8 +7,8 @@ use Rattle.flat_history.specs.declared.events.Entry.{Entry}
 use Rattle.flat_history.specs.declared.events.Event.TheVariants.{Shown}
 use Rattle.array_kept.proofs.LossLaws.{ended-behind}
 use Rattle.array_kept.proofs.ReadyLaws.{scope-same}
-use Rattle.running_words.specs.Parts.{still_left}
-use Rattle.running_words.proofs.Lengths.{alone-keeps}
+use Rattle.still_laws.specs.running_words_Parts.{still_left}
+use Rattle.still_laws.proofs.running_words_Lengths.{alone-keeps}
 use Rattle.still_laws.proofs.Kept.{ready, rows-same}
 use Rattle.still_laws.proofs.Asking.{status-same, shown-stands}
 use Rattle.still.proofs.state.Still.status.Goals as goal

@@ -4,8 +4,8 @@ use Rattle.flat_history.specs.Epochs.{world_of}
 use Rattle.flat_history.specs.Growing.{EndBy}
 use Rattle.array_kept.specs.Calls.{IsEndOf}
 use Rattle.history_calls.specs.Reliable.{IsReliable}
-use Rattle.running_words.specs.Calls.{IsEpochKept}
-use Rattle.running_words.specs.Still.{AreLeftSettled}
+use Rattle.still_laws.specs.running_words_Calls.{IsEpochKept}
+use Rattle.still_laws.specs.running_words_Still.{AreLeftSettled}
 use Rattle.still.proofs.state.Still.stop.Goals as goal
 
 pub returns-in-Ok-clause-right : goal.returns-in-Ok-clause-right

@@ -25,12 +25,12 @@ use Rattle.array_kept.proofs.ReplyLaws.{too-many-of, refused-for}
 use Rattle.array_kept.proofs.StepsLeft.{steps-fewer}
 use Rattle.calls_kept.proofs.RebuildGiven.{receiver-spare, taken-vacant, taken-held, taken-by, taken-before, taken-after}
 use Rattle.kept_history.specs.Recorded.{IsCallGoing}
-use Rattle.still_kept.specs.Still.{IsStill}
-use Rattle.still_kept.proofs.Rebuilding.{IsTaken}
-use Rattle.running_words.specs.Parts.{still_left}
+use Rattle.still_laws.specs.still_kept_Still.{IsStill}
+use Rattle.still_laws.proofs.still_kept_Rebuilding.{IsTaken}
+use Rattle.still_laws.specs.running_words_Parts.{still_left}
 use Rattle.still_laws.specs.Steps.{MayLeaveNone}
-use Rattle.running_words.proofs.Called.{risen-told}
-use Rattle.running_words.proofs.Lengths.{alone-keeps, behind-keeps}
+use Rattle.still_laws.proofs.running_words_Called.{risen-told}
+use Rattle.still_laws.proofs.running_words_Lengths.{alone-keeps, behind-keeps}
 use Rattle.still_laws.proofs.Kept.{ready, rows-moved}
 use Rattle.still_laws.proofs.Going.{step-going}
 use Rattle.still_laws.proofs.StepLaws.{shapes-moved, planned-same, stepped, stepped-more, fewer-more}

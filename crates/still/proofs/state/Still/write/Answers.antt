@@ -28,10 +28,10 @@ use Rattle.array_kept.proofs.ReplyLaws.{refused_reply, failed_reply, inside-loss
 use Rattle.calls_kept.proofs.ReadLaws.{some-of}
 use Rattle.array_state.proofs.FirstLaws.{call-within}
 use Rattle.kept_history.proofs.Records.{begins-going}
-use Rattle.still_kept.proofs.Writing.{wrote-stands}
-use Rattle.running_words.specs.Parts.{still_left}
-use Rattle.running_words.proofs.Called.{not_254, called, alone-lossless}
-use Rattle.running_words.proofs.Lengths.{alone-keeps, behind-keeps, failure-keeps}
+use Rattle.still_laws.proofs.still_kept_Writing.{wrote-stands}
+use Rattle.still_laws.specs.running_words_Parts.{still_left}
+use Rattle.still_laws.proofs.running_words_Called.{not_254, called, alone-lossless}
+use Rattle.still_laws.proofs.running_words_Lengths.{alone-keeps, behind-keeps, failure-keeps}
 use Rattle.still_laws.proofs.Asking.{refused-alone}
 use Rattle.still_laws.proofs.Kept.{ready, rows-same, rows-moved, with-buffers}
 use Rattle.still_laws.proofs.Left.{left-alike}

@@ -1,0 +1,21 @@
+pub use Rattle.still_laws.proofs.Going as still_laws_Going
+pub use Rattle.still_laws.proofs.Kept as still_laws_Kept
+pub use Rattle.still_laws.proofs.Left as still_laws_Left
+pub use Rattle.still_laws.proofs.StepLaws as still_laws_StepLaws
+pub use Rattle.still_laws.proofs.course_mends_Mended
+pub use Rattle.still_laws.proofs.moving_kept_BegunCall
+pub use Rattle.still_laws.proofs.moving_kept_BegunMembers
+pub use Rattle.still_laws.proofs.moving_kept_Refusals
+pub use Rattle.still_laws.proofs.moving_kept_Resting
+pub use Rattle.still_laws.proofs.moving_kept_Shortened
+pub use Rattle.still_laws.proofs.moving_kept_Staying
+pub use Rattle.still_laws.proofs.moving_kept_Steps
+pub use Rattle.still_laws.proofs.running_words_Called
+pub use Rattle.still_laws.proofs.running_words_Lengths
+pub use Rattle.still_laws.proofs.still_kept_Bridges
+pub use Rattle.still_laws.proofs.still_kept_Leaving
+pub use Rattle.still_laws.proofs.still_kept_Quiet
+pub use Rattle.still_laws.proofs.still_kept_Refusals
+pub use Rattle.still_laws.proofs.still_kept_Resting
+pub use Rattle.still_laws.proofs.still_kept_Stood
+pub use Rattle.still_laws.proofs.still_kept_Whole
