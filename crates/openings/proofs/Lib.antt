@@ -1,4 +1,0 @@
-pub mod Ready
-pub mod Same
-pub mod FoundMoving
-pub mod FoundArrays

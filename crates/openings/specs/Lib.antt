@@ -1,2 +1,0 @@
-pub mod Adopted
-pub mod Found
