@@ -1,1 +1,2 @@
 pub mod FewerSound
+pub mod Settled

@@ -9,7 +9,8 @@ ghost use Rattle.row_io.specs.Rows.{present};
 ghost use Rattle.flat_history.specs.Stands.{reach_of};
 ghost use Rattle.shape_views.specs.Regions.{AreShapesFit, header_in, open_by};
 ghost use Rattle.grow_asked.specs.declared.window.Window.TheVariants.{Closed, Entered};
-ghost use Rattle.moving_state.specs.course_kept_Course.{IsWindowOf};
+ghost use Rattle.course_kept.specs.Course.{IsWindowOf};
+ghost use Rattle.moving_state.specs.Due.{unsure_in};
 ghost use Rattle.reshape_openings.specs.Finding.{IsLookedFor, window_for, bytes_for, IsFoundIn};
 
 use backup::find_section;
@@ -74,6 +75,7 @@ pub fn find_window<B: Bank>(
     requires slot { backup < (B.given bank.old).slots }
     requires room { 512 * reach_of members.now.newest ≤ length buffer.old }
     ensures window { IfOk result (λ window. IsWindowOf members.now.newest window) }
+    ensures sure { IfOk result (λ window. unsure_in window ≡ None) }
     ensures found { IfOk result (λ window. B.tells → (scope : Scope) → IsLookedFor (B.given bank.old) members.now.newest backup scope
         → window ≡ window_for (open_by scope members.now.newest (header_in scope (present (B.given bank.old) (B.tape bank.old))))) }
     ensures sectors { IfOk result (λ window. B.tells → IsFoundIn (present (B.given bank.old) (B.tape bank.old) backup) window (bytes_for window buffer.new)) }

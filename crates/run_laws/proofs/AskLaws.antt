@@ -1,7 +1,7 @@
 -- A line that was answered by an array, and the place of its reply in the history.
 use Rattle.std.proofs.Common.{◌≡◌, ◌≢◌, ◌⊎◌, inl, inr, ℕ, zero, suc, ◌+◌, ◌/◌, ◌≤◌, ◌||◌, ◌==◌, Bool, true, false, Option, Some, List, [], ◌∷◌, ◌++◌, length, take, drop, Result, Ok, Err, refl, sym, ◌∙◌, ap, subst, arith, append_assoc, length-append}
 use Rattle.std.proofs.lemmas.List.{take_at}
-use Rattle.std.proofs.lemmas.List.Elements.{All-nil, All-cons}
+use Rattle.std.proofs.lemmas.List.Elements.{All-nil, All-cons, All-weaker}
 use Rattle.std.proofs.lemmas.Bool.Decides.{nat_tests}
 use Rattle.std.proofs.lemmas.List.Folds.{list_any-append}
 use Rattle.std.specs.Prelude.{slice_get, IsTrue}
@@ -14,7 +14,7 @@ use Rattle.md_base.proofs.SectorLaws.{length-sectors_of}
 use Rattle.md_base.proofs.Tabulated.{length-tabulate}
 use Rattle.flat_history.specs.declared.events.Entry.{Entry}
 use Rattle.flat_history.specs.declared.events.Event.{Event}
-use Rattle.flat_history.specs.declared.events.Event.TheVariants.{Added, Stopped, Halted, Refused}
+use Rattle.flat_history.specs.declared.events.Event.TheVariants.{Wrote, Added, Stopped, Halted, Refused}
 use Rattle.flat_history.specs.Fits.{FitsStop}
 use Rattle.bank.specs.declared.bank.Operation.{Operation}
 use Rattle.md_base.specs.declared.answers.Refusal.{Refusal}
@@ -27,12 +27,16 @@ use Rattle.call_entries.specs.Losing.{losses_of}
 use Rattle.call_entries.proofs.CallLaws.{losses-are}
 use Rattle.array_kept.proofs.ReplyLaws.{inside-losses, none-inside}
 use Rattle.flat_history.specs.declared.events.Request.{Request}
-use Rattle.flat_history.specs.declared.events.Request.TheVariants.{Add as AsksAdd}
+use Rattle.flat_history.specs.declared.events.Request.TheVariants.{Write as AsksWrite, Add as AsksAdd}
+use Rattle.moving_laws.specs.Writing.{IsRepliedBehind, IsWriteAnswered}
 use Rattle.flat_history.specs.Flat.{rest_of_call, next_number}
 use Rattle.flat_history.specs.Plain.{entries_of}
 use Rattle.flat_history.specs.OneShape.{IsOfCall, OneShapeFits}
 use Rattle.views.specs.Lacking.{AreTooMany}
-use Rattle.array_kept.specs.Calls.{OnNoMemory, IsReplied, IsAnswered, IsAddedFor, IsEntered, IsBehind, IsRefusedFor}
+use Rattle.flat_history.specs.Legal.{MayBeInner}
+use Rattle.running_replies.specs.Replies.{RunningFits, IsAnsweredWith}
+use Rattle.running_replies.proofs.Fitting.{inside-inner}
+use Rattle.array_kept.specs.Calls.{OnNoMemory, StandsInside, IsReplied, IsAnswered, IsAddedFor, IsEntered, IsBehind, IsRefusedFor}
 use Rattle.script.specs.declared.lines.Line.TheVariants.{Wait, Stop, Halt}
 use Rattle.script.specs.declared.lines.Line.{Line}
 use Rattle.script.specs.Seeds.{seeded, seed_sector}
@@ -72,6 +76,57 @@ reply_length {old = old} was = ap (λ (l : List Entry). length l) (with_reply wa
 pub grew : {size : ℕ} {request : Request} {who : Who} {old new : List Entry} {event : Event} → IsReplied size request who old new event → 1 ≤ length new
 grew {who = who} {old = old} {event = event} was = longer old (entries_of who was.end was.inner) (one who was.end event) (last_alone old who was.end was.inner event was.is)
 
+-- what may stand inside a call of an array of one shape may stand inside any
+pub inner-inside : (entries : List Entry) → All (λ e. StandsInside e.event) entries → All (λ e. MayBeInner e.event) entries
+inner-inside entries inside = All-weaker (λ e. StandsInside e.event) (λ e. MayBeInner e.event) (λ e is. inside-inner e.event is) entries inside
+
+-- a request of a running array that was answered is a line that was
+pub asked_with : {size : ℕ} {request : Request} {who : Who} {old new : List Entry} {event : Event} (line : Line) (place : ℕ) → IsAnsweredWith size request who old new event
+    → ((before : List Entry) (e : Entry) → RunningFits size before e request → FitsLine size before e line) → who ≡ script_who old → place + 1 ≡ length new → IsAskedAt size line old new place
+asked_with {size = size} {request = request} {old = old} {new = new} {event = event} line place was fits script at_end =
+    let now = subst (λ (w : Who). IsAnsweredWith size request w old new event) script was in record {
+      inner = now.inner;
+      event = event;
+      end = now.end;
+      own = now.own;
+      inside = now.inside;
+      is = now.is;
+      fits = fits (old ++ now.inner) (one (script_who old) now.end event) now.fits;
+      at_end = at_end;
+    }
+
+-- it made the history longer
+pub with-grew : {size : ℕ} {request : Request} {who : Who} {old new : List Entry} {event : Event} → IsAnsweredWith size request who old new event → 1 ≤ length new
+with-grew {who = who} {old = old} {event = event} was = longer old was.inner (one who was.end event) was.is
+
+-- a write that was answered, which may finish a window first, is a line that was
+pub asked_behind : {size : ℕ} {request : Request} {who : Who} {old new : List Entry} {event : Event} (line : Line) (place : ℕ) → IsRepliedBehind size request who old new event
+    → ((before : List Entry) (e : Entry) → OneShapeFits size before e request → FitsLine size before e line) → who ≡ script_who old → place + 1 ≡ length new → IsAskedAt size line old new place
+asked_behind {size = size} {request = request} {old = old} {new = new} {event = event} line place was fits script at_end =
+    let now = subst (λ (w : Who). IsRepliedBehind size request w old new event) script was in record {
+      inner = now.call;
+      event = event;
+      end = now.end;
+      own = All-weaker (λ e. IsOfCall (script_who old) e × StandsInside e.event) (λ e. IsOfCall (script_who old) e) (λ e is. is.0) now.call now.own;
+      inside = All-weaker (λ e. IsOfCall (script_who old) e × StandsInside e.event) (λ e. MayBeInner e.event) (λ e is. inside-inner e.event is.1) now.call now.own;
+      is = now.is;
+      fits = fits (old ++ now.call) (one (script_who old) now.end event) now.fits;
+      at_end = at_end;
+    }
+
+pub repeated-grew : {size : ℕ} {request : Request} {who : Who} {old new : List Entry} {event : Event} → IsRepliedBehind size request who old new event → 1 ≤ length new
+repeated-grew {who = who} {old = old} {event = event} was = longer old was.call (one who was.end event) was.is
+
+-- its answer is a reply, unless memory was short
+pub written_reply : (size at : ℕ) (body : List (List ℕ)) (who : Who) (old new : List Entry) (r : Result (Unit {0}) Fault) → IsWriteAnswered size at body who old new r → r ≢ Err NoMemory
+    → (e : Event) × IsRepliedBehind size (AsksWrite at body) who old new e
+written_reply size at body who old new (Ok x) was some = (Wrote at body, was)
+written_reply size at body who old new (Err (IsRefusedWith refusal)) was some = (Refused refusal, was)
+written_reply size at body who old new (Err NoMemory) was some = absurd (some refl)
+
+pub written_none : (size at : ℕ) (body : List (List ℕ)) (who : Who) (old new : List Entry) (r : Result (Unit {0}) Fault) → IsWriteAnswered size at body who old new r → r ≡ Err NoMemory → new ≡ old
+written_none size at body who old new r was is = subst (λ (x : Result (Unit {0}) Fault). IsWriteAnswered size at body who old new x) is was
+
 -- a request that was answered is a line that was
 pub asked_at : {size : ℕ} {request : Request} {who : Who} {old new : List Entry} {event : Event} (line : Line) (place : ℕ) → IsReplied size request who old new event
     → ((before : List Entry) (e : Entry) → OneShapeFits size before e request → FitsLine size before e line) → who ≡ script_who old → place + 1 ≡ length new → IsAskedAt size line old new place
@@ -81,7 +136,7 @@ asked_at {size = size} {request = request} {old = old} {new = new} {event = even
       event = event;
       end = now.end;
       own = own_call (script_who old) now.end now.inner;
-      inside = now.inside;
+      inside = inner-inside (entries_of (script_who old) now.end now.inner) now.inside;
       is = last_alone old (script_who old) now.end now.inner event now.is;
       fits = fits (old ++ entries_of (script_who old) now.end now.inner) (one (script_who old) now.end event) now.fits;
       at_end = at_end;
@@ -203,7 +258,7 @@ seeded_count bytes seed at count is = sym (length-sectors_of bytes) ∙ ap (λ (
 pub asked_halt : {tells : Type 0} {tape : List Operation} {old new : List Entry} (size place : ℕ) (who : Who) → who ≡ script_who old → IsEntered tells tape who old new (Halted ∷ []) → place + 1 ≡ length new → (asked : IsAskedAt size Halt old new place) × (asked.event ≡ Halted) × (tells → asked.end ≡ length tape)
 asked_halt {tells = tells} {tape = tape} {old = old} {new = new} size place who script was at_end =
     let now = subst (λ (w : Who). IsEntered tells tape w old new (Halted ∷ [])) script was in
-    (record { inner = []; event = Halted; end = now.end; own = All-nil (λ e. IsOfCall (script_who old) e); inside = none-inside; is = now.is; fits = tt; at_end = at_end }, refl, now.at_end)
+    (record { inner = []; event = Halted; end = now.end; own = All-nil (λ e. IsOfCall (script_who old) e); inside = inner-inside [] none-inside; is = now.is; fits = tt; at_end = at_end }, refl, now.at_end)
 
 pub asked_stop : {old new : List Entry} (size place : ℕ) (who : Who) → who ≡ script_who old → IsBehind who old new Stopped → place + 1 ≡ length new → (asked : IsAskedAt size Stop old new place) × (asked.event ≡ Stopped)
 asked_stop {old = old} {new = new} size place who script was at_end =
@@ -213,7 +268,7 @@ asked_stop {old = old} {new = new} size place who script was at_end =
         event = Stopped;
         end = now.end;
         own = own_call (script_who old) now.end (losses_of now.roles now.spares);
-        inside = inside-losses (script_who old) now.end (losses_of now.roles now.spares) (losses-are now.roles now.spares);
+        inside = inner-inside (entries_of (script_who old) now.end (losses_of now.roles now.spares)) (inside-losses (script_who old) now.end (losses_of now.roles now.spares) (losses-are now.roles now.spares));
         is = last_alone old (script_who old) now.end (losses_of now.roles now.spares) Stopped now.is;
         fits = tt;
         at_end = at_end;
@@ -238,7 +293,7 @@ asked_unstopped {old = old} {new = new} size place visible before after who refu
         event = Refused refusal;
         end = now.end;
         own = own_call (script_who old) now.end (losses_of now.roles now.spares);
-        inside = inside-losses (script_who old) now.end (losses_of now.roles now.spares) (losses-are now.roles now.spares);
+        inside = inner-inside (entries_of (script_who old) now.end (losses_of now.roles now.spares)) (inside-losses (script_who old) now.end (losses_of now.roles now.spares) (losses-are now.roles now.spares));
         is = last_alone old (script_who old) now.end (losses_of now.roles now.spares) (Refused refusal) now.is;
         fits = fits_refused visible before after refusal why;
         at_end = at_end;

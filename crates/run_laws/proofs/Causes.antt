@@ -1,5 +1,5 @@
 -- Why nothing was made or found stays a cause, over a longer time and where the slots hold the same.
-use Rattle.std.proofs.Common.{◌≡◌, ℕ, ◌+◌, ◌-◌, ◌^◌, ◌<◌, ◌≤◌, ◌==◌, ◌&&◌, ◌⊎◌, inl, inr, Bool, true, false, Option, Some, None, List, [], ◌∷◌, ◌++◌, length, refl, sym, ◌∙◌, ap, subst, arith, append-nil, append_assoc, take_all}
+use Rattle.std.proofs.Common.{◌≡◌, ℕ, ◌+◌, ◌-◌, ◌^◌, ◌<◌, ◌≤◌, ◌==◌, ◌&&◌, inl, inr, Bool, true, false, Option, Some, None, List, [], ◌∷◌, ◌++◌, length, refl, sym, ◌∙◌, ap, subst, arith, append-nil, append_assoc, take_all}
 use Rattle.std.proofs.lemmas.Bool.{cases_eq}
 use Rattle.std.proofs.lemmas.Bool.Decides.{nat_tests}
 use Rattle.std.specs.Prelude.{is_some, nat_le, if◌then◌else◌, MatchOption, IfSome, ⊤}
@@ -22,7 +22,7 @@ use Rattle.assemble.specs.Filling.{AreBelow, OnlyBelow}
 use Rattle.superblocks.specs.Reading.{Scope, of_array, is_seen}
 use Rattle.flat_history.specs.Stands.{verdict}
 use Rattle.array.specs.declared.spec.CreateSpec.{CreateSpec}
-use Rattle.assemble.specs.Opening.{scope_of, array_of, AreGiven, IsReshapeRefused, HasCause}
+use Rattle.assemble.specs.Opening.{scope_of, array_of, AreGiven, HasFoundNone}
 use Rattle.assemble.specs.Made.{is_used, used_slot, IsUse, IsLateRefusal, HasCreateCause}
 
 -- has failed since every earlier moment, and at every later one
@@ -79,12 +79,11 @@ module _ {told later : Type 0} {first before now last : ℕ → ℕ} (fewer : la
 
   -- of an assemble, where the slots hold the same
   module _ (asked : Option (List ℕ)) (same : later → d ≡ c) where
-    pub assemble-later : (fault : Fault) → HasCause told bank c backup asked before now fault → HasCause later bank d backup asked first last fault
+    pub assemble-later : (fault : Fault) → HasFoundNone told bank c backup asked before now fault → HasFoundNone later bank d backup asked first last fault
     assemble-later (IsRefusedWith refusal) was = record {
       given = was.given;
       slots = given-wider early between late was.slots;
-      why = λ t. subst (λ (x : Contents). (verdict (scope_of bank backup was.given (array_of bank backup was.given asked x)) x ≡ Some refusal) ⊎ IsReshapeRefused (scope_of bank backup was.given (array_of bank backup was.given asked x)) x refusal)
-          (sym (same t)) (was.why (fewer t));
+      why = λ t. subst (λ (x : Contents). verdict (scope_of bank backup was.given (array_of bank backup was.given asked x)) x ≡ Some refusal) (sym (same t)) (was.why (fewer t));
     }
     assemble-later NoMemory was = tt
 
@@ -133,7 +132,7 @@ create-refused given backup spec old new fault falls tape was =
 
 -- a refused assemble
 pub assemble-refused : {tells : Type 0} {before now : ℕ → ℕ} (given : Given) (backup : Option ℕ) (asked : Option (List ℕ)) (old new : List Operation) (fault : Fault) → NeverFalls before now → (tells → OnlyFlushesAdded old new)
-    → HasCause tells given (contents given.start old (length old)) backup asked before now fault → HasCause tells given (contents given.start new (length new)) backup asked before now fault
+    → HasFoundNone tells given (contents given.start old (length old)) backup asked before now fault → HasFoundNone tells given (contents given.start new (length new)) backup asked before now fault
 assemble-refused given backup asked old new fault falls tape was =
     assemble-later (λ t. t) (λ s. omega arith) falls (λ s. omega arith) given backup (contents given.start old (length old)) (contents given.start new (length new)) asked
     (λ t. contents-added given.start old new (tape t)) fault was

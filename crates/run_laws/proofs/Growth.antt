@@ -22,7 +22,7 @@ use Rattle.flat_history.specs.Opened.{OpensSound}
 use Rattle.flat_history.specs.Growing.{grown}
 use Rattle.views.specs.Moving.{Grows}
 use Rattle.assemble.specs.Creating.{create_refusal}
-use Rattle.assemble.specs.Opening.{AreGiven, HasCause, array_of, scope_of}
+use Rattle.assemble.specs.Opening.{AreGiven, HasFoundNone, array_of, scope_of}
 use Rattle.assemble.specs.Made.{HasCreateCause, used_slot}
 use Rattle.assemble.specs.Running.{OpensWithZeros}
 use Rattle.std.specs.List.{All}
@@ -43,7 +43,7 @@ use Rattle.run_laws.specs.declared.report.LineReply.{LineReply}
 use Rattle.run_laws.specs.Histories.{History, entry_at}
 use Rattle.run_laws.specs.Examining.{IsExaminedBy, IsUnexamined}
 use Rattle.run_laws.specs.Making.{Setting, held_at, history_world, IsUncreated, IsUnassembled, IsStoredNew, IsStoredAs, BeginsShown}
-use Rattle.run_laws.specs.Replies.{Course, spec_of, FitsLine, IsMadeBy, IsFoundBy, IsRefusedOutside, course_behind, course_after, course_of, leaves_more, leaves_more_at, IsReplyAt, IsWaitedAt, IsRepliedAt, IsAnsweredInside, IsAnswer, IsEnd, IsReplyTo, AreReplies}
+use Rattle.run_laws.specs.Replies.{Course, spec_of, FitsLine, IsMadeBy, IsFoundBy, IsRefusedOutside, course_behind, entries_to, course_after, course_of, leaves_more, leaves_more_at, IsReplyAt, IsWaitedAt, IsRepliedAt, IsAnsweredInside, IsAnswer, IsEnd, IsReplyTo, AreReplies}
 use Rattle.run_laws.specs.States.{IsGrown, AreGrown, IsNamed, IsWaitingAt, IsCutShort}
 use Rattle.run_laws.proofs.Causes.{faulted-wider, given-wider, create-later, assemble-later}
 use Rattle.run_laws.proofs.Worlds.{list-same, alike-later, sound-later, new-later, stored-later}
@@ -79,6 +79,16 @@ named_stays olds news grown epoch place e is =
     let now = history_stays olds news grown epoch was.0 (was.1) in
     ap (λ (o : Option History). option_and_then (λ h. slice_get h.entries place) o) (now.1)
     ∙ ap (λ (l : List Entry). slice_get l place) (now.2.grown) ∙ get_append was.0.entries now.2.more place e (was.2)
+
+-- so do the entries up to it
+pub to_stays : (olds news : List History) → AreGrown olds news → (epoch place : ℕ) (e : Entry) → entry_at olds epoch place ≡ Some e → entries_to news epoch place ≡ entries_to olds epoch place
+to_stays olds news grown epoch place e is =
+    let was = then_some (λ (h : History). slice_get h.entries place) (slice_get olds epoch) e is in
+    let now = history_stays olds news grown epoch was.0 (was.1) in
+    let within = slice_get_within was.0.entries place e (was.2) in
+    ap (λ (o : Option History). option_map_or (λ h. take (place + 1) h.entries) o []) (now.1)
+    ∙ ap (λ (l : List Entry). take (place + 1) l) (now.2.grown) ∙ take-append-le (place + 1) was.0.entries now.2.more (omega (arith, within))
+    ∙ sym (ap (λ (o : Option History). option_map_or (λ h. take (place + 1) h.entries) o []) (was.1))
 
 -- what holds of all holds of one
 at_place : (P : Entry → Type 0) (entries : List Entry) (place : ℕ) (e : Entry) → All P entries → slice_get entries place ≡ Some e → P e
@@ -155,6 +165,7 @@ cut_stays olds news old Wait new grown was =
       next = was.next;
       waiting = subst (λ (l : List Entry). IsWaitingAt old.size l was.earlier old.calls was.next) (sym now.2.grown)
           (waiting_longer old.size was.history.entries now.2.more now.2.later was.earlier old.calls was.next was.waiting);
+      size = was.size;
       now = was.now;
     }
 cut_stays olds news old line new grown was = absurd was
@@ -209,8 +220,8 @@ module _ (was now : Setting) (wider : IsWider was now) (end later : ℕ) (moved 
 
   unassembled_stays : (asked : Option (List ℕ)) (refusal : Refusal) → IsUnassembled was asked end refusal → IsUnassembled now asked later refusal
   unassembled_stays asked refusal is =
-      subst (λ (b : Option ℕ). HasCause now.tells now.given (held_at now later) b asked now.before now.now (IsRefusedWith refusal)) (sym wider.backup)
-      (subst (λ (g : Given). HasCause now.tells g (held_at now later) was.backup asked now.before now.now (IsRefusedWith refusal)) (sym wider.given)
+      subst (λ (b : Option ℕ). HasFoundNone now.tells now.given (held_at now later) b asked now.before now.now (IsRefusedWith refusal)) (sym wider.backup)
+      (subst (λ (g : Given). HasFoundNone now.tells g (held_at now later) was.backup asked now.before now.now (IsRefusedWith refusal)) (sym wider.given)
       (assemble-later wider.told wider.early wider.between wider.late was.given was.backup (held_at was end) (held_at now later) asked held (IsRefusedWith refusal) is))
 
   unexamined_stays : (slot : ℕ) (refusal : Refusal) → IsUnexamined was slot refusal → IsUnexamined now slot refusal
@@ -434,7 +445,8 @@ pub course_stays : (olds news : List History) (course : Course) (line : Line) (w
 course_stays olds news course line (Inside epoch at) grown named =
     let is = some_named (entry_at olds epoch at) named in
     let same : entry_at news epoch at ≡ entry_at olds epoch at = named_stays olds news grown epoch at is.0 (is.1) ∙ sym (is.1) in
-    ap (λ (o : Option Entry). option_map_or (course_behind course) o course) same
+    ap (λ (o : Option Entry). option_map_or (course_behind course (entries_to news epoch at)) o course) same
+    ∙ ap (λ (l : List Entry). option_map_or (course_behind course l) (entry_at olds epoch at) course) (to_stays olds news grown epoch at is.0 (is.1))
 course_stays olds news course line (IsOutside Created) grown named = refl
 course_stays olds news course line (IsOutside (Assembled epoch status)) grown named = refl
 course_stays olds news course line (IsOutside (Examined slot found)) grown named = refl

@@ -1,15 +1,19 @@
 -- The histories of the arrays that ran stay legal as the tape grows.
 use Rattle.std.proofs.Common.{◌≡◌, ℕ, ◌≤◌, List, [], ◌∷◌, ◌++◌, length, Option, sym, ◌∙◌, ap, subst, arith, append-nil, length-append}
 use Rattle.std.proofs.lemmas.List.Elements.{All-push, All-weaker, All-nil, All-cons, All-head, All-tail}
-use Rattle.bank.specs.Given.{Given, sizes}
+use Rattle.bank.specs.Given.{Given}
 use Rattle.bank.specs.declared.bank.Operation.{Operation}
 use Rattle.flat_history.specs.declared.events.Entry.{Entry}
 use Rattle.flat_history.specs.declared.events.Epoch.{Epoch}
-use Rattle.flat_history.specs.Epochs.{world_of, IsEpochRight}
-use Rattle.flat_history.specs.OneShape.{ShapeOpening, opening_in, IsOneShapeLegal}
-use Rattle.flat_history.proofs.OneShapeLegal.{opening-grown}
-use Rattle.history_laws.proofs.OneShapeGrowing.{one_shape-later}
-use Rattle.array_kept.specs.Calls.{IsEndOf, world_for}
+use Rattle.flat_history.specs.Epochs.{world_of}
+use Rattle.flat_history.proofs.LegalLaws.{histories-stay-legal}
+use Rattle.flat_history.proofs.SoundLaws.{fit-before}
+use Rattle.history_laws.proofs.ReshapedLaws.{reshapes-stay-right}
+use Rattle.kept_history.proofs.Turned.{filled-before}
+use Rattle.kept_history.specs.Safe.{IsFilledRight}
+use Rattle.history_calls.specs.Reliable.{IsReliable}
+use Rattle.running_words.specs.Calls.{IsEpochKept}
+use Rattle.array_kept.specs.Calls.{IsEndOf}
 use Rattle.views.specs.Moving.{Grows}
 use Rattle.views.specs.Parts.{Parts}
 use Rattle.std.specs.Prelude.{Result, Ok, Err, IfOk, IfErr}
@@ -19,17 +23,26 @@ use Rattle.flat_history.specs.CrashSafe.{IsCrashSafe}
 use Rattle.flat_history.specs.World.{World}
 use Rattle.flat_history.specs.Growing.{EndBy}
 use Rattle.flat_history.specs.Reopened.{OpensAccepted}
-use Rattle.flat_history.specs.Sound.{FillsRight, StaysSound}
+use Rattle.flat_history.specs.Sound.{StaysSound}
+use Rattle.flat_history.specs.Growing.{grown}
 use Rattle.run_laws.specs.Histories.{History, history_of, histories_of}
 use Rattle.run_laws.specs.Making.{world_at, AreHeldSince}
 use Rattle.run_laws.specs.States.{running_history}
 use Rattle.run_laws.proofs.Losses.{IsSameOpening, IsHistoryLater, AreHeldOn, world_same, held-later, held-on}
-use Rattle.run_laws.proofs.Worlds.{room-before, alike-before, fills-before, accepted-later, safe-longer, sound-longer}
-use Rattle.run_laws.specs.Ended.{IsLegalEpoch, AreLegal, IfFilledRight, IsSafeEpoch, AreSafe, next_mark, AreRising, AreFormer, IsGoing}
+use Rattle.run_laws.proofs.Worlds.{room-before, alike-before, accepted-later, safe-longer, sound-longer}
+use Rattle.run_laws.specs.Ended.{IsLegalEpoch, AreLegal, IfReliable, IsSafeEpoch, AreSafe, next_mark, AreRising, AreFormer, IsGoing}
 
 ends_later : (a b : ℕ) (entries : List Entry) → a ≤ b → EndBy a entries → EndBy b entries
 ends_later a b [] le was = tt
 ends_later a b (e ∷ entries) le (one, rest) = (omega (arith, le, one), ends_later a b entries le rest)
+
+-- what can be relied on over a longer tape can be relied on before
+pub reliable-before : (world : World) (more : List Operation) (entries : List Entry) → world.first ≤ length world.tape → EndBy (length world.tape) entries → IsReliable (grown world more) entries → IsReliable world entries
+reliable-before world more entries begun ends was = record {
+  fills = filled-before world more entries [] begun ends (subst (λ (l : List Entry). IsFilledRight (grown world more) l) (sym (append-nil entries)) was.fills);
+  room = room-before world more begun was.room;
+  alike = alike-before world more begun was.alike;
+}
 
 legal_longer : (given : Given) (tape more : List Operation) (backup : Option ℕ) (epoch : Epoch) → IsLegalEpoch given tape backup epoch → IsLegalEpoch given (tape ++ more) backup epoch
 legal_longer given tape more backup epoch was =
@@ -39,17 +52,17 @@ legal_longer given tape more backup epoch was =
       begun = omega (arith, was.begun, longer);
       accepted = accepted-later world more was.begun was.accepted;
       ends = ends_later (length tape) (length (tape ++ more)) epoch.entries.items longer was.ends;
-      legal = λ fills. subst (λ (opening : ShapeOpening). IsOneShapeLegal opening (length (tape ++ more)) epoch.entries.items) (sym (opening-grown world more was.begun))
-          (one_shape-later (opening_in world) (length tape) (length (tape ++ more)) [] epoch.entries.items longer (was.legal (fills-before world more was.begun epoch.entries.items fills)));
+      legal = λ relied. histories-stay-legal world epoch.entries.items more was.ends (was.legal (reliable-before world more epoch.entries.items was.begun was.ends relied));
+      reshaped = λ relied opens. reshapes-stay-right world epoch.entries.items more was.ends (was.reshaped (reliable-before world more epoch.entries.items was.begun was.ends relied) (fit-before world more was.begun opens));
     }
 
 -- what is safe and sound goes on to be
 sound_longer : (given : Given) (tape more : List Operation) (backup : Option ℕ) (epoch : Epoch) → IsLegalEpoch given tape backup epoch
     → IsSafeEpoch given tape backup epoch → IsSafeEpoch given (tape ++ more) backup epoch
-sound_longer given tape more backup epoch legal was fills room alike =
+sound_longer given tape more backup epoch legal was relied =
     let world = world_of given tape backup epoch in
     let entries = epoch.entries.items in
-    let before = was (fills-before world more legal.begun entries fills) (room-before world more legal.begun room) (alike-before world more legal.begun alike) in
+    let before = was (reliable-before world more entries legal.begun legal.ends relied) in
     (safe-longer world more entries legal.begun legal.ends before.0, sound-longer world more entries legal.begun legal.ends before.1)
 
 safes_longer : (given : Given) (tape more : List Operation) (backup : Option ℕ) (epochs : List Epoch) → AreLegal given tape backup epochs → AreSafe given tape backup epochs → AreSafe given (tape ++ more) backup epochs
@@ -155,35 +168,27 @@ going_begun {before = before} {after = after} given backup olds news array same 
 -- the history of an array that ran
 pub legal_epoch : {B tells : Type 0} {before after : List Operation} (given : Given) (backup : Option ℕ) (array : Parts B) (epochs : List Epoch) (epoch : Epoch) → Grows tells before after → IsSameOpening (running_history array) (history_of epoch) → IsGoing tells given before backup array epochs
     → (tells → EndBy (length after) epoch.entries.items)
-    → (tells → FillsRight (world_of given after backup epoch) epoch.entries.items → IsOneShapeLegal (opening_in (world_of given after backup epoch)) (length after) epoch.entries.items)
+    → (tells → IfReliable given after backup epoch (IsEpochKept given after backup epoch))
     → tells → IsLegalEpoch given after backup epoch
-legal_epoch given backup array epochs epoch grows same was ends legal told = record {
+legal_epoch given backup array epochs epoch grows same was ends right told = record {
   begun = omega (arith, same.first, was.begun told, grows_longer grows told);
   accepted = accepted-grown given backup (running_history array) (history_of epoch) grows same was.begun was.accepted told;
   ends = ends told;
-  legal = legal told;
+  legal = λ relied. (right told relied).legal;
+  reshaped = λ relied. (right told relied).reshaped;
 }
-
--- the world of an array is that of the epoch that it leaves
-pub world_left : {B : Type 0} (given : Given) (tape : List Operation) (backup : Option ℕ) (array : Parts B) (epoch : Epoch) → epoch.uuid ≡ array.uuid → epoch.given ≡ array.given → epoch.first ≡ array.first → array.backup ≡ backup
-    → world_for given tape array ≡ world_of given tape backup epoch
-world_left given tape backup array epoch uuid slots first same =
-    ap (λ (u : List ℕ). record { start = given.start; tape = tape; scope = record { uuid = u; given = array.given; backup = array.backup; sizes = sizes given }; first = array.first }) (sym uuid)
-    ∙ ap (λ (n : ℕ). record { start = given.start; tape = tape; scope = record { uuid = epoch.uuid; given = n; backup = array.backup; sizes = sizes given }; first = array.first }) (sym slots)
-    ∙ ap (λ (n : ℕ). record { start = given.start; tape = tape; scope = record { uuid = epoch.uuid; given = epoch.given; backup = array.backup; sizes = sizes given }; first = n }) (sym first)
-    ∙ ap (λ (b : Option ℕ). record { start = given.start; tape = tape; scope = record { uuid = epoch.uuid; given = epoch.given; backup = b; sizes = sizes given }; first = epoch.first }) same
 
 -- the array that ran has ended
 pub former_more : {B tells : Type 0} {before after : List Operation} (given : Given) (backup : Option ℕ) (array : Parts B) (epochs ended : List Epoch) (epoch : Epoch) → ended ≡ epochs ++ epoch ∷ [] → Grows tells before after → epoch.first ≡ array.first
-    → IsGoing tells given before backup array epochs → (tells → IsLegalEpoch given after backup epoch) → (tells → epoch.last ≡ length after) → (tells → IfFilledRight given after backup epoch (IsEpochRight given after backup epoch))
+    → IsGoing tells given before backup array epochs → (tells → IsLegalEpoch given after backup epoch) → (tells → epoch.last ≡ length after) → (tells → IfReliable given after backup epoch (IsEpochKept given after backup epoch))
     → tells → AreFormer given after backup (length after) ended
 former_more {after = after} given backup array epochs ended epoch items grows first was legal last right told =
     let former = former_grown given backup array.first epoch.first epochs grows told (omega (arith, first)) (was.former told) in
     subst (λ (l : List Epoch). AreFormer given after backup (length after) l) (sym items) (record {
       legal = All-push (λ e. IsLegalEpoch given after backup e) epochs epoch former.legal (legal told);
       safe = All-push (λ e. IsSafeEpoch given after backup e) epochs epoch former.safe
-          (λ fills room alike.
-          let fine = right told fills room alike in
+          (λ relied.
+          let fine = right told relied in
           subst (λ (n : ℕ). IsCrashSafe (world_of given after backup epoch) n epoch.entries.items × StaysSound (world_of given after backup epoch) n epoch.entries.items) (last told) (fine.safe, fine.sound));
       rising = subst (λ (l : List History). AreRising (length after) l) (sym (map-append history_of epochs (epoch ∷ [])))
           (rising_more (length after) (histories_of epochs) (history_of epoch) former.rising (legal told).begun (legal told).ends);
@@ -192,16 +197,15 @@ former_more {after = after} given backup array epochs ended epoch items grows fi
 -- the array that ran was halted
 pub former_halted : {B : Type 0} (tells : Type 0) (given : B → Given) (tape : B → List Operation) (backup : Option ℕ) (array : Parts B) (bank : B) (epoch : Epoch) (epochs ended : List Epoch) → ended ≡ epochs ++ epoch ∷ [] → bank ≡ array.bank
     → epoch.uuid ≡ array.uuid → epoch.given ≡ array.given → epoch.first ≡ array.first → (tells → EndBy (length (tape array.bank)) epoch.entries.items)
-    → (tells → FillsRight (world_for (given array.bank) (tape array.bank) array) epoch.entries.items → IsOneShapeLegal (opening_in (world_for (given array.bank) (tape array.bank) array)) (length (tape array.bank)) epoch.entries.items) → (tells → epoch.last ≡ length (tape array.bank))
-    → (tells → IfFilledRight (given bank) (tape bank) array.backup epoch (IsEpochRight (given bank) (tape bank) array.backup epoch)) → IsGoing tells (given array.bank) (tape array.bank) backup array epochs
+    → (tells → epoch.last ≡ length (tape array.bank))
+    → (tells → IfReliable (given bank) (tape bank) array.backup epoch (IsEpochKept (given bank) (tape bank) array.backup epoch)) → IsGoing tells (given array.bank) (tape array.bank) backup array epochs
     → tells → AreFormer (given array.bank) (tape bank) backup (length (tape bank)) ended
-former_halted {B = B} tells given tape backup array bank epoch epochs ended items same uuid slots first ends legal last right was =
+former_halted {B = B} tells given tape backup array bank epoch epochs ended items same uuid slots first ends last right was =
     let known = given array.bank in
     let now = tape array.bank in
+    let right_here : tells → IfReliable known now backup epoch (IsEpochKept known now backup epoch) = λ t. subst (λ (o : Option ℕ). IfReliable known now o epoch (IsEpochKept known now o epoch)) was.backup_is
+    (subst (λ (b : B). IfReliable (given b) (tape b) array.backup epoch (IsEpochKept (given b) (tape b) array.backup epoch)) same (right t)) in
     subst (λ (b : B). tells → AreFormer known (tape b) backup (length (tape b)) ended) (sym same)
     (former_more known backup array epochs ended epoch items (record { more = λ t. ([], sym (append-nil now)) }) first was
-    (legal_epoch known backup array epochs epoch (record { more = λ t. ([], sym (append-nil now)) }) (record { uuid = uuid; given = slots; first = first }) was ends
-    (λ t. subst (λ (w : World). FillsRight w epoch.entries.items → IsOneShapeLegal (opening_in w) (length now) epoch.entries.items) (world_left known now backup array epoch uuid slots first was.backup_is) (legal t)))
-    last
-    (λ t. subst (λ (o : Option ℕ). IfFilledRight known now o epoch (IsEpochRight known now o epoch)) was.backup_is
-    (subst (λ (b : B). IfFilledRight (given b) (tape b) array.backup epoch (IsEpochRight (given b) (tape b) array.backup epoch)) same (right t))))
+    (legal_epoch known backup array epochs epoch (record { more = λ t. ([], sym (append-nil now)) }) (record { uuid = uuid; given = slots; first = first }) was ends right_here)
+    last right_here)

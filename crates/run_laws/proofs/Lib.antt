@@ -6,3 +6,4 @@ pub mod Losses
 pub mod Told
 pub mod Worlds
 pub mod Writing
+pub mod Sizes

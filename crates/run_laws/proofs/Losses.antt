@@ -1,5 +1,5 @@
 -- What the histories of a run tell of losses.
-use Rattle.std.proofs.Common.{◌≡◌, ◌⊎◌, inl, inr, ℕ, zero, suc, ◌<◌, ◌||◌, not, Bool, true, Option, Some, None, List, [], ◌∷◌, ◌++◌, refl, sym, ◌∙◌, ap, subst, arith, append_assoc, append-nil}
+use Rattle.std.proofs.Common.{◌≡◌, ◌⊎◌, inl, inr, ℕ, zero, suc, ◌<◌, ◌||◌, not, Bool, true, false, Option, Some, None, List, [], ◌∷◌, ◌++◌, refl, sym, ◌∙◌, ap, subst, arith, append_assoc, append-nil}
 use Rattle.std.proofs.lemmas.List.Folds.{list_any-append}
 use Rattle.std.proofs.lemmas.List.Elements.{All-nil, All-cons, All-append, All-head, All-tail}
 use Rattle.std.specs.Prelude.{slice_index_or, MatchOption, IsTrue}
@@ -20,13 +20,14 @@ use Rattle.flat_history.specs.Growing.{grown}
 use Rattle.flat_history.specs.World.{World}
 use Rattle.md_base.specs.declared.status.Role.{Role}
 use Rattle.md_base.specs.declared.status.Role.TheVariants.{Whole, Recovering as HeldInPart, Missing}
-use Rattle.superblocks.specs.Reading.{Reading, shape_of, is_whole, role_state}
+use Rattle.superblocks.specs.Reading.{Reading, is_whole, role_state}
 use Rattle.superblocks.specs.Reads.{has_spare}
 use Rattle.row_io.specs.Rows.{is_missing}
-use Rattle.array_kept.specs.Adopting.{opener, found_loss, absent_loss, absent_losses, found_losses}
-use Rattle.array_kept.specs.Calls.{IsRoleLossBy, IsLossBy, AreLossesBy, AreLossesOf, AreSparesFewer, AreHeldOrSpare, IsSameArray, IsEntered}
+use Rattle.array_kept.specs.Adopting.{opener, found_loss, absent_loss, absent_losses}
+use Rattle.array_kept.specs.Calls.{IsRoleLossBy, IsLossBy, AreLossesBy, AreLossesOf, AreSparesFewer, IsSameArray, IsEntered}
 use Rattle.views.specs.Rebuilding.{Held, MayHold}
 use Rattle.views.specs.Placed.{AreStillHeld}
+use Rattle.running_replies.specs.Going.{is_finish, MayBeDropped, MayHoldBehind, AreHeldBehind, AreLossesAlong}
 use Rattle.views.specs.Moving.{Grows}
 use Rattle.run_laws.specs.Histories.{History}
 use Rattle.run_laws.specs.Making.{Setting, world_at, history_world, HeldAtFirst, MissingAtFirst, SpareAtFirst, is_added, IsSpareSince, MayHaveHeld, AreHeldSince}
@@ -63,10 +64,24 @@ pub later-of : {B tells : Type 0} {before after : World} {Had : ℕ → ℕ → 
     → IsHistoryLater (running_history old) (running_history new)
 later-of same lost = record { same = record { uuid = same.uuid; given = same.given; first = same.first }; more = lost.more; grown = lost.grown }
 
--- a spare that was told added stays told
+-- what some entry tells stays told
+told-more : (passes : Entry → Bool) (entries more : List Entry) → IsTrue (list_any passes entries) → IsTrue (list_any passes (entries ++ more))
+told-more passes entries more told = list_any-append passes entries more ∙ ap (λ (b : Bool). b || list_any passes more) told
+
+told-behind : (passes : Entry → Bool) (entries more : List Entry) → IsTrue (list_any passes more) → IsTrue (list_any passes (entries ++ more))
+told-behind passes entries more told = list_any-append passes entries more ∙ ap (λ (b : Bool). list_any passes entries || b) told ∙ or_true (list_any passes entries)
+  where
+    or_true : (b : Bool) → (b || true) ≡ true
+    or_true true = refl
+    or_true false = refl
+
+-- so does a spare that was told added
 added-more : (slot : ℕ) (entries more : List Entry) → IsTrue (list_any (λ e. is_added slot e.event) entries) → IsTrue (list_any (λ e. is_added slot e.event) (entries ++ more))
-added-more slot entries more told =
-    list_any-append (λ e. is_added slot e.event) entries more ∙ ap (λ (b : Bool). b || list_any (λ e. is_added slot e.event) more) told
+added-more slot entries more told = told-more (λ e. is_added slot e.event) entries more told
+
+-- and the end of a reshape
+finish-more : (entries more : List Entry) → IsTrue (list_any (λ e. is_finish e.event) entries) → IsTrue (list_any (λ e. is_finish e.event) (entries ++ more))
+finish-more entries more told = told-more (λ e. is_finish e.event) entries more told
 
 -- histories that began alike have the same world
 pub world_same : (given : Given) (tape : List Operation) (backup : Option ℕ) (old new : History) → IsSameOpening old new → world_at given tape backup new ≡ world_at given tape backup old
@@ -90,7 +105,9 @@ module _ (given : Given) (backup : Option ℕ) (before : List Operation) (more :
 
   since-spare : (slot : ℕ) → IsSpareSince world_before old.entries slot → IsSpareSince world_after new.entries slot
   since-spare slot (inl first) = inl (subst (λ (w : World). SpareAtFirst w slot) (sym world_is) (spare-longer world_before more first))
-  since-spare slot (inr told) = inr (subst (λ (l : List Entry). IsTrue (list_any (λ e. is_added slot e.event) l)) (sym later.grown) (added-more slot old.entries later.more told))
+  since-spare slot (inr (inl told)) = inr (inl (subst (λ (l : List Entry). IsTrue (list_any (λ e. is_added slot e.event) l)) (sym later.grown) (added-more slot old.entries later.more told)))
+  since-spare slot (inr (inr (finished, role, held))) =
+      inr (inr (subst (λ (l : List Entry). IsTrue (list_any (λ e. is_finish e.event) l)) (sym later.grown) (finish-more old.entries later.more finished), role, first-held role slot held))
 
   since-held : (role slot : ℕ) → MayHaveHeld world_before old.entries role slot → MayHaveHeld world_after new.entries role slot
   since-held role slot (inl held) = inl (first-held role slot held)
@@ -106,23 +123,39 @@ held-later {before = before} given backup old new members grows later was t =
       spares = λ slot is. since-spare given backup before (more.0) old new later slot ((was t).spares slot is);
     })
 
--- Each role that has a slot had it before, or that slot was a spare; each spare was one before, or these entries tell that it was added.
+-- Each role that has a slot had it before, or that slot was a spare; each spare was one before, or these entries tell that it was added; or in either case it had a role before a reshape
+-- ended.
 pub record AreHeldOn (old new : Members) (entries : List Entry) : Type 0 where
-  pub roles : (role slot : ℕ) → Held new role slot → MayHold old role slot
-  pub spares : (slot : ℕ) → has_spare new.spares slot ≡ true → (has_spare old.spares slot ≡ true) ⊎ IsTrue (list_any (λ e. is_added slot e.event) entries)
+  pub roles : (role slot : ℕ) → Held new role slot → MayHoldBehind old entries role slot
+  pub spares : (slot : ℕ) → has_spare new.spares slot ≡ true → (has_spare old.spares slot ≡ true) ⊎ IsTrue (list_any (λ e. is_added slot e.event) entries) ⊎ MayBeDropped old entries slot
 
 -- where roles are only lost
 pub on-lost : {old new : Members} (entries : List Entry) → AreStillHeld old new → AreSparesFewer old new → AreHeldOn old new entries
-on-lost entries held spares = record { roles = λ role slot is. inl (held role slot is); spares = λ slot is. inl (spares slot is) }
+on-lost entries held spares = record { roles = λ role slot is. inl (inl (held role slot is)); spares = λ slot is. inl (spares slot is) }
 
 -- where a slot was added besides
 pub on-added : {old new : Members} (entries : List Entry) → AreStillHeld old new
     → ((slot : ℕ) → has_spare new.spares slot ≡ true → (has_spare old.spares slot ≡ true) ⊎ IsTrue (list_any (λ e. is_added slot e.event) entries)) → AreHeldOn old new entries
-on-added entries held spares = record { roles = λ role slot is. inl (held role slot is); spares = spares }
+on-added entries held spares = record { roles = λ role slot is. inl (inl (held role slot is)); spares = λ slot is. of (spares slot is) }
+  where
+    of : {A B C : Type 0} → A ⊎ B → A ⊎ B ⊎ C
+    of (inl a) = inl a
+    of (inr b) = inr (inl b)
 
--- where they may be given to spares
-pub on-given : {old new : Members} (entries : List Entry) → AreHeldOrSpare old new → AreHeldOn old new entries
-on-given entries held = record { roles = held.roles; spares = λ slot is. inl (held.spares slot is) }
+-- where steps were done, behind these entries
+pub on-steps : {old new : Members} (entries more : List Entry) → AreHeldBehind old new more → AreHeldOn old new (entries ++ more)
+on-steps {old = old} entries more held = record { roles = λ role slot is. role_of role slot (held.roles role slot is); spares = λ slot is. spare_of slot (held.spares slot is) }
+  where
+    dropped : (slot : ℕ) → MayBeDropped old more slot → MayBeDropped old (entries ++ more) slot
+    dropped slot (finished, role, had) = (told-behind (λ e. is_finish e.event) entries more finished, role, had)
+
+    role_of : (role slot : ℕ) → MayHoldBehind old more role slot → MayHoldBehind old (entries ++ more) role slot
+    role_of role slot (inl may) = inl may
+    role_of role slot (inr drop) = inr (dropped slot drop)
+
+    spare_of : (slot : ℕ) → (has_spare old.spares slot ≡ true) ⊎ MayBeDropped old more slot → (has_spare old.spares slot ≡ true) ⊎ IsTrue (list_any (λ e. is_added slot e.event) (entries ++ more)) ⊎ MayBeDropped old (entries ++ more) slot
+    spare_of slot (inl was) = inl was
+    spare_of slot (inr drop) = inr (inr (dropped slot drop))
 
 module _ (world : World) (entries : List Entry) (members : Members) (since : AreHeldSince world entries members) where
   -- so it is of what may hold a role
@@ -130,13 +163,26 @@ module _ (world : World) (entries : List Entry) (members : Members) (since : Are
   may-held role slot (inl held) = since.roles role slot held
   may-held role slot (inr spare) = inr (since.spares slot spare)
 
+  -- and of a slot that may have been dropped, by these entries or by more
+  pub may-dropped : (slot : ℕ) → MayBeDropped members entries slot → IsSpareSince world entries slot
+  may-dropped slot (finished, role, held) = of (since.roles role slot held)
+    where
+      of : MayHaveHeld world entries role slot → IsSpareSince world entries slot
+      of (inl first) = inr (inr (finished, role, first))
+      of (inr spare) = spare
+
+  may-behind : (role slot : ℕ) → MayHoldBehind members entries role slot → MayHaveHeld world entries role slot
+  may-behind role slot (inl may) = may-held role slot may
+  may-behind role slot (inr drop) = inr (may-dropped slot drop)
+
   -- and of the members that are left
   pub held-on : (new : Members) → AreHeldOn members new entries → AreHeldSince world entries new
-  held-on new on = record { roles = λ role slot is. may-held role slot (on.roles role slot is); spares = λ slot is. by_spare slot (on.spares slot is) }
+  held-on new on = record { roles = λ role slot is. may-behind role slot (on.roles role slot is); spares = λ slot is. by_spare slot (on.spares slot is) }
     where
-      by_spare : (slot : ℕ) → (has_spare members.spares slot ≡ true) ⊎ IsTrue (list_any (λ e. is_added slot e.event) entries) → IsSpareSince world entries slot
+      by_spare : (slot : ℕ) → (has_spare members.spares slot ≡ true) ⊎ IsTrue (list_any (λ e. is_added slot e.event) entries) ⊎ MayBeDropped members entries slot → IsSpareSince world entries slot
       by_spare slot (inl spare) = since.spares slot spare
-      by_spare slot (inr told) = inr told
+      by_spare slot (inr (inl told)) = inr (inl told)
+      by_spare slot (inr (inr drop)) = may-dropped slot drop
 
 module _ (was now : Setting) (wider : IsWider was now) (old new : History) (later : IsHistoryLater old new) (t : now.tells) where
   world_later : history_world now new ≡ grown (history_world was old) (wider.grows.more t).0
@@ -145,7 +191,10 @@ module _ (was now : Setting) (wider : IsWider was now) (old new : History) (late
   held-wider : (role slot : ℕ) → MayHaveHeld (history_world was old) old.entries role slot → MayHaveHeld (history_world now new) new.entries role slot
   held-wider role slot (inl held) = inl (subst (λ (w : World). HeldAtFirst w role slot) (sym world_later) (held-longer (history_world was old) (wider.grows.more t).0 held))
   held-wider role slot (inr (inl first)) = inr (inl (subst (λ (w : World). SpareAtFirst w slot) (sym world_later) (spare-longer (history_world was old) (wider.grows.more t).0 first)))
-  held-wider role slot (inr (inr told)) = inr (inr (subst (λ (l : List Entry). IsTrue (list_any (λ e. is_added slot e.event) l)) (sym later.grown) (added-more slot old.entries later.more told)))
+  held-wider role slot (inr (inr (inl told))) = inr (inr (inl (subst (λ (l : List Entry). IsTrue (list_any (λ e. is_added slot e.event) l)) (sym later.grown) (added-more slot old.entries later.more told))))
+  held-wider role slot (inr (inr (inr (finished, had, held)))) =
+      inr (inr (inr (subst (λ (l : List Entry). IsTrue (list_any (λ e. is_finish e.event) l)) (sym later.grown) (finish-more old.entries later.more finished), had,
+      subst (λ (w : World). HeldAtFirst w had slot) (sym world_later) (held-longer (history_world was old) (wider.grows.more t).0 held))))
 
   missing-wider : (role : ℕ) → MissingAtFirst (history_world was old) role → MissingAtFirst (history_world now new) role
   missing-wider role missing = subst (λ (w : World). MissingAtFirst w role) (sym world_later) (missing-longer (history_world was old) (wider.grows.more t).0 missing)
@@ -201,7 +250,8 @@ behind-wider was now wider old new same before (e ∷ entries) (one, failed) = (
 held-more : (world : World) (before more : List Entry) (role slot : ℕ) → MayHaveHeld world before role slot → MayHaveHeld world (before ++ more) role slot
 held-more world before more role slot (inl held) = inl held
 held-more world before more role slot (inr (inl first)) = inr (inl first)
-held-more world before more role slot (inr (inr told)) = inr (inr (added-more slot before more told))
+held-more world before more role slot (inr (inr (inl told))) = inr (inr (inl (added-more slot before more told)))
+held-more world before more role slot (inr (inr (inr (finished, had, held)))) = inr (inr (inr (finish-more before more finished, had, held)))
 
 role-later : (setting : Setting) (history : History) (before more : List Entry) (role : ℕ) (cause : LostCause) → IsRoleLossSince setting (with_entries before history) role cause → IsRoleLossSince setting (with_entries (before ++ more) history) role cause
 role-later setting history before more role Fault (slot, failed, held) = (slot, failed, λ t. held-more (history_world setting history) before more role slot (held t))
@@ -255,7 +305,7 @@ module _ (setting : Setting) (old : List Entry) (history : History) (Had : ℕ �
   losses-since was told = record {
     more = was.more;
     grown = was.grown;
-    failed = behind-start setting history old was.more (λ k d lt. loss-since (slice_index_or was.more k d).event (was.failed k d lt) (told_more told was.more was.grown k d lt));
+    failed = behind-start setting history old was.more (λ k d lt. loss-since (slice_index_or was.more k d).event (was.failed k d lt) (told_more setting told was.more was.grown k d lt));
   }
 
 -- the losses of a call of an array, by which roles are only lost
@@ -263,10 +313,30 @@ pub losses-of : {members : Members} {old : List Entry} (setting : Setting) (new 
     → HasTold setting old new.entries → AreLossesSince setting old new
 losses-of {members = members} {old = old} setting new since was told = losses-since setting old new (Held members) (λ t role slot had. (since t).roles role slot had) was told
 
--- and by which they may be given to spares
-pub losses-given : {members : Members} {old : List Entry} (setting : Setting) (new : History) → (setting.tells → AreHeldSince (history_world setting new) old members) → AreLossesBy (MayHold members) setting.before setting.now old new.entries
-    → HasTold setting old new.entries → AreLossesSince setting old new
-losses-given {members = members} {old = old} setting new since was told = losses-since setting old new (MayHold members) (λ t role slot had. may-held (history_world setting new) old members (since t) role slot had) was told
+-- the losses of steps, by what may have held the role behind the entries before
+module _ (setting : Setting) (old : List Entry) (history : History) (members : Members) (since : setting.tells → AreHeldSince (history_world setting history) old members) where
+  along-held : (done : List Entry) (role slot : ℕ) → setting.tells → MayHoldBehind members done role slot → MayHaveHeld (history_world setting history) (old ++ done) role slot
+  along-held done role slot t (inl may) = held-more (history_world setting history) old done role slot (may-held (history_world setting history) old members (since t) role slot may)
+  along-held done role slot t (inr (finished, had, held)) = of (held-more (history_world setting history) old done had slot ((since t).roles had slot held))
+    where
+      of : MayHaveHeld (history_world setting history) (old ++ done) had slot → MayHaveHeld (history_world setting history) (old ++ done) role slot
+      of (inl first) = inr (inr (inr (told-behind (λ e. is_finish e.event) old done finished, had, first)))
+      of (inr spare) = inr spare
+
+  losses-behind : (done more : List Entry) → AreLossesAlong members setting.before setting.now done more → All (λ e. IsRefusalTold setting e.event) more → AreLossesBehind setting history (old ++ done) more
+  losses-behind done [] was told = tt
+  losses-behind done (e ∷ more) (one, was) told = (
+    loss-since setting (old ++ done) history (MayHoldBehind members done) (λ t role slot had. along-held done role slot t had) e.event one (All-head (λ e. IsRefusalTold setting e.event) e more told),
+    subst (λ (l : List Entry). AreLossesBehind setting history l more) (sym (append_assoc old done (e ∷ [])))
+        (losses-behind (done ++ e ∷ []) more was (All-tail (λ e. IsRefusalTold setting e.event) e more told)),
+  )
+
+  pub losses-steps : (more : List Entry) → history.entries ≡ old ++ more → AreLossesAlong members setting.before setting.now [] more → HasTold setting old history.entries → AreLossesSince setting old history
+  losses-steps more is was told = record {
+    more = more;
+    grown = is;
+    failed = subst (λ (l : List Entry). AreLossesBehind setting history l more) (append-nil old) (losses-behind [] more was (told_more setting told more is));
+  }
 
 pub losses-none : (setting : Setting) (history : History) → AreLossesSince setting history.entries history
 losses-none setting history = record { more = []; grown = sym (append-nil history.entries); failed = tt }
@@ -300,13 +370,13 @@ each-absent P who end r (suc n) each =
     by_role Missing is = All-cons P (one who end (Lost n Absent)) [] (found Missing is refl).0 (All-nil P)
 
 -- an opening tells what wasn't whole there
-pub losses-found : (setting : Setting) (new : History) (r : Reading) (end : ℕ) (more : List Entry) → ((role : ℕ) → role < (shape_of r.newest).disks → is_missing r role ≡ true → setting.tells → MissingAtFirst (history_world setting new) role)
-    → AreLossesBehind setting new (entries_of opener end (found_losses r)) more → new.entries ≡ entries_of opener end (found_losses r) ++ more → AreLossesSince setting [] new
-losses-found setting new r end more missing others is = record {
-  more = entries_of opener end (found_losses r) ++ more;
+pub losses-found : (setting : Setting) (new : History) (r : Reading) (n end : ℕ) (more : List Entry) → ((role : ℕ) → role < n → is_missing r role ≡ true → setting.tells → MissingAtFirst (history_world setting new) role)
+    → AreLossesBehind setting new (entries_of opener end (absent_losses r n)) more → new.entries ≡ entries_of opener end (absent_losses r n) ++ more → AreLossesSince setting [] new
+losses-found setting new r n end more missing others is = record {
+  more = entries_of opener end (absent_losses r n) ++ more;
   grown = is;
-  failed = behind-append setting new [] (entries_of opener end (found_losses r)) more
-      (behind-start setting new [] (entries_of opener end (found_losses r)) (each-absent (λ e. IsLossSince setting (with_entries [] new) e.event) opener end r (shape_of r.newest).disks (λ role lt is. (missing role lt is, missing role lt is)))) others;
+  failed = behind-append setting new [] (entries_of opener end (absent_losses r n)) more
+      (behind-start setting new [] (entries_of opener end (absent_losses r n)) (each-absent (λ e. IsLossSince setting (with_entries [] new) e.event) opener end r n (λ role lt is. (missing role lt is, missing role lt is)))) others;
 }
 
 pub losses-wider : (was now : Setting) → IsWider was now → (old : List Entry) (new : History) → AreLossesSince was old new → AreLossesSince now old new

@@ -13,7 +13,14 @@ use Rattle.bank.specs.Tape.{Contents, disk, IsImage, IsDrawn, AreFlushes}
 use Rattle.bank.specs.Stretches.{AreWritesWithin}
 use Rattle.bank.proofs.Laws.{contents-earlier}
 use Rattle.bank.proofs.Images.{drawn-image}
-use Rattle.superblocks.specs.Reading.{Reading, reading, role_count, role_state, is_whole}
+use Rattle.superblocks.specs.Reading.{Reading, reading, role_count, role_state, is_whole, is_reshaping, is_clean}
+use Rattle.shape_views.specs.Regions.{header_in, open_by}
+use Rattle.grow_asked.specs.declared.window.Window.{Window}
+use Rattle.grow_asked.specs.Left.{grow_left}
+use Rattle.region_mends.specs.Left.{resync_left}
+use Rattle.reshape_openings.specs.Finding.{window_for}
+use Rattle.array_kept.specs.Adopting.{found_work}
+use Rattle.views.specs.Status.{left_of}
 use Rattle.superblocks.specs.Found.{AreLikeNewest}
 use Rattle.md_base.specs.declared.status.Status.{Status}
 use Rattle.flat_history.specs.declared.events.Entry.{Entry}
@@ -33,7 +40,7 @@ use Rattle.history_laws.proofs.GrowingLaws.{marks-stay-safe}
 use Rattle.flat_history.proofs.SoundLaws.{fit-before, leaves-later, leaves-flushed}
 use Rattle.flat_history.proofs.StretchLaws.{bounds-serve}
 use Rattle.array.specs.declared.spec.CreateSpec.{CreateSpec}
-use Rattle.run_laws.specs.Making.{IsStored, IsStoredNew, IsStoredAs, HeldAtFirst, MissingAtFirst, SpareAtFirst}
+use Rattle.run_laws.specs.Making.{IsStored, IsStoredNew, IsStoredAs, HeldAtFirst, MissingAtFirst, SpareAtFirst, found_members, found_left}
 
 -- ---- the opening
 
@@ -85,10 +92,22 @@ module _ (world : World) (more : List Operation) (begun : world.first ≤ length
   accepted-later was = ap (verdict world.scope) first-same ∙ was
 
   still-stored : {found : Reading} → IsStored world found → IsStored (grown world more) found
-  still-stored was = record { says = reading-same ∙ was.says; accepted = accepted-later was.accepted; still = was.still }
+  still-stored was = record { says = reading-same ∙ was.says; accepted = accepted-later was.accepted }
+
+  -- nor does it change how many steps were left
+  left-same : (found : Reading) → found_left world found ≡ found_left (grown world more) found
+  left-same found = λ i. by (is_reshaping found.newest) (sym first-same i)
+    where
+      window : Contents → Window
+      window c = window_for (open_by world.scope found.newest (header_in world.scope c))
+
+      by : Bool → Contents → ℕ
+      by moving c =
+          if moving then grow_left found.newest (window c) 0 [] + resync_left found.newest (window c) (if is_clean found.newest then None else Some 0)
+          else left_of (found_work (found_members found)) (found_members found)
 
   pub new-later : {spec : CreateSpec} → IsStoredNew world spec → IsStoredNew (grown world more) spec
-  new-later was = record { found = was.found; stored = still-stored was.stored; whole = was.whole; shape = was.shape; size = was.size; events = was.events; clean = was.clean; roles = was.roles; spares = was.spares }
+  new-later was = record { found = was.found; stored = still-stored was.stored; still = was.still; whole = was.whole; shape = was.shape; size = was.size; events = was.events; clean = was.clean; roles = was.roles; spares = was.spares }
 
   pub stored-later : {status : Status} {losses : List Event} → IsStoredAs world status losses → IsStoredAs (grown world more) status losses
   stored-later was = record {
@@ -100,7 +119,7 @@ module _ (world : World) (more : List Operation) (begun : world.first ≤ length
     sized = was.sized ∙ sym (ap (λ (l : List Sector). length l) list-same);
     visible = was.visible ∙ sym (ap (λ (l : List Sector). length l) list-same);
     clean = was.clean;
-    left = was.left;
+    left = was.left ∙ left-same was.found;
   }
 
 -- what held a role at the opening did so, however the tape goes on

@@ -22,7 +22,7 @@ use Rattle.flat_history.proofs.OneShapeLegal.{last-snoc}
 use Rattle.flat_history.specs.Transfers.{last_end_from}
 use Rattle.views.specs.Flushing.{OnlyFlushesAdded}
 use Rattle.views.specs.Moving.{Grows}
-use Rattle.views.specs.Parts.{Parts}
+use Rattle.running_words.specs.Parts.{RunningParts}
 use Rattle.array_kept.specs.Calls.{IsEntered}
 use Rattle.assemble.specs.Creating.{create_refusal}
 use Rattle.assemble.specs.Filling.{AreBelow, OnlyBelow}
@@ -170,25 +170,25 @@ entered_end {old = old} first who event entered t =
     ap (λ (l : List Entry). last_end_from first l) entered.is ∙ last_end-snoc first old (record { caller = who.caller; number = who.number; end = entered.end; event = event }) ∙ entered.at_end t
 
 -- the array that runs goes on
-pub written_going : {B : Type 0} (tells : Type 0) (given : Given) (tape : B → List Operation) (backup : Option ℕ) (faults : B → ℕ → ℕ) (old new : Parts B) (epochs : Vec Epoch) (state : State B) (line : Line) (r : Result Answered NoMemory)
-    → state ≡ Running new epochs → new.first ≡ old.first → Grows tells (tape old.bank) (tape new.bank) → IsGoing tells given (tape old.bank) backup old epochs.items → IsRunKept tells given (tape (bank_in state)) backup state
-    → tells → IsWrittenBy (setting_of tells given (tape old.bank) (tape (bank_in state)) backup (faults old.bank) (faults (bank_in state))) (histories_in (Running old epochs)) (histories_in state) line r
+pub written_going : {B : Type 0} (tells : Type 0) (given : Given) (tape : B → List Operation) (backup : Option ℕ) (faults : B → ℕ → ℕ) (old new : RunningParts B) (epochs : Vec Epoch) (state : State B) (line : Line) (r : Result Answered NoMemory)
+    → state ≡ Running new epochs → new.parts.first ≡ old.parts.first → Grows tells (tape old.parts.bank) (tape new.parts.bank) → IsGoing tells given (tape old.parts.bank) backup old.parts epochs.items → IsRunKept tells given (tape (bank_in state)) backup state
+    → tells → IsWrittenBy (setting_of tells given (tape old.parts.bank) (tape (bank_in state)) backup (faults old.parts.bank) (faults (bank_in state))) (histories_in (Running old epochs)) (histories_in state) line r
 written_going {B = B} tells given tape backup faults old new epochs state line r is first grows was kept t =
-    subst (λ (s : State B). IsWrittenBy (setting_of tells given (tape old.bank) (tape (bank_in s)) backup (faults old.bank) (faults (bank_in s))) (histories_in (Running old epochs)) (histories_in s) line r) (sym is)
-    (written-any (setting_of tells given (tape old.bank) (tape new.bank) backup (faults old.bank) (faults new.bank)) (histories_in (Running old epochs)) (histories_in (Running new epochs)) line r
-    (written-inside (setting_of tells given (tape old.bank) (tape new.bank) backup (faults old.bank) (faults new.bank)) (histories_of epochs.items) (running_history old) (running_history new) (λ slot. ⊥)
+    subst (λ (s : State B). IsWrittenBy (setting_of tells given (tape old.parts.bank) (tape (bank_in s)) backup (faults old.parts.bank) (faults (bank_in s))) (histories_in (Running old epochs)) (histories_in s) line r) (sym is)
+    (written-any (setting_of tells given (tape old.parts.bank) (tape new.parts.bank) backup (faults old.parts.bank) (faults new.parts.bank)) (histories_in (Running old epochs)) (histories_in (Running new epochs)) line r
+    (written-inside (setting_of tells given (tape old.parts.bank) (tape new.parts.bank) backup (faults old.parts.bank) (faults new.parts.bank)) (histories_of epochs.items) (running_history old.parts) (running_history new.parts) (λ slot. ⊥)
     first (was.begun t) (grows_longer grows t) (was.ended t) (going.ended t)))
   where
-    going : IsGoing tells given (tape new.bank) backup new epochs.items
+    going : IsGoing tells given (tape new.parts.bank) backup new.parts epochs.items
     going = subst (λ (s : State B). IsRunKept tells given (tape (bank_in s)) backup s) is kept
 
 -- the array that ran has ended
-pub written_ended : {B : Type 0} (setting : Setting) (old : Parts B) (bank : B) (epoch : Epoch) (epochs ended : Vec Epoch) (May : ℕ → Type 0) → ended.items ≡ epochs.items ++ epoch ∷ [] → epoch.first ≡ old.first → old.first ≤ setting.began → setting.began ≤ length setting.tape
-    → last_end_from old.first old.entries ≡ setting.began → last_end_from epoch.first epoch.entries.items ≡ length setting.tape → IsWritten setting (histories_in (Running old epochs)) (histories_in (Idle bank ended)) May
+pub written_ended : {B : Type 0} (setting : Setting) (old : RunningParts B) (bank : B) (epoch : Epoch) (epochs ended : Vec Epoch) (May : ℕ → Type 0) → ended.items ≡ epochs.items ++ epoch ∷ [] → epoch.first ≡ old.parts.first → old.parts.first ≤ setting.began → setting.began ≤ length setting.tape
+    → last_end_from old.parts.first old.parts.entries ≡ setting.began → last_end_from epoch.first epoch.entries.items ≡ length setting.tape → IsWritten setting (histories_in (Running old epochs)) (histories_in (Idle bank ended)) May
 written_ended setting old bank epoch epochs ended May items first begun longer was now =
     subst (λ (l : List Epoch). IsWritten setting (histories_in (Running old epochs)) (histories_of l) May) (sym items)
     (subst (λ (l : List History). IsWritten setting (histories_in (Running old epochs)) l May) (sym (map-append history_of epochs.items (epoch ∷ [])))
-    (written-inside setting (histories_of epochs.items) (running_history old) (history_of epoch) May first begun longer was now))
+    (written-inside setting (histories_of epochs.items) (running_history old.parts) (history_of epoch) May first begun longer was now))
 
 -- no array runs, and nothing was done
 pub written_idle : (setting : Setting) (olds news : List Epoch) (May : ℕ → Type 0) → news ≡ olds → length setting.tape ≤ setting.began → IsWritten setting (histories_of olds) (histories_of news) May

@@ -1,16 +1,13 @@
 -- One line of the script to a running array.
-use Rattle.std.specs.Prelude.{◌≡◌, ℕ, ◌+◌, ◌++◌, List, [], ◌∷◌, length, slice_get, Some, Result, Ok, Err, IsTrue, IsFalse}
+use Rattle.std.specs.Prelude.{◌≡◌, ℕ, ◌+◌, ◌++◌, List, [], ◌∷◌, length, Result, Ok, Err, IsTrue, IsFalse}
 use Rattle.std.specs.List.{All}
 use Rattle.md_base.specs.declared.answers.NoMemory.{NoMemory}
-use Rattle.md_base.specs.declared.answers.Refusal.TheVariants.{SlotFault}
-use Rattle.bank.specs.Given.{IsFaulted}
 use Rattle.md_base.specs.declared.answers.Who.{Who}
 use Rattle.flat_history.specs.declared.events.Entry.{Entry}
 use Rattle.flat_history.specs.declared.events.Event.{Event}
-use Rattle.flat_history.specs.declared.events.Event.TheVariants.{Refused}
-use Rattle.flat_history.specs.Flat.{next_number}
+use Rattle.flat_history.specs.Flat.{next_number, length_of}
 use Rattle.flat_history.specs.OneShape.{IsOfCall}
-use Rattle.array_kept.specs.Calls.{StandsInside}
+use Rattle.flat_history.specs.Legal.{MayBeInner}
 use Rattle.script.specs.declared.lines.Line.{Line}
 use Rattle.script.specs.declared.lines.Line.TheVariants.{Step}
 use Rattle.run_laws.specs.Replies.{FitsLine, leaves_more, steps_at_once}
@@ -25,14 +22,10 @@ pub record IsAskedAt (size : ℕ) (line : Line) (old new : List Entry) (place : 
   pub event : Event
   pub end : ℕ
   pub own : All (λ e. IsOfCall (script_who old) e) inner
-  pub inside : All (λ e. StandsInside e.event) inner
+  pub inside : All (λ e. MayBeInner e.event) inner
   pub is : new ≡ old ++ (inner ++ record { caller = 0; number = next_number 0 old; end = end; event = event } ∷ [])
   pub fits : FitsLine size (old ++ inner) (record { caller = 0; number = next_number 0 old; end = end; event = event }) line
   pub at_end : place + 1 ≡ length new
-
--- where the reply at this place is that a slot failed, it has failed since
-abbrev pub IsFaultTold : (ℕ → ℕ) → (ℕ → ℕ) → List Entry → ℕ → Type 0
-IsFaultTold before now entries place = (e : Entry) (slot : ℕ) → slice_get entries place ≡ Some e → e.event ≡ Refused (SlotFault slot) → IsFaulted slot before now
 
 -- or memory was short, and nothing was entered
 abbrev pub IsAsked : ℕ → Line → List Entry → List Entry → Result ℕ NoMemory → Type 0
@@ -57,3 +50,9 @@ pub record IsWaitedFor (size : ℕ) (old new : List Entry) (place : ℕ) : Type 
 abbrev pub IsWaited : ℕ → List Entry → List Entry → Result ℕ NoMemory → Type 0
 IsWaited size old new (Ok place) = IsWaitedFor size old new place
 IsWaited size old new (Err fault) = (earlier : List ℕ) × IsStillWaiting size old earlier new
+
+-- More entries stand behind the old ones, and by them a list of the one length has the other.
+pub record IsSizedBy (before after : ℕ) (old new : List Entry) : Type 0 where
+  pub more : List Entry
+  pub grown : new ≡ old ++ more
+  pub sized : after ≡ length_of before more

@@ -4,12 +4,15 @@ use Rattle.std.specs.List.{All}
 use Rattle.bank.specs.Given.{Given}
 use Rattle.bank.specs.declared.bank.Operation.{Operation}
 use Rattle.flat_history.specs.declared.events.Epoch.{Epoch}
-use Rattle.flat_history.specs.Epochs.{world_of, IsEpochRight, HasRoomForEvents, OpensAlike}
-use Rattle.flat_history.specs.OneShape.{opening_in, IsOneShapeLegal}
+use Rattle.flat_history.specs.Epochs.{world_of}
+use Rattle.flat_history.specs.Legal.{IsLegal}
 use Rattle.flat_history.specs.CrashSafe.{IsCrashSafe}
 use Rattle.flat_history.specs.Growing.{EndBy}
 use Rattle.flat_history.specs.Reopened.{OpensAccepted}
-use Rattle.flat_history.specs.Sound.{FillsRight, StaysSound}
+use Rattle.flat_history.specs.Reshaped.{IsReshaped}
+use Rattle.flat_history.specs.Sound.{OpensFit, StaysSound}
+use Rattle.history_calls.specs.Reliable.{IsReliable}
+use Rattle.running_words.specs.Calls.{IsEpochKept}
 use Rattle.array_kept.specs.Calls.{IsEndOf}
 use Rattle.views.specs.Parts.{Parts}
 use Rattle.run_laws.specs.declared.states.State.{State}
@@ -18,35 +21,32 @@ use Rattle.run_laws.specs.Histories.{History, histories_of}
 use Rattle.run_laws.specs.Making.{world_at, AreHeldSince}
 use Rattle.run_laws.specs.States.{running_history}
 
--- The epoch begins, and each of its entries ends, within the tape, and what its opening found was refused for nothing. Its history is
--- legal where no role is told lost in it, or where at the opening, if the array was clean, its rows were good: else what was filled in for a
--- missing role might be anything.
+-- A fact of an epoch whose history can be relied on: it opened sound, or takes no role's holder away and opened with no reshape but one on its course, so that what is filled in for a
+-- missing role is right; it had room for its events, and it opened with superblocks that are alike.
+abbrev pub IfReliable : Given → List Operation → Option ℕ → Epoch → Type 0 → Type 0
+IfReliable given tape backup epoch fact = IsReliable (world_of given tape backup epoch) epoch.entries.items → fact
+
+-- The epoch begins, and each of its entries ends, within the tape, and what its opening found was refused for nothing. Where its history can be relied
+-- on, it is legal, and if it opened sound, each reshape of it ends right.
 pub record IsLegalEpoch (given : Given) (tape : List Operation) (backup : Option ℕ) (epoch : Epoch) : Type 0 where
   pub begun : epoch.first ≤ length tape
   pub accepted : OpensAccepted (world_of given tape backup epoch)
   pub ends : EndBy (length tape) epoch.entries.items
-  pub legal : FillsRight (world_of given tape backup epoch) epoch.entries.items
-      → IsOneShapeLegal (opening_in (world_of given tape backup epoch)) (length tape) epoch.entries.items
+  pub legal : IfReliable given tape backup epoch (IsLegal (world_of given tape backup epoch) epoch.entries.items)
+  pub reshaped : IfReliable given tape backup epoch (OpensFit (world_of given tape backup epoch) → IsReshaped (world_of given tape backup epoch) epoch.entries.items)
 
 abbrev pub AreLegal : Given → List Operation → Option ℕ → List Epoch → Type 0
 AreLegal given tape backup epochs = All (λ epoch. IsLegalEpoch given tape backup epoch) epochs
 
--- A fact of an epoch in which no role is told lost, or which opened sound, so that what is filled in for a missing role is right, and which
--- had room for its events and opened with superblocks that are alike.
-abbrev pub IfFilledRight : Given → List Operation → Option ℕ → Epoch → Type 0 → Type 0
-IfFilledRight given tape backup epoch fact =
-    FillsRight (world_of given tape backup epoch) epoch.entries.items → HasRoomForEvents (world_of given tape backup epoch)
-    → OpensAlike (world_of given tape backup epoch) → fact
-
 -- Such an epoch is right, also where members were lost in it: it lies within the tape, is legal, safe at each of its marks, stays sound,
--- and no reshape of it ends wrong.
+-- and, if it opened sound, each reshape of it ends right.
 abbrev pub AreRight : Given → List Operation → Option ℕ → List Epoch → Type 0
-AreRight given tape backup epochs = All (λ epoch. IfFilledRight given tape backup epoch (IsEpochRight given tape backup epoch)) epochs
+AreRight given tape backup epochs = All (λ epoch. IfReliable given tape backup epoch (IsEpochKept given tape backup epoch)) epochs
 
 -- Such an epoch is safe at each mark up to the tape's end, and stays sound, as far as nothing but flushes was done behind it.
 abbrev pub IsSafeEpoch : Given → List Operation → Option ℕ → Epoch → Type 0
 IsSafeEpoch given tape backup epoch =
-    IfFilledRight given tape backup epoch
+    IfReliable given tape backup epoch
     (IsCrashSafe (world_of given tape backup epoch) (length tape) epoch.entries.items × StaysSound (world_of given tape backup epoch) (length tape) epoch.entries.items)
 
 abbrev pub AreSafe : Given → List Operation → Option ℕ → List Epoch → Type 0
@@ -81,4 +81,4 @@ pub record IsGoing {B : Type 0} (tells : Type 0) (given : Given) (tape : List Op
 
 abbrev pub IsRunKept : {B : Type 0} → Type 0 → Given → List Operation → Option ℕ → State B → Type 0
 IsRunKept tells given tape backup (Idle bank epochs) = tells → AreFormer given tape backup (length tape) epochs.items
-IsRunKept tells given tape backup (Running array epochs) = IsGoing tells given tape backup array epochs.items
+IsRunKept tells given tape backup (Running array epochs) = IsGoing tells given tape backup array.parts epochs.items

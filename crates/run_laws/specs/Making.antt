@@ -1,5 +1,5 @@
 -- What the bank of a run is, and what an array on it was made or found as.
-use Rattle.std.specs.Prelude.{◌≡◌, ◌⊎◌, ℕ, ◌<◌, ◌≤◌, ◌==◌, Bool, true, false, List, [], ◌∷◌, ◌++◌, length, Option, Some, IsTrue, IsFalse}
+use Rattle.std.specs.Prelude.{◌≡◌, ◌⊎◌, ℕ, ◌+◌, ◌<◌, ◌≤◌, ◌==◌, if◌then◌else◌, Bool, true, false, List, [], ◌∷◌, ◌++◌, length, Option, Some, None, MatchBool, IsTrue, IsFalse}
 use Rattle.std.specs.List.{list_any}
 use Rattle.md_base.specs.declared.answers.Fault.TheVariants.{Refused as IsRefusedWith}
 use Rattle.md_base.specs.declared.answers.Refusal.{Refusal}
@@ -10,22 +10,29 @@ use Rattle.bank.specs.declared.bank.Operation.{Operation}
 use Rattle.bank.specs.Given.{Given, sizes}
 use Rattle.bank.specs.Tape.{Contents, contents}
 use Rattle.superblocks.specs.declared.members.Members.{Members}
-use Rattle.superblocks.specs.Reading.{Reading, shape_of, is_clean, is_reshaping, is_whole, role_state, holder}
+use Rattle.superblocks.specs.Reading.{Reading, shape_of, is_clean, is_reshaping, is_whole, role_count, role_state, holder}
 use Rattle.superblocks.specs.Reads.{has_spare}
 use Rattle.row_io.specs.Rows.{reading_of}
 use Rattle.flat_history.specs.declared.events.Entry.{Entry}
 use Rattle.flat_history.specs.declared.events.Event.{Event}
 use Rattle.flat_history.specs.declared.events.Event.TheVariants.{Added, Shown}
-use Rattle.flat_history.specs.World.{World, reading_at, opening_list}
+use Rattle.running_replies.specs.Going.{is_finish}
+use Rattle.flat_history.specs.World.{World, contents_at, reading_at, opening_list}
+use Rattle.flat_history.specs.Left.{opened_roles}
 use Rattle.flat_history.specs.Reopened.{OpensAccepted}
 use Rattle.flat_history.specs.Fits.{IsStatusOf}
 use Rattle.flat_history.specs.Legal.{IsAbsentAtFirst}
 use Rattle.flat_history.specs.Plain.{entries_of}
 use Rattle.array.specs.declared.spec.CreateSpec.{CreateSpec}
 use Rattle.views.specs.Status.{left_of}
-use Rattle.array_kept.specs.Adopting.{opener, found_losses, found_work}
+use Rattle.array_kept.specs.Adopting.{opener, absent_losses, found_losses, found_work}
 use Rattle.assemble.specs.Made.{HasCreateCause}
-use Rattle.assemble.specs.Opening.{HasCause}
+use Rattle.assemble.specs.Opening.{HasFoundNone}
+use Rattle.shape_views.specs.Regions.{header_in, open_by}
+use Rattle.grow_asked.specs.declared.window.Window.{Window}
+use Rattle.grow_asked.specs.Left.{grow_left}
+use Rattle.region_mends.specs.Left.{resync_left}
+use Rattle.reshape_openings.specs.Finding.{window_for}
 use Rattle.run_laws.specs.Histories.{History}
 
 -- What the bank of a run is: whether it tells its contents, what never changes in it, its tape, its backup slot, how many operations
@@ -85,9 +92,13 @@ abbrev pub is_added : ℕ → Event → Bool
 is_added slot (Added added) = added == slot
 is_added slot event = false
 
+-- the slot held a role at the opening, and a reshape ended by these entries, which may have made it a spare
+abbrev pub IsDroppedSince : World → List Entry → ℕ → Type 0
+IsDroppedSince world entries slot = IsTrue (list_any (λ e. is_finish e.event) entries) × (role : ℕ) × HeldAtFirst world role slot
+
 -- the slot was a spare at the opening, or was made one by these entries
 abbrev pub IsSpareSince : World → List Entry → ℕ → Type 0
-IsSpareSince world entries slot = SpareAtFirst world slot ⊎ IsTrue (list_any (λ e. is_added slot e.event) entries)
+IsSpareSince world entries slot = SpareAtFirst world slot ⊎ IsTrue (list_any (λ e. is_added slot e.event) entries) ⊎ IsDroppedSince world entries slot
 
 -- it held the role at the opening, or it was such a spare, to which a rebuild may give the role
 abbrev pub MayHaveHeld : World → List Entry → ℕ → ℕ → Type 0
@@ -102,9 +113,20 @@ pub record AreHeldSince (world : World) (entries : List Entry) (members : Member
 abbrev pub found_members : Reading → Members
 found_members found = record { newest = found.newest; own = found.own; roles = found.roles; spares = found.spares; lost = 0 }
 
--- the steps that are left in it
-abbrev pub found_left : Reading → ℕ
-found_left found = left_of (found_work (found_members found)) (found_members found)
+-- the window of a reshape that is found: the one that the backup's header tells
+abbrev pub found_window : World → Reading → Window
+found_window world found = window_for (open_by world.scope found.newest (header_in world.scope (contents_at world world.first)))
+
+-- the steps that are left in it: of the reshape that is found, of which no stripe of the window is copied, and of a resync where it is dirty; or else of what is under way without one
+abbrev pub found_left : World → Reading → ℕ
+found_left world found =
+    if is_reshaping found.newest then grow_left found.newest (found_window world found) 0 [] + resync_left found.newest (found_window world found) (if is_clean found.newest then None else Some 0)
+    else left_of (found_work (found_members found)) (found_members found)
+
+-- what an opening tells of the roles that aren't whole: in a reshape each is absent, one that a slot recovers too
+abbrev pub AreFoundLosses : Reading → List Event → Type 0
+AreFoundLosses found losses =
+    MatchBool (is_reshaping found.newest) (losses ≡ absent_losses (record found { roles = opened_roles found }) (role_count found.newest)) (losses ≡ found_losses found)
 
 -- a create was refused at a mark: it has its cause in what the slots hold there and in the faults of the run
 abbrev pub IsUncreated : Setting → CreateSpec → ℕ → Refusal → Type 0
@@ -114,19 +136,18 @@ IsUncreated setting spec mark refusal =
 -- the same of an assemble
 abbrev pub IsUnassembled : Setting → Option (List ℕ) → ℕ → Refusal → Type 0
 IsUnassembled setting asked mark refusal =
-    HasCause setting.tells setting.given (held_at setting mark) setting.backup asked setting.before setting.now (IsRefusedWith refusal)
+    HasFoundNone setting.tells setting.given (held_at setting mark) setting.backup asked setting.before setting.now (IsRefusedWith refusal)
 
--- The superblocks at an opening say this of an array that is refused for nothing, so that it can do without what is missing, and that
--- is without a reshape.
+-- The superblocks at an opening say this of an array that is refused for nothing, so that it can do without what is missing.
 pub record IsStored (world : World) (found : Reading) : Type 0 where
   pub says : reading_at world world.first ≡ Some found
   pub accepted : OpensAccepted world
-  pub still : IsFalse (is_reshaping found.newest)
 
--- that it is new and as it was asked for: clean, with a whole role on each of the first slots
+-- that it is new and as it was asked for: clean, without a reshape, with a whole role on each of the first slots
 pub record IsStoredNew (world : World) (spec : CreateSpec) : Type 0 where
   pub found : Reading
   pub stored : IsStored world found
+  pub still : IsFalse (is_reshaping found.newest)
   pub whole : (role : ℕ) → role < (shape_of found.newest).disks → IsTrue (is_whole (role_state found role))
   pub shape : shape_of found.newest ≡ spec.shape
   pub size : found.newest.size ≡ spec.size
@@ -140,12 +161,12 @@ pub record IsStoredAs (world : World) (status : Status) (losses : List Event) : 
   pub found : Reading
   pub stored : IsStored world found
   pub told : IsStatusOf status found
-  pub lost : losses ≡ found_losses found
-  pub position : status.position ≡ 0
+  pub lost : AreFoundLosses found losses
+  pub position : IsFalse (is_reshaping found.newest) → status.position ≡ 0
   pub sized : status.length ≡ length (opening_list world)
   pub visible : status.visible ≡ length (opening_list world)
   pub clean : status.clean ≡ is_clean found.newest
-  pub left : status.left ≡ found_left found
+  pub left : status.left ≡ found_left world found
 
 -- the history begins with the losses that the opening found, and then with this status, which the script's first call asked for
 pub record BeginsShown (history : History) (status : Status) : Type 0 where

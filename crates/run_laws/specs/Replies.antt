@@ -11,9 +11,9 @@ use Rattle.flat_history.specs.declared.events.Entry.{Entry}
 use Rattle.flat_history.specs.declared.events.Event.{Event}
 use Rattle.flat_history.specs.declared.events.Event.TheVariants.{Stepped}
 use Rattle.flat_history.specs.declared.events.Request.TheVariants.{Read as AsksRead, Write as AsksWrite, Flush as AsksFlush, Fail as AsksFail, Add as AsksAdd, Steps as AsksSteps}
-use Rattle.flat_history.specs.Flat.{rest_of_call}
+use Rattle.flat_history.specs.Flat.{rest_of_call, length_of}
 use Rattle.flat_history.specs.Fits.{FitsStop, FitsHalt}
-use Rattle.flat_history.specs.OneShape.{OneShapeFits}
+use Rattle.running_replies.specs.Replies.{RunningFits}
 use Rattle.flat_history.specs.World.{opening_list}
 use Rattle.flat_history.specs.Epochs.{OpensAlike}
 use Rattle.flat_history.specs.Opened.{OpensSound}
@@ -39,15 +39,15 @@ use Rattle.run_laws.specs.Making.{Setting, held_at, history_world, IsUncreated, 
 abbrev pub spec_of : CreateLine → CreateSpec
 spec_of line = record { uuid = line.uuid; shape = line.shape; size = line.size; offset = line.offset }
 
--- the entry of one call fits the line, over a list of so many sectors and by the entries before it
+-- the entry of one call fits the line, over a list of so many sectors when the call began, and by the entries before it
 abbrev pub FitsLine : ℕ → List Entry → Entry → Line → Type 0
 FitsLine size before e (Create spec) = ⊥
-FitsLine size before e (Read at count) = OneShapeFits size before e (AsksRead at count)
-FitsLine size before e (Write at count seed) = OneShapeFits size before e (AsksWrite at (seeded seed at count))
-FitsLine size before e Flush = OneShapeFits size before e AsksFlush
-FitsLine size before e (Fail role) = OneShapeFits size before e (AsksFail role)
-FitsLine size before e (Add slot) = OneShapeFits size before e (AsksAdd slot)
-FitsLine size before e (Step most) = OneShapeFits size before e (AsksSteps most)
+FitsLine size before e (Read at count) = RunningFits size before e (AsksRead at count)
+FitsLine size before e (Write at count seed) = RunningFits size before e (AsksWrite at (seeded seed at count))
+FitsLine size before e Flush = RunningFits size before e AsksFlush
+FitsLine size before e (Fail role) = RunningFits size before e (AsksFail role)
+FitsLine size before e (Add slot) = RunningFits size before e (AsksAdd slot)
+FitsLine size before e (Step most) = RunningFits size before e (AsksSteps most)
 FitsLine size before e Wait = ⊥
 FitsLine size before e Stop = FitsStop e.event
 FitsLine size before e Halt = FitsHalt e.event
@@ -57,7 +57,7 @@ FitsLine size before e (Examine slot) = ⊥
 FitsLine size before e (Assemble uuid) = ⊥
 
 -- where a run stands between two lines: how many arrays were opened, whether the last one runs, and while it does, how many
--- calls the script has made on it, and the sectors of its list
+-- calls the script has made on it, and the sectors that its list has now
 pub record Course : Type 0 where
   pub opened : ℕ
   pub running : Bool
@@ -70,8 +70,8 @@ at_rest opened = record { opened = opened; running = false; calls = 0; size = 0 
 abbrev pub begun : ℕ → ℕ → ℕ → Course
 begun opened calls size = record { opened = opened + 1; running = true; calls = calls; size = size }
 
-abbrev pub with_calls : ℕ → Course → Course
-with_calls calls course = record { opened = course.opened; running = course.running; calls = calls; size = course.size }
+abbrev pub gone_on : ℕ → ℕ → Course → Course
+gone_on calls size course = record { opened = course.opened; running = course.running; calls = calls; size = size }
 
 -- the sectors of the list that a line makes
 abbrev pub size_made : Line → ℕ
@@ -90,13 +90,18 @@ size_made Mdstat = 0
 size_made (Examine slot) = 0
 size_made (Assemble uuid) = 0
 
--- where it stands behind an entry that answers a line: its call is the last, and may have ended the array
-abbrev pub course_behind : Course → Entry → Course
-course_behind course e = if is_end e.event then at_rest course.opened else with_calls (e.number + 1) course
+-- where it stands behind an entry that answers a line, which is the last of these: its call is the last, and may have ended the array, and what is entered may have changed the
+-- length of its list
+abbrev pub course_behind : Course → List Entry → Entry → Course
+course_behind course entries e = if is_end e.event then at_rest course.opened else gone_on (e.number + 1) (length_of course.size entries) course
+
+-- the entries of a history up to this place
+abbrev pub entries_to : List History → ℕ → ℕ → List Entry
+entries_to histories epoch at = option_map_or (λ h. take (at + 1) h.entries) (slice_get histories epoch) []
 
 -- where it stands after an answer to a line, and after several; an array that was found was asked for its status
 abbrev pub course_after : List History → Course → Line → Answered → Course
-course_after histories course line (Inside epoch at) = option_map_or (course_behind course) (entry_at histories epoch at) course
+course_after histories course line (Inside epoch at) = option_map_or (course_behind course (entries_to histories epoch at)) (entry_at histories epoch at) course
 course_after histories course line (IsOutside Created) = begun course.opened 0 (size_made line)
 course_after histories course line (IsOutside (Assembled epoch status)) = begun course.opened 1 status.length
 course_after histories course line (IsOutside (Examined slot found)) = course

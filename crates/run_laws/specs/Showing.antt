@@ -3,8 +3,8 @@ use Rattle.std.specs.Prelude.{◌≡◌, ℕ, ◌≤◌, List, length, slice_get
 use Rattle.flat_history.specs.declared.events.Entry.{Entry}
 use Rattle.flat_history.specs.declared.events.Event.{Event}
 use Rattle.flat_history.specs.declared.events.Event.TheVariants.{Shown}
-use Rattle.views.specs.Parts.{Parts}
-use Rattle.views.specs.Status.{IsStatusFor}
+use Rattle.running_words.specs.Parts.{RunningParts}
+use Rattle.running.specs.Calls.{IsShownAs}
 
 -- the event tells a list of so many sectors, of which all can be read, of at most 16 roles and 32 spares
 abbrev pub IsShown : ℕ → Event → Type 0
@@ -12,10 +12,10 @@ IsShown size (Shown status) = (status.length ≡ size) × (status.visible ≡ si
 IsShown size event = ⊥
 
 -- the event tells the array as it is
-abbrev pub TellsArray : {B : Type 0} → Parts B → Event → Type 0
-TellsArray array (Shown status) = IsStatusFor array status
+abbrev pub TellsArray : {B : Type 0} → RunningParts B → Event → Type 0
+TellsArray array (Shown status) = IsShownAs array status
 TellsArray array event = ⊥
 
 -- the entry at this place does
-abbrev pub IsToldAt : {B : Type 0} → Parts B → List Entry → ℕ → Type 0
+abbrev pub IsToldAt : {B : Type 0} → RunningParts B → List Entry → ℕ → Type 0
 IsToldAt array entries place = MatchOption (slice_get entries place) ⊥ (λ e. TellsArray array e.event)

@@ -3,17 +3,17 @@ use Rattle.std.specs.Prelude.{◌≡◌, ◌⊎◌, ℕ, ◌+◌, ◌<◌, ◌�
 use Rattle.std.specs.List.{All}
 use Rattle.md_base.specs.declared.answers.NoMemory.{NoMemory}
 use Rattle.md_base.specs.declared.answers.Refusal.{Refusal}
-use Rattle.md_base.specs.declared.answers.Refusal.TheVariants.{BackupFault, SlotFault}
 use Rattle.bank.specs.Given.{Given, IsFaulted}
 use Rattle.flat_history.specs.declared.events.Entry.{Entry}
 use Rattle.flat_history.specs.declared.events.Event.{Event}
 use Rattle.flat_history.specs.declared.events.Event.TheVariants.{Lost, SpareLost, Stepped, Refused}
 use Rattle.flat_history.specs.declared.events.LostCause.{LostCause}
 use Rattle.flat_history.specs.declared.events.LostCause.TheVariants.{Absent, Recovering, Command, Fault}
-use Rattle.flat_history.specs.Flat.{rest_of_call, next_number}
+use Rattle.flat_history.specs.Flat.{rest_of_call, next_number, length_of}
 use Rattle.views.specs.Parts.{Parts}
-use Rattle.views.specs.Whole.{list_size}
-use Rattle.views.specs.Placed.{places_of}
+use Rattle.superblocks.specs.Reading.{list_length}
+use Rattle.running_words.specs.Parts.{RunningParts}
+use Rattle.running_replies.specs.Replies.{IsRefusalBy}
 use Rattle.script.specs.declared.lines.Line.{Line}
 use Rattle.script.specs.declared.lines.Line.TheVariants.{Step, Wait}
 use Rattle.run_laws.specs.declared.report.Answered.{Answered}
@@ -22,7 +22,7 @@ use Rattle.run_laws.specs.declared.states.State.{State}
 use Rattle.run_laws.specs.declared.states.State.TheVariants.{Idle, Running}
 use Rattle.run_laws.specs.Histories.{History, histories_of, entry_at, AreGoing, EndsOnce}
 use Rattle.run_laws.specs.Making.{Setting, history_world, MayHaveHeld, MissingAtFirst}
-use Rattle.run_laws.specs.Replies.{Course, at_rest, with_calls, course_after, steps_at_once, leaves_more_at, IsReplyAt, IsAnswer}
+use Rattle.run_laws.specs.Replies.{Course, at_rest, gone_on, course_after, steps_at_once, leaves_more_at, IsReplyAt, IsAnswer}
 
 -- the history of an array that runs
 abbrev pub running_history : {B : Type 0} → Parts B → History
@@ -31,15 +31,15 @@ running_history array = record { uuid = array.uuid; given = array.given; first =
 -- those of the arrays that ran, and of the one that runs
 abbrev pub histories_in : {B : Type 0} → State B → List History
 histories_in (Idle bank epochs) = histories_of epochs.items
-histories_in (Running array epochs) = histories_of epochs.items ++ running_history array ∷ []
+histories_in (Running array epochs) = histories_of epochs.items ++ running_history array.parts ∷ []
 
 abbrev pub bank_in : {B : Type 0} → State B → B
 bank_in (Idle bank epochs) = bank
-bank_in (Running array epochs) = array.bank
+bank_in (Running array epochs) = array.parts.bank
 
 -- where a run stands while an array runs, behind so many others
-abbrev pub course_with : {B : Type 0} → ℕ → Parts B → Course
-course_with before array = record { opened = before + 1; running = true; calls = next_number 0 array.entries; size = list_size (places_of array.members) }
+abbrev pub course_with : {B : Type 0} → ℕ → RunningParts B → Course
+course_with before array = record { opened = before + 1; running = true; calls = next_number 0 array.parts.entries; size = list_length array.parts.members.newest }
 
 -- where the run stands
 abbrev pub course_in : {B : Type 0} → State B → Course
@@ -72,17 +72,18 @@ pub record IsOfScript (history : History) : Type 0 where
 abbrev pub AreOfScript : List History → Type 0
 AreOfScript histories = All IsOfScript histories
 
--- the histories are of the script alone, and that of the array that runs is not ended, and there is room for it
-pub record IsOwn (before : List History) (running : History) (count capacity : ℕ) : Type 0 where
+-- the histories are of the script alone, and that of the array that runs is not ended, and tells no other length than that of its list; and there is room for it
+pub record IsOwn (before : List History) (running : History) (size count capacity : ℕ) : Type 0 where
   pub former : AreOfScript before
   pub script : IsByScript running
   pub going : AreGoing running.entries
+  pub sized : length_of size running.entries ≡ size
   pub room : count < capacity
   pub few : count < 2 ^ 32
 
 abbrev pub RunsOwn : {B : Type 0} → State B → Type 0
 RunsOwn (Idle bank epochs) = AreOfScript (histories_of epochs.items)
-RunsOwn (Running array epochs) = IsOwn (histories_of epochs.items) (running_history array) (length epochs.items) (vec_capacity epochs)
+RunsOwn (Running array epochs) = IsOwn (histories_of epochs.items) (running_history array.parts) (list_length array.parts.members.newest) (length epochs.items) (vec_capacity epochs)
 
 -- the bank has few slots, and the backup is the last
 pub record IsFitBank (given : Given) (backup : Option ℕ) : Type 0 where
@@ -114,9 +115,7 @@ IsRoleLossSince setting history role Recovering = setting.tells → MissingAtFir
 
 -- a refusal for a slot that failed stands only where that slot has failed since, and one for the backup only where the backup has
 abbrev pub IsRefusalSince : Setting → Refusal → Type 0
-IsRefusalSince setting (SlotFault slot) = IsFaulted slot setting.before setting.now
-IsRefusalSince setting BackupFault = MatchOption setting.backup ⊥ (λ slot. IsFaulted slot setting.before setting.now)
-IsRefusalSince setting refusal = ⊤
+IsRefusalSince setting refusal = IsRefusalBy setting.backup setting.before setting.now refusal
 
 -- An event that tells a loss or a refusal has its cause, also where the refusal ended some steps; a spare is told lost only where it has
 -- failed since.
@@ -159,7 +158,7 @@ IsWaitingAt size entries [] number next = next ≡ number
 IsWaitingAt size entries (first ∷ others) number next =
     IsReplyAt size entries first number (Step steps_at_once) × IsTrue (leaves_more_at entries first) × IsWaitingAt size entries others (number + 1) next
 
--- the array that runs was asked by a wait, for which memory was short after so many of its calls
+-- the array that runs was asked by a wait, for which memory was short after so many of its calls, when its list had this length
 pub record IsWaitCut (histories : List History) (old new : Course) : Type 0 where
   pub running : IsTrue old.running
   pub place : ℕ
@@ -169,7 +168,8 @@ pub record IsWaitCut (histories : List History) (old new : Course) : Type 0 wher
   pub earlier : List ℕ
   pub next : ℕ
   pub waiting : IsWaitingAt old.size history.entries earlier old.calls next
-  pub now : new ≡ with_calls next old
+  pub size : ℕ
+  pub now : new ≡ gone_on next size old
 
 -- a line that was cut short is a wait
 abbrev pub IsCutShort : List History → Course → Line → Course → Type 0

@@ -1,12 +1,12 @@
 //! The bank of a run, with or without an array on it.
 
-use array::Array;
 use bank::Bank;
 use flat_history::Epoch;
+use running::Running;
 
 /// The bank where no array runs, or the array, and the epochs of the arrays that ran before.
 #[derive(Drop)]
 pub enum State<B: Bank> {
     Idle(B, Vec<Epoch>),
-    Running(Array<B>, Vec<Epoch>),
+    Running(Running<B>, Vec<Epoch>),
 }

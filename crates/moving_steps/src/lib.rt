@@ -1,0 +1,8 @@
+//! What the background steps of an array in a reshape share: room for their entries, and the answer to a request for some.
+#![tactic(auto)]
+
+mod answering;
+mod rooms;
+
+pub use answering::answer;
+pub use rooms::make_room;

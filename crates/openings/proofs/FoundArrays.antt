@@ -1,0 +1,141 @@
+-- What an opening found runs, with or without a reshape.
+use Rattle.std.proofs.Common.{◌≡◌, inl, inr, ℕ, ◌<◌, ◌≤◌, true, false, List, length, Option, Some, IfSome, Result, Ok, Err, IfOk, IfErr, sym, ◌∙◌, subst, arith}
+use Rattle.md_base.specs.declared.answers.Fault.{Fault}
+use Rattle.md_base.specs.declared.answers.Fault.TheVariants.{Refused, NoMemory}
+use Rattle.md_base.specs.declared.answers.Refusal.TheVariants.{BackupAbsent}
+use Rattle.md_base.specs.Shapes.{has_slot}
+use Rattle.bank.specs.declared.bank.Operation.{Operation}
+use Rattle.bank.specs.Given.{Given, NeverFalls}
+use Rattle.bank.specs.Tape.{Contents, contents}
+use Rattle.bank.proofs.Causes.{faulted_longer}
+use Rattle.superblocks.specs.Found.{AreInSectors}
+use Rattle.superblocks.specs.Reading.{is_reshaping}
+use Rattle.superblocks.specs.Writing.{AreWritable}
+use Rattle.flat_history.specs.Stands.{verdict}
+use Rattle.shape_views.specs.Regions.{DoWithout}
+use Rattle.views.specs.Flushing.{OnlyItsSlotsFail}
+use Rattle.assemble.specs.declared.opening.Opened.{Opened}
+use Rattle.assemble.specs.Opening.{scope_of, array_of, AreGiven, AreOfGiven, AreCounted, AreFlushed, IsFound, IsAside, IsOpened, IsUnfound, HasFoundNone}
+use Rattle.assemble.proofs.RunningLaws.{assembled}
+use Rattle.moving_opens.specs.Opening.{AreOpenedMoving}
+use Rattle.openings.specs.Adopted.{IsMovingAdopted, IsNotAdopted}
+use Rattle.openings.specs.Found.{IsStillFound, IsArrayFound, bank_of, IsStillRun, IsMovingRun}
+use Rattle.openings.specs.declared.finding.FoundArray.{FoundArray}
+use Rattle.openings.specs.declared.finding.FoundArray.TheVariants.{Still, Moving}
+use Rattle.openings.proofs.FoundMoving.{found-moving, found-does, backup-failed}
+use Rattle.openings.proofs.Same.{adopted-same}
+
+-- ---- results
+
+pub err-then : {T E : Type 0} (result : Result T E) (P Q : E → Type 0) → ((e : E) → P e → Q e) → IfErr result P → IfErr result Q
+err-then (Ok x) P Q step p = tt
+err-then (Err e) P Q step p = step e p
+
+pub ok-both : {T E : Type 0} (P Q : T → Type 0) (result : Result T E) → IfOk result P → IfOk result Q → IfOk result (λ x. P x × Q x)
+ok-both P Q (Ok x) p q = (p, q)
+ok-both P Q (Err e) p q = tt
+
+pub err-both : {T E : Type 0} (P Q : E → Type 0) (result : Result T E) → IfErr result P → IfErr result Q → IfErr result (λ e. P e × Q e)
+err-both P Q (Ok x) p q = tt
+err-both P Q (Err e) p q = (p, q)
+
+-- ---- without a reshape
+
+pub opened-still : {tells : Type 0} (bank : Given) (c : Contents) (backup : Option ℕ) (asked : Option (List ℕ)) (opened : Opened) → IsFound tells bank c backup asked opened
+    → is_reshaping opened.members.newest ≡ false → IsOpened tells bank c backup asked opened
+opened-still bank c backup asked opened is still = record { elected = is.elected; lost = is.lost; still = still; array = is.array; says = is.says; accepted = is.accepted }
+
+pub still-found : {B tells : Type 0} (tape_of : B → List Operation) (faults_of : B → ℕ → ℕ) (device : B) (bank : Given) (backup : Option ℕ) (asked : Option (List ℕ)) (before : ℕ → ℕ) (opened : Opened)
+    → IsOpened tells bank (contents bank.start (tape_of device) (length (tape_of device))) backup asked opened → AreGiven bank opened.given before (faults_of device)
+    → IfSome asked (λ uuid. opened.members.newest.set_uuid ≡ uuid) → (run : FoundArray B) → IsStillRun tells device (tape_of device) opened.given backup opened.members run
+    → IsArrayFound tells bank (tape_of (bank_of run)) backup asked before (faults_of (bank_of run)) run
+still-found {tells = tells} tape_of faults_of device bank backup asked before opened is given named (Still made) did =
+    subst (λ b. IsStillFound tells bank (tape_of b) backup asked before (faults_of b) made) (sym did.0.bank_is) (record {
+      assembled = assembled device bank (tape_of device) backup opened made.parts did.0 asked before (faults_of device) is given named;
+      planless = did.1;
+    })
+still-found tape_of faults_of device bank backup asked before opened is given named (Moving made) did = absurd did
+
+-- ---- in a reshape
+
+-- what was found of it, with this backup
+pub found-there : {tells : Type 0} (bank : Given) (tape : List Operation) (slot : ℕ) (backup : Option ℕ) (backup_is : backup ≡ Some slot) (asked : Option (List ℕ)) (opened : Opened) → bank.slots ≤ 32
+    → IsFound tells bank (contents bank.start tape (length tape)) backup asked opened → is_reshaping opened.members.newest ≡ true → IsAside backup opened.members.own → AreWritable bank opened.members.own
+    → AreOfGiven opened.given opened.members.own → AreCounted bank → ((s : ℕ) → has_slot opened.given s ≡ true → s < bank.slots) → (tells → AreInSectors (contents bank.start tape (length tape)) opened.members.own)
+    → (tells → AreFlushed bank.start tape opened.given) → AreOpenedMoving tells bank tape opened.given slot opened.members
+found-there {tells = tells} bank tape slot backup backup_is asked opened few is active aside =
+    found-moving bank tape asked opened slot few (subst (λ (b : Option ℕ). IsFound tells bank (contents bank.start tape (length tape)) b asked opened) backup_is is) active
+    (subst (λ (b : Option ℕ). IsAside b opened.members.own) backup_is aside)
+
+-- what a call found in a bank that has the same operations since
+found-same : {tells : Type 0} (bank : Given) (tape tape' : List Operation) (backup : Option ℕ) (asked : Option (List ℕ)) (opened : Opened) → (tells → tape' ≡ tape)
+    → IsFound tells bank (contents bank.start tape (length tape)) backup asked opened → IsFound tells bank (contents bank.start tape' (length tape')) backup asked opened
+found-same {tells = tells} bank tape tape' backup asked opened same is = record {
+  elected = is.elected;
+  lost = is.lost;
+  backed = is.backed;
+  array = λ t. (now t).array t;
+  says = λ t. (now t).says t;
+  accepted = λ t. (now t).accepted t;
+}
+  where
+    now : tells → IsFound tells bank (contents bank.start tape' (length tape')) backup asked opened
+    now t = subst (λ (l : List Operation). IsFound tells bank (contents bank.start l (length l)) backup asked opened) (sym (same t)) is
+
+given-later : (bank : Given) (given : ℕ) (before mid after : ℕ → ℕ) → NeverFalls before mid → NeverFalls mid after → AreGiven bank given before mid → AreGiven bank given before after
+given-later bank given before mid after rose falls are = record {
+  known = are.known;
+  sound = are.sound;
+  failed = λ s known none. faulted_longer s before before mid after (omega arith) (falls s) (rose s) (are.failed s known none);
+}
+
+pub counts-both : (bank : Given) (before mid after : ℕ → ℕ) → OnlyItsSlotsFail bank before mid → OnlyItsSlotsFail bank mid after → OnlyItsSlotsFail bank before after
+counts-both bank before mid after one two = record {
+  never_falls = λ s. let low = one.never_falls s in let high = two.never_falls s in omega (arith, low, high);
+  others = λ s past. two.others s past ∙ one.others s past;
+}
+
+pub moving-found : {B tells : Type 0} (tape_of : B → List Operation) (faults_of : B → ℕ → ℕ) (bank : Given) (tape : List Operation) (slot : ℕ) (backup : Option ℕ) (backup_is : backup ≡ Some slot)
+    (asked : Option (List ℕ)) (before mid : ℕ → ℕ) (opened : Opened) → IsFound tells bank (contents bank.start tape (length tape)) backup asked opened → AreOpenedMoving tells bank tape opened.given slot opened.members
+    → NeverFalls before mid → AreGiven bank opened.given before mid → IfSome asked (λ uuid. opened.members.newest.set_uuid ≡ uuid) → (run : FoundArray B) → (tells → tape_of (bank_of run) ≡ tape)
+    → NeverFalls mid (faults_of (bank_of run)) → IsMovingRun tells bank tape opened.given slot opened.members run
+    → IsArrayFound tells bank (tape_of (bank_of run)) backup asked before (faults_of (bank_of run)) run
+moving-found tape_of faults_of bank tape slot backup backup_is asked before mid opened is are rose given named (Still made) same falls did = absurd did
+moving-found {tells = tells} tape_of faults_of bank tape slot backup backup_is asked before mid opened is are rose given named (Moving made) same falls did = record {
+  former = opened.members;
+  slot = slot;
+  backup_is = backup_is;
+  opened = subst (λ (n : ℕ). IsFound tells bank (contents bank.start (tape_of made.parts.bank) (length (tape_of made.parts.bank))) backup asked (record { members = opened.members; given = n })) (sym did.given)
+      (found-same bank tape (tape_of made.parts.bank) backup asked opened same is);
+  active = are.active;
+  adopted = subst (λ (n : ℕ). IsMovingAdopted tells bank (tape_of made.parts.bank) n slot opened.members made) (sym did.given) (adopted-same bank tape (tape_of made.parts.bank) opened.given slot opened.members made same did);
+  does = subst DoWithout (sym did.members_are) (found-does are did.recovering did.are);
+  given = subst (λ (n : ℕ). AreGiven bank n before (faults_of made.parts.bank)) (sym did.given) (given-later bank opened.given before mid (faults_of made.parts.bank) rose falls given);
+  named = subst (λ (u : List ℕ). IfSome asked (λ uuid. u ≡ uuid)) (sym did.uuid) named;
+}
+
+-- ---- what is refused
+
+pub none-found : (tells : Type 0) (bank : Given) (c c' : Contents) (backup : Option ℕ) (asked : Option (List ℕ)) (before after : ℕ → ℕ) (fault : Fault)
+    → (tells → c' ≡ c) → HasFoundNone tells bank c' backup asked before after fault → HasFoundNone tells bank c backup asked before after fault
+none-found tells bank c c' backup asked before after (Refused refusal) same cause = record {
+  given = cause.given;
+  slots = cause.slots;
+  why = λ t. subst (λ (k : Contents). verdict (scope_of bank backup cause.given (array_of bank backup cause.given asked k)) k ≡ Some refusal) (same t) (cause.why t);
+}
+none-found tells bank c c' backup asked before after NoMemory same cause = tt
+
+-- want of memory has no cause
+pub no-memory : (tells : Type 0) (bank : Given) (c : Contents) (backup : Option ℕ) (asked : Option (List ℕ)) (before after : ℕ → ℕ) (fault : Fault) → fault ≡ NoMemory
+    → HasFoundNone tells bank c backup asked before after fault
+no-memory tells bank c backup asked before after fault is = subst (λ (f : Fault). HasFoundNone tells bank c backup asked before after f) (sym is) tt
+
+-- an array in a reshape that isn't taken over
+pub not-adopted : {B tells : Type 0} (bank : Given) (c : Contents) (slot : ℕ) (backup : Option ℕ) (backup_is : backup ≡ Some slot) (asked : Option (List ℕ)) (before mid after : ℕ → ℕ) (device left : B) (opened : Opened)
+    (fault : Fault) → bank.slots ≤ 32 → IsFound tells bank c backup asked opened → is_reshaping opened.members.newest ≡ true → AreGiven bank opened.given before mid → NeverFalls before mid → NeverFalls mid after
+    → IsNotAdopted slot device left mid after fault → HasFoundNone tells bank c backup asked before after fault
+not-adopted {tells = tells} bank c slot backup backup_is asked before mid after device left opened fault few is active given rose falls (inl short) = no-memory tells bank c backup asked before after fault short.0
+not-adopted {tells = tells} bank c slot backup backup_is asked before mid after device left opened fault few is active given rose falls (inr failed) =
+    subst (λ (f : Fault). HasFoundNone tells bank c backup asked before after f) (sym failed.0)
+    (subst (λ (b : Option ℕ). IsUnfound tells bank c b asked before after BackupAbsent) (sym backup_is)
+    (backup-failed bank c asked opened slot few (subst (λ (b : Option ℕ). IsFound tells bank c b asked opened) backup_is is) active before mid after given rose falls failed.1))

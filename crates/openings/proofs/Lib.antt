@@ -1,0 +1,4 @@
+pub mod Ready
+pub mod Same
+pub mod FoundMoving
+pub mod FoundArrays

@@ -1,0 +1,80 @@
+use Rattle.std.proofs.Common.{◌≡◌, ◌≢◌, ◌++◌, ℕ, ◌<◌, ◌≤◌, List, length, take, take_all, drop, sym, ◌∙◌, ap, subst, arith}
+use Rattle.std.proofs.lemmas.List.{take-append-le}
+use Rattle.bank.specs.declared.bank.Operation.{Operation}
+use Rattle.bank.specs.Given.{Given}
+use Rattle.bank.specs.Whole.{HasWholeSectors}
+use Rattle.views.specs.Flushing.{OnlyItsSlotsFail}
+use Rattle.moving_laws.specs.Ready.{bytes_in}
+use Rattle.reshape_openings.specs.Finding.{bytes_for}
+use Rattle.moving_opens.specs.Opening.{IsOpenedMoving}
+use Rattle.moving_opens.proofs.Members.{fit-here}
+use Rattle.moving_opens.proofs.Opens.{found-windows-open}
+use Rattle.openings.specs.Adopted.{IsMovingAdopted}
+use Rattle.openings.proofs.Ready.{same-bytes}
+use Rattle.openings.proofs.Same.{opened-same, adopted-same}
+use Rattle.openings.proofs.adopting.adopt_moving.Goals as goal
+
+-- the buffer is what was written to it
+written-whole : (n : ℕ) (bytes written : List ℕ) → length written ≡ length bytes → n ≡ length bytes → take n (written ++ drop (length written) bytes) ≡ written
+written-whole n bytes written len ok = take-append-le n written (drop (length written) bytes) (omega (arith, len, ok)) ∙ take_all n written (omega (arith, len, ok))
+
+-- only the backup's count may rise
+backup-fails : (bank : Given) (backup : ℕ) (before after : ℕ → ℕ) → backup < bank.slots → ((s : ℕ) → before s ≤ after s) → ((s : ℕ) → s ≢ backup → after s ≡ before s) → OnlyItsSlotsFail bank before after
+backup-fails bank backup before after known falls others = record {
+  never_falls = falls;
+  others = λ s past. others s (λ same. absurd (omega (arith, same, past, known)));
+}
+
+pub longest_window-requires : goal.longest_window-requires
+longest_window-requires g c =
+    let are = c.requires.opened in
+    record { fit = fit-here (g.B.Bank.given c.args.bank) c.args.given c.args.backup c.args.members are.elected are.aside are.active are.backed }
+
+pub find_window-requires-clause-fit : goal.find_window-requires-clause-fit
+find_window-requires-clause-fit g c =
+    let are = c.requires.opened in
+    fit-here (g.B.Bank.given c.args.bank) c.args.given c.args.backup c.args.members are.elected are.aside are.active are.backed
+
+pub returns-in-Err-find_window-clause-left_counts : goal.returns-in-Err-find_window-clause-left_counts
+returns-in-Err-find_window-clause-left_counts g c =
+    backup-fails (g.B.Bank.given c.args.bank) c.args.backup (g.B.Bank.faults_of c.args.bank) (g.B.Bank.faults_of c.find_window.new.bank) c.requires.slot c.find_window.ensures.never_falls c.find_window.ensures.others
+
+pub begin_moving-moving-requires-clause-opened : goal.begin_moving-moving-requires-clause-opened
+begin_moving-moving-requires-clause-opened g c =
+    let tells = g.B.Bank.tells in
+    let bank : Given = g.B.Bank.given c.args.bank in
+    let tape : List Operation = g.B.Bank.tape c.args.bank in
+    let tape' : List Operation = g.B.Bank.tape c.find_window.new.bank in
+    let found = c.in-Ok-find_window.found in
+    let buffer = c.find_window.new.buffer in
+    let did = c.in-Ok-find_window.ensures in
+    let whole = λ (t : tells). subst (λ (l : List Operation). HasWholeSectors bank l) (did.tape t) (subst (λ (b : Given). HasWholeSectors b tape') did.given (c.ops-first.ensures.whole t)) in
+    let opened = found-windows-open tells bank tape c.args.given c.args.backup c.args.members found buffer c.requires.opened whole did.window did.found did.sectors in
+    subst (λ (b : Given). IsOpenedMoving tells b tape' c.args.given c.args.backup c.args.members found
+    (bytes_in found (take c.in-Ok-zeros.window.len (buffer ++ drop (length buffer) c.in-Ok-zeros.window.items)))) (sym did.given)
+    (subst (λ (l : List ℕ). IsOpenedMoving tells bank tape' c.args.given c.args.backup c.args.members found (bytes_in found l))
+    (sym (written-whole c.in-Ok-zeros.window.len c.in-Ok-zeros.window.items buffer (omega (arith, did.long, c.deref_mut.ensures.len, c.in-Ok-zeros.window.ok.0)) c.in-Ok-zeros.window.ok.0))
+    (subst (λ (l : List ℕ). IsOpenedMoving tells bank tape' c.args.given c.args.backup c.args.members found l) (same-bytes found buffer)
+    (opened-same bank tape tape' c.args.given c.args.backup c.args.members found (bytes_for found buffer) did.tape opened)))
+
+pub begin_moving-moving-requires-clause-failed : goal.begin_moving-moving-requires-clause-failed
+begin_moving-moving-requires-clause-failed g c slot known none =
+    let did = c.in-Ok-find_window.ensures in
+    let was = c.requires.failed slot (omega (arith, known, ap (λ (b : Given). b.slots) did.given)) none in
+    let rose = did.never_falls slot in
+    omega (arith, was, rose)
+
+pub returns-clause-adopted : goal.returns-clause-adopted
+returns-clause-adopted g c =
+    let tells = g.B.Bank.tells in
+    let tape : List Operation = g.B.Bank.tape c.args.bank in
+    let tape' : List Operation = g.B.Bank.tape c.find_window.new.bank in
+    let did = c.in-Ok-find_window.ensures in
+    subst (λ (b : Given). IsMovingAdopted tells b tape c.args.given c.args.backup c.args.members c.begin_moving-moving.result) did.given
+    (adopted-same (g.B.Bank.given c.find_window.new.bank) tape' tape c.args.given c.args.backup c.args.members c.begin_moving-moving.result (λ t. sym (did.tape t)) c.begin_moving-moving.ensures.adopted)
+
+pub returns-clause-counts : goal.returns-clause-counts
+returns-clause-counts g c =
+    subst (λ b. OnlyItsSlotsFail (g.B.Bank.given c.args.bank) (g.B.Bank.faults_of c.args.bank) (g.B.Bank.faults_of b)) (sym c.begin_moving-moving.ensures.bank)
+    (backup-fails (g.B.Bank.given c.args.bank) c.args.backup (g.B.Bank.faults_of c.args.bank) (g.B.Bank.faults_of c.find_window.new.bank) c.requires.slot
+    c.in-Ok-find_window.ensures.never_falls c.in-Ok-find_window.ensures.others)

@@ -1,0 +1,114 @@
+use Rattle.std.proofs.Common.{◌≡◌, false, List, length, sym, ◌∙◌, ap, subst, arith}
+use Rattle.bank.specs.declared.bank.Operation.{Operation}
+use Rattle.bank.specs.Given.{Given}
+use Rattle.bank.specs.Tape.{contents}
+use Rattle.superblocks.specs.Reading.{is_reshaping}
+use Rattle.row_io.specs.Rows.{present}
+use Rattle.views.specs.Flushing.{OnlyItsSlotsFail}
+use Rattle.array_kept.specs.Adopting.{IsAdoptable}
+use Rattle.assemble.specs.declared.opening.Opened.{Opened}
+use Rattle.assemble.specs.Opening.{scope_of, HasFoundNone}
+use Rattle.assemble.proofs.PlacedFound.{placed-found, unlost-found, free-found}
+use Rattle.assemble.proofs.Adopting.{adoptable}
+use Rattle.assemble.proofs.RunningLaws.{slots-failed, ok-then}
+use Rattle.moving_opens.specs.Opening.{AreOpenedMoving}
+use Rattle.openings.specs.Adopted.{IsNotAdopted}
+use Rattle.openings.specs.Found.{IsStillRun, IsMovingRun, IsArrayFound, bank_of}
+use Rattle.openings.proofs.FoundArrays.{ok-both, err-then, err-both, opened-still, still-found, found-there, moving-found, counts-both, none-found, not-adopted}
+use Rattle.openings.proofs.finding.open_array.Goals as goal
+
+pub run_moving-requires-clause-opened : goal.run_moving-requires-clause-opened
+run_moving-requires-clause-opened g c =
+    let bank : Given = g.B.Bank.given c.args.bank in
+    let tape : List Operation = g.B.Bank.tape c.find.new.bank in
+    let opened : Opened = c.in-Ok.found in
+    let found = c.in-Ok.ensures in
+    subst (λ (b : Given). AreOpenedMoving g.B.Bank.tells b tape opened.given c.in-Some.slot opened.members) (sym c.find.ensures.slots)
+    (found-there bank tape c.in-Some.slot c.args.backup c.in-Some.is c.args.uuid opened c.requires.few found.found (sym c.is_reshaping.ensures ∙ c.if-is_reshaping.true) found.aside found.writable found.own found.counted
+    found.given.known found.sectors found.flushed)
+
+pub run_moving-requires-clause-failed : goal.run_moving-requires-clause-failed
+run_moving-requires-clause-failed g c slot known out =
+    slots-failed (g.B.Bank.given c.args.bank) c.in-Ok.found.given (g.B.Bank.faults_of c.args.bank) (g.B.Bank.faults_of c.find.new.bank) c.find.ensures.counts.never_falls c.in-Ok.ensures.given
+    slot (omega (arith, known, ap (λ (b : Given). b.slots) c.find.ensures.slots)) out
+
+pub run_still-requires-clause-adoptable : goal.run_still-requires-clause-adoptable
+run_still-requires-clause-adoptable g c =
+    let bank : Given = g.B.Bank.given c.args.bank in
+    let tape : List Operation = g.B.Bank.tape c.find.new.bank in
+    let opened : Opened = c.in-Ok.found in
+    let found = c.in-Ok.ensures in
+    let still : is_reshaping opened.members.newest ≡ false = sym c.is_reshaping.ensures ∙ c.if-is_reshaping.false in
+    subst (λ (b : Given). IsAdoptable g.B.Bank.tells b tape (scope_of b c.args.backup opened.given opened.members.newest.set_uuid) opened.members) (sym c.find.ensures.slots)
+    (adoptable bank tape c.args.backup c.args.uuid opened c.requires.few (opened-still bank (contents bank.start tape (length tape)) c.args.backup c.args.uuid opened found.found still) found.given.known found.flushed found.sectors
+    (placed-found bank c.requires.few opened.members found.found.elected still found.writable found.counted)
+    (unlost-found bank c.requires.few opened.members found.found.elected still found.writable found.counted opened.given found.own found.found.lost)
+    (free-found bank c.requires.few opened.members found.found.elected still found.writable found.counted opened.given found.own found.found.lost))
+
+pub returns-else-is_reshaping-clause-found : goal.returns-else-is_reshaping-clause-found
+returns-else-is_reshaping-clause-found g c =
+    let tells = g.B.Bank.tells in
+    let bank : Given = g.B.Bank.given c.args.bank in
+    let tape : List Operation = g.B.Bank.tape c.find.new.bank in
+    let opened : Opened = c.in-Ok.found in
+    let found = c.in-Ok.ensures in
+    ok-then c.run_still.result
+    (λ run. IsStillRun tells c.find.new.bank tape opened.given c.args.backup opened.members run)
+    (λ run. IsArrayFound tells bank (g.B.Bank.tape (bank_of run)) c.args.backup c.args.uuid (g.B.Bank.faults_of c.args.bank) (g.B.Bank.faults_of (bank_of run)) run)
+    (still-found g.B.Bank.tape g.B.Bank.faults_of c.find.new.bank bank c.args.backup c.args.uuid (g.B.Bank.faults_of c.args.bank) opened
+    (opened-still bank (contents bank.start tape (length tape)) c.args.backup c.args.uuid opened found.found (sym c.is_reshaping.ensures ∙ c.if-is_reshaping.false)) found.given found.named)
+    c.run_still.ensures.run
+
+pub returns-in-Some-clause-found : goal.returns-in-Some-clause-found
+returns-in-Some-clause-found g c =
+    let tells = g.B.Bank.tells in
+    let bank : Given = g.B.Bank.given c.args.bank in
+    let tape : List Operation = g.B.Bank.tape c.find.new.bank in
+    let opened : Opened = c.in-Ok.found in
+    let found = c.in-Ok.ensures in
+    let did = c.run_moving.ensures in
+    ok-then c.run_moving.result
+    (λ run. IsMovingRun tells (g.B.Bank.given c.find.new.bank) tape opened.given c.in-Some.slot opened.members run
+    × ((tells → g.B.Bank.tape (bank_of run) ≡ tape) × OnlyItsSlotsFail (g.B.Bank.given c.find.new.bank) (g.B.Bank.faults_of c.find.new.bank) (g.B.Bank.faults_of (bank_of run))))
+    (λ run. IsArrayFound tells bank (g.B.Bank.tape (bank_of run)) c.args.backup c.args.uuid (g.B.Bank.faults_of c.args.bank) (g.B.Bank.faults_of (bank_of run)) run)
+    (λ run now. moving-found g.B.Bank.tape g.B.Bank.faults_of bank tape c.in-Some.slot c.args.backup c.in-Some.is c.args.uuid (g.B.Bank.faults_of c.args.bank) (g.B.Bank.faults_of c.find.new.bank) opened found.found
+    (found-there bank tape c.in-Some.slot c.args.backup c.in-Some.is c.args.uuid opened c.requires.few found.found (sym c.is_reshaping.ensures ∙ c.if-is_reshaping.true) found.aside found.writable found.own found.counted
+    found.given.known found.sectors found.flushed) c.find.ensures.counts.never_falls found.given found.named run now.1.0 now.1.1.never_falls
+    (subst (λ (b : Given). IsMovingRun tells b tape opened.given c.in-Some.slot opened.members run) c.find.ensures.slots now.0))
+    (ok-both (λ run. IsMovingRun tells (g.B.Bank.given c.find.new.bank) tape opened.given c.in-Some.slot opened.members run)
+    (λ run. (tells → g.B.Bank.tape (bank_of run) ≡ tape) × OnlyItsSlotsFail (g.B.Bank.given c.find.new.bank) (g.B.Bank.faults_of c.find.new.bank) (g.B.Bank.faults_of (bank_of run)))
+    c.run_moving.result did.run (ok-both (λ run. tells → g.B.Bank.tape (bank_of run) ≡ tape)
+    (λ run. OnlyItsSlotsFail (g.B.Bank.given c.find.new.bank) (g.B.Bank.faults_of c.find.new.bank) (g.B.Bank.faults_of (bank_of run))) c.run_moving.result did.tape did.counts))
+
+pub returns-in-Some-clause-counts : goal.returns-in-Some-clause-counts
+returns-in-Some-clause-counts g c =
+    let bank : Given = g.B.Bank.given c.args.bank in
+    ok-then c.run_moving.result (λ run. OnlyItsSlotsFail (g.B.Bank.given c.find.new.bank) (g.B.Bank.faults_of c.find.new.bank) (g.B.Bank.faults_of (bank_of run)))
+    (λ run. OnlyItsSlotsFail bank (g.B.Bank.faults_of c.args.bank) (g.B.Bank.faults_of (bank_of run)))
+    (λ run now. counts-both bank (g.B.Bank.faults_of c.args.bank) (g.B.Bank.faults_of c.find.new.bank) (g.B.Bank.faults_of (bank_of run)) c.find.ensures.counts
+    (subst (λ (b : Given). OnlyItsSlotsFail b (g.B.Bank.faults_of c.find.new.bank) (g.B.Bank.faults_of (bank_of run))) c.find.ensures.slots now)) c.run_moving.ensures.counts
+
+pub returns-in-Some-clause-left_counts : goal.returns-in-Some-clause-left_counts
+returns-in-Some-clause-left_counts g c =
+    let bank : Given = g.B.Bank.given c.args.bank in
+    err-then c.run_moving.result (λ e. OnlyItsSlotsFail (g.B.Bank.given c.find.new.bank) (g.B.Bank.faults_of c.find.new.bank) (g.B.Bank.faults_of e.0))
+    (λ e. OnlyItsSlotsFail bank (g.B.Bank.faults_of c.args.bank) (g.B.Bank.faults_of e.0))
+    (λ e now. counts-both bank (g.B.Bank.faults_of c.args.bank) (g.B.Bank.faults_of c.find.new.bank) (g.B.Bank.faults_of e.0) c.find.ensures.counts
+    (subst (λ (b : Given). OnlyItsSlotsFail b (g.B.Bank.faults_of c.find.new.bank) (g.B.Bank.faults_of e.0)) c.find.ensures.slots now)) c.run_moving.ensures.left_counts
+
+pub returns-in-Some-clause-refused : goal.returns-in-Some-clause-refused
+returns-in-Some-clause-refused g c =
+    let tells = g.B.Bank.tells in
+    let bank : Given = g.B.Bank.given c.args.bank in
+    let tape : List Operation = g.B.Bank.tape c.find.new.bank in
+    let opened : Opened = c.in-Ok.found in
+    let found = c.in-Ok.ensures in
+    err-then c.run_moving.result
+    (λ e. IsNotAdopted c.in-Some.slot c.find.new.bank e.0 (g.B.Bank.faults_of c.find.new.bank) (g.B.Bank.faults_of e.0) e.1
+    × OnlyItsSlotsFail (g.B.Bank.given c.find.new.bank) (g.B.Bank.faults_of c.find.new.bank) (g.B.Bank.faults_of e.0))
+    (λ e. HasFoundNone tells bank (present bank (g.B.Bank.tape c.args.bank)) c.args.backup c.args.uuid (g.B.Bank.faults_of c.args.bank) (g.B.Bank.faults_of e.0) e.1)
+    (λ e now. none-found tells bank (present bank (g.B.Bank.tape c.args.bank)) (contents bank.start tape (length tape)) c.args.backup c.args.uuid (g.B.Bank.faults_of c.args.bank) (g.B.Bank.faults_of e.0) e.1 c.find.ensures.contents
+    (not-adopted bank (contents bank.start tape (length tape)) c.in-Some.slot c.args.backup c.in-Some.is c.args.uuid (g.B.Bank.faults_of c.args.bank) (g.B.Bank.faults_of c.find.new.bank) (g.B.Bank.faults_of e.0) c.find.new.bank e.0
+    opened e.1 c.requires.few found.found (sym c.is_reshaping.ensures ∙ c.if-is_reshaping.true) found.given c.find.ensures.counts.never_falls now.1.never_falls now.0))
+    (err-both (λ e. IsNotAdopted c.in-Some.slot c.find.new.bank e.0 (g.B.Bank.faults_of c.find.new.bank) (g.B.Bank.faults_of e.0) e.1)
+    (λ e. OnlyItsSlotsFail (g.B.Bank.given c.find.new.bank) (g.B.Bank.faults_of c.find.new.bank) (g.B.Bank.faults_of e.0)) c.run_moving.result c.run_moving.ensures.refused c.run_moving.ensures.left_counts)

@@ -1,0 +1,47 @@
+-- An array in a reshape that is taken over from its superblocks.
+use Rattle.std.specs.Prelude.{◌≡◌, ◌⊎◌, ℕ, List, [], length, replicate, Some}
+use Rattle.md_base.specs.Search.{tabulate}
+use Rattle.md_base.specs.declared.answers.Fault.{Fault}
+use Rattle.md_base.specs.declared.answers.Fault.TheVariants.{Refused, NoMemory}
+use Rattle.md_base.specs.declared.answers.Refusal.TheVariants.{BackupAbsent}
+use Rattle.bank.specs.declared.bank.Operation.{Operation}
+use Rattle.bank.specs.Given.{Given, IsFaulted}
+use Rattle.superblocks.specs.declared.members.Members.{Members}
+use Rattle.row_io.specs.Rows.{present, members_without}
+use Rattle.shape_views.specs.Regions.{header_in, open_by}
+use Rattle.views.specs.declared.work.Work.{Work}
+use Rattle.array_kept.specs.Adopting.{is_number_of}
+use Rattle.grow_asked.specs.Left.{phases_of}
+use Rattle.reshape_openings.specs.Finding.{window_for}
+use Rattle.reshape_openings.specs.Recovering.{AreRecovering}
+use Rattle.moving_opens.specs.Opening.{scope_of, opening_entries, found_course, found_resync}
+use Rattle.running_words.specs.Parts.{RunningParts}
+
+-- What is under way beside the reshape: a resync, where the array is dirty. No role is rebuilt.
+abbrev pub moving_work : Members → Work
+moving_work members = record {
+  resync = found_resync members;
+  rebuilt = replicate 16 0;
+  carried = tabulate 128 (is_number_of members.own);
+}
+
+-- An array in a reshape that was just taken over, as its superblocks say, but that the slots are lost which recover a role: the losses that it found stand first. Its window is the one
+-- that the backup's header tells, with nothing copied and nothing zeroed, and it has no plan behind the reshape.
+pub record IsMovingAdopted {B : Type 0} (tells : Type 0) (bank : Given) (tape : List Operation) (slots backup : ℕ) (former : Members) (made : RunningParts B) : Type 0 where
+  pub uuid : made.parts.uuid ≡ former.newest.set_uuid
+  pub given : made.parts.given ≡ slots
+  pub first : tells → made.parts.first ≡ length tape
+  pub last : made.parts.last ≡ made.parts.first
+  pub entries : made.parts.entries ≡ opening_entries made.parts.first made.parts.members
+  pub backup_is : made.parts.backup ≡ Some backup
+  pub recovering : ℕ
+  pub are : AreRecovering former recovering
+  pub members_are : made.parts.members ≡ members_without recovering former
+  pub work : made.parts.work ≡ moving_work made.parts.members
+  pub course : made.course ≡ found_course made.course.window
+  pub window : tells → made.course.window ≡ window_for (open_by (scope_of bank slots backup former) former.newest (header_in (scope_of bank slots backup former) (present bank tape)))
+  pub planless : phases_of made.ahead ≡ []
+
+-- why it isn't taken over: there was no memory, before any device call, or the backup failed
+abbrev pub IsNotAdopted : {B : Type 0} → ℕ → B → B → (ℕ → ℕ) → (ℕ → ℕ) → Fault → Type 0
+IsNotAdopted backup bank left before after fault = ((fault ≡ NoMemory) × (left ≡ bank)) ⊎ ((fault ≡ Refused BackupAbsent) × IsFaulted backup before after)

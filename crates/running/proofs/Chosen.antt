@@ -1,0 +1,94 @@
+-- What one of the two states says is what the words of both say.
+use Rattle.std.proofs.Common.{◌≡◌, ℕ, ◌+◌, Bool, true, false, List, [], ◌∷◌, ◌++◌, MatchBool, Result, Ok, Err, OnOk, All, refl, sym, ap, subst, length, arith}
+use Rattle.std.proofs.lemmas.List.Elements.{All-nil, All-cons, All-head, All-tail}
+use Rattle.md_base.specs.Sectors.{Sector}
+use Rattle.md_base.specs.declared.answers.Fault.{Fault}
+use Rattle.md_base.specs.declared.answers.Fault.TheVariants.{Refused as IsRefusedWith, NoMemory}
+use Rattle.md_base.specs.declared.answers.Who.{Who}
+use Rattle.bank.specs.declared.bank.Operation.{Operation}
+use Rattle.superblocks.specs.declared.members.Members.{Members}
+use Rattle.superblocks.specs.Reading.{is_reshaping, shape_of, list_length}
+use Rattle.flat_history.specs.declared.events.Entry.{Entry}
+use Rattle.flat_history.specs.declared.events.Event.{Event}
+use Rattle.flat_history.specs.declared.events.Event.TheVariants.{Wrote, Refused}
+use Rattle.flat_history.specs.declared.events.Request.{Request}
+use Rattle.flat_history.specs.declared.events.Request.TheVariants.{Write as AsksWrite}
+use Rattle.flat_history.specs.Growing.{EndBy}
+use Rattle.flat_history.specs.OneShape.{IsOfCall}
+use Rattle.flat_history.specs.Plain.{entries_of}
+use Rattle.views.specs.Lacking.{IsUnread, IsUnwritten, are_mended, mended_rows}
+use Rattle.array_kept.specs.Calls.{IsCausedBy, IsAnswered, IsEntered, IsReplied, StandsInside}
+use Rattle.region_rows.specs.Stretches.{IsListUnread}
+use Rattle.kept_history.specs.Recorded.{entry_of}
+use Rattle.kept_history.proofs.Marks.{ends-call}
+use Rattle.running_words.specs.Parts.{RunningParts}
+use Rattle.moving_laws.specs.Writing.{IsWriteLacked, IsRepliedBehind, IsWriteAnswered}
+use Rattle.running.specs.Calls.{IsReadLacked, IsWriteLackedIn}
+
+pub on-ok : {T E : Type 0} (r : Result T E) {F : Type 0} → F → OnOk r F
+on-ok (Ok x) fact = fact
+on-ok (Err e) fact = tt
+
+pub ok-so : {T E : Type 0} (r : Result T E) {F G : Type 0} → (F → G) → OnOk r F → OnOk r G
+ok-so (Ok x) so fact = so fact
+ok-so (Err e) so fact = tt
+
+-- ---- why a read or a write isn't done
+
+module _ {B : Type 0} (array : RunningParts B) (at count : ℕ) (old new : Members) {T : Type 0} (result : Result T Fault) where
+  pub read-still : is_reshaping array.parts.members.newest ≡ false
+      → IsCausedBy (list_length array.parts.members.newest) (at + count) (IsUnread (shape_of array.parts.members.newest) (mended_rows array.parts.work.resync array.parts.members) at count) old new result
+      → IsCausedBy (list_length array.parts.members.newest) (at + count) (IsReadLacked array at count) old new result
+  read-still still caused = subst (λ (b : Bool). IsCausedBy (list_length array.parts.members.newest) (at + count) (λ m refusal. MatchBool b (IsListUnread (list_length array.parts.members.newest) at (at + count) m refusal)
+      (IsUnread (shape_of array.parts.members.newest) (mended_rows array.parts.work.resync array.parts.members) at count m refusal)) old new result) (sym still) caused
+
+  pub read-moving : is_reshaping array.parts.members.newest ≡ true
+      → IsCausedBy (list_length array.parts.members.newest) (at + count) (IsListUnread (list_length array.parts.members.newest) at (at + count)) old new result
+      → IsCausedBy (list_length array.parts.members.newest) (at + count) (IsReadLacked array at count) old new result
+  read-moving active caused = subst (λ (b : Bool). IsCausedBy (list_length array.parts.members.newest) (at + count) (λ m refusal. MatchBool b (IsListUnread (list_length array.parts.members.newest) at (at + count) m refusal)
+      (IsUnread (shape_of array.parts.members.newest) (mended_rows array.parts.work.resync array.parts.members) at count m refusal)) old new result) (sym active) caused
+
+  pub write-still : is_reshaping array.parts.members.newest ≡ false
+      → IsCausedBy (list_length array.parts.members.newest) (at + count) (IsUnwritten (shape_of array.parts.members.newest)
+      (are_mended (shape_of array.parts.members.newest) (mended_rows array.parts.work.resync array.parts.members) (at + count))) old new result
+      → IsCausedBy (list_length array.parts.members.newest) (at + count) (IsWriteLackedIn array at count) old new result
+  write-still still caused = subst (λ (b : Bool). IsCausedBy (list_length array.parts.members.newest) (at + count) (λ m refusal. MatchBool b (IsWriteLacked array.course.window (list_length array.parts.members.newest) at (at + count) m refusal)
+      (IsUnwritten (shape_of array.parts.members.newest) (are_mended (shape_of array.parts.members.newest) (mended_rows array.parts.work.resync array.parts.members) (at + count)) m refusal)) old new result) (sym still) caused
+
+  pub write-moving : is_reshaping array.parts.members.newest ≡ true
+      → IsCausedBy (list_length array.parts.members.newest) (at + count) (IsWriteLacked array.course.window (list_length array.parts.members.newest) at (at + count)) old new result
+      → IsCausedBy (list_length array.parts.members.newest) (at + count) (IsWriteLackedIn array at count) old new result
+  write-moving active caused = subst (λ (b : Bool). IsCausedBy (list_length array.parts.members.newest) (at + count) (λ m refusal. MatchBool b (IsWriteLacked array.course.window (list_length array.parts.members.newest) at (at + count) m refusal)
+      (IsUnwritten (shape_of array.parts.members.newest) (are_mended (shape_of array.parts.members.newest) (mended_rows array.parts.work.resync array.parts.members) (at + count)) m refusal)) old new result) (sym active) caused
+
+-- ---- the reply of a write
+
+inner-own : (who : Who) (end : ℕ) (inner : List Event) → All (λ e. StandsInside e.event) (entries_of who end inner) → All (λ e. IsOfCall who e × StandsInside e.event) (entries_of who end inner)
+inner-own who end [] inside = All-nil (λ e. IsOfCall who e × StandsInside e.event)
+inner-own who end (event ∷ inner) inside =
+    All-cons (λ e. IsOfCall who e × StandsInside e.event) (entry_of who end event) (entries_of who end inner)
+    ((refl, refl), All-head (λ e. StandsInside e.event) (entry_of who end event) (entries_of who end inner) inside)
+    (inner-own who end inner (All-tail (λ e. StandsInside e.event) (entry_of who end event) (entries_of who end inner) inside))
+
+entries-two : (who : Who) (end : ℕ) (inner : List Event) (event : Event) → entries_of who end (inner ++ event ∷ []) ≡ entries_of who end inner ++ entry_of who end event ∷ []
+entries-two who end [] event = refl
+entries-two who end (x ∷ inner) event = ap (λ l. entry_of who end x ∷ l) (entries-two who end inner event)
+
+replied-behind : (size : ℕ) (request : Request) (who : Who) (old new : List Entry) (event : Event) → IsReplied size request who old new event → IsRepliedBehind size request who old new event
+replied-behind size request who old new event replied = record {
+  call = entries_of who replied.end replied.inner;
+  end = replied.end;
+  own = inner-own who replied.end replied.inner replied.inside;
+  is = rw (← entries-two who replied.end replied.inner event) replied.is;
+  fits = replied.fits;
+}
+
+pub write-answered : {T : Type 0} (size at : ℕ) (body : List Sector) (who : Who) (old new : List Entry) (result : Result T Fault) → IsAnswered size (AsksWrite at body) who old new (Wrote at body) result → IsWriteAnswered size at body who old new result
+write-answered size at body who old new (Ok x) replied = replied-behind size (AsksWrite at body) who old new (Wrote at body) replied
+write-answered size at body who old new (Err (IsRefusedWith refusal)) replied = replied-behind size (AsksWrite at body) who old new (Refused refusal) replied
+write-answered size at body who old new (Err NoMemory) replied = replied
+
+-- ---- the end
+
+pub ends-halted : (tells : Type 0) (tape : List Operation) (who : Who) (old new : List Entry) (events : List Event) → (tells → EndBy (length tape) old) → IsEntered tells tape who old new events → tells → EndBy (length tape) new
+ends-halted tells tape who old new events was entered t = rw (entered.is, entered.at_end t) (ends-call (length tape) old who (length tape) events (omega arith) (was t))

@@ -1,0 +1,45 @@
+use Rattle.running.proofs.Kept.{rest-kept, reshape-kept, called-leaves}
+use Rattle.std.proofs.Common.{◌/◌, length}
+use Rattle.running.proofs.Chosen.{read-still, read-moving}
+use Rattle.running.proofs.state.Running.read.Goals as goal
+use Rattle.running.proofs.state.Running.read.Goals.{in-Still, in-Moving}
+
+pub returns-clause-holds : goal.returns-clause-holds
+returns-clause-holds g c = elim c.match-self.branch [
+  | in-Still w ↦
+      let rest = rw w.in-Still.is at c.self.invariant in
+      rw (← c.self.view_is, w.in-Still.is, w.self-inside-is, w.check_still.ensures.same, w.result-is, w.into-is, rest.now.still) w.read-done.ensures.holds
+  | in-Moving w ↦
+      let active = rw w.in-Moving.is at c.self.invariant in
+      rw (← c.self.view_is, w.in-Moving.is, w.self-inside-is, w.check_moving.ensures.same, w.result-is, w.into-is, active.active) w.read-done-in-Moving.ensures.holds
+]
+
+pub returns-clause-called : goal.returns-clause-called
+returns-clause-called g c = elim c.match-self.branch [
+  | in-Still w ↦ rw (← c.self.view_is, w.in-Still.is, w.self-inside-is, w.check_still.ensures.same) w.read-done.ensures.called
+  | in-Moving w ↦ rw (← c.self.view_is, w.in-Moving.is, w.self-inside-is, w.check_moving.ensures.same) w.read-done-in-Moving.ensures.called
+]
+
+pub returns-clause-caused : goal.returns-clause-caused
+returns-clause-caused g c = elim c.match-self.branch [
+  | in-Still w ↦
+      let rest = rw w.in-Still.is at c.self.invariant in
+      rw (← c.self.view_is, w.in-Still.is, w.self-inside-is, w.check_still.ensures.same, w.result-is) (read-still w.in-Still.still c.args.at (length c.args.into.now / 512) w.in-Still.still.parts.members w.read-done.new.self.parts.members w.read-done.result rest.now.still w.read-done.ensures.caused)
+  | in-Moving w ↦
+      let active = rw w.in-Moving.is at c.self.invariant in
+      rw (← c.self.view_is, w.in-Moving.is, w.self-inside-is, w.check_moving.ensures.same, w.result-is) (read-moving w.in-Moving.moving c.args.at (length c.args.into.now / 512) w.in-Moving.moving.parts.members w.read-done-in-Moving.new.self.parts.members w.read-done-in-Moving.result active.active w.read-done-in-Moving.ensures.caused)
+]
+
+pub invariant_of-self : goal.invariant_of-self
+invariant_of-self g c = elim c.match-self.branch [
+  | in-Still w ↦
+      let was = rw w.in-Still.is at c.self.invariant in
+      let old = w.in-Still.still in
+      let new = w.read-done.new.self in
+      let did = w.read-done.ensures in
+      let leaves = called-leaves (g.B.Bank.given old.parts.bank) (g.B.Bank.given new.parts.bank) old new did.given did.called.same did.called.held did.called.spares in
+      rw (w.self-inside-is, w.check_still.ensures.same) (rest-kept (g.B.Bank.given old.parts.bank) (g.B.Bank.given new.parts.bank) (length c.self.inside.window.items) old new leaves w.check_still.ensures.rest was)
+  | in-Moving w ↦
+      let was = rw w.in-Moving.is at c.self.invariant in
+      rw (w.self-inside-is, w.check_moving.ensures.same) (reshape-kept w.in-Moving.moving w.read-done-in-Moving.new.self w.check_moving.ensures.active w.read-done-in-Moving.ensures.called.same.ahead was)
+]

@@ -1,0 +1,121 @@
+//! A running array, with a reshape active in it or without one.
+
+ghost use Rattle.std.specs.Prelude.{◌≡◌, true, [], length};
+ghost use Rattle.superblocks.specs.Reading.{is_reshaping};
+ghost use Rattle.flat_history.specs.Growing.{EndBy};
+ghost use Rattle.grow_asked.specs.Left.{phases_of};
+ghost use Rattle.running.specs.State.{IsStillNow};
+
+mod adding;
+mod asking;
+mod beginning;
+mod ending;
+mod examining;
+mod failing;
+mod finishing;
+mod mending;
+mod reading;
+mod rooms;
+mod settling;
+mod writing;
+
+use bank::Bank;
+use core::mem::replace_with;
+use moving::Moving;
+use std::alloc::Global;
+use std::marker::Model;
+use still::Still;
+
+// Whether a reshape is active in it.
+#[derive(Drop)]
+enum State<B: Bank> {
+    Still(Still<B>),
+    Moving(Moving<B>),
+}
+
+/// An array over slots of a bank: without an active reshape, or in one. `window` is the buffer for the windows of the next phase of a
+/// plan that is a reshape and hasn't begun.
+#[derive(Drop)]
+pub struct Running<B: Bank> {
+    state: State<B>,
+    window: Vec<u8>,
+}
+
+impl<B: Bank> Model for Running<B> {
+    ghost use Rattle.std.specs.Prelude.{length};
+    ghost use Rattle.running_words.specs.Parts.{RunningParts};
+
+    ghost Value = { RunningParts B };
+
+    ghost use Rattle.running.specs.State.{parts_in, IsAsTold};
+
+    ghost view = { λ a. parts_in a.state };
+
+    ghost invariant = { λ a. IsAsTold B.given (length a.window.items) a.state };
+}
+
+// The array as it is: its superblocks tell no reshape.
+fn still_again<B: Bank>(still: Still<B>, _none: ()) -> (Still<B>, ())
+    ensures same { result.0 ≡ still }
+    ensures rest { IsStillNow still }
+{
+    (Still::of_pieces(still.take_apart()), ())
+}
+
+// The array as it is: its superblocks tell a reshape.
+fn moving_again<B: Bank>(moving: Moving<B>, _none: ()) -> (Moving<B>, ())
+    ensures same { result.0 ≡ moving }
+    ensures active { is_reshaping moving.parts.members.newest ≡ true }
+    ensures ends { B.tells → EndBy (length (B.tape moving.parts.bank)) moving.parts.entries }
+{
+    let (pieces, course, window) = moving.take_apart();
+    let Some(backup) = pieces.backup else {
+        unreachable!()
+    };
+    (Moving::of_pieces(pieces, backup, course, window), ())
+}
+
+// An array without a reshape is at rest.
+fn check_still<B: Bank>(still: &mut Still<B>)
+    ensures same { still.new ≡ still.old }
+    ensures rest { IsStillNow still.old }
+{
+    replace_with(still, (), still_again)
+}
+
+// An array in a reshape tells one.
+fn check_moving<B: Bank>(moving: &mut Moving<B>)
+    ensures same { moving.new ≡ moving.old }
+    ensures active { is_reshaping moving.old.parts.members.newest ≡ true }
+    ensures ends { B.tells → EndBy (length (B.tape moving.old.parts.bank)) moving.old.parts.entries }
+{
+    replace_with(moving, (), moving_again)
+}
+
+impl<B: Bank> Running<B> {
+    /// An array without an active reshape, which has no plan.
+    pub fn of_still(alloc: Global, still: Still<B>) -> Running<B>
+        requires planless { phases_of still.ahead ≡ [] }
+        ensures { result ≡ still }
+    {
+        let mut still = still;
+        check_still(&mut still);
+        Running {
+            state: State::Still(still),
+            window: Vec::new(alloc),
+        }
+    }
+
+    /// An array in a reshape, behind which no phase of a plan is ahead.
+    pub fn of_moving(alloc: Global, moving: Moving<B>) -> Running<B>
+        requires last { phases_of moving.ahead ≡ [] }
+        ensures { result ≡ moving }
+    {
+        let mut moving = moving;
+        check_moving(&mut moving);
+        Running {
+            state: State::Moving(moving),
+            window: Vec::new(alloc),
+        }
+    }
+}

@@ -1,0 +1,130 @@
+//! What a running array tells of itself.
+
+ghost use Rattle.std.specs.Prelude.{◌≡◌, ◌≢◌, ◌≤◌, [], ◌∷◌, length, IfOk, IfErr};
+ghost use Rattle.superblocks.specs.Reading.{is_reshaping, list_length};
+ghost use Rattle.flat_history.specs.Flat.{next_number};
+ghost use Rattle.flat_history.specs.declared.events.Event.TheVariants.{Shown};
+ghost use Rattle.array_kept.specs.Calls.{IsEntered, IsEndOf};
+ghost use Rattle.running_words.specs.Calls.{moving_world, IsSameReshape};
+ghost use Rattle.running.specs.Calls.{running_left, IsShownAs};
+
+use crate::state::{Running, State, check_moving, check_still};
+use bank::Bank;
+use flat_history::Epoch;
+use md_base::{NoMemory, Status, Who};
+use superblocks::Members;
+
+impl<B: Bank> Running<B> {
+    /// Whether a reshape is active in it.
+    pub fn is_moving(&self) -> bool
+        ensures { result ≡ is_reshaping self.now.parts.members.newest }
+    {
+        match &self.state {
+            State::Still(_) => false,
+            State::Moving(_) => true,
+        }
+    }
+
+    /// The number that the caller's next call bears.
+    pub fn next_number(&self, caller: u32) -> u64
+        ensures { result ≡ next_number caller self.now.parts.entries }
+    {
+        match &self.state {
+            State::Still(still) => still.next_number(caller),
+            State::Moving(moving) => moving.next_number(caller),
+        }
+    }
+
+    /// How many operations the bank has made. It takes no memory and makes no device call.
+    pub fn ops(&self) -> u64
+        ensures { B.tells → result ≡ length (B.tape self.now.parts.bank) }
+    {
+        match &self.state {
+            State::Still(still) => still.ops(),
+            State::Moving(moving) => moving.ops(),
+        }
+    }
+
+    /// What happened so far.
+    pub fn epoch(&self) -> &Epoch
+        ensures entries { result.now.entries.items ≡ self.now.parts.entries }
+        ensures uuid { result.now.uuid ≡ self.now.parts.uuid }
+        ensures given { result.now.given ≡ self.now.parts.given }
+        ensures first { result.now.first ≡ self.now.parts.first }
+        ensures last { result.now.last ≡ self.now.parts.last }
+    {
+        match &self.state {
+            State::Still(still) => still.epoch(),
+            State::Moving(moving) => moving.epoch(),
+        }
+    }
+
+    /// What is known of the superblocks.
+    pub fn members(&self) -> &Members
+        ensures { result.now ≡ self.now.parts.members }
+    {
+        match &self.state {
+            State::Still(still) => still.members(),
+            State::Moving(moving) => moving.members(),
+        }
+    }
+
+    /// How many background steps are left, those of the phases of a plan among them.
+    pub fn left(&self) -> u64
+        ensures { result ≡ running_left self.now }
+    {
+        match &self.state {
+            State::Still(still) => still.left(),
+            State::Moving(moving) => moving.left(),
+        }
+    }
+
+    /// How many sectors the list has.
+    pub fn length(&self) -> u64
+        ensures { result ≡ list_length self.now.parts.members.newest }
+    {
+        match &self.state {
+            State::Still(still) => still.length(),
+            State::Moving(moving) => moving.length(),
+        }
+    }
+
+    /// How many slots the bank has.
+    pub fn slots(&self) -> u32
+        ensures { result ≡ (B.given self.now.parts.bank).slots }
+    {
+        match &self.state {
+            State::Still(still) => still.slots(),
+            State::Moving(moving) => moving.slots(),
+        }
+    }
+
+    /// What the array tells of itself, entered in its history. It makes no device call.
+    pub fn status(&mut self, who: Who) -> Result<Status, NoMemory>
+        requires next { who.number ≡ next_number who.caller self.old.parts.entries }
+        requires caller { who.caller ≢ 254 }
+        ensures entered { IfOk result (λ status. IsEntered B.tells (B.tape self.old.parts.bank) who self.old.parts.entries self.new.parts.entries (Shown status ∷ [])) }
+        ensures told { IfOk result (λ status. IsShownAs self.old status) }
+        ensures few { IfOk result (λ status. (length status.roles ≤ 16) × (length status.spares ≤ 32)) }
+        ensures unchanged { IfErr result (λ none. self.new ≡ self.old) }
+        ensures bank { self.new.parts.bank ≡ self.old.parts.bank }
+        ensures members { self.new.parts.members ≡ self.old.parts.members }
+        ensures work { self.new.parts.work ≡ self.old.parts.work }
+        ensures course { self.new.course ≡ self.old.course }
+        ensures ended { IsEndOf B.tells self.new.parts.first self.new.parts.entries (B.tape self.new.parts.bank) }
+        ensures same { IsSameReshape B.tells self.old self.new (moving_world (B.given self.old.parts.bank) (B.tape self.old.parts.bank) self.old) (moving_world (B.given self.new.parts.bank) (B.tape self.new.parts.bank) self.new) }
+    {
+        match &mut self.state {
+            State::Still(still) => {
+                let status = still.status(who);
+                check_still(still);
+                status
+            }
+            State::Moving(moving) => {
+                let status = moving.status(who);
+                check_moving(moving);
+                status
+            }
+        }
+    }
+}

@@ -1,0 +1,108 @@
+//! The end of an epoch.
+
+ghost use Rattle.std.specs.Prelude.{◌≡◌, ◌≢◌, [], ◌∷◌, false, length, IfOk, IfErr};
+ghost use Rattle.md_base.specs.declared.answers.Refusal.{Refusal};
+ghost use Rattle.bank.specs.Given.{NeverFalls};
+ghost use Rattle.superblocks.specs.Reading.{is_reshaping, list_length};
+ghost use Rattle.row_io.specs.Rows.{present};
+ghost use Rattle.flat_history.specs.Epochs.{world_of};
+ghost use Rattle.flat_history.specs.Flat.{next_number, now};
+ghost use Rattle.flat_history.specs.Growing.{EndBy};
+ghost use Rattle.flat_history.specs.Sound.{OpensFit};
+ghost use Rattle.flat_history.specs.World.{opening_list};
+ghost use Rattle.flat_history.specs.declared.events.Event.TheVariants.{Halted, Stopped};
+ghost use Rattle.shape_views.specs.Regions.{DoWithout};
+ghost use Rattle.views.specs.Moving.{Grows};
+ghost use Rattle.views.specs.Lacking.{AreTooMany, HaveRolesFailed};
+ghost use Rattle.array_kept.specs.Calls.{IsEntered, IsBehind, IsUnsettled, IsFaultFor, AreLossesOf, IsEndOf};
+ghost use Rattle.kept_history.specs.Safe.{IsFilledRight};
+ghost use Rattle.history_calls.specs.Reliable.{IsReliable};
+ghost use Rattle.still_kept.specs.Still.{HasListStood};
+ghost use Rattle.running_words.specs.Calls.{moving_world, IsCalled, IsEpochKept};
+ghost use Rattle.running_words.specs.Still.{AreLeftSettled};
+
+use crate::state::{Running, State, check_moving, check_still};
+use bank::Bank;
+use flat_history::Epoch;
+use md_base::{Fault, Who};
+
+impl<B: Bank> Running<B> {
+    /// Ends the epoch, and gives the bank back with what happened. It takes no memory and makes no device call.
+    pub fn halt(self, who: Who) -> (B, Epoch)
+        requires next { who.number ≡ next_number who.caller self.parts.entries }
+        requires caller { who.caller ≢ 254 }
+        ensures bank { result.0 ≡ self.parts.bank }
+        ensures entered { IsEntered B.tells (B.tape self.parts.bank) who self.parts.entries result.1.entries.items (Halted ∷ []) }
+        ensures losses { AreLossesOf self.parts.members (B.faults_of self.parts.bank) (B.faults_of self.parts.bank) self.parts.entries result.1.entries.items }
+        ensures listed { is_reshaping self.parts.members.newest ≡ false → B.tells → DoWithout self.parts.members → IsFilledRight (moving_world (B.given self.parts.bank) (B.tape self.parts.bank) self) self.parts.entries
+            → HasListStood (OpensFit (moving_world (B.given self.parts.bank) (B.tape self.parts.bank) self)) self.parts.work self.parts.members (present (B.given self.parts.bank) (B.tape self.parts.bank))
+            (now (opening_list (moving_world (B.given self.parts.bank) (B.tape self.parts.bank) self)) self.parts.entries) }
+        ensures ends { B.tells → EndBy (length (B.tape self.parts.bank)) result.1.entries.items }
+        ensures right { B.tells → IsReliable (world_of (B.given result.0) (B.tape result.0) self.parts.backup result.1) result.1.entries.items
+            → IsEpochKept (B.given result.0) (B.tape result.0) self.parts.backup result.1 }
+        ensures uuid { result.1.uuid ≡ self.parts.uuid }
+        ensures given { result.1.given ≡ self.parts.given }
+        ensures first { result.1.first ≡ self.parts.first }
+        ensures last { B.tells → result.1.last ≡ length (B.tape self.parts.bank) }
+    {
+        let Running { state, window: _ } = self;
+        match state {
+            State::Still(still) => still.halt(who),
+            State::Moving(moving) => {
+                let mut moving = moving;
+                check_moving(&mut moving);
+                moving.halt(who)
+            }
+        }
+    }
+
+    /// Flushes the members, marks the array clean, unless a resync is pending, and ends the epoch, whose bank it gives back with what
+    /// happened; the open window of a reshape stays as it is stored. Where it is refused with `TooManyMissing`, or memory is short, the
+    /// array goes on.
+    pub fn stop(self, who: Who) -> Result<(B, Epoch), (Running<B>, Fault)>
+        requires next { who.number ≡ next_number who.caller self.parts.entries }
+        requires caller { who.caller ≢ 254 }
+        ensures stopped { IfOk result (λ r. IsBehind who self.parts.entries r.1.entries.items Stopped) }
+        ensures ready { IfOk result (λ r. (refusal : Refusal) → AreTooMany self.parts.members refusal → ⊥) }
+        ensures flushed { IfOk result (λ r. is_reshaping self.parts.members.newest ≡ false → B.tells → AreLeftSettled self.parts.members self.parts.entries r.1.entries.items (B.given self.parts.bank) (B.tape r.0)) }
+        ensures grows { IfOk result (λ r. Grows B.tells (B.tape self.parts.bank) (B.tape r.0)) }
+        ensures losses { IfOk result (λ r. AreLossesOf self.parts.members (B.faults_of self.parts.bank) (B.faults_of r.0) self.parts.entries r.1.entries.items) }
+        ensures ends { IfOk result (λ r. is_reshaping self.parts.members.newest ≡ false → B.tells → EndBy (length (B.tape r.0)) r.1.entries.items) }
+        ensures ended { IfOk result (λ r. is_reshaping self.parts.members.newest ≡ false → IsEndOf B.tells r.1.first r.1.entries.items (B.tape r.0)) }
+        ensures right { IfOk result (λ r. B.tells → IsReliable (world_of (B.given r.0) (B.tape r.0) self.parts.backup r.1) r.1.entries.items → IsEpochKept (B.given r.0) (B.tape r.0) self.parts.backup r.1) }
+        ensures uuid { IfOk result (λ r. r.1.uuid ≡ self.parts.uuid) }
+        ensures slots { IfOk result (λ r. r.1.given ≡ self.parts.given) }
+        ensures first { IfOk result (λ r. r.1.first ≡ self.parts.first) }
+        ensures last { IfOk result (λ r. B.tells → r.1.last ≡ length (B.tape r.0)) }
+        ensures given { IfOk result (λ r. B.given r.0 ≡ B.given self.parts.bank) }
+        ensures never_falls { IfOk result (λ r. NeverFalls (B.faults_of self.parts.bank) (B.faults_of r.0)) }
+        ensures refused { IfErr result (λ e. IsUnsettled who self.parts.entries e.0.parts.entries e.1) }
+        ensures caused { IfErr result (λ e. IsFaultFor (list_length self.parts.members.newest) 0 AreTooMany self.parts.members e.0.parts.members e.1) }
+        ensures called { IfErr result (λ e. IsCalled B.tells (B.given self.parts.bank) (B.tape self.parts.bank) (B.tape e.0.parts.bank) (B.faults_of self.parts.bank) (B.faults_of e.0.parts.bank) self e.0) }
+        ensures left_failed { IfErr result (λ e. is_reshaping self.parts.members.newest ≡ false → HaveRolesFailed self.parts.members e.0.parts.members (B.faults_of self.parts.bank) (B.faults_of e.0.parts.bank)) }
+        ensures left_given { IfErr result (λ e. B.given e.0.parts.bank ≡ B.given self.parts.bank) }
+        ensures course { IfErr result (λ e. e.0.course ≡ self.course) }
+    {
+        let Running { state, window } = self;
+        match state {
+            State::Still(still) => match still.stop(who) {
+                Ok(ended) => Ok(ended),
+                Err((still, fault)) => {
+                    let mut still = still;
+                    check_still(&mut still);
+                    let state = State::Still(still);
+                    Err((Running { state, window }, fault))
+                }
+            },
+            State::Moving(moving) => match moving.stop(who) {
+                Ok(ended) => Ok(ended),
+                Err((moving, fault)) => {
+                    let mut moving = moving;
+                    check_moving(&mut moving);
+                    let state = State::Moving(moving);
+                    Err((Running { state, window }, fault))
+                }
+            },
+        }
+    }
+}

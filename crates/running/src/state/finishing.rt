@@ -1,0 +1,58 @@
+//! A reshape ends.
+
+ghost use Rattle.std.specs.Prelude.{◌≡◌, ◌≢◌, ◌+◌, ◌≤◌, true, IfOk, IfErr};
+ghost use Rattle.superblocks.specs.Reading.{is_reshaping};
+ghost use Rattle.flat_history.specs.declared.events.Event.TheVariants.{Refused};
+ghost use Rattle.views.specs.Lacking.{AreTooMany};
+ghost use Rattle.array_kept.specs.Calls.{IsBehind};
+ghost use Rattle.kept_history.specs.Recorded.{IsCallGoing};
+ghost use Rattle.moving_state.specs.Due.{due_of};
+ghost use Rattle.moving_state.specs.declared.stepping.Due.TheVariants.{Finish};
+ghost use Rattle.running_words.specs.Calls.{moving_world, IsCalled};
+ghost use Rattle.turning.specs.Ended.{ArePlansEnding, IsReshapeEnded};
+
+use crate::state::{Running, State, check_moving, check_still};
+use bank::Bank;
+use md_base::{Refusal, Who};
+use turning::finish_reshape;
+
+impl<B: Bank> Running<B> {
+    /// The active reshape, which has gone through the list, ends: each slot that holds a role is flushed, and the superblocks record the
+    /// new shape alone, by which slots whose roles it hasn't become spares. With more data disks the list gets longer then, by zeros. It
+    /// takes no memory. Refused `TooManyMissing` the reshape goes on as it was, but for what the flush lost.
+    pub fn finish(self, who: Who) -> Result<Running<B>, (Running<B>, Refusal)>
+        requires open { IsCallGoing self.parts.entries who }
+        requires caller { who.caller ≢ 254 }
+        requires room { 2 ≤ self.parts.steps }
+        requires active { is_reshaping self.parts.members.newest ≡ true }
+        requires due { due_of self.parts.members.newest self.course ≡ Finish }
+        requires planned { B.tells → ArePlansEnding (moving_world (B.given self.parts.bank) (B.tape self.parts.bank) self) self }
+        ensures ended { IfOk result (λ r. IsReshapeEnded B.tells (B.given self.parts.bank) (B.tape self.parts.bank) (B.tape r.parts.bank) (B.faults_of self.parts.bank) (B.faults_of r.parts.bank) who self r) }
+        ensures given { IfOk result (λ r. B.given r.parts.bank ≡ B.given self.parts.bank) }
+        ensures refused { IfErr result (λ e. IsBehind who self.parts.entries e.0.parts.entries (Refused e.1)) }
+        ensures caused { IfErr result (λ e. AreTooMany e.0.parts.members e.1) }
+        ensures called { IfErr result (λ e. IsCalled B.tells (B.given self.parts.bank) (B.tape self.parts.bank) (B.tape e.0.parts.bank) (B.faults_of self.parts.bank) (B.faults_of e.0.parts.bank) self e.0) }
+        ensures course { IfErr result (λ e. e.0.course ≡ self.course) }
+        ensures steps { IfErr result (λ e. e.0.parts.steps + 2 ≡ self.parts.steps) }
+        ensures left_given { IfErr result (λ e. B.given e.0.parts.bank ≡ B.given self.parts.bank) }
+    {
+        let Running { state, window } = self;
+        let State::Moving(moving) = state else {
+            unreachable!()
+        };
+        match finish_reshape(moving, who) {
+            Ok(still) => {
+                let mut still = still;
+                check_still(&mut still);
+                let state = State::Still(still);
+                Ok(Running { state, window })
+            }
+            Err((moving, refusal)) => {
+                let mut moving = moving;
+                check_moving(&mut moving);
+                let state = State::Moving(moving);
+                Err((Running { state, window }, refusal))
+            }
+        }
+    }
+}

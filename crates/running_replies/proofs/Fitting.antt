@@ -1,0 +1,68 @@
+-- A reply of an array of one shape is one of a running array.
+use Rattle.std.proofs.Common.{ℕ, ◌+◌, Bool, true, false, List, length}
+use Rattle.std.specs.Prelude.{MatchBool, nat_lt}
+use Rattle.md_base.specs.declared.answers.Refusal.{Refusal}
+use Rattle.md_base.specs.declared.answers.Refusal.TheVariants.{BackupFault, Nothing}
+use Rattle.flat_history.specs.declared.events.Entry.{Entry}
+use Rattle.flat_history.specs.declared.events.Event.{Event}
+use Rattle.flat_history.specs.declared.events.Event.TheVariants.{Resized, Stepped, Refused}
+use Rattle.flat_history.specs.declared.events.Request.TheVariants.{Write as AsksWrite, Steps as AsksSteps, Read as AsksRead, Flush as AsksFlush, Fail as AsksFail, Add as AsksAdd}
+use Rattle.flat_history.specs.Flat.{visible_of}
+use Rattle.flat_history.specs.Fits.{IsReadRefused, IsWriteRefused}
+use Rattle.flat_history.specs.Legal.{MayBeInner, call_before}
+use Rattle.flat_history.specs.OneShape.{OneShapeAnswers, OneShapeFits}
+use Rattle.flat_history.specs.Transfers.{IsRefusedAt, IsPastEnd}
+use Rattle.array_kept.specs.Calls.{StandsInside}
+use Rattle.running_replies.specs.Replies.{RunningAnswers, RunningFits}
+
+-- what stands inside a call there may stand in any
+pub inside-inner : (event : Event) → StandsInside event → MayBeInner event
+inside-inner event is = by event is
+  where
+    by : (event : Event) → StandsInside event → MayBeInner event
+    by (Refused refusal) is = tt
+    by (Resized n) is = tt
+    by event is = is
+
+pub fits-read : (size : ℕ) (before : List Entry) (e : Entry) (at count : ℕ) → OneShapeFits size before e (AsksRead at count) → RunningFits size before e (AsksRead at count)
+fits-read size before e at count fits = record { answers = fits.answers; torn = fits.torn }
+
+pub fits-flush : (size : ℕ) (before : List Entry) (e : Entry) → OneShapeFits size before e AsksFlush → RunningFits size before e AsksFlush
+fits-flush size before e fits = record { answers = fits.answers; torn = fits.torn }
+
+pub fits-fail : (size : ℕ) (before : List Entry) (e : Entry) (role : ℕ) → OneShapeFits size before e (AsksFail role) → RunningFits size before e (AsksFail role)
+fits-fail size before e role fits = record { answers = fits.answers; torn = fits.torn }
+
+pub fits-add : (size : ℕ) (before : List Entry) (e : Entry) (slot : ℕ) → OneShapeFits size before e (AsksAdd slot) → RunningFits size before e (AsksAdd slot)
+fits-add size before e slot fits = record { answers = fits.answers; torn = fits.torn }
+
+-- ---- a write
+
+refused-more : (visible to : ℕ) (refusal : Refusal) → IsRefusedAt visible to IsReadRefused refusal → IsRefusedAt visible to IsWriteRefused refusal
+refused-more visible to refusal is = by (nat_lt visible to) is
+  where
+    listed : (refusal : Refusal) → IsReadRefused refusal → IsWriteRefused refusal
+    listed BackupFault is = tt
+    listed refusal is = is
+
+    by : (b : Bool) → MatchBool b (IsPastEnd refusal) (IsReadRefused refusal × (IsPastEnd refusal → ⊥)) → MatchBool b (IsPastEnd refusal) (IsWriteRefused refusal × (IsPastEnd refusal → ⊥))
+    by true is = is
+    by false is = (listed refusal is.0, is.1)
+
+wrote : (size : ℕ) (before call : List Entry) (at : ℕ) (body : List (List ℕ)) (event : Event) → OneShapeAnswers size before call (AsksWrite at body) event → RunningAnswers size before call (AsksWrite at body) event
+wrote size before call at body (Refused refusal) is = refused-more (visible_of size before) (at + length body) refusal is
+wrote size before call at body event is = is
+
+pub fits-write : (size : ℕ) (before : List Entry) (e : Entry) (at : ℕ) (body : List (List ℕ)) → OneShapeFits size before e (AsksWrite at body) → RunningFits size before e (AsksWrite at body)
+fits-write size before e at body fits = record { answers = wrote size before (call_before before e) at body e.event fits.answers; torn = fits.torn }
+
+-- ---- steps
+
+-- how long the list is doesn't matter to them
+steps-any : (size other : ℕ) (before call : List Entry) (most : ℕ) (event : Event) → RunningAnswers size before call (AsksSteps most) event → RunningAnswers other before call (AsksSteps most) event
+steps-any size other before call most (Stepped done left ended) is = is
+steps-any size other before call most (Refused Nothing) is = is
+steps-any size other before call most event is = absurd is
+
+pub fits-steps : (size other : ℕ) (before : List Entry) (e : Entry) (most : ℕ) → RunningFits size before e (AsksSteps most) → RunningFits other before e (AsksSteps most)
+fits-steps size other before e most fits = record { answers = steps-any size other before (call_before before e) most e.event fits.answers; torn = fits.torn }

@@ -1,0 +1,62 @@
+-- What steps leave of a running array: a reshape may begin or end among them.
+use Rattle.std.specs.Prelude.{◌≡◌, ◌⊎◌, ℕ, ◌++◌, Bool, true, false, List, [], ◌∷◌, IsTrue, ⊤}
+use Rattle.std.specs.List.{list_any}
+use Rattle.bank.specs.declared.bank.Operation.{Operation}
+use Rattle.bank.specs.Given.{Given, NeverFalls}
+use Rattle.superblocks.specs.declared.members.Members.{Members}
+use Rattle.superblocks.specs.Reads.{has_spare}
+use Rattle.superblocks.specs.Reading.{list_length}
+use Rattle.flat_history.specs.declared.events.Entry.{Entry}
+use Rattle.flat_history.specs.declared.events.Event.{Event}
+use Rattle.flat_history.specs.declared.events.Event.TheVariants.{Step}
+use Rattle.flat_history.specs.declared.events.StepKind.TheVariants.{Finished}
+use Rattle.flat_history.specs.Flat.{length_of}
+use Rattle.views.specs.Moving.{Grows}
+use Rattle.views.specs.Rebuilding.{Held, MayHold}
+use Rattle.array_kept.specs.Calls.{IsLossBy}
+use Rattle.running_words.specs.Parts.{RunningParts}
+use Rattle.running_replies.specs.Replies.{HasToldBy}
+
+-- the event tells that a reshape ended, which makes the slots of the roles that it drops spares
+abbrev pub is_finish : Event → Bool
+is_finish (Step Finished left) = true
+is_finish event = false
+
+-- the slot had a role, and a reshape ended in these entries
+abbrev pub MayBeDropped : Members → List Entry → ℕ → Type 0
+MayBeDropped members entries slot = IsTrue (list_any (λ e. is_finish e.event) entries) × (role : ℕ) × Held members role slot
+
+-- the slot had the role, or was a spare, or may be one since
+abbrev pub MayHoldBehind : Members → List Entry → ℕ → ℕ → Type 0
+MayHoldBehind members entries role slot = MayHold members role slot ⊎ MayBeDropped members entries slot
+
+-- Each role that has a slot had it before, or that slot was a spare, or may be one since these entries; and so it is of each spare.
+pub record AreHeldBehind (old new : Members) (entries : List Entry) : Type 0 where
+  pub roles : (role slot : ℕ) → Held new role slot → MayHoldBehind old entries role slot
+  pub spares : (slot : ℕ) → has_spare new.spares slot ≡ true → (has_spare old.spares slot ≡ true) ⊎ MayBeDropped old entries slot
+
+-- each loss has its cause, by what may have held its role behind the entries before it
+abbrev pub AreLossesAlong : Members → (ℕ → ℕ) → (ℕ → ℕ) → List Entry → List Entry → Type 0
+AreLossesAlong members before now done [] = ⊤
+AreLossesAlong members before now done (e ∷ entries) = IsLossBy (MayHoldBehind members done) before now e.event × AreLossesAlong members before now (done ++ e ∷ []) entries
+
+-- it is the array of the same epoch, with the same backup
+pub record IsSameEpoch {B : Type 0} (old new : RunningParts B) : Type 0 where
+  pub uuid : new.parts.uuid ≡ old.parts.uuid
+  pub given : new.parts.given ≡ old.parts.given
+  pub first : new.parts.first ≡ old.parts.first
+  pub backup : new.parts.backup ≡ old.parts.backup
+
+-- What steps leave of an array over its bank: more is entered, which tells what the list's length is then; roles are lost, or given to spares, each loss and refusal has its cause, and it is the
+-- array of the same epoch.
+pub record HasRunOn {B : Type 0} (tells : Type 0) (given : B → Given) (tape : B → List Operation) (faults : B → ℕ → ℕ) (old new : RunningParts B) : Type 0 where
+  pub more : List Entry
+  pub grown : new.parts.entries ≡ old.parts.entries ++ more
+  pub sized : list_length new.parts.members.newest ≡ length_of (list_length old.parts.members.newest) more
+  pub held : AreHeldBehind old.parts.members new.parts.members more
+  pub losses : AreLossesAlong old.parts.members (faults old.parts.bank) (faults new.parts.bank) [] more
+  pub refusals : HasToldBy old.parts.backup (faults old.parts.bank) (faults new.parts.bank) old.parts.entries new.parts.entries
+  pub grows : Grows tells (tape old.parts.bank) (tape new.parts.bank)
+  pub never_falls : NeverFalls (faults old.parts.bank) (faults new.parts.bank)
+  pub given_is : given new.parts.bank ≡ given old.parts.bank
+  pub same : IsSameEpoch old new

@@ -1,0 +1,113 @@
+-- Which reply entries answer a request to a running array, as far as that needs no superblocks: `Fits` of flat_history says the rest. `before` are the
+-- entries before the reply, and `call` are those of its call directly before it.
+use Rattle.std.specs.Prelude.{◌≡◌, ◌⊎◌, ℕ, ◌+◌, ◌<◌, ◌≤◌, ◌++◌, Bool, true, false, List, [], ◌∷◌, length, count_by, Option, MatchOption, IfSome, IsSome, IsTrue, ⊤}
+use Rattle.std.specs.List.{list_any, All}
+use Rattle.md_base.specs.declared.answers.Refusal.{Refusal}
+use Rattle.md_base.specs.declared.answers.Refusal.TheVariants.{TooManyMissing, NotResynced, BackupFault, SlotFault, Busy, Degraded, SameShape, BadShape, SizeNotMultiple, NeedSpares, NeedBackup, BackupTooSmall, ArraySizeFirst, Nothing}
+use Rattle.md_base.specs.declared.answers.Who.{Who}
+use Rattle.bank.specs.Given.{IsFaulted}
+use Rattle.flat_history.specs.declared.events.Entry.{Entry}
+use Rattle.flat_history.specs.declared.events.Event.{Event}
+use Rattle.flat_history.specs.declared.events.Event.TheVariants.{Lost, Planned, Step, Stepped, Refused}
+use Rattle.flat_history.specs.declared.events.StepKind.TheVariants.{Finished}
+use Rattle.flat_history.specs.declared.events.Request.{Request}
+use Rattle.flat_history.specs.declared.events.Request.TheVariants.{Read as AsksRead, Write as AsksWrite, Flush as AsksFlush, Fail as AsksFail, Add as AsksAdd, Visible as AsksVisible, Grow as AsksGrow, Steps as AsksSteps, Show as AsksShow}
+use Rattle.flat_history.specs.Flat.{visible_of}
+use Rattle.flat_history.specs.Fits.{IsWriteRefused, AreTornOf, is_lost_event, is_step_event}
+use Rattle.flat_history.specs.Legal.{MayBeInner, call_before}
+use Rattle.flat_history.specs.OneShape.{IsOfCall, OneShapeAnswers}
+use Rattle.flat_history.specs.Transfers.{IsRefusedAt}
+
+-- ---- steps
+
+-- what may refuse a step
+abbrev pub EndsRunningSteps : Refusal → Type 0
+EndsRunningSteps (TooManyMissing count tolerance) = ⊤
+EndsRunningSteps (NotResynced role) = ⊤
+EndsRunningSteps BackupFault = ⊤
+EndsRunningSteps (Degraded role) = ⊤
+EndsRunningSteps (NeedSpares have want) = have < want
+EndsRunningSteps refusal = ⊥
+
+-- what may end a request for steps early: a loss, or the end of a reshape
+abbrev pub may_end_early : Event → Bool
+may_end_early (Lost role cause) = true
+may_end_early (Step Finished left) = true
+may_end_early event = false
+
+-- A request for at most so many steps did those that its call enters, and one for each loss at most that it doesn't enter. It ends where so many are done, none is left, one is refused, a role
+-- was lost, or a reshape ended.
+pub record DidRunningSteps (call : List Entry) (most done left : ℕ) (ended : Option Refusal) : Type 0 where
+  pub at_most : done ≤ most
+  pub all_done : (done ≡ most) ⊎ (left ≡ 0) ⊎ IsSome ended ⊎ IsTrue (list_any (λ e. may_end_early e.event) call)
+  pub some_done : (1 ≤ done) ⊎ IsSome ended
+  pub counted : count_by (λ e. is_step_event e.event) call ≤ done
+  pub not_more : done ≤ count_by (λ e. is_step_event e.event) call + count_by (λ e. is_lost_event e.event) call
+
+-- ---- a plan
+
+-- what may refuse a plan, by the sectors that can be read and written
+abbrev pub MayRefuseGrow : ℕ → Refusal → Type 0
+MayRefuseGrow visible (Busy kind) = ⊤
+MayRefuseGrow visible (Degraded role) = ⊤
+MayRefuseGrow visible SameShape = ⊤
+MayRefuseGrow visible (BadShape field) = ⊤
+MayRefuseGrow visible (SizeNotMultiple size chunk) = ⊤
+MayRefuseGrow visible (NeedSpares have want) = have < want
+MayRefuseGrow visible NeedBackup = ⊤
+MayRefuseGrow visible (BackupTooSmall have want) = have < want
+MayRefuseGrow visible (ArraySizeFirst told least) = (told ≡ visible) × (least < told)
+MayRefuseGrow visible refusal = ⊥
+
+-- ---- a reply
+
+-- the reply's event answers the request, over a list of so many sectors when the call began, or earlier
+abbrev pub RunningAnswers : ℕ → List Entry → List Entry → Request → Event → Type 0
+RunningAnswers size before call (AsksRead at count) event = OneShapeAnswers size before call (AsksRead at count) event
+RunningAnswers size before call (AsksWrite at body) (Refused refusal) = IsRefusedAt (visible_of size before) (at + length body) IsWriteRefused refusal
+RunningAnswers size before call (AsksWrite at body) event = OneShapeAnswers size before call (AsksWrite at body) event
+RunningAnswers size before call AsksFlush event = OneShapeAnswers size before call AsksFlush event
+RunningAnswers size before call (AsksFail role) event = OneShapeAnswers size before call (AsksFail role) event
+RunningAnswers size before call (AsksAdd slot) event = OneShapeAnswers size before call (AsksAdd slot) event
+RunningAnswers size before call (AsksSteps most) (Stepped done left ended) = DidRunningSteps call most done left ended × IfSome ended EndsRunningSteps
+RunningAnswers size before call (AsksSteps most) (Refused Nothing) = ⊤
+RunningAnswers size before call (AsksSteps most) event = ⊥
+RunningAnswers size before call (AsksGrow wish) (Planned left wished) = wished ≡ wish
+RunningAnswers size before call (AsksGrow wish) (Refused refusal) = MayRefuseGrow (visible_of size before) refusal
+RunningAnswers size before call (AsksGrow wish) event = ⊥
+RunningAnswers size before call (AsksVisible limit) event = ⊥
+RunningAnswers size before call AsksShow event = ⊥
+
+-- the reply fits its request, by the entries before it
+pub record RunningFits (size : ℕ) (before : List Entry) (e : Entry) (request : Request) : Type 0 where
+  pub answers : RunningAnswers size before (call_before before e) request e.event
+  pub torn : AreTornOf request (call_before before e)
+
+-- A call of a running array was answered by this event, which fits its request and stands behind the other entries of the call.
+pub record IsAnsweredWith (size : ℕ) (request : Request) (who : Who) (old new : List Entry) (event : Event) : Type 0 where
+  pub inner : List Entry
+  pub end : ℕ
+  pub own : All (λ e. IsOfCall who e) inner
+  pub inside : All (λ e. MayBeInner e.event) inner
+  pub is : new ≡ old ++ (inner ++ record { caller = who.caller; number = who.number; end = end; event = event } ∷ [])
+  pub fits : RunningFits size (old ++ inner) (record { caller = who.caller; number = who.number; end = end; event = event }) request
+
+-- ---- a refusal's cause
+
+-- a refusal for a slot that failed stands only where that slot has failed since, and one for the backup only where the backup has
+abbrev pub IsRefusalBy : Option ℕ → (ℕ → ℕ) → (ℕ → ℕ) → Refusal → Type 0
+IsRefusalBy backup before now (SlotFault slot) = IsFaulted slot before now
+IsRefusalBy backup before now BackupFault = MatchOption backup ⊥ (λ slot. IsFaulted slot before now)
+IsRefusalBy backup before now refusal = ⊤
+
+-- so it is of a refusal that the event tells, also where it ended some steps
+abbrev pub IsRefusalToldBy : Option ℕ → (ℕ → ℕ) → (ℕ → ℕ) → Event → Type 0
+IsRefusalToldBy backup before now (Stepped done left ended) = IfSome ended (IsRefusalBy backup before now)
+IsRefusalToldBy backup before now (Refused refusal) = IsRefusalBy backup before now refusal
+IsRefusalToldBy backup before now event = ⊤
+
+-- More entries stand behind the old ones, and each refusal that they tell has its cause.
+pub record HasToldBy (backup : Option ℕ) (before now : ℕ → ℕ) (old new : List Entry) : Type 0 where
+  pub more : List Entry
+  pub grown : new ≡ old ++ more
+  pub told : All (λ e. IsRefusalToldBy backup before now e.event) more

@@ -1,0 +1,44 @@
+-- Where the plans of an array go that are open, and which histories tell no reshape.
+use Rattle.std.specs.Prelude.{◌≡◌, Bool, true, false, if◌then◌else◌, List, Option, Some, MatchOption, ⊤}
+use Rattle.std.specs.List.{list_any, All}
+use Rattle.md_base.specs.declared.places.Shape.{Shape}
+use Rattle.grow_plan.specs.Plans.{last_shape}
+use Rattle.superblocks.specs.Reading.{is_reshaping, shape_of, final_shape}
+use Rattle.flat_history.specs.declared.events.Entry.{Entry}
+use Rattle.flat_history.specs.declared.events.Event.{Event}
+use Rattle.flat_history.specs.declared.events.Event.TheVariants.{Planned, Step}
+use Rattle.flat_history.specs.declared.events.StepKind.TheVariants.{Begun, Finished, TakenOver}
+use Rattle.flat_history.specs.Reshaped.{open_plans, planned_shape}
+use Rattle.flat_history.specs.World.{World, reading_at}
+use Rattle.grow_asked.specs.Left.{phases_of}
+use Rattle.history_calls.specs.Reliable.{IsReliable}
+use Rattle.running_words.specs.Parts.{RunningParts}
+
+-- ---- where plans go
+
+-- each plan that is open goes to this shape
+abbrev pub GoTo : World → Shape → List Entry → Type 0
+GoTo world shape entries = All (λ plan. planned_shape world plan.end plan.event ≡ Some shape) (open_plans entries)
+
+-- the shape of the array once the active reshape and the phases ahead have ended
+abbrev pub aim_of : {B : Type 0} → RunningParts B → Shape
+aim_of array = last_shape (if is_reshaping array.parts.members.newest then final_shape array.parts.members.newest else shape_of array.parts.members.newest) (phases_of array.ahead)
+
+-- each plan that is open goes there, where what the history says can be relied on
+abbrev pub ArePlansKept : {B : Type 0} → Type 0 → World → RunningParts B → Type 0
+ArePlansKept tells world array = tells → IsReliable world array.parts.entries → GoTo world (aim_of array) array.parts.entries
+
+-- ---- a history without a reshape
+
+-- the event tells a plan, or that the array's shape is about to change or has changed
+abbrev pub turns_shape : Event → Bool
+turns_shape (Planned left wish) = true
+turns_shape (Step Begun left) = true
+turns_shape (Step Finished left) = true
+turns_shape (Step TakenOver left) = true
+turns_shape event = false
+
+-- The array keeps its shape: its opening found no reshape, and these entries tell neither a plan nor a reshape.
+pub record KeepsShape (world : World) (entries : List Entry) : Type 0 where
+  pub found : MatchOption (reading_at world world.first) ⊤ (λ r. is_reshaping r.newest ≡ false)
+  pub none : list_any (λ e. turns_shape e.event) entries ≡ false
