@@ -1,6 +1,6 @@
 //! A running array, with a reshape active in it or without one.
 
-ghost use Rattle.std.specs.Prelude.{◌≡◌, ◌<◌, ◌≤◌, true, [], length};
+ghost use Rattle.std.specs.Prelude.{◌≡◌, ◌<◌, ◌≤◌, true, [], length, IsSome};
 ghost use Rattle.superblocks.specs.Reading.{is_reshaping};
 ghost use Rattle.flat_history.specs.Growing.{EndBy};
 ghost use Rattle.flat_history.specs.Reshaped.{open_plans};
@@ -78,6 +78,7 @@ fn still_again<B: Bank>(still: Still<B>, _none: ()) -> (Still<B>, ())
 fn moving_again<B: Bank>(moving: Moving<B>, _none: ()) -> (Moving<B>, ())
     ensures same { result.0 ≡ moving }
     ensures active { is_reshaping moving.parts.members.newest ≡ true }
+    ensures backed { IsSome moving.parts.backup }
     ensures some { 0 < left_in moving.parts.work moving.parts.members moving.course moving.ahead }
     ensures begun { B.tells → moving.parts.first ≤ length (B.tape moving.parts.bank) }
     ensures ends { B.tells → EndBy (length (B.tape moving.parts.bank)) moving.parts.entries }
@@ -103,6 +104,7 @@ fn check_still<B: Bank>(still: &mut Still<B>)
 fn check_moving<B: Bank>(moving: &mut Moving<B>)
     ensures same { moving.new ≡ moving.old }
     ensures active { is_reshaping moving.old.parts.members.newest ≡ true }
+    ensures backed { IsSome moving.old.parts.backup }
     ensures some { 0 < left_in moving.old.parts.work moving.old.parts.members moving.old.course moving.old.ahead }
     ensures begun { B.tells → moving.old.parts.first ≤ length (B.tape moving.old.parts.bank) }
     ensures ends { B.tells → EndBy (length (B.tape moving.old.parts.bank)) moving.old.parts.entries }
