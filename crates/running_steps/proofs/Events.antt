@@ -193,7 +193,8 @@ entries-lost who old new left role was = record {
   own = each-own (IsOfStep left) who was.end (losses_of was.roles was.spares) (each-losses (IsOfStep left) (λ r. tt) (λ s. tt) was.roles was.spares);
   one = inr (
     count-none who was.end (losses_of was.roles was.spares) (each-losses IsNoStep (λ r. refl) (λ s. refl) was.roles was.spares),
-    count-lost who was.end (Lost role Fault) (losses_of was.roles was.spares) refl was.among);
+    count-lost who was.end (Lost role Fault) (losses_of was.roles was.spares) refl was.among,
+  );
 }
 
 -- ---- the length of the list

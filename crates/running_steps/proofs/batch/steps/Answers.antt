@@ -19,21 +19,6 @@ least-is count most start is = elim (cases_lt most start) [
   | inr more ↦ inr (omega (arith, is, more))
 ]
 
-pub left-requires : goal.left-requires
-left-requires g c = ?
-
-pub make_room-requires : goal.make_room-requires
-make_room-requires g c = ?
-
-pub answer-requires-clause-stub : goal.answer-requires-clause-stub
-answer-requires-clause-stub g c = ?
-
-pub left-left-requires : goal.left-left-requires
-left-left-requires g c = ?
-
-pub answer-requires-2-clause-stub : goal.answer-requires-2-clause-stub
-answer-requires-2-clause-stub g c = ?
-
 pub returns-in_default-clause-went : goal.returns-in_default-clause-went
 returns-in_default-clause-went g c = gone-none g.B.Bank.tells g.B.Bank.given g.B.Bank.tape g.B.Bank.faults_of c.args.array.now
 

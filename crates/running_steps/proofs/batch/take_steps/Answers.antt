@@ -8,9 +8,6 @@ use Rattle.running_steps.proofs.Replies.{cause-later}
 use Rattle.running_steps.proofs.StepsOf.{steps-none, steps-more, steps-refused, any-late, none-late, quiet-first, quiet-second}
 use Rattle.running_steps.proofs.batch.take_steps.Goals as goal
 
-pub left-requires : goal.left-requires
-left-requires g c = ?
-
 pub loop-done-init : goal.loop-done-init
 loop-done-init g c = record {
   entered = steps-none c.args.who c.args.array.now.parts.entries;

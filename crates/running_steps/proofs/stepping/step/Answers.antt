@@ -7,15 +7,6 @@ use Rattle.std.proofs.Common.{ap}
 use Rattle.running_steps.proofs.Replies.{done-behind, answered-refused}
 use Rattle.running_steps.proofs.stepping.step.Goals as goal
 
-pub make_room-requires : goal.make_room-requires
-make_room-requires g c = ?
-
-pub left-requires : goal.left-requires
-left-requires g c = ?
-
-pub answer-requires-clause-stub : goal.answer-requires-clause-stub
-answer-requires-clause-stub g c = ?
-
 pub returns-in-Err-clause-went : goal.returns-in-Err-clause-went
 returns-in-Err-clause-went g c = rw c.in-Err.ensures.unchanged (gone-none g.B.Bank.tells g.B.Bank.given g.B.Bank.tape g.B.Bank.faults_of c.args.array.now)
 

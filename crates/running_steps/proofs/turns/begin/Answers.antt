@@ -1,9 +1,6 @@
 use Rattle.running_steps.proofs.Begun.{begin-done, begin-refused}
 use Rattle.running_steps.proofs.turns.begin.Goals as goal
 
-pub begin-requires-clause-stub : goal.begin-requires-clause-stub
-begin-requires-clause-stub g c = ?
-
 pub returns-in-Ok-clause-taken : goal.returns-in-Ok-clause-taken
 returns-in-Ok-clause-taken g c =
     let s = c.in-Ok.ensures in

@@ -2,9 +2,6 @@ use Rattle.running_steps.proofs.Ended.{finish-done}
 use Rattle.running_steps.proofs.Moved.{ended-refused}
 use Rattle.running_steps.proofs.turns.finish.Goals as goal
 
-pub finish-requires-clause-stub : goal.finish-requires-clause-stub
-finish-requires-clause-stub g c = ?
-
 pub returns-in-Ok-clause-taken : goal.returns-in-Ok-clause-taken
 returns-in-Ok-clause-taken g c =
     let s = c.in-Ok.ensures in

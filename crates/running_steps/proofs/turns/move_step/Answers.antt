@@ -4,9 +4,6 @@ use Rattle.running_steps.proofs.Refusals.{moved-by}
 use Rattle.running_steps.proofs.Moved.{moved-did, moved-done, moved-refused}
 use Rattle.running_steps.proofs.turns.move_step.Goals as goal
 
-pub move_on-requires-clause-stub : goal.move_on-requires-clause-stub
-move_on-requires-clause-stub g c = ?
-
 pub returns-in-Ok-clause-taken : goal.returns-in-Ok-clause-taken
 returns-in-Ok-clause-taken g c =
     let s = c.in-Ok.ensures in

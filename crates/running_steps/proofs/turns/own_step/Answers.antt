@@ -3,9 +3,6 @@ use Rattle.turning.proofs.Begun.{unturned-open}
 use Rattle.running_steps.proofs.Own.{own-done, own-refused}
 use Rattle.running_steps.proofs.turns.own_step.Goals as goal
 
-pub mend_or_rebuild-requires-clause-stub : goal.mend_or_rebuild-requires-clause-stub
-mend_or_rebuild-requires-clause-stub g c = ?
-
 pub mend_or_rebuild-requires-clause-open : goal.mend_or_rebuild-requires-clause-open
 mend_or_rebuild-requires-clause-open g c = record { goes = c.requires.open.goes; kept = λ t right. unturned-open _ c.args.array.now.parts.entries c.args.who c.requires.open }
 
