@@ -1,6 +1,6 @@
 -- What calls leave of the plans that are open: those that enter none keep where they go, and a reshape that begins or ends does too.
 use Rattle.std.proofs.Common.{◌≡◌, ◌⊎◌, inl, inr, ℕ, ◌≤◌, ◌||◌, Bool, true, false, cond, Option, Some, Result, Ok, Err, List, [], ◌∷◌, ◌++◌, length, fold, refl, sym, ◌∙◌, ap, subst, append-nil}
-use Rattle.std.specs.Prelude.{option_map, if◌then◌else◌}
+use Rattle.std.specs.Prelude.{if◌then◌else◌}
 use Rattle.std.specs.List.{list_any, All}
 use Rattle.std.proofs.lemmas.List.Elements.{All-nil, All-cons, All-head, All-tail}
 use Rattle.std.proofs.lemmas.List.Folds.{list_any-append}
@@ -13,8 +13,8 @@ use Rattle.md_base.specs.declared.wishes.Phase.{Phase}
 use Rattle.md_base.specs.declared.wishes.Phase.TheVariants.{Reshape}
 use Rattle.bank.specs.declared.bank.Operation.{Operation}
 use Rattle.bank.specs.Given.{Given}
-use Rattle.grow_plan.specs.Plans.{target, last_shape}
-use Rattle.superblocks.specs.Reading.{Reading, is_reshaping, shape_of, final_shape}
+use Rattle.grow_plan.specs.Plans.{last_shape}
+use Rattle.superblocks.specs.Reading.{is_reshaping, shape_of, final_shape}
 use Rattle.flat_history.specs.declared.events.Entry.{Entry}
 use Rattle.flat_history.specs.declared.events.Event.{Event}
 use Rattle.flat_history.specs.declared.events.Event.TheVariants.{Planned, Step, Lost, SpareLost, Refused}
@@ -24,7 +24,7 @@ use Rattle.flat_history.specs.declared.events.StepKind.{StepKind}
 use Rattle.flat_history.specs.Growing.{grown, EndBy}
 use Rattle.flat_history.specs.Plain.{entries_of}
 use Rattle.flat_history.specs.Reshaped.{is_done, is_planned, plans_after, open_plans, planned_shape}
-use Rattle.flat_history.specs.World.{World, reading_at}
+use Rattle.flat_history.specs.World.{World}
 use Rattle.views.specs.Moving.{Grows}
 use Rattle.call_entries.specs.Losing.{losses_of}
 use Rattle.call_entries.proofs.CallLaws.{AreLossEvents, losses-are}
@@ -34,10 +34,11 @@ use Rattle.array_kept.specs.Calls.{IsEntered, StandsInside, IsReplied, IsAnswere
 use Rattle.grow_asked.specs.Left.{phases_of}
 use Rattle.kept_history.specs.Recorded.{entry_of}
 use Rattle.kept_history.specs.Safe.{world_in}
-use Rattle.kept_history.proofs.Growing.{reading-grown, alike-before, room-before}
+use Rattle.kept_history.proofs.Growing.{alike-before, room-before}
 use Rattle.kept_history.proofs.Turned.{filled-before}
 use Rattle.kept_history.proofs.Tests.{neither}
 use Rattle.history_calls.specs.Reliable.{IsReliable}
+use Rattle.history_calls.proofs.Plans.{ArePlannedTo, planned-grown}
 use Rattle.running_words.specs.Parts.{RunningParts}
 use Rattle.running_words.specs.Calls.{moving_world, IsSameReshape, IsStepTaken}
 use Rattle.running_words.specs.Plans.{GoTo, aim_of, ArePlansKept}
@@ -185,14 +186,10 @@ all-both : (P Q R : Entry → Type 0) → ((e : Entry) → P e → Q e → R e) 
 all-both P Q R f [] ps qs = All-nil R
 all-both P Q R f (x ∷ xs) ps qs = All-cons R x xs (f x (All-head P x xs ps) (All-head Q x xs qs)) (all-both P Q R f xs (All-tail P x xs ps) (All-tail Q x xs qs))
 
-shape-grown : (world : World) (ops : List Operation) (end : ℕ) (event : Event) → end ≤ length world.tape → planned_shape (grown world ops) end event ≡ planned_shape world end event
-shape-grown world ops end (Planned left wish) within = ap (λ (o : Option Reading). option_map (λ r. target (shape_of r.newest) wish) o) (reading-grown world ops end within)
-shape-grown world ops end event within = refl
-
 pub go-grown : (world : World) (ops : List Operation) (shape : Shape) (entries : List Entry) → EndBy (length world.tape) entries → GoTo world shape entries → GoTo (grown world ops) shape entries
 go-grown world ops shape entries ends goes =
     all-both (λ plan. planned_shape world plan.end plan.event ≡ Some shape) (λ e. e.end ≤ length world.tape) (λ plan. planned_shape (grown world ops) plan.end plan.event ≡ Some shape)
-    (λ e is within. shape-grown world ops e.end e.event within ∙ is) (open_plans entries) goes (ended-all (length world.tape) [] entries (All-nil (λ e. e.end ≤ length world.tape)) ends)
+    (λ e is within. planned-grown world ops e.end e.event within ∙ is) (open_plans entries) goes (ended-all (length world.tape) [] entries (All-nil (λ e. e.end ≤ length world.tape)) ends)
 
 -- what can be relied on later could be so before
 pub reliable-before : (world : World) (ops : List Operation) (entries added : List Entry) → world.first ≤ length world.tape → EndBy (length world.tape) entries → IsReliable (grown world ops) (entries ++ added) → IsReliable world entries
