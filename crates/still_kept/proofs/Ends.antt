@@ -30,7 +30,7 @@ use Rattle.call_entries.proofs.StepLaws.{faults-are}
 use Rattle.kept_history.specs.Recorded.{IsReshapedCall, entry_of, ends_reshape}
 use Rattle.kept_history.specs.Safe.{world_in, IsSafeHistory}
 use Rattle.kept_history.proofs.Growing.{alike-before, room-before}
-use Rattle.kept_history.proofs.Reshapes.{call-ends_none, ends-none, reshaped-losses}
+use Rattle.kept_history.proofs.Reshapes.{call-ends_none, ends-none, reshaped-losses, unplanned}
 use Rattle.kept_history.proofs.Turned.{filled-before}
 use Rattle.history_calls.specs.Reliable.{IsReliable, AreToldGone}
 use Rattle.history_calls.proofs.Quiet.{EndsRight}
@@ -49,9 +49,9 @@ pub record ClosesPlans (tells : Type 0) (world : World) (entries : List Entry) (
   pub synced : work.resync ≡ None
   pub named : DoWithout new → IsNamedOrClean new
 
--- it ends no reshape, and leaves steps; or it closes the plans that are open
+-- it ends no reshape, and leaves steps; or it is no finish, and no plan is open; or it closes those that are
 abbrev pub EndsPlans : Type 0 → World → List Entry → Members → Work → Event → Type 0
-EndsPlans tells world entries new work event = (ends_reshape event ≡ false) ⊎ ClosesPlans tells world entries new work event
+EndsPlans tells world entries new work event = (ends_reshape event ≡ false) ⊎ (((open_plans entries ≡ []) × (is_finish event ≡ false)) ⊎ ClosesPlans tells world entries new work event)
 
 free-finish : (world : World) (before : List Entry) (e : Entry) (rest : List Entry) (event : Event) → is_finish event ≡ false → IsFinishedRight world before e rest event
 free-finish world before e rest (Step Finished left) none = absurd (cc)
@@ -111,7 +111,11 @@ module _ (tells : Type 0) (given : Given) (tape : List Operation) (scope : Scope
     step-right : IsReshapedBy later before e behind_it
     step-right = elim ends [
       | inl none ↦ ends-none later before e behind_it none
-      | inr closes ↦ record { finished = free-finish later before e (behind comes_with_finish e behind_it) event closes.other; plans = done closes (is_done event) }
+      | inr (inl free) ↦ record {
+        finished = free-finish later before e (behind comes_with_finish e behind_it) event free.1;
+        plans = unplanned later before e (behind comes_with_step e behind_it) (is_done event) (plans-behind entries who end xs are ∙ free.0);
+      }
+      | inr (inr closes) ↦ record { finished = free-finish later before e (behind comes_with_finish e behind_it) event closes.other; plans = done closes (is_done event) }
     ]
 
     call-right : IsReshapedCall later entries who end (xs ++ event ∷ tail)

@@ -7,6 +7,7 @@ pub mod Reading
 pub mod Writing
 pub mod Going
 pub mod StepLaws
+pub mod Closing
 pub mod MendLaws
 pub mod RebuildLaws
 pub mod AddLaws

@@ -36,10 +36,10 @@ pub record IsStepped {B : Type 0} (tells : Type 0) (given : Given) (tape tape' :
 abbrev pub IsClosable : {B : Type 0} → RunningParts B → Type 0
 IsClosable array = still_left array.parts.work array.parts.members array.ahead ≡ 0 → (open_plans array.parts.entries ≡ []) ⊎ IsNamedOrClean array.parts.members
 
--- so it is where it tells no refusal
-abbrev pub MayAnswer : {B : Type 0} → RunningParts B → Event → Type 0
-MayAnswer array (Stepped done left None) = IsClosable array
-MayAnswer array event = ⊤
+-- so it is asked of a reply that tells no refusal
+abbrev pub MayAnswer : List Entry → Work → Members → PhasesLeft → Event → Type 0
+MayAnswer entries work members ahead (Stepped done left None) = still_left work members ahead ≡ 0 → (open_plans entries ≡ []) ⊎ IsNamedOrClean members
+MayAnswer entries work members ahead event = ⊤
 
 -- a step that ended the request with this refusal was refused rightly, by the members that are left
 abbrev pub IsEndedRight : Work → Members → Refusal → Type 0

@@ -77,7 +77,7 @@ impl<B: Bank> Still<B> {
         requires caller { who.caller ≢ 254 }
         requires room { 1 ≤ self.old.parts.steps }
         requires plans { ArePlansKept B.tells (moving_world (B.given self.old.parts.bank) (B.tape self.old.parts.bank) self.old) self.old }
-        requires closable { MayAnswer self.old event }
+        requires closable { MayAnswer self.old.parts.entries self.old.parts.work self.old.parts.members self.old.ahead event }
         requires reply { IsStepsReplyNow self.old.parts.work self.old.parts.members self.old.ahead event }
         ensures entered { IsEntered B.tells (B.tape self.old.parts.bank) who self.old.parts.entries self.new.parts.entries (event ∷ []) }
         ensures room { self.new.parts.steps + 1 ≡ self.old.parts.steps }
