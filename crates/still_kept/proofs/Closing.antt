@@ -1,10 +1,10 @@
 -- What is left of an array in which no step is left is consistent under its shape, unless too many roles are gone.
-use Rattle.std.proofs.Common.{◌≡◌, inl, inr, ℕ, ◌<◌, ◌≤◌, Bool, true, false, cond, Option, Some, None, List, length, map, get_or, MatchOption, not, refl, sym, ◌∙◌, ap, subst, arith}
+use Rattle.std.proofs.Common.{◌≡◌, inl, inr, ℕ, ◌<◌, ◌≤◌, Bool, true, false, cond, Option, Some, None, List, length, MatchOption, not, refl, sym, ◌∙◌, ap, subst, arith}
 use Rattle.std.specs.Prelude.{⊤}
 use Rattle.std.specs.Option.{option_map_or}
 use Rattle.std.proofs.lemmas.Bool.{cases_lt}
 use Rattle.md_base.specs.Sectors.{Sector}
-use Rattle.md_base.specs.Shapes.{has_slot, is_valid_shape, tolerance}
+use Rattle.md_base.specs.Shapes.{has_slot, tolerance}
 use Rattle.md_base.specs.declared.places.Shape.{Shape}
 use Rattle.md_base.specs.declared.status.Role.{Role}
 use Rattle.md_base.specs.declared.status.Role.TheVariants.{Missing}
@@ -22,26 +22,25 @@ use Rattle.flat_history.specs.Losses.{is_gone_after}
 use Rattle.flat_history.specs.Reshaped.{IsConsistent, IsConsistentBy, IsConsistentAt}
 use Rattle.flat_history.specs.Sound.{OpensFit}
 use Rattle.flat_history.specs.Stands.{held_row, held_sector}
-use Rattle.flat_history.specs.World.{World}
 use Rattle.shape_views.specs.Regions.{DoWithout, IsReadOf, header_in}
-use Rattle.shape_views.specs.Views.{Ledger}
+use Rattle.shape_views.specs.Views.{Ledger, IsSettled}
 use Rattle.shape_views.specs.Windows.{RowsStand}
 use Rattle.shape_views.proofs.Alike.{shape-alike}
 use Rattle.shape_views.proofs.SoundViews.{good-row}
 use Rattle.shape_views.proofs.Standing.{held-same}
 use Rattle.shape_views.proofs.Stands.{still-stands}
-use Rattle.shape_changes.specs.Steady.{IsSteady, IsSafeOver}
+use Rattle.shape_changes.specs.Steady.{IsSteady}
 use Rattle.shape_changes.proofs.Steady.{held-read}
 use Rattle.shape_changes.proofs.Without.{state-without}
 use Rattle.shape_ends.proofs.EndLaws.{fewer-pass}
 use Rattle.views.specs.Lacking.{RowsStandBelow}
 use Rattle.views.proofs.LiveLeft.{left-steady, without-left}
 use Rattle.views.proofs.Still.{count-still, without-still, outside-still}
-use Rattle.safe_updates.proofs.RolesNamed.{unnamed-named}
 use Rattle.kept_history.specs.Safe.{world_in, IsSafeHistory, IsNowRight}
 use Rattle.kept_history.proofs.Lengths.{now-drawn}
 use Rattle.history_calls.specs.Reliable.{AreToldGone}
 use Rattle.still_kept.specs.Still.{AreAtRest, IsNamedOrClean}
+use Rattle.still_kept.proofs.Named.{missing-named}
 
 -- ---- what the superblocks say
 
@@ -135,6 +134,7 @@ module _ (sound : Type 0) (scope : Scope) (given : Given) (told : Ledger) (m : M
       (former-consistent sound scope given told m tape steady former-still former-few settled.list
       ((still-stands scope given steady.former (present given tape) settled.list steady.right.placed former-still).1.0 shown))
     where
+      settled : IsSettled scope steady.former told.values (disk given.start tape)
       settled = steady.right.settled (ap (λ (n : Members). is_clean n.newest) (sym steady.since.since) ∙ clean) (without-still steady.former former-still former-few) fit
 
       shown : RowsStand None steady.former (present given tape) settled.list
@@ -155,9 +155,6 @@ closing-consistent given tape scope first entries m carried reshaping list rest 
       | inr few ↦ inl (of few (without-still m rest.still few) safe.now)
     ]
   where
-    abbrev world : World
-    world = world_in given tape scope first
-
     of : missing_count (reading_of m) (shape_of m.newest) ≤ tolerance (shape_of m.newest) → DoWithout m → IsNowRight (world_in given tape scope first) given m carried reshaping entries
         → IsConsistent scope (present given tape) (shape_of m.newest)
     of few does (inr unkept) = absurd (unkept.spent.none (without-left given m rest.placed rest.unlost does))
@@ -165,6 +162,8 @@ closing-consistent given tape scope first entries m carried reshaping list rest 
         let live = without-left given m rest.placed rest.unlost does in
         let steady = left-steady live over in
         elim (named does) [
-          | inl unnamed ↦ named-consistent (OpensFit world) scope given _ m tape steady rest few (unnamed-named m (disk given.start tape) rest.placed (unnamed live) steady).roles list (λ row lt. stand does row lt lt)
-          | inr clean ↦ clean-consistent (OpensFit world) scope given _ m tape steady rest few clean fit
+          | inl missing ↦
+              let named = missing-named m (disk given.start tape) rest.placed (missing live) steady in
+              named-consistent (OpensFit (world_in given tape scope first)) scope given _ m tape named.steady rest few named.roles list (λ row lt. stand does row lt lt)
+          | inr clean ↦ clean-consistent (OpensFit (world_in given tape scope first)) scope given _ m tape steady rest few clean fit
         ]

@@ -49,7 +49,8 @@ use Rattle.shape_changes.specs.Marking.{AreOthersPresent}
 use Rattle.shape_changes.specs.Safety.{HasLiveSlot, HasRoomLeft, IsRisen}
 use Rattle.shape_changes.specs.Steady.{IsSafeOver, KeepsSafe, AreGoneTold, IsUncleanTold}
 use Rattle.views.specs.declared.work.Work.{Work}
-use Rattle.views.specs.Lacking.{AreUnnamed, AreLostSince, LacksTooMany, AreTooMany, RowsStandBelow, RowsStandAmong, DataStandsAmong, IsOfStripe, mended_rows}
+use Rattle.safe_updates.specs.Named.{AreNamedMissing}
+use Rattle.views.specs.Lacking.{AreLostSince, LacksTooMany, AreTooMany, RowsStandBelow, RowsStandAmong, DataStandsAmong, IsOfStripe, mended_rows}
 use Rattle.views.specs.Moving.{Grows, IsMoved}
 use Rattle.views.specs.Numbers.{is_carried}
 use Rattle.views.specs.Placed.{IsPlaced, is_vacant}
@@ -92,7 +93,7 @@ pub record IsTaken (tells : Type 0) (given : Given) (tape tape' : List Operation
   pub clean : is_clean new.newest ≡ is_clean old.newest
   pub rise : tells → IsRisen ⊤ old new tape tape'
   pub others : tells → AreOthersPresent (present given tape) (present given tape')
-  pub missing : HasLiveSlot new → AreUnnamed new
+  pub missing : HasLiveSlot new → AreNamedMissing new
   pub safe : tells → (world : World) → (told : Ledger) → HasRoomLeft old tape tape' → AreGoneTold told new → told.gone role ≡ true → IsUncleanTold told old → IsSafeOver world given told old tape → KeepsSafe world given told new tape tape'
 
 module _ (tells : Type 0) (given : Given) (tape tape' : List Operation) (scope : Scope) (first : ℕ) (entries : List Entry) (old new : Members) (work : Work) (left left' : ℕ)

@@ -20,11 +20,12 @@ use Rattle.shape_views.specs.Regions.{DoWithout}
 use Rattle.shape_changes.specs.Safety.{HasLiveSlot}
 use Rattle.shape_changes.specs.Steady.{AreUnlost}
 use Rattle.views.specs.declared.work.Work.{Work}
-use Rattle.views.specs.Lacking.{ListStands, RowsStandBelow, mended_rows, AreUnnamed}
+use Rattle.views.specs.Lacking.{ListStands, RowsStandBelow, mended_rows}
 use Rattle.views.specs.Numbers.{is_carried}
 use Rattle.views.specs.Placed.{IsPlaced}
 use Rattle.views.specs.Rebuilding.{AreSparesFree, AreRebuilt}
 use Rattle.views.specs.Status.{stripes_of}
+use Rattle.safe_updates.specs.Named.{AreNamedMissing}
 use Rattle.array_kept.specs.Kept.{AreSectorsWhole}
 use Rattle.kept_history.specs.Recorded.{IsHistoryKept}
 use Rattle.kept_history.specs.Safe.{world_in, TakesNone, IsFilledRight, IsSafeHistory}
@@ -54,9 +55,9 @@ relied_list resync members = data_disks (shape_of members.newest) * mended_rows 
 abbrev pub AreNoneMissing : Members → Type 0
 AreNoneMissing members = (role : ℕ) → role < role_count members.newest → is_missing (reading_of members) role ≡ false
 
--- What is missing can be told from the superblocks: as long as a slot is left, the newest gives no device a role that no slot holds; or it says clean, so that all that it names fits.
+-- What is missing can be told from the superblocks: as long as a slot is left, each role that no slot holds is named missing; or they say clean, so that all that they name fits.
 abbrev pub IsNamedOrClean : Members → Type 0
-IsNamedOrClean members = (HasLiveSlot members → AreUnnamed members) ⊎ (is_clean members.newest ≡ true)
+IsNamedOrClean members = (HasLiveSlot members → AreNamedMissing members) ⊎ (is_clean members.newest ≡ true)
 
 -- No reshape is active in the array, whether some were before or not; this is under way in it, and so many steps are left. What is missing was told so, and a
 -- dirty mark, and a pending resync; where no role was told lost, each is whole; over a bank that tells its contents the history is legal, reaches to the tape's end and tells nothing past the list's, the list stands where what is filled
