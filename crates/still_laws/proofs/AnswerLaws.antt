@@ -51,7 +51,7 @@ answer-stands {tells = tells} {given = given} {tape = tape} {scope = scope} {fir
   where
     -- where no step is left, no plan is open, or what is missing can be told; or too many are missing, so that a step was refused
     closes : (ended : Option Refusal) → MatchOption ended ⊤ (IsEndedRight work m) → MayAnswer entries work m ahead (Stepped done left ended) → EndsPlans tells (world_in given tape scope first) entries m work (Stepped done left ended)
-    closes (Some refusal) why may = leaves-or-closes ahead (Stepped done left (Some refusal)) left plans was.members_are.still refl reply.0 refl refl
+    closes (Some refusal) why may = leaves-or-closes m m ahead (Stepped done left (Some refusal)) left plans was.members_are.still refl reply.0 refl refl
         (λ zero can. absurd (never-both m refusal can (why.1 (resync-over work m ahead (sym reply.0 ∙ zero)))))
     closes None why may = of (left == 0) refl
       where
@@ -62,7 +62,7 @@ answer-stands {tells = tells} {given = given} {tape = tape} {scope = scope} {fir
         of false is = inl is
         of true is = elim (may (sym reply.0 ∙ zero-is left is)) [
           | inl none ↦ inr (inl (none, refl))
-          | inr named ↦ leaves-or-closes ahead (Stepped done left None) left plans was.members_are.still refl reply.0 refl refl (λ zero can. named)
+          | inr named ↦ leaves-or-closes m m ahead (Stepped done left None) left plans was.members_are.still refl reply.0 refl refl (λ zero can. named)
         ]
 
     ended-right : (ended : Option Refusal) → MatchOption ended ⊤ (IsEndedRight work m) → (t : tells) → IsReliable (world_in given tape scope first) entries

@@ -26,6 +26,7 @@ use Rattle.calls_kept.proofs.EndLaws.{enough-mended}
 use Rattle.grow_asked.specs.declared.window.PhasesLeft.{PhasesLeft}
 use Rattle.grow_asked.specs.Left.{phases_of}
 use Rattle.kept_history.specs.Recorded.{IsCallGoing}
+use Rattle.kept_history.specs.Safe.{world_in}
 use Rattle.still_kept.specs.Still.{IsStill}
 use Rattle.still_kept.proofs.Flushing.{IsFlushedStill, IsSettledStill, unflushed-stands}
 use Rattle.still_kept.proofs.Resync.{IsMendingStill, mended-stands, unmended-stands, resynced-stands}
@@ -83,7 +84,7 @@ module _ {tells : Type 0} {given : Given} {tape tape' : List Operation} {scope :
       subst (λ (n : ℕ). IsStill tells given tape' scope first (entries ++ entries_of who end (losses_of roles spares ++ Step ResyncEnded left ∷ [])) new (record work { resync = None }) n) told
       (resynced-stands tells given tape tape' scope first entries old new work (still_left work old ahead) left who end roles spares before after was does goes (not_254 who.caller caller) at_end all
       (left-falls (record work { resync = None }) ahead (left_of work old) left did.moved did.since (left-ended work old all) told)
-      (leaves-or-closes ahead (Step ResyncEnded left) left plans was.members_are.still did.moved.shape told refl refl (λ zero can. inr (done.clean refl))) did done)
+      (leaves-or-closes old new ahead (Step ResyncEnded left) left plans was.members_are.still did.moved.shape told refl refl (λ zero can. inr (done.clean refl))) did done)
 
   -- it is refused
   pub resync-refused : (refusal : Refusal) → AreTooMany new refusal

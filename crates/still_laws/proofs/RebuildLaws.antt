@@ -136,7 +136,7 @@ module _ {tells : Type 0} {given : Given} {tape tape' : List Operation} {scope :
       subst (λ (n : ℕ). IsStill tells given tape' scope first (entries ++ entries_of who end (losses_of roles spares ++ Step RebuildTaken left ∷ [])) new (with_rebuilt role 0 work) n) told
       (taken-stands tells given tape tape' scope first entries old new work (still_left work old ahead) left who end role slot roles spares before after was does goes (not_254 who.caller caller) at_end known
       (left-falls (with_rebuilt role 0 work) ahead (left_of work old) left did.moved did.since taken-less told)
-      (leaves-or-closes ahead (Step RebuildTaken left) left plans was.members_are.still did.moved.shape told refl refl (λ zero can. inl did.missing)) did)
+      (leaves-or-closes old new ahead (Step RebuildTaken left) left plans was.members_are.still did.moved.shape told refl refl (λ zero can. inl did.missing)) did)
 
 -- ---- a stripe is rebuilt
 
@@ -215,7 +215,7 @@ module _ {tells : Type 0} {given : Given} {tape tape' : List Operation} {scope :
       subst (λ (n : ℕ). IsStill tells given tape' scope first (entries ++ entries_of who end (losses_of roles spares ++ Step RebuildEnded left ∷ Rebuilt role ∷ [])) new work n) told
       (whole-stands tells given tape tape' scope first entries old new work (still_left work old ahead) left who end role slot roles spares before after was does goes (not_254 who.caller caller) at_end all synced did
       whole_is (left-falls work ahead (left_of work old) left did.moved did.since whole-less told)
-      (leaves-or-closes ahead (Step RebuildEnded left) left plans was.members_are.still did.moved.shape told refl refl (λ zero can. inl did.missing))
+      (leaves-or-closes old new ahead (Step RebuildEnded left) left plans was.members_are.still did.moved.shape told refl refl (λ zero can. inl did.missing))
       (open-later tells given tape tape' scope first entries who (entries_of who end ((losses_of roles spares ++ Step RebuildEnded left ∷ []) ++ Rebuilt role ∷ [])) did.grows (λ t. (was.recorded t).begun) (λ t. (was.recorded t).ends) goes kept))
 
   pub end-lost : is_vacant (reading_of new) role ≡ true → IsStill tells given tape' scope first (entries ++ entries_of who end (losses_of roles spares)) new work (still_left work new ahead)
