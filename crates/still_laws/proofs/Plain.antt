@@ -1,5 +1,5 @@
 -- As long as its history keeps its shape, an array without a reshape keeps what one of one shape does: what a call leaves of that.
-use Rattle.std.proofs.Common.{◌≡◌, ◌≢◌, ◌⊎◌, inl, inr, ℕ, ◌+◌, ◌≤◌, ◌&&◌, ◌||◌, Bool, true, false, Option, Some, None, List, [], ◌∷◌, ◌++◌, length, refl, sym, ◌∙◌, ap, subst, arith}
+use Rattle.std.proofs.Common.{◌≡◌, ◌≢◌, inl, inr, ℕ, ◌+◌, ◌≤◌, ◌&&◌, ◌||◌, Bool, true, false, Option, Some, None, List, [], ◌∷◌, ◌++◌, length, refl, sym, ◌∙◌, ap, subst, arith}
 use Rattle.std.specs.Prelude.{MatchOption, IfSome, IsTrue, ⊤}
 use Rattle.std.specs.List.{list_any, All}
 use Rattle.std.proofs.lemmas.List.{length-append}
@@ -96,9 +96,9 @@ all-go opening ops before [] are = All-nil (λ e. MayGoOn e.event → GoesOnBehi
 all-go opening ops before (e ∷ entries) are =
     All-cons (λ e. MayGoOn e.event → GoesOnBehind e.event) e entries (one-goes opening before e (rest_of_call e entries) e.event are.0.event) (all-go opening ops (before ++ e ∷ []) entries are.1)
 
-behind-all : {P : Entry → Type 0} (xs ys : List Entry) → All P (xs ++ ys) → All P ys
-behind-all [] ys all = all
-behind-all {P = P} (x ∷ xs) ys all = behind-all xs ys (All-tail P x (xs ++ ys) all)
+behind-all : (P : Entry → Type 0) (xs ys : List Entry) → All P (xs ++ ys) → All P ys
+behind-all P [] ys all = all
+behind-all P (x ∷ xs) ys all = behind-all P xs ys (All-tail P x (xs ++ ys) all)
 
 all-open : (who : Who) (xs : List Entry) → All (λ e. IsOfCall who e × MayGoOn e.event) xs → All (λ e. MayGoOn e.event → GoesOnBehind e.event) xs → All (λ e. IsOfCall who e × GoesOnBehind e.event) xs
 all-open who [] own goes = All-nil (λ e. IsOfCall who e × GoesOnBehind e.event)
@@ -114,7 +114,7 @@ open-of opening ops entries who legal goes = record {
   call = goes.call;
   is = goes.is;
   own = all-open who goes.call goes.own
-      (behind-all goes.before goes.call (subst (λ (l : List Entry). All (λ e. MayGoOn e.event → GoesOnBehind e.event) l) goes.is (all-go opening ops [] entries legal)));
+      (behind-all (λ e. MayGoOn e.event → GoesOnBehind e.event) goes.before goes.call (subst (λ (l : List Entry). All (λ e. MayGoOn e.event → GoesOnBehind e.event) l) goes.is (all-go opening ops [] entries legal)));
   number = goes.number;
 }
 
@@ -125,10 +125,9 @@ pub record IsLeftPlain (tells : Type 0) (given : Given) (tape : List Operation) 
   pub plain : tells → KeepsShape (world_in given tape scope first) (entries ++ added) → IsPlainKept (world_in given tape scope first) members (entries ++ added)
   pub plainly : list_any (λ e. turns_shape e.event) added ≡ false → AreToldPlainly added
 
--- a call that turns the shape
-pub turned-plain : {tells : Type 0} {given : Given} {tape : List Operation} {scope : Scope} {first : ℕ} {entries added : List Entry} {members : Members} → list_any (λ e. turns_shape e.event) (entries ++ added) ≡ true
-    → tells → KeepsShape (world_in given tape scope first) (entries ++ added) → IsPlainKept (world_in given tape scope first) members (entries ++ added)
-turned-plain told t keeps = absurd (let clash : true ≡ false = sym told ∙ keeps.none in cc)
+-- a history that turns the shape doesn't keep it
+pub turned-plain : (world : World) (members : Members) (entries : List Entry) → list_any (λ e. turns_shape e.event) entries ≡ true → KeepsShape world entries → IsPlainKept world members entries
+turned-plain world members entries told keeps = absurd (let clash : true ≡ false = sym told ∙ keeps.none in cc)
 
 -- entries that turn the shape do so behind others
 pub turns-behind : (entries added : List Entry) → list_any (λ e. turns_shape e.event) added ≡ true → list_any (λ e. turns_shape e.event) (entries ++ added) ≡ true

@@ -1,5 +1,5 @@
 -- What an array keeps of a history of one shape, by a role that is failed by command, and by a slot that is made a spare, or isn't.
-use Rattle.std.proofs.Common.{◌≡◌, ◌≢◌, ◌⊎◌, inl, inr, ℕ, ◌+◌, ◌<◌, ◌≤◌, ◌==◌, ◌||◌, Bool, true, false, cond, nat_lt, Option, Some, None, List, [], ◌∷◌, ◌++◌, length, refl, sym, ◌∙◌, ap, subst, arith}
+use Rattle.std.proofs.Common.{◌≡◌, ◌≢◌, ◌⊎◌, inl, inr, ℕ, ◌<◌, ◌≤◌, ◌==◌, ◌||◌, Bool, true, false, cond, nat_lt, Option, Some, None, List, [], ◌∷◌, ◌++◌, length, refl, sym, ◌∙◌, ap, subst, arith}
 use Rattle.std.specs.Prelude.{IsTrue}
 use Rattle.std.specs.List.{list_any}
 use Rattle.std.proofs.lemmas.Bool.Decides.{nat_tests}
@@ -133,8 +133,8 @@ module _ {tells : Type 0} {given : Given} {tape mid_tape tape' : List Operation}
     {steps room rows buffer far_rows far_buffer roles spares : ℕ} {before after : ℕ → ℕ} (was : IsReady tells given tape scope first entries old work ahead faults steps room rows buffer far_rows far_buffer)
     (who : Who) (end : ℕ) (goes : IsCallGoing entries who) (caller : who.caller ≢ 254) (at_end : tells → end ≡ length tape') (looked : tells → OnlyFlushesAdded tape mid_tape)
     (did : IsAddDone tells given slot sb old new lost mid_tape tape' before after) (since : AreLostSince old new roles spares before after) where
-  abbrev losses : List Event
-  losses = losses_of roles spares
+  abbrev told_losses : List Event
+  told_losses = losses_of roles spares
 
   -- each slot that holds a role or is a spare did so before, but for the slot itself
   held-but : (role s : ℕ) → MayHold new role s → ((r : ℕ) × MayHold old r s) ⊎ ((s ≡ slot) × (has_spare new.spares s ≡ true))
@@ -145,13 +145,21 @@ module _ {tells : Type 0} {given : Given} {tape mid_tape tape' : List Operation}
   held-added role s may = elim (held-but role s may) [
     | inl before ↦ inl before
     | inr own ↦ inr (
-        ap (λ (l : List Entry). list_any (λ e. adds_slot s e.event) l) (entries-both who end losses (Added slot ∷ []))
-        ∙ list_any-append (λ e. adds_slot s e.event) (entries_of who end losses) (entries_of who end (Added slot ∷ []))
-        ∙ last (list_any (λ e. adds_slot s e.event) (entries_of who end losses)) slot s (sym own.0))
+        ap (λ (l : List Entry). list_any (λ e. adds_slot s e.event) l) (entries-both who end told_losses (Added slot ∷ []))
+        ∙ list_any-append (λ e. adds_slot s e.event) (entries_of who end told_losses) (entries_of who end (Added slot ∷ []))
+        ∙ last (list_any (λ e. adds_slot s e.event) (entries_of who end told_losses)) slot s (sym own.0))
   ]
     where
       last : (b : Bool) (x y : ℕ) → x ≡ y → (b || ((x == y) || false)) ≡ true
-      last b x y same = grind (arith, nat_tests, same)
+      last true x y same = refl
+      last false x y same = own (x == y) (by x y same)
+        where
+          by : (x y : ℕ) → x ≡ y → (x == y) ≡ true
+          by x y same = grind (arith, nat_tests, same)
+
+          own : (b : Bool) → b ≡ true → (b || false) ≡ true
+          own true is = refl
+          own false is = absurd (cc)
 
   held-lost : (added : List Entry) → has_spare new.spares slot ≡ false → (role s : ℕ) → MayHold new role s → ((r : ℕ) × MayHold old r s) ⊎ IsTrue (list_any (λ e. adds_slot s e.event) added)
   held-lost added none role s may = elim (held-but role s may) [
@@ -165,10 +173,10 @@ module _ {tells : Type 0} {given : Given} {tape mid_tape tape' : List Operation}
       → IsOneShapeCall (opening_in (world_in given tape scope first)) (entries ++ entries_of who end (losses_of roles spares)) who end (event ∷ []) → MayTellPlainly event
       → IsLeftPlain tells given tape' scope first entries (entries_of who end (losses_of roles spares ++ event ∷ [])) new
   adding event none loses makes held call plainly =
-      plain-called was.kept was.plain who end (losses ++ event ∷ []) goes caller at_end (grows-then (record { more = λ t. ((looked t).0, (looked t).2) }) did.grows) did.moved.shape
+      plain-called was.kept was.plain who end (told_losses ++ event ∷ []) goes caller at_end (grows-then (record { more = λ t. ((looked t).0, (looked t).2) }) did.grows) did.moved.shape
       (λ t p. told-added did roles spares since entries who end (event ∷ []) p.told none)
       (λ t p. record { only = only p; held = held })
-      (λ t keeps p fills. call-faults (opening_in (world_in given tape scope first)) entries who end losses (event ∷ []) (faults-are losses (losses-are roles spares)) call)
+      (λ t keeps p fills. call-faults (opening_in (world_in given tape scope first)) entries who end told_losses (event ∷ []) (faults-are told_losses (losses-are roles spares)) call)
       (all-losses MayTellPlainly who end roles spares (event ∷ []) (λ role has. tt) (λ s has. tt) (All-cons (λ e. MayTellPlainly e.event) (one who end event) [] plainly (All-nil (λ e. MayTellPlainly e.event))))
     where
       only : IsPlainKept (world_in given tape scope first) old entries → AreOnlyTold new (entries ++ entries_of who end (losses_of roles spares ++ event ∷ []))
@@ -184,7 +192,7 @@ module _ {tells : Type 0} {given : Given} {tape mid_tape tape' : List Operation}
   -- or it was lost
   pub unadded-plain : has_spare new.spares slot ≡ false → IsLeftPlain tells given tape' scope first entries (entries_of who end (losses_of roles spares ++ Refused (SlotFault slot) ∷ [])) new
   unadded-plain none =
-      adding (Refused (SlotFault slot)) (λ role. refl) (λ role. refl) (λ s spare is. inl is) (held-lost (entries_of who end (losses ++ Refused (SlotFault slot) ∷ [])) none) (tt, tt, tt) tt
+      adding (Refused (SlotFault slot)) (λ role. refl) (λ role. refl) (λ s spare is. inl is) (held-lost (entries_of who end (told_losses ++ Refused (SlotFault slot) ∷ [])) none) (tt, tt, tt) tt
 
 -- ---- it is refused before it is touched
 

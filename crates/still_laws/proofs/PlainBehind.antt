@@ -1,6 +1,6 @@
 -- What an array keeps of a history of one shape, by calls that lose slots at most, and by those that enter one event alone.
 use Rattle.std.proofs.Common.{◌≡◌, ◌≢◌, ◌⊎◌, inl, inr, ℕ, zero, suc, ◌+◌, ◌-◌, ◌*◌, ◌/◌, ◌<◌, ◌≤◌, min, Bool, true, false, not, cond, is_some, Option, Some, None, List, [], ◌∷◌, ◌++◌, length, refl, sym, ◌∙◌, ap, subst, arith, append-nil, append_assoc}
-use Rattle.std.specs.Prelude.{IfSome, MatchOption, ⊤}
+use Rattle.std.specs.Prelude.{IfSome, IsSome, MatchOption, ⊤}
 use Rattle.std.specs.List.{list_any}
 use Rattle.std.proofs.Math.Nat.{suc-mul, le-min}
 use Rattle.std.proofs.lemmas.Bool.{cases_lt}
@@ -9,7 +9,7 @@ use Rattle.md_base.specs.Search.{count_below}
 use Rattle.md_base.specs.Sectors.{Sector, sectors_of}
 use Rattle.md_base.specs.Shapes.{tolerance}
 use Rattle.md_base.specs.declared.answers.Refusal.{Refusal}
-use Rattle.md_base.specs.declared.answers.Refusal.TheVariants.{TooManyMissing, NotResynced, BackupFault, Nothing}
+use Rattle.md_base.specs.declared.answers.Refusal.TheVariants.{TooManyMissing, BackupFault, Nothing}
 use Rattle.md_base.specs.declared.answers.Who.{Who}
 use Rattle.md_base.specs.declared.places.Shape.{Shape}
 use Rattle.md_base.specs.declared.status.Role.{Role}
@@ -27,9 +27,9 @@ use Rattle.superblocks.proofs.ValidFields.{few-roles}
 use Rattle.row_io.specs.Rows.{reading_of, present}
 use Rattle.flat_history.specs.declared.events.Entry.{Entry}
 use Rattle.flat_history.specs.declared.events.Event.{Event}
-use Rattle.flat_history.specs.declared.events.Event.TheVariants.{Read, Wrote, Torn, Flushed, Stopped, Shown, Halted, Step, Stepped, Refused}
+use Rattle.flat_history.specs.declared.events.Event.TheVariants.{Read, Wrote, Torn, Shown, Halted, Step, Stepped, Refused}
 use Rattle.flat_history.specs.declared.events.StepKind.{StepKind}
-use Rattle.flat_history.specs.Flat.{now, visible_of}
+use Rattle.flat_history.specs.Flat.{visible_of}
 use Rattle.flat_history.specs.Legal.{told_left}
 use Rattle.flat_history.specs.Losses.{is_unsynced, is_resync_end}
 use Rattle.flat_history.specs.OneShape.{opening_in, is_gone_now, is_spare_now, EndsIdleSteps, IsNothingLeft, IsIdleStep, IsOneShapeEvent, IsOneShapeRefusal}
@@ -47,7 +47,6 @@ use Rattle.views.specs.Whole.{list_size}
 use Rattle.views.proofs.Fit.{valid}
 use Rattle.views.proofs.LackingLists.{row-sector}
 use Rattle.shape_views.proofs.Stands.{list-still}
-use Rattle.views.proofs.MovedLaws.{grows-none}
 use Rattle.call_entries.specs.Losing.{losses_of, failure_events}
 use Rattle.call_entries.proofs.CallLaws.{GivesNone, losses-are, all-losses, ends-losses}
 use Rattle.call_entries.proofs.LeftLaws.{keeps-left}
@@ -113,6 +112,19 @@ module _ (given : Given) (m : Members) (rest : AreAtRest given m) (resync : Opti
   pub unwritten-plain : (to : ℕ) (refusal : Refusal) → to ≤ list_length m.newest → IsUnwritten (shape_of m.newest) (are_mended (shape_of m.newest) (mended_rows resync m) to) m refusal → IsRefusedHere visible resync m refusal
   unwritten-plain to refusal within why =
       unwritten-here given visible resync (are_mended (shape_of m.newest) (mended_rows resync m) to) m refusal rest.placed (pending-of m resync to (subst (λ (n : ℕ). to ≤ n) long within)) why
+
+-- why a write isn't done, by the members that it leaves
+pub put-plain : (given : Given) (old new : Members) → AreAtRest given old → IsMoved given old new → (resync : Option ℕ) (visible to : ℕ) (shape : Shape) (synced : Bool) (refusal : Refusal) → shape ≡ shape_of old.newest
+    → synced ≡ are_mended (shape_of old.newest) (mended_rows resync old) to → to ≤ list_length old.newest → IsUnwritten shape synced new refusal → IsRefusedHere visible resync new refusal
+put-plain given old new rest moved resync visible to shape synced refusal same asked within why =
+    unwritten-here given visible resync synced new refusal moved.placed (λ none. pending-of old resync to (subst (λ (n : ℕ). to ≤ n) (list-still old.newest rest.still) within) (sym asked ∙ none))
+    (subst (λ (s : Shape). IsUnwritten s synced new refusal) (same ∙ sym moved.shape) why)
+
+-- why a stripe of a pending resync isn't mended
+pub unmended-plain : (given : Given) (old new : Members) → IsMoved given old new → (resync : Option ℕ) (visible stripe : ℕ) (shape : Shape) (refusal : Refusal) → shape ≡ shape_of old.newest → resync ≡ Some stripe
+    → IsUnwritten shape false new refusal → IsRefusedHere visible resync new refusal
+unmended-plain given old new moved resync visible stripe shape refusal same pending why =
+    unwritten-here given visible resync false new refusal moved.placed (λ none. subst IsSome (sym pending) refl) (subst (λ (s : Shape). IsUnwritten s false new refusal) (same ∙ sym moved.shape) why)
 
 -- ---- behind losses
 
@@ -307,7 +319,7 @@ no-resync : (resync : Option ℕ) (members : Members) → resync_left resync mem
 no-resync None members none = refl
 no-resync (Some mended) members none = absurd (omega (arith, none))
 
-module _ {given : Given} {members : Members} {work : Work} {entries : List Entry} (world : World) (rest : AreAtRest given members) (kept : IsPlainKept world members entries)
+module _ {given : Given} {members : Members} {entries : List Entry} (world : World) (work : Work) (rest : AreAtRest given members) (kept : IsPlainKept world members entries)
     (pending : is_unsynced world entries ≡ is_some work.resync) (none : left_of work members ≡ 0) where
   none-resync : resync_left work.resync members ≡ 0
   none-resync = let low : resync_left work.resync members ≤ 0 = omega (arith, none) in omega (arith, low)
@@ -386,7 +398,7 @@ module _ {tells : Type 0} {given : Given} {tape tape' : List Operation} {scope :
       plain-alone (Shown status) (λ role. refl) (λ role. refl) (λ slot spare is. inr (subst (λ (l : List ℕ). has_spare l slot ≡ true) spares is))
       (λ t p. (
         keeps-left (still_left work m ahead) entries (one who end (Shown status)) [] status.left was.kept.left_told steps,
-        (λ none. nothing-left (world_in given tape scope first) was.kept.members_are p (was.kept.pending t) (none-first (left_of work m) _ (sym steps ∙ none))),
+        (λ none. nothing-left (world_in given tape scope first) work was.kept.members_are p (was.kept.pending t) (none-first (left_of work m) _ (sym steps ∙ none))),
       )) tt
 
   -- its end
@@ -396,13 +408,13 @@ module _ {tells : Type 0} {given : Given} {tape tape' : List Operation} {scope :
   -- a reply to a request for steps
   pub answered-plain : (event : Event) → IsStepsReplyNow work m ahead event → IsLeftPlain tells given tape' scope first entries (entries_of who end (event ∷ [])) m
   answered-plain (Refused Nothing) reply =
-      refused-plain Nothing (λ t p. nothing-left (world_in given tape scope first) was.kept.members_are p (was.kept.pending t) (none-first (left_of work m) _ reply)) tt
+      refused-plain Nothing (λ t p. nothing-left (world_in given tape scope first) work was.kept.members_are p (was.kept.pending t) (none-first (left_of work m) _ reply)) tt
   answered-plain (Stepped done left ended) reply =
       plain-alone (Stepped done left ended) (λ role. refl) (λ role. refl) (λ slot spare is. inl is)
       (λ t p. (
         (
           keeps-left (still_left work m ahead) entries (one who end (Stepped done left ended)) [] left was.kept.left_told reply.0,
-          (λ none. nothing-left (world_in given tape scope first) was.kept.members_are p (was.kept.pending t) (none-first (left_of work m) _ (sym reply.0 ∙ none))),
+          (λ none. nothing-left (world_in given tape scope first) work was.kept.members_are p (was.kept.pending t) (none-first (left_of work m) _ (sym reply.0 ∙ none))),
         ),
         right ended reply.1 t p,
       ))

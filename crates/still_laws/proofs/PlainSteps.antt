@@ -12,7 +12,7 @@ use Rattle.md_base.specs.declared.status.Role.TheVariants.{Whole, Recovering}
 use Rattle.bank.specs.declared.bank.Operation.{Operation}
 use Rattle.bank.specs.Given.{Given}
 use Rattle.superblocks.specs.declared.members.Members.{Members}
-use Rattle.superblocks.specs.Reading.{Scope, shape_of, role_count, role_state, is_whole, holder}
+use Rattle.superblocks.specs.Reading.{Scope, shape_of, role_state, is_whole, holder}
 use Rattle.superblocks.specs.Reads.{has_spare}
 use Rattle.superblocks.proofs.ValidFields.{few-roles}
 use Rattle.row_io.specs.Rows.{reading_of, is_missing}
@@ -23,7 +23,6 @@ use Rattle.flat_history.specs.declared.events.StepKind.TheVariants.{ResyncStripe
 use Rattle.flat_history.specs.Legal.{told_left}
 use Rattle.flat_history.specs.OneShape.{opening_in, gives_role, is_gone_now, is_gone_with, is_spare_now}
 use Rattle.flat_history.specs.Plain.{entries_of}
-use Rattle.flat_history.specs.World.{World}
 use Rattle.history_laws.proofs.OneShapeGrowing.{gone-more}
 use Rattle.shape_views.specs.Regions.{DoWithout}
 use Rattle.views.specs.declared.work.Work.{Work}
@@ -169,11 +168,11 @@ module _ {tells : Type 0} {given : Given} {tape tape' : List Operation} {scope :
     {steps room rows buffer far_rows far_buffer role slot roles spares : ℕ} {before after : ℕ → ℕ} (was : IsReady tells given tape scope first entries old work ahead faults steps room rows buffer far_rows far_buffer)
     (who : Who) (end : ℕ) (does : DoWithout old) (goes : IsCallGoing entries who) (caller : who.caller ≢ 254) (at_end : tells → end ≡ length tape') (all : stripes_of old ≤ rebuilt_of work role) (synced : work.resync ≡ None)
     (did : IsMadeWhole tells given tape tape' old new role slot roles spares before after) where
-  abbrev losses : List Event
-  losses = losses_of roles spares
+  abbrev told_losses : List Event
+  told_losses = losses_of roles spares
 
-  to : IsReceiver given old role slot
-  to = receiver-recovering given old was.kept.members_are.placed was.kept.members_are.unlost role slot did.below did.recovers
+  keeper : IsReceiver given old role slot
+  keeper = receiver-recovering given old was.kept.members_are.placed was.kept.members_are.unlost role slot did.below did.recovers
 
   missing : is_missing (reading_of old) role ≡ true
   missing = ap (λ (s : Role). not (is_whole s)) did.recovers
@@ -181,7 +180,7 @@ module _ {tells : Type 0} {given : Given} {tape tape' : List Operation} {scope :
   -- the slot was lost in it
   module _ (vacant : is_vacant (reading_of new) role ≡ true) where
     moved-lost : IsMoved given old new
-    moved-lost = moved-vacant given old new was.kept.members_are.placed role slot to was.kept.members_are.free did.recovers did.moved vacant
+    moved-lost = moved-vacant given old new was.kept.members_are.placed role slot keeper was.kept.members_are.free did.recovers did.moved vacant
 
     since-lost : AreLostSince old new roles spares before after
     since-lost = record {
@@ -190,16 +189,16 @@ module _ {tells : Type 0} {given : Given} {tape tape' : List Operation} {scope :
         | inr has ↦ inr has
       ];
       gone = did.since.gone;
-      held = λ r has. let h = did.since.held r has in (h.0, holder-before given old new was.kept.members_are.placed role slot to was.kept.members_are.free did.recovers did.moved r h.0 h.1, h.2);
+      held = λ r has. let h = did.since.held r has in (h.0, holder-before given old new was.kept.members_are.placed role slot keeper was.kept.members_are.free did.recovers did.moved r h.0 h.1, h.2);
       failed = did.since.failed;
-      told = λ s has. did.since.told s (spare-still given old new was.kept.members_are.placed role slot to was.kept.members_are.free did.recovers did.moved s has);
+      told = λ s has. did.since.told s (spare-still given old new was.kept.members_are.placed role slot keeper was.kept.members_are.free did.recovers did.moved s has);
     }
       where
         by : (r : ℕ) (o : Option ℕ) → holder (role_state (reading_of old) r) ≡ o → is_vacant (reading_of (with_whole role slot old)) r ≡ true → is_vacant (reading_of old) r ≡ true
         by r None is in_V = ap (λ (o : Option ℕ). not (is_some o)) is
         by r (Some s) is in_V = absurd (
             let clash : false ≡ true =
-            sym (ap (λ (o : Option ℕ). not (is_some o)) (holder-still given old new was.kept.members_are.placed role slot to was.kept.members_are.free did.recovers did.moved r s is)) ∙ in_V in
+            sym (ap (λ (o : Option ℕ). not (is_some o)) (holder-still given old new was.kept.members_are.placed role slot keeper was.kept.members_are.free did.recovers did.moved r s is)) ∙ in_V in
             cc
             )
 
@@ -215,7 +214,7 @@ module _ {tells : Type 0} {given : Given} {tape tape' : List Operation} {scope :
     late = Rebuilt role ∷ []
 
     split : (losses_of roles spares ++ Step RebuildEnded left ∷ []) ++ Rebuilt role ∷ [] ≡ losses_of roles spares ++ Step RebuildEnded left ∷ Rebuilt role ∷ []
-    split = append_assoc losses (Step RebuildEnded left ∷ []) late
+    split = append_assoc told_losses (Step RebuildEnded left ∷ []) late
 
     -- the entries up to the step, and the one that tells the role whole
     both : entries ++ entries_of who end ((losses_of roles spares ++ Step RebuildEnded left ∷ []) ++ Rebuilt role ∷ []) ≡ (entries ++ entries_of who end (losses_of roles spares ++ Step RebuildEnded left ∷ [])) ++ one who end (Rebuilt role) ∷ []
@@ -234,13 +233,13 @@ module _ {tells : Type 0} {given : Given} {tape tape' : List Operation} {scope :
 
     told-early : IsPlainKept (world_in given tape scope first) old entries → AreTold new (entries ++ entries_of who end (losses_of roles spares ++ Step RebuildEnded left ∷ []))
     told-early p r lt out = elim (since-missing did.moved did.since r lt out) [
-      | inl in_V ↦ told-more old entries (entries_of who end early) gives p.told r (subst (λ (n : ℕ). r < n) (count-moved did.moved) lt) (missing-given given old was.kept.members_are.placed None role slot to missing r in_V)
+      | inl in_V ↦ told-more old entries (entries_of who end early) gives p.told r (subst (λ (n : ℕ). r < n) (count-moved did.moved) lt) (missing-given given old was.kept.members_are.placed None role slot keeper missing r in_V)
       | inr has ↦ gone-lately r entries (entries_of who end early) gives
           (told-losses r roles spares who end (Step RebuildEnded left ∷ []) (let most = few-roles new.newest did.moved.placed.fit.valid in omega (arith, lt, most)) has)
     ]
       where
         gives : (r : ℕ) → list_any (λ e. gives_role r e.event) (entries_of who end (losses_of roles spares ++ Step RebuildEnded left ∷ [])) ≡ false
-        gives = gives-losses who end losses (Step RebuildEnded left ∷ []) (losses-are roles spares) (λ r. refl)
+        gives = gives-losses who end told_losses (Step RebuildEnded left ∷ []) (losses-are roles spares) (λ r. refl)
 
     told-whole : IsPlainKept (world_in given tape scope first) old entries → AreTold new (entries ++ entries_of who end ((losses_of roles spares ++ Step RebuildEnded left ∷ []) ++ Rebuilt role ∷ []))
     told-whole p r lt out = gone-still r (λ same. absurd (
@@ -255,7 +254,7 @@ module _ {tells : Type 0} {given : Given} {tape tape' : List Operation} {scope :
       gone = λ r gone. by r (parts (is_gone_now (entries ++ entries_of who end early) r) (role == r)
           (sym (ap (λ (l : List Entry). is_gone_now l r) both ∙ fold-append (is_gone_with r) false (entries ++ entries_of who end early) (one who end (Rebuilt role) ∷ [])) ∙ gone));
       spares = λ s is. spares-behind-losses old.spares new.spares entries who end roles spares (Step RebuildEnded left ∷ []) (λ k has. (was.kept.members_are.free k has).room.small)
-          (λ k has. did.since.told k (spare-still given old new was.kept.members_are.placed role slot to was.kept.members_are.free did.recovers did.moved k has)) (λ k spare has. inl has) p.only.spares s
+          (λ k has. did.since.told k (spare-still given old new was.kept.members_are.placed role slot keeper was.kept.members_are.free did.recovers did.moved k has)) (λ k spare has. inl has) p.only.spares s
           (sym (ap (λ (l : List Entry). is_spare_now l s) both ∙ spare-both s (entries ++ entries_of who end early) (one who end (Rebuilt role) ∷ []) false) ∙ is);
     }
       where
@@ -269,7 +268,7 @@ module _ {tells : Type 0} {given : Given} {tape tape' : List Operation} {scope :
 
         by : (r : ℕ) → (is_gone_now (entries ++ entries_of who end (losses_of roles spares ++ Step RebuildEnded left ∷ [])) r ≡ true) × ((role == r) ≡ false) → is_missing (reading_of new) r ≡ true
         by r are = elim (gone-or r entries (entries_of who end early) are.0) [
-          | inl before ↦ missing-moved did.moved r (ap (λ (s : Role). not (is_whole s)) (state-other given old was.kept.members_are.placed None role slot to r (other r are.1)) ∙ p.only.gone r before)
+          | inl before ↦ missing-moved did.moved r (ap (λ (s : Role). not (is_whole s)) (state-other given old was.kept.members_are.placed None role slot keeper r (other r are.1)) ∙ p.only.gone r before)
           | inr now ↦ vacant-missing (reading_of new) r (did.since.gone r (lost-among r roles spares who end (Step RebuildEnded left ∷ []) refl now))
         ]
 
@@ -277,21 +276,21 @@ module _ {tells : Type 0} {given : Given} {tape tape' : List Operation} {scope :
     only-whole p = record { only = still-told p; held = λ r s may. inl (by_held r s may) }
       where
         by_held : (r s : ℕ) → MayHold new r s → (q : ℕ) × MayHold old q s
-        by_held r s (inl held) = (r, inl (holder-before given old new was.kept.members_are.placed role slot to was.kept.members_are.free did.recovers did.moved r s (did.moved.held r s held)))
-        by_held r s (inr has) = (r, inr (spare-before given old was.kept.members_are.placed None role slot to s (did.moved.fewer s has)).0)
+        by_held r s (inl held) = (r, inl (holder-before given old new was.kept.members_are.placed role slot keeper was.kept.members_are.free did.recovers did.moved r s (did.moved.held r s held)))
+        by_held r s (inr has) = (r, inr (spare-before given old was.kept.members_are.placed None role slot keeper s (did.moved.fewer s has)).0)
 
     pub whole-plain : left ≡ still_left work new ahead
         → IsLeftPlain tells given tape' scope first entries (entries_of who end (losses_of roles spares ++ Step RebuildEnded left ∷ Rebuilt role ∷ [])) new
     whole-plain told_left_is =
-        plain-called was.kept was.plain who end (losses ++ Step RebuildEnded left ∷ Rebuilt role ∷ []) goes caller at_end did.grows did.moved.shape
+        plain-called was.kept was.plain who end (told_losses ++ Step RebuildEnded left ∷ Rebuilt role ∷ []) goes caller at_end did.grows did.moved.shape
         (λ t p. subst (λ (l : List Event). AreTold new (entries ++ entries_of who end l)) split (told-whole p))
         (λ t p. subst (λ (l : List Event). TellsOnly old new entries (entries_of who end l)) split (only-whole p))
-        (λ t keeps p fills. call-stepped_on (opening_in (world_in given tape scope first)) entries who end losses RebuildEnded left late (losses-are roles spares) tt told (tt, tt, tt))
+        (λ t keeps p fills. call-stepped_on (opening_in (world_in given tape scope first)) entries who end told_losses RebuildEnded left late (losses-are roles spares) tt told (tt, tt, tt))
         (all-losses MayTellPlainly who end roles spares (Step RebuildEnded left ∷ Rebuilt role ∷ []) (λ r has. tt) (λ s has. tt)
         (All-cons (λ e. MayTellPlainly e.event) (one who end (Step RebuildEnded left)) (one who end (Rebuilt role) ∷ []) tt
         (All-cons (λ e. MayTellPlainly e.event) (one who end (Rebuilt role)) [] tt (All-nil (λ e. MayTellPlainly e.event)))))
       where
         told : IfSome (told_left (entries ++ entries_of who end (losses_of roles spares))) (λ n. n ≡ left + 1)
-        told = subst (λ (l : List Event). IfSome (told_left (entries ++ entries_of who end l)) (λ n. n ≡ left + 1)) (append-nil losses)
-            (left-lost (still_left work old ahead) (left + 1) entries who end losses [] (losses-are roles spares)
+        told = subst (λ (l : List Event). IfSome (told_left (entries ++ entries_of who end l)) (λ n. n ≡ left + 1)) (append-nil told_losses)
+            (left-lost (still_left work old ahead) (left + 1) entries who end told_losses [] (losses-are roles spares)
             (left-falls work ahead (left_of work old) left did.moved did.since (whole-less ahead who end role slot roles spares was.kept does goes caller at_end all synced did) told_left_is) was.kept.left_told (λ told is. is))
