@@ -1,5 +1,5 @@
 -- What an array without an active reshape keeps, after a call.
-use Rattle.std.proofs.Common.{◌≡◌, ◌⊎◌, inl, inr, ℕ, ◌*◌, ◌<◌, ◌≤◌, true, List, [], ◌++◌, refl, sym, ◌∙◌, ap, subst, arith}
+use Rattle.std.proofs.Common.{◌≡◌, ◌⊎◌, inl, inr, ℕ, ◌*◌, ◌<◌, ◌≤◌, true, false, List, [], ◌++◌, refl, sym, ◌∙◌, ap, subst, arith}
 use Rattle.std.specs.List.{list_any}
 use Rattle.std.proofs.lemmas.List.Elements.{All-append}
 use Rattle.std.proofs.lemmas.List.Folds.{list_any-append}
@@ -23,7 +23,7 @@ use Rattle.still_kept.specs.Still.{IsStill}
 use Rattle.running_words.specs.Parts.{still_left}
 use Rattle.running_words.specs.Plans.{turns_shape}
 use Rattle.running_words.proofs.Lengths.{IsLengthKept}
-use Rattle.still_laws.specs.Plain.{MayTellPlainly}
+use Rattle.still_laws.specs.Plain.{MayTellPlainly, AreToldPlainly}
 use Rattle.still_laws.specs.Ready.{IsReady}
 use Rattle.still_laws.proofs.Plain.{IsLeftPlain}
 
@@ -44,6 +44,14 @@ pub told-still : (ahead : PhasesLeft) (entries added : List Entry) → (phases_o
     → (phases_of ahead ≡ []) ⊎ (list_any (λ e. turns_shape e.event) (entries ++ added) ≡ true)
 told-still ahead entries added (inl none) = inl none
 told-still ahead entries added (inr told) = inr (list_any-append (λ e. turns_shape e.event) entries added ∙ or-left (list_any (λ e. turns_shape e.event) entries) (list_any (λ e. turns_shape e.event) added) told)
+
+-- as long as none of them turns the shape, they tell no refusal of a reshape
+pub plainly-more : (entries added all : List Entry) → all ≡ entries ++ added → (list_any (λ e. turns_shape e.event) entries ≡ false → AreToldPlainly entries) → (list_any (λ e. turns_shape e.event) added ≡ false → AreToldPlainly added)
+    → list_any (λ e. turns_shape e.event) all ≡ false → AreToldPlainly all
+plainly-more entries added all is was left none =
+    let parts = neither (list_any (λ e. turns_shape e.event) entries) (list_any (λ e. turns_shape e.event) added)
+    (sym (list_any-append (λ e. turns_shape e.event) entries added) ∙ ap (λ (l : List Entry). list_any (λ e. turns_shape e.event) l) (sym is) ∙ none) in
+    subst AreToldPlainly (sym is) (All-append (λ e. MayTellPlainly e.event) entries added (was parts.0) (left parts.1))
 
 -- The array is ready after a call's last step in memory.
 pub ready : {tells : Type 0} {given given' : Given} {tape tape' : List Operation} {scope scope' : Scope} {first first' : ℕ} {entries mid entries' : List Entry} {members members' : Members}
@@ -75,9 +83,7 @@ ready {tells = tells} {given = given} {given' = given'} {tape' = tape'} {scope =
       far_rows_fit = was.far_rows_fit;
       far_buffer_fits = was.far_buffer_fits;
       plain = left.plain;
-      plainly = λ none.
-          let parts = neither (list_any (λ e. turns_shape e.event) entries) (list_any (λ e. turns_shape e.event) added) (sym (list_any-append (λ e. turns_shape e.event) entries added) ∙ none) in
-          All-append (λ e. MayTellPlainly e.event) entries added (was.plainly parts.0) (left.plainly parts.1);
+      plainly = plainly-more entries added (entries ++ added) refl was.plainly left.plainly;
       ahead_told = told-still ahead entries added was.ahead_told;
     }))))
 
