@@ -1,5 +1,5 @@
 -- The steps of a pending resync, from what `mend` of `safe_rows` and `settle` of `safe_updates` leave: what is kept, done or refused.
-use Rattle.std.proofs.Common.{◌≡◌, ◌≢◌, ◌⊎◌, inl, inr, ℕ, ◌+◌, ◌-◌, ◌*◌, ◌<◌, min, false, Some, None, List, [], ◌∷◌, ◌++◌, length, subst, arith}
+use Rattle.std.proofs.Common.{◌≡◌, ◌≢◌, inr, ℕ, ◌+◌, ◌-◌, ◌*◌, ◌<◌, min, false, Some, None, List, [], ◌∷◌, ◌++◌, length, refl, subst, arith}
 use Rattle.md_base.specs.Sectors.{Sector}
 use Rattle.md_base.specs.declared.answers.Refusal.{Refusal}
 use Rattle.md_base.specs.declared.answers.Who.{Who}
@@ -34,7 +34,7 @@ use Rattle.running_words.specs.Parts.{still_left}
 use Rattle.running_words.proofs.Called.{not_254}
 use Rattle.still_laws.proofs.Closing.{LeadTo, leaves-or-closes}
 use Rattle.still_laws.proofs.Left.{left-alike}
-use Rattle.still_laws.proofs.StepLaws.{shapes-moved, planned-same, left-falls}
+use Rattle.still_laws.proofs.StepLaws.{left-falls}
 
 -- a pending resync has a step left
 some-left : (n recovery waiting more left : ℕ) → left ≡ (n + 1 + recovery + waiting) + more → left ≢ 0

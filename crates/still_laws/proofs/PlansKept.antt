@@ -1,5 +1,5 @@
 -- What calls leave of the plans that are open: those that enter none keep where they go, and a reshape that begins or ends does too.
-use Rattle.std.proofs.Common.{◌≡◌, ◌⊎◌, inl, inr, ℕ, ◌≤◌, ◌||◌, Bool, true, false, cond, Option, Some, Result, Ok, Err, List, [], ◌∷◌, ◌++◌, length, fold, refl, sym, ◌∙◌, ap, subst, append-nil}
+use Rattle.std.proofs.Common.{◌≡◌, ◌⊎◌, inl, inr, ℕ, ◌≤◌, ◌||◌, Bool, true, false, cond, Some, Result, Ok, Err, List, [], ◌∷◌, ◌++◌, length, fold, refl, sym, ◌∙◌, ap, subst, append-nil}
 use Rattle.std.specs.Prelude.{if◌then◌else◌}
 use Rattle.std.specs.List.{list_any, All}
 use Rattle.std.proofs.lemmas.List.Elements.{All-nil, All-cons, All-head, All-tail}
@@ -38,7 +38,7 @@ use Rattle.kept_history.proofs.Growing.{alike-before, room-before}
 use Rattle.kept_history.proofs.Turned.{filled-before}
 use Rattle.kept_history.proofs.Tests.{neither}
 use Rattle.history_calls.specs.Reliable.{IsReliable}
-use Rattle.history_calls.proofs.Plans.{ArePlannedTo, planned-grown}
+use Rattle.history_calls.proofs.Plans.{planned-grown}
 use Rattle.running_words.specs.Parts.{RunningParts}
 use Rattle.running_words.specs.Calls.{moving_world, IsSameReshape, IsStepTaken}
 use Rattle.running_words.specs.Plans.{GoTo, aim_of, ArePlansKept}

@@ -1,5 +1,5 @@
 -- The steps of a rebuild, from what `give_role`, `fill` and `flush_and_record` leave: what is kept, done or refused.
-use Rattle.std.proofs.Common.{◌≡◌, ◌≢◌, ◌⊎◌, inl, inr, ℕ, zero, suc, ◌+◌, ◌-◌, ◌*◌, ◌<◌, ◌≤◌, min, true, false, not, is_some, Option, Some, None, List, [], ◌∷◌, ◌++◌, length, refl, sym, ◌∙◌, ap, subst, arith, append-nil, append_assoc}
+use Rattle.std.proofs.Common.{◌≡◌, ◌≢◌, inl, inr, ℕ, zero, suc, ◌+◌, ◌-◌, ◌*◌, ◌<◌, ◌≤◌, min, true, false, not, is_some, Option, Some, None, List, [], ◌∷◌, ◌++◌, length, refl, sym, ◌∙◌, ap, subst, arith, append-nil, append_assoc}
 use Rattle.std.specs.List.{Contains}
 use Rattle.std.proofs.lemmas.Bool.{cases_lt}
 use Rattle.std.proofs.lemmas.List.Elements.{All-nil}
@@ -58,7 +58,7 @@ use Rattle.running_words.specs.Parts.{still_left}
 use Rattle.running_words.proofs.Called.{not_254}
 use Rattle.still_laws.proofs.Closing.{LeadTo, leaves-or-closes}
 use Rattle.still_laws.proofs.Left.{left-alike}
-use Rattle.still_laws.proofs.StepLaws.{shapes-moved, planned-same, left-falls}
+use Rattle.still_laws.proofs.StepLaws.{left-falls}
 
 -- ---- steps are left
 
