@@ -85,7 +85,7 @@ unsettled-whole given visible old new NoMemory placed why whole = subst AreWhole
 never-unmendable : {P : Type 0} (given : Given) (m : Members) (refusal : Refusal) → IsPlaced given m → AreWhole m → IsUnmendable m refusal → P
 never-unmendable given m refusal placed whole (inl many) = never-too-many given m refusal placed whole many
 never-unmendable given m refusal placed whole (inr (role, told, unsynced, missing, data)) =
-    let lt = data.0 in
+    let lt = has.0 in
     let disks = force-disks m.newest placed.fit (shape_of m.newest) (inl refl) in
     absurd (let both : true ≡ false = sym missing ∙ whole role (omega (arith, lt, disks)) in cc)
 
