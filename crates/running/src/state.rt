@@ -1,6 +1,6 @@
 //! A running array, with a reshape active in it or without one.
 
-ghost use Rattle.std.specs.Prelude.{◌≡◌, ◌<◌, true, []};
+ghost use Rattle.std.specs.Prelude.{◌≡◌, ◌<◌, true, [], IsSome};
 ghost use Rattle.superblocks.specs.Reading.{is_reshaping};
 ghost use Rattle.flat_history.specs.Reshaped.{open_plans};
 ghost use Rattle.views.specs.Placed.{IsPlaced};
@@ -78,6 +78,7 @@ fn still_again<B: Bank>(still: Still<B>, _none: ()) -> (Still<B>, ())
 fn moving_again<B: Bank>(moving: Moving<B>, _none: ()) -> (Moving<B>, ())
     ensures same { result.0 ≡ moving }
     ensures active { is_reshaping moving.parts.members.newest ≡ true }
+    ensures backed { IsSome moving.parts.backup }
     ensures some { 0 < left_in moving.parts.work moving.parts.members moving.course moving.ahead }
     ensures within { IsWithin B.tells (B.tape moving.parts.bank) moving }
     ensures aside { IsBackupAside moving }
@@ -103,6 +104,7 @@ fn check_still<B: Bank>(still: &mut Still<B>)
 fn check_moving<B: Bank>(moving: &mut Moving<B>)
     ensures same { moving.new ≡ moving.old }
     ensures active { is_reshaping moving.old.parts.members.newest ≡ true }
+    ensures backed { IsSome moving.old.parts.backup }
     ensures some { 0 < left_in moving.old.parts.work moving.old.parts.members moving.old.course moving.old.ahead }
     ensures within { IsWithin B.tells (B.tape moving.old.parts.bank) moving.old }
     ensures aside { IsBackupAside moving.old }

@@ -53,7 +53,7 @@ impl<B: Bank> Running<B> {
         ensures whole { OnOk result (next_kind self.old.parts.work self.old.parts.members ≡ EndsRebuild → IsWholeOrLost self.old.parts.members self.new.parts.members (rebuilt_role self.old.parts.members)) }
         ensures stepped { IsStepped B.tells (B.given self.old.parts.bank) (B.tape self.old.parts.bank) (B.tape self.new.parts.bank) (IsHeldOrDue self.old.parts.work self.old.parts.members) (B.faults_of self.old.parts.bank) (B.faults_of self.new.parts.bank) self.old self.new }
         ensures held { AreHeldOrSpare self.old.parts.members self.new.parts.members }
-        ensures stays { is_reshaping self.new.parts.members.newest ≡ false }
+        ensures left_still { is_reshaping self.new.parts.members.newest ≡ false }
         ensures ends { IsRefusedInStep self.new result }
         ensures closable { OnOk result (IsClosable self.new) }
         ensures course { self.new.course ≡ self.old.course }
