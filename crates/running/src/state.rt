@@ -1,14 +1,13 @@
 //! A running array, with a reshape active in it or without one.
 
-ghost use Rattle.std.specs.Prelude.{◌≡◌, ◌<◌, ◌≤◌, true, [], length};
+ghost use Rattle.std.specs.Prelude.{◌≡◌, ◌<◌, true, []};
 ghost use Rattle.superblocks.specs.Reading.{is_reshaping};
-ghost use Rattle.flat_history.specs.Growing.{EndBy};
 ghost use Rattle.flat_history.specs.Reshaped.{open_plans};
 ghost use Rattle.grow_asked.specs.Left.{phases_of};
 ghost use Rattle.running_words.specs.Parts.{left_in};
 ghost use Rattle.running_words.specs.Calls.{moving_world};
 ghost use Rattle.running_words.specs.Plans.{KeepsShape};
-ghost use Rattle.running.specs.State.{IsStillNow};
+ghost use Rattle.running.specs.State.{IsStillNow, IsWithin};
 
 mod adding;
 mod answering;
@@ -68,8 +67,7 @@ impl<B: Bank> Model for Running<B> {
 fn still_again<B: Bank>(still: Still<B>, _none: ()) -> (Still<B>, ())
     ensures same { result.0 ≡ still }
     ensures rest { IsStillNow still }
-    ensures begun { B.tells → still.parts.first ≤ length (B.tape still.parts.bank) }
-    ensures ends { B.tells → EndBy (length (B.tape still.parts.bank)) still.parts.entries }
+    ensures within { IsWithin B.tells (B.tape still.parts.bank) still }
 {
     (Still::of_pieces(still.take_apart()), ())
 }
@@ -79,8 +77,7 @@ fn moving_again<B: Bank>(moving: Moving<B>, _none: ()) -> (Moving<B>, ())
     ensures same { result.0 ≡ moving }
     ensures active { is_reshaping moving.parts.members.newest ≡ true }
     ensures some { 0 < left_in moving.parts.work moving.parts.members moving.course moving.ahead }
-    ensures begun { B.tells → moving.parts.first ≤ length (B.tape moving.parts.bank) }
-    ensures ends { B.tells → EndBy (length (B.tape moving.parts.bank)) moving.parts.entries }
+    ensures within { IsWithin B.tells (B.tape moving.parts.bank) moving }
 {
     let (pieces, course, window) = moving.take_apart();
     let Some(backup) = pieces.backup else {
@@ -93,8 +90,7 @@ fn moving_again<B: Bank>(moving: Moving<B>, _none: ()) -> (Moving<B>, ())
 fn check_still<B: Bank>(still: &mut Still<B>)
     ensures same { still.new ≡ still.old }
     ensures rest { IsStillNow still.old }
-    ensures begun { B.tells → still.old.parts.first ≤ length (B.tape still.old.parts.bank) }
-    ensures ends { B.tells → EndBy (length (B.tape still.old.parts.bank)) still.old.parts.entries }
+    ensures within { IsWithin B.tells (B.tape still.old.parts.bank) still.old }
 {
     replace_with(still, (), still_again)
 }
@@ -104,8 +100,7 @@ fn check_moving<B: Bank>(moving: &mut Moving<B>)
     ensures same { moving.new ≡ moving.old }
     ensures active { is_reshaping moving.old.parts.members.newest ≡ true }
     ensures some { 0 < left_in moving.old.parts.work moving.old.parts.members moving.old.course moving.old.ahead }
-    ensures begun { B.tells → moving.old.parts.first ≤ length (B.tape moving.old.parts.bank) }
-    ensures ends { B.tells → EndBy (length (B.tape moving.old.parts.bank)) moving.old.parts.entries }
+    ensures within { IsWithin B.tells (B.tape moving.old.parts.bank) moving.old }
 {
     replace_with(moving, (), moving_again)
 }

@@ -2,7 +2,7 @@
 use Rattle.std.proofs.Common.{◌≡◌, ◌≢◌, ◌⊎◌, inl, inr, ℕ, ◌<◌, Option, Some, None, List, [], ◌∷◌, ◌++◌, length, refl}
 use Rattle.std.specs.Prelude.{IfSome, MatchOption, ⊤}
 use Rattle.md_base.specs.declared.answers.Refusal.{Refusal}
-use Rattle.md_base.specs.declared.answers.Refusal.TheVariants.{Nothing}
+use Rattle.md_base.specs.declared.answers.Refusal.TheVariants.{Degraded, NeedSpares, BackupFault, Nothing}
 use Rattle.md_base.specs.declared.answers.Who.{Who}
 use Rattle.bank.specs.declared.bank.Operation.{Operation}
 use Rattle.bank.specs.Given.{Given}
@@ -15,6 +15,7 @@ use Rattle.flat_history.specs.declared.events.Event.TheVariants.{Refused, Steppe
 use Rattle.flat_history.specs.Legal.{IsRefusedRight}
 use Rattle.flat_history.specs.Plain.{entries_of}
 use Rattle.flat_history.specs.Reshaped.{open_plans}
+use Rattle.flat_history.specs.World.{World}
 use Rattle.views.specs.declared.work.Work.{Work}
 use Rattle.views.specs.Status.{left_of}
 use Rattle.call_entries.proofs.LeftLaws.{left-more, keeps-left}
@@ -32,7 +33,7 @@ use Rattle.still_kept.proofs.Resync.{not-zero}
 use Rattle.running_words.specs.Parts.{still_left}
 use Rattle.running_words.proofs.Called.{not_254}
 use Rattle.running_words.proofs.Lengths.{IsLengthKept, alone-keeps}
-use Rattle.still_laws.specs.Steps.{IsEndedRight, IsStepsReplyNow}
+use Rattle.still_laws.specs.Steps.{RefusesBegin, MayEndNow, IsStepsReplyNow}
 use Rattle.still_laws.proofs.MendLaws.{leaves-none}
 use Rattle.still_laws.proofs.StepLaws.{step-refused, refused-going}
 
@@ -53,10 +54,17 @@ answer-stands {tells = tells} {given = given} {tape = tape} {scope = scope} {fir
     (left-more (still_left work m ahead) entries who end (Stepped done left ended ∷ []) was.left_told (λ told is. reply.0))
     (λ t right. (keeps-left (still_left work m ahead) entries (entry_of who end (Stepped done left ended)) [] left was.left_told reply.0, ended-right ended reply.1 t right))
   where
-    ended-right : (ended : Option Refusal) → MatchOption ended ⊤ (IsEndedRight work m) → (t : tells) → IsReliable (world_in given tape scope first) entries
+    begin-right : (world : World) (before : List Entry) (refusal : Refusal) → RefusesBegin refusal → IsRefusedRight world before refusal
+    begin-right world before (Degraded role) why = tt
+    begin-right world before (NeedSpares have want) why = tt
+    begin-right world before BackupFault why = tt
+    begin-right world before refusal why = absurd why
+
+    ended-right : (ended : Option Refusal) → MatchOption ended ⊤ (MayEndNow work m ahead) → (t : tells) → IsReliable (world_in given tape scope first) entries
         → IfSome ended (IsRefusedRight (world_in given tape scope first) entries)
     ended-right None why t right = tt
-    ended-right (Some refusal) why t right =
+    ended-right (Some refusal) (inr begins) t right = begin-right (world_in given tape scope first) entries refusal begins.0
+    ended-right (Some refusal) (inl why) t right =
         refused-right (world_in given tape scope first) entries given m was.members_are.placed work.resync (was.gone t right) (was.levelled t right) (was.pending t) refusal
         (step-refused given m was.members_are.placed refusal work.resync why.0 why.1)
 answer-stands work m ahead who end event was goes caller at_end plans reply = absurd reply

@@ -52,6 +52,7 @@ impl<B: Bank> Running<B> {
                 check_still(still);
             }
             State::Moving(moving) => {
+                check_moving(moving);
                 replace_with(moving, (who, event), answer_in);
                 check_moving(moving);
             }
