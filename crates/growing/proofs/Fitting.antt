@@ -103,13 +103,6 @@ right-before world entries added begun ends right = record {
   alike = right.alike;
 }
 
--- what can be relied on behind more entries could be so before them
-pub reliable-earlier : {given : Given} {tape : List Operation} {scope scope' : Scope} {first first' : ℕ} {entries entries' : List Entry} (added : List Entry) → first ≤ length tape → EndBy (length tape) entries
-    → scope' ≡ scope → first' ≡ first → entries' ≡ entries ++ added → IsReliable (world_in given tape scope' first') entries' → IsReliable (world_in given tape scope first) entries
-reliable-earlier {given = given} {tape = tape} {scope = scope} {scope' = scope'} {first = first} {first' = first'} {entries = entries} {entries' = entries'} added begun ends scope_is first_is is right =
-    right-before (world_in given tape scope first) entries added begun ends
-    (subst (λ (w : World). IsReliable w (entries ++ added)) (λ i. world_in given tape (scope_is i) (first_is i)) (subst (λ (l : List Entry). IsReliable (world_in given tape scope' first') l) is right))
-
 pub phases-told : {tells : Type 0} {given : Given} {tape : List Operation} {scope : Scope} {first : ℕ} {entries : List Entry} {m : Members} {work : Work} {left : ℕ} (who : Who) (end : ℕ) (wish : Wish) (steps : ℕ)
     → IsStill tells given tape scope first entries m work left → AreNoneMissing m → (tells → end ≡ length tape)
     → tells → IsReliable (world_in given tape scope first) (entries ++ entries_of who end (Planned steps wish ∷ []))

@@ -9,7 +9,6 @@ ghost use Rattle.flat_history.specs.declared.events.Event.TheVariants.{Planned, 
 ghost use Rattle.array_kept.specs.Calls.{OnNoMemory, IsEndOf};
 ghost use Rattle.grow_asked.specs.Asked.{grow_refusal};
 ghost use Rattle.grow_asked.specs.Left.{phases_of};
-ghost use Rattle.history_calls.specs.Reliable.{IsReliable};
 ghost use Rattle.still.specs.running_words_Parts.{still_left};
 ghost use Rattle.still.specs.running_words_Calls.{moving_world};
 ghost use Rattle.growing.specs.Planned.{asked_in, IsGrowJudged, IsGrowReply, IsGrowAnswered, IsAsBefore, IsGrowPlanned};
@@ -54,7 +53,6 @@ fn enter_refusal<B: Bank>(still: Still<B>, who: Who, wish: &Wish, refusal: Refus
     ensures reply { IsGrowReply B.tells (moving_world (B.given still.parts.bank) (B.tape still.parts.bank) still) (asked_in (B.given still.parts.bank) still) wish.now who still.parts.entries result.parts.entries (Refused refusal) }
     ensures as_before { IsAsBefore still result }
     ensures ended { IsEndOf B.tells result.parts.first result.parts.entries (B.tape result.parts.bank) }
-    ensures earlier { B.tells → IsReliable (moving_world (B.given result.parts.bank) (B.tape result.parts.bank) result) result.parts.entries → IsReliable (moving_world (B.given still.parts.bank) (B.tape still.parts.bank) still) still.parts.entries }
     ensures ahead { result.ahead ≡ still.ahead }
 {
     let mut pieces = still.take_apart();
@@ -74,7 +72,6 @@ fn enter_plan<B: Bank>(still: Still<B>, who: Who, wish: Wish) -> (Still<B>, u64)
     ensures reply { IsGrowReply B.tells (moving_world (B.given still.parts.bank) (B.tape still.parts.bank) still) (asked_in (B.given still.parts.bank) still) wish who still.parts.entries result.0.parts.entries (Planned result.1 wish) }
     ensures as_before { IsAsBefore still result.0 }
     ensures ended { IsEndOf B.tells result.0.parts.first result.0.parts.entries (B.tape result.0.parts.bank) }
-    ensures earlier { B.tells → IsReliable (moving_world (B.given result.0.parts.bank) (B.tape result.0.parts.bank) result.0) result.0.parts.entries → IsReliable (moving_world (B.given still.parts.bank) (B.tape still.parts.bank) still) still.parts.entries }
     ensures left { result.1 ≡ still_left result.0.parts.work result.0.parts.members result.0.ahead }
     ensures planned { IsGrowPlanned B.tells (B.given result.0.parts.bank) (moving_world (B.given result.0.parts.bank) (B.tape result.0.parts.bank) result.0) wish result.1 result.0 }
     ensures goes { GoesTo B.tells (moving_world (B.given result.0.parts.bank) (B.tape result.0.parts.bank) result.0) still result.0 }
@@ -108,7 +105,6 @@ pub fn plan_grow<B: Bank>(
     ensures unchanged { OnNoMemory result.1 (result.0 ≡ still) }
     ensures as_before { IsAsBefore still result.0 }
     ensures ended { IsEndOf B.tells result.0.parts.first result.0.parts.entries (B.tape result.0.parts.bank) }
-    ensures earlier { B.tells → IsReliable (moving_world (B.given result.0.parts.bank) (B.tape result.0.parts.bank) result.0) result.0.parts.entries → IsReliable (moving_world (B.given still.parts.bank) (B.tape still.parts.bank) still) still.parts.entries }
     ensures refused { OnErr result.1 (result.0.ahead ≡ still.ahead) }
     ensures planned { IfOk result.1 (λ plan. IsGrowPlanned B.tells (B.given result.0.parts.bank) (moving_world (B.given result.0.parts.bank) (B.tape result.0.parts.bank) result.0) wish plan.left result.0) }
     ensures goes { OnOk result.1 (GoesTo B.tells (moving_world (B.given result.0.parts.bank) (B.tape result.0.parts.bank) result.0) still result.0) }

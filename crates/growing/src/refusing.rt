@@ -7,7 +7,6 @@ ghost use Rattle.superblocks.specs.Reading.{list_length};
 ghost use Rattle.flat_history.specs.Flat.{next_number, visible_of};
 ghost use Rattle.flat_history.specs.declared.events.Event.TheVariants.{Refused};
 ghost use Rattle.array_kept.specs.Calls.{OnNoMemory, IsEndOf};
-ghost use Rattle.history_calls.specs.Reliable.{IsReliable};
 ghost use Rattle.still.specs.running_words_Calls.{moving_world};
 ghost use Rattle.growing.specs.Planned.{asked_in, IsGrowJudged, IsGrowAnswered, IsAsBefore};
 
@@ -35,7 +34,6 @@ pub fn refuse_grow<B: Bank>(
     ensures unchanged { OnNoMemory result.1 (result.0 ≡ moving) }
     ensures as_before { IsAsBefore moving result.0 }
     ensures ended { IsEndOf B.tells result.0.parts.first result.0.parts.entries (B.tape result.0.parts.bank) }
-    ensures earlier { B.tells → IsReliable (moving_world (B.given result.0.parts.bank) (B.tape result.0.parts.bank) result.0) result.0.parts.entries → IsReliable (moving_world (B.given moving.parts.bank) (B.tape moving.parts.bank) moving) moving.parts.entries }
     ensures ahead { result.0.ahead ≡ moving.ahead }
 {
     let (mut pieces, course, window) = moving.take_apart();

@@ -21,7 +21,7 @@ use Rattle.still.proofs.still_kept_Stood.{within-count}
 use Rattle.growing.specs.Planned.{asked_in, HasWideBackup}
 use Rattle.growing.specs.Plans.{GoTo}
 use Rattle.growing.proofs.Idle.{planned-whole, planned-idle, some-steps}
-use Rattle.growing.proofs.Fitting.{told-by, plan-fits, phases-told, reliable-earlier}
+use Rattle.growing.proofs.Fitting.{told-by, plan-fits, phases-told}
 use Rattle.growing.proofs.Kept.{planned-ready, wide-backup}
 use Rattle.growing.proofs.PlanLaws.{planned-goes}
 use Rattle.growing.proofs.planning.enter_plan.Goals as goal
@@ -83,13 +83,6 @@ returns-clause-ended g c =
     let p = c.take_apart-pieces.result in
     rw (c.of_pieces.ensures.same)
     (ended-behind (g.B.Bank.tape p.bank) c.enter.new.epoch.first p.epoch.entries.items c.args.who c.ops-end.result [] (Planned c.plan_of-plan.result.steps c.args.wish) c.enter.ensures.items c.ops-end.ensures.count)
-
-pub returns-clause-earlier : goal.returns-clause-earlier
-returns-clause-earlier g c =
-    let p = c.take_apart-pieces.result in
-    let recorded = c.take_apart-pieces.ensures.ready.kept.recorded in
-    rw (c.of_pieces.ensures.same) (rw (c.take_apart-pieces.ensures.same) (λ t right. reliable-earlier (entries_of c.args.who c.ops-end.result (Planned c.plan_of-plan.result.steps c.args.wish ∷ [])) (recorded t).begun (recorded t).ends
-    (scope-same (g.B.Bank.given p.bank) p.backup refl c.enter.ensures.uuid c.enter.ensures.given) c.enter.ensures.first c.enter.ensures.items right))
 
 pub returns-clause-left : goal.returns-clause-left
 returns-clause-left g c =

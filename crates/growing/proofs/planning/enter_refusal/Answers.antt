@@ -15,7 +15,7 @@ use Rattle.still.proofs.still_laws_Kept.{ready, rows-same}
 use Rattle.still.proofs.still_laws_StepLaws.{refused-going}
 use Rattle.growing.specs.Planned.{asked_in}
 use Rattle.growing.proofs.Idle.{grow-plain}
-use Rattle.growing.proofs.Fitting.{told-by, first-of, refusal-fits, reliable-earlier}
+use Rattle.growing.proofs.Fitting.{told-by, first-of, refusal-fits}
 use Rattle.growing.proofs.planning.enter_refusal.Goals as goal
 
 pub of_pieces-requires : goal.of_pieces-requires
@@ -61,10 +61,3 @@ returns-clause-reply g c =
       fits = λ t right ahead read. refusal-fits (world_in given tape (scope_in given p.epoch.uuid p.epoch.given p.backup) p.epoch.first) p.epoch.entries.items who end a wish refusal number (c.ops-end.ensures.count t)
           (told-by (length (phases_of p.ahead)) end was.kept was.unlimited t right (c.ops-end.ensures.count t) ahead read) why;
     }))
-
-pub returns-clause-earlier : goal.returns-clause-earlier
-returns-clause-earlier g c =
-    let p = c.take_apart-pieces.result in
-    let recorded = c.take_apart-pieces.ensures.ready.kept.recorded in
-    rw (c.of_pieces.ensures.same) (rw (c.take_apart-pieces.ensures.same) (λ t right. reliable-earlier (entries_of c.args.who c.ops-end.result (Refused c.args.refusal ∷ [])) (recorded t).begun (recorded t).ends
-    (scope-same (g.B.Bank.given p.bank) p.backup refl c.enter.ensures.uuid c.enter.ensures.given) c.enter.ensures.first c.enter.ensures.items right))

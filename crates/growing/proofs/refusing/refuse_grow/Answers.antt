@@ -12,7 +12,6 @@ use Rattle.array_kept.proofs.LossLaws.{ended-behind}
 use Rattle.array_kept.proofs.ReadyLaws.{scope-same}
 use Rattle.moving.proofs.moving_laws_Kept.{ready, roomier, shapes-same, alone-keeps}
 use Rattle.growing.proofs.Kept.{all-visible}
-use Rattle.growing.proofs.Fitting.{reliable-earlier}
 use Rattle.growing.proofs.Busy.{busy-fits, busy-moves}
 use Rattle.growing.proofs.refusing.refuse_grow.Goals as goal
 
@@ -60,11 +59,3 @@ returns-clause-visible g c =
     let was = c.take_apart-pieces.ensures.ready in
     let p = c.take_apart-pieces.result.0 in
     rw (c.take_apart-pieces.ensures.same) (all-visible (list_length p.members.newest) p.epoch.entries.items was.unlimited was.sized)
-
-pub returns-clause-earlier : goal.returns-clause-earlier
-returns-clause-earlier g c =
-    let p = c.take_apart-pieces.result.0 in
-    let recorded = c.take_apart-pieces.ensures.ready.kept.recorded in
-    let items = c.enter.ensures.items ∙ ap (λ (l : List Entry). l ++ entries_of c.args.who c.ops-end.result (Refused (Busy Reshape) ∷ [])) c.make_room.ensures.items in
-    rw (c.of_pieces-moving-2.ensures.same) (rw (c.take_apart-pieces.ensures.same) (λ t right. reliable-earlier (entries_of c.args.who c.ops-end.result (Refused (Busy Reshape) ∷ [])) (recorded t).begun (recorded t).ends
-    (scope-same (g.B.Bank.given p.bank) p.backup refl c.enter.ensures.uuid c.enter.ensures.given) c.enter.ensures.first items right))
