@@ -1,3 +1,4 @@
 pub mod Chosen
 pub mod Entered
 pub mod Kept
+pub mod Planning
