@@ -5,3 +5,4 @@ pub mod Closed
 pub mod Ended
 pub mod Entered
 pub mod Kept
+pub mod Planning

@@ -20,6 +20,7 @@ mod examining;
 mod failing;
 mod finishing;
 mod mending;
+mod planning;
 mod reading;
 mod rooms;
 mod settling;
