@@ -42,7 +42,7 @@ impl<B: Bank> Running<B> {
         requires caller { who.caller ≢ 254 }
         requires room { 1 ≤ self.old.parts.steps }
         requires reply { IsReplyNow self.old event }
-        requires closable { is_reshaping self.old.parts.members.newest ≡ false → MayAnswer self.old event }
+        requires closable { is_reshaping self.old.parts.members.newest ≡ false → MayAnswer self.old.parts.entries self.old.parts.work self.old.parts.members self.old.ahead event }
         ensures entered { IsEntered B.tells (B.tape self.old.parts.bank) who self.old.parts.entries self.new.parts.entries (event ∷ []) }
         ensures room { self.new.parts.steps + 1 ≡ self.old.parts.steps }
         ensures bank { self.new.parts.bank ≡ self.old.parts.bank }

@@ -22,7 +22,7 @@ answer-requires-clause-reply g c =
 pub answer-requires-clause-closable : goal.answer-requires-clause-closable
 answer-requires-clause-closable g c =
     let was = rw c.in-Still.is at c.self.invariant in
-    let closable = subst (λ p. is_reshaping p.parts.members.newest ≡ false → MayAnswer p c.args.event) (sym c.self.view_is ∙ ap (λ s. parts_in s) c.in-Still.is) c.requires.closable in
+    let closable = subst (λ p. is_reshaping p.parts.members.newest ≡ false → MayAnswer p.parts.entries p.parts.work p.parts.members p.ahead c.args.event) (sym c.self.view_is ∙ ap (λ s. parts_in s) c.in-Still.is) c.requires.closable in
     closable was.now.still
 
 pub replace_with-requires : goal.replace_with-requires
