@@ -3,7 +3,7 @@ use Rattle.std.proofs.Common.{◌≡◌, ◌≢◌, inl, inr, ℕ, ◌==◌, Boo
 use Rattle.std.proofs.lemmas.Bool.Decides.{nat_tests}
 use Rattle.std.specs.Prelude.{IfSome, MatchOption, ⊤}
 use Rattle.md_base.specs.declared.answers.Refusal.{Refusal}
-use Rattle.md_base.specs.declared.answers.Refusal.TheVariants.{Nothing}
+use Rattle.md_base.specs.declared.answers.Refusal.TheVariants.{Degraded, NeedSpares, BackupFault, Nothing}
 use Rattle.md_base.specs.declared.answers.Who.{Who}
 use Rattle.bank.specs.declared.bank.Operation.{Operation}
 use Rattle.bank.specs.Given.{Given}
@@ -14,6 +14,8 @@ use Rattle.flat_history.specs.declared.events.Event.{Event}
 use Rattle.flat_history.specs.declared.events.Event.TheVariants.{Refused, Stepped}
 use Rattle.flat_history.specs.Legal.{IsRefusedRight}
 use Rattle.flat_history.specs.Plain.{entries_of}
+use Rattle.flat_history.specs.Reshaped.{open_plans}
+use Rattle.flat_history.specs.World.{World}
 use Rattle.views.specs.declared.work.Work.{Work}
 use Rattle.views.proofs.LackingLaws.{never-both}
 use Rattle.call_entries.proofs.LeftLaws.{left-more, keeps-left}
@@ -29,8 +31,8 @@ use Rattle.still_kept.proofs.Resting.{resting-stands}
 use Rattle.running_words.specs.Parts.{still_left}
 use Rattle.running_words.proofs.Called.{not_254}
 use Rattle.running_words.proofs.Lengths.{IsLengthKept, alone-keeps}
-use Rattle.still_laws.specs.Steps.{IsEndedRight, IsStepsReplyNow, MayAnswer}
-use Rattle.still_laws.proofs.Closing.{LeadTo, leaves-or-closes, resync-over}
+use Rattle.still_laws.specs.Steps.{RefusesBegin, MayEndNow, IsStepsReplyNow, MayAnswer}
+use Rattle.still_laws.proofs.Closing.{LeadTo, ahead-none, leaves-or-closes, resync-over}
 use Rattle.still_laws.proofs.StepLaws.{step-refused, refused-going}
 
 pub answer-stands : {tells : Type 0} {given : Given} {tape : List Operation} {scope : Scope} {first : ℕ} {entries : List Entry} (work : Work) (m : Members) (ahead : PhasesLeft) (who : Who) (end : ℕ) (event : Event)
@@ -45,9 +47,17 @@ answer-stands {tells = tells} {given = given} {tape = tape} {scope = scope} {fir
     (left-more (still_left work m ahead) entries who end (Stepped done left ended ∷ []) was.left_told (λ told is. reply.0))
     (λ t right. (keeps-left (still_left work m ahead) entries (entry_of who end (Stepped done left ended)) [] left was.left_told reply.0, ended-right ended reply.1 t right))
   where
+    begin-right : (world : World) (before : List Entry) (refusal : Refusal) → RefusesBegin refusal → IsRefusedRight world before refusal
+    begin-right world before (Degraded role) why = tt
+    begin-right world before (NeedSpares have want) why = tt
+    begin-right world before BackupFault why = tt
+    begin-right world before refusal why = absurd why
+
     -- where no step is left, no plan is open, or what is missing can be told; or too many are missing, so that a step was refused
-    closes : (ended : Option Refusal) → MatchOption ended ⊤ (IsEndedRight work m) → MayAnswer entries work m ahead (Stepped done left ended) → EndsPlans tells (world_in given tape scope first) entries m work (Stepped done left ended)
-    closes (Some refusal) why may = leaves-or-closes m m ahead (Stepped done left (Some refusal)) left plans was.members_are.still refl reply.0 refl refl
+    closes : (ended : Option Refusal) → MatchOption ended ⊤ (MayEndNow work m ahead) → MayAnswer entries work m ahead (Stepped done left ended) → EndsPlans tells (world_in given tape scope first) entries m work (Stepped done left ended)
+    closes (Some refusal) (inr begins) may = leaves-or-closes m m ahead (Stepped done left (Some refusal)) left plans was.members_are.still refl reply.0 refl refl
+        (λ zero can. absurd (begins.1 (ahead-none (shape_of m.newest) m.newest.size (left_of work m) (phases_of ahead) (sym reply.0 ∙ zero))))
+    closes (Some refusal) (inl why) may = leaves-or-closes m m ahead (Stepped done left (Some refusal)) left plans was.members_are.still refl reply.0 refl refl
         (λ zero can. absurd (never-both m refusal can (why.1 (resync-over work m ahead (sym reply.0 ∙ zero)))))
     closes None why may = of (left == 0) refl
       where
@@ -61,10 +71,11 @@ answer-stands {tells = tells} {given = given} {tape = tape} {scope = scope} {fir
           | inr named ↦ leaves-or-closes m m ahead (Stepped done left None) left plans was.members_are.still refl reply.0 refl refl (λ zero can. named)
         ]
 
-    ended-right : (ended : Option Refusal) → MatchOption ended ⊤ (IsEndedRight work m) → (t : tells) → IsReliable (world_in given tape scope first) entries
+    ended-right : (ended : Option Refusal) → MatchOption ended ⊤ (MayEndNow work m ahead) → (t : tells) → IsReliable (world_in given tape scope first) entries
         → IfSome ended (IsRefusedRight (world_in given tape scope first) entries)
     ended-right None why t right = tt
-    ended-right (Some refusal) why t right =
+    ended-right (Some refusal) (inr begins) t right = begin-right (world_in given tape scope first) entries refusal begins.0
+    ended-right (Some refusal) (inl why) t right =
         refused-right (world_in given tape scope first) entries given m was.members_are.placed work.resync (was.gone t right) (was.levelled t right) (was.pending t) refusal
         (step-refused given m was.members_are.placed refusal work.resync why.0 why.1)
 answer-stands work m ahead who end event was goes caller at_end plans may reply = absurd reply

@@ -1,7 +1,7 @@
 -- What the steps of an array without an active reshape leave, besides their answers.
-use Rattle.std.specs.Prelude.{◌≡◌, ◌⊎◌, ℕ, List, [], None, MatchOption, ⊤}
+use Rattle.std.specs.Prelude.{◌≡◌, ◌≢◌, ◌⊎◌, ℕ, List, [], None, MatchOption, ⊤}
 use Rattle.md_base.specs.declared.answers.Refusal.{Refusal}
-use Rattle.md_base.specs.declared.answers.Refusal.TheVariants.{Nothing}
+use Rattle.md_base.specs.declared.answers.Refusal.TheVariants.{Degraded, NeedSpares, BackupFault, Nothing}
 use Rattle.md_base.specs.declared.answers.Who.{Who}
 use Rattle.bank.specs.Given.{Given, NeverFalls}
 use Rattle.bank.specs.declared.bank.Operation.{Operation}
@@ -15,6 +15,7 @@ use Rattle.views.specs.declared.work.Work.{Work}
 use Rattle.views.specs.Lacking.{AreTooMany, HaveRolesFailed}
 use Rattle.views.specs.Moving.{Grows}
 use Rattle.grow_asked.specs.declared.window.PhasesLeft.{PhasesLeft}
+use Rattle.grow_asked.specs.Left.{phases_of}
 use Rattle.array_kept.specs.Calls.{AreLossesBy, IsEndOf, IsUnmendable}
 use Rattle.kept_history.specs.Recorded.{IsCallGoing, IsOpenBehind}
 use Rattle.history_calls.specs.Reliable.{IsReliable}
@@ -45,10 +46,21 @@ MayAnswer entries work members ahead event = ⊤
 abbrev pub IsEndedRight : Work → Members → Refusal → Type 0
 IsEndedRight work members refusal = IsUnmendable members refusal × (work.resync ≡ None → AreTooMany members refusal)
 
+-- a reshape isn't begun for a role that is missing, for want of spares, or for its backup
+abbrev pub RefusesBegin : Refusal → Type 0
+RefusesBegin (Degraded role) = ⊤
+RefusesBegin (NeedSpares have want) = ⊤
+RefusesBegin BackupFault = ⊤
+RefusesBegin refusal = ⊥
+
+-- the refusal of a step that ended a request: it was right so, or it is that of the begin of what is ahead
+abbrev pub MayEndNow : Work → Members → PhasesLeft → Refusal → Type 0
+MayEndNow work members ahead refusal = IsEndedRight work members refusal ⊎ (RefusesBegin refusal × (phases_of ahead ≢ []))
+
 -- a reply to a request for steps: nothing was left to do; or so many steps are left, and a step was refused rightly that ended it
 abbrev pub IsStepsReplyNow : Work → Members → PhasesLeft → Event → Type 0
 IsStepsReplyNow work members ahead (Refused Nothing) = still_left work members ahead ≡ 0
-IsStepsReplyNow work members ahead (Stepped done left ended) = (left ≡ still_left work members ahead) × MatchOption ended ⊤ (IsEndedRight work members)
+IsStepsReplyNow work members ahead (Stepped done left ended) = (left ≡ still_left work members ahead) × MatchOption ended ⊤ (MayEndNow work members ahead)
 IsStepsReplyNow work members ahead event = ⊥
 
 -- The call goes on, and nothing was left open by what it entered: each length was kept by some slot, and steps are left.
