@@ -10,6 +10,7 @@ use Rattle.still_laws.specs.Steps.{MayLeaveNone, IsStepsReplyNow}
 use Rattle.still_laws.proofs.Kept.{ready, rows-same}
 use Rattle.still_laws.proofs.StepLaws.{shapes-same, stepped}
 use Rattle.still_laws.proofs.AnswerLaws.{answer-stands, reply-keeps, reply-lossless}
+use Rattle.still_laws.proofs.PlainBehind.{answered-plain}
 use Rattle.still.proofs.state.Still.answer.Goals as goal
 
 pub invariant_of-self : goal.invariant_of-self
@@ -24,6 +25,7 @@ invariant_of-self g c =
     let end = c.ops-end.result in
     ready (entries_of c.args.who end (c.args.event ∷ [])) was (rows-same a.members.newest)
     (answer-stands a.work a.members a.ahead c.args.who end c.args.event was.kept goes c.requires.caller c.ops-end.ensures.count plans reply)
+    (answered-plain was c.args.who end goes c.requires.caller c.ops-end.ensures.count (grows-none (λ t. refl)) c.args.event reply)
     (λ slot. omega arith) (reply-keeps a.work a.members a.ahead c.args.who end c.args.event reply)
     refl (scope-same given a.backup refl c.enter.ensures.uuid c.enter.ensures.given) c.enter.ensures.first refl c.enter.ensures.items
     (omega (arith, c.enter.ensures.room, was.room_left, some))

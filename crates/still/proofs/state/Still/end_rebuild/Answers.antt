@@ -40,6 +40,7 @@ use Rattle.still_laws.proofs.Kept.{ready, rows-moved}
 use Rattle.still_laws.proofs.Going.{still-going}
 use Rattle.still_laws.proofs.StepLaws.{shapes-moved, planned-same, stepped, fewer-more, losses-keep}
 use Rattle.still_laws.proofs.RebuildLaws.{alone, both, among-vacant, whole-held, whole-less, whole-done, end-lost}
+use Rattle.still_laws.proofs.PlainSteps.{gone-plain, whole-plain}
 use Rattle.still.proofs.state.Still.end_rebuild.Goals as goal
 
 -- ---- refused before anything is done
@@ -131,6 +132,7 @@ invariant_of-self g c =
     let vacant = sym c.is_vacant.ensures ∙ c.if-is_vacant.true in
     ready (entries_of c.args.who end (losses_of roles spares)) was (rows-moved given (with_whole role slot a.members) m did.moved)
     (end-lost a.ahead c.args.who end role slot roles spares was.kept c.in_default.ensures unbroken.goes c.requires.caller c.ops-end.ensures.count pending.1 synced leaves vacant)
+    (gone-plain was c.args.who end c.in_default.ensures unbroken.goes c.requires.caller c.ops-end.ensures.count pending.1 synced leaves vacant)
     did.counts (losses-keep c.args.who end roles spares)
     did.given (scope-same given a.backup did.given c.enter_lost.ensures.uuid c.enter_lost.ensures.given) c.enter_lost.ensures.first refl c.enter_lost.ensures.items
     (omega (arith, c.enter_lost.ensures.room, was.room_left, some))
@@ -333,6 +335,7 @@ invariant_of-self-2 g c =
     let left = c.all_left-left.result in
     ready (entries_of c.args.who end (losses_of roles spares ++ Step RebuildEnded left ∷ Rebuilt role ∷ [])) was (rows-moved given (with_whole role slot a.members) m did.moved)
     (whole-done a.ahead c.args.who end role slot roles spares was.kept c.in_default.ensures unbroken.goes c.requires.caller c.ops-end.ensures.count pending.1 synced leaves left c.all_left-left.ensures plans whole_is unbroken.kept)
+    (whole-plain was c.args.who end c.in_default.ensures unbroken.goes c.requires.caller c.ops-end.ensures.count pending.1 synced leaves left whole_is c.all_left-left.ensures)
     did.counts (behind-keeps c.args.who end roles spares (Step RebuildEnded left ∷ Rebuilt role ∷ []) (record { long = λ n. refl; free = refl }))
     did.given (scope-same given a.backup did.given (c.enter.ensures.uuid ∙ c.enter_behind.ensures.uuid) (c.enter.ensures.given ∙ c.enter_behind.ensures.given)) (c.enter.ensures.first ∙ c.enter_behind.ensures.first) refl
     (both a.epoch.entries.items c.enter_behind.new.epoch.entries.items c.enter.new.epoch.entries.items c.args.who end (losses_of roles spares) (Step RebuildEnded c.all_left-left.result) (Rebuilt role) c.enter_behind.ensures.items c.enter.ensures.items)

@@ -35,6 +35,8 @@ use Rattle.still_laws.proofs.Kept.{ready, rows-moved, with-buffers}
 use Rattle.still_laws.proofs.Going.{still-going, step-going}
 use Rattle.still_laws.proofs.StepLaws.{refused-of, shapes-moved, planned-same, stepped, fewer-more, kept-more, losses-keep}
 use Rattle.still_laws.proofs.RebuildLaws.{alone, recovering-held, among-vacant, fill-done, fill-gone, fill-refused}
+use Rattle.still_laws.proofs.PlainBehind.{lacks-here, plain-lost, plain-refused}
+use Rattle.still_laws.proofs.PlainSteps.{filled-plain}
 use Rattle.still.proofs.state.Still.fill_stripe.Goals as goal
 
 -- ---- refused before anything is done
@@ -125,6 +127,9 @@ invariant_of-self g c =
     with-buffers (omega (arith, was.rows_fit, did.rows)) (rw did.buffer was.buffer_fits) (ready (entries_of c.args.who end (losses_of roles spares ++ Refused refusal ∷ [])) was (rows-moved given a.members m did.moved)
     (fill-refused a.ahead c.args.who end role slot roles spares c.shape_in-shape.result was.kept c.in_default.ensures goes c.requires.caller c.ops-end.ensures.count c.shape_in-shape.ensures below leaves refusal
     (refused-of (LacksTooMany c.shape_in-shape.result m) c.fill-filled.result.refusal refusal c.in-Some-refusal.is did.refused))
+    (plain-refused was c.args.who end goes c.requires.caller c.ops-end.ensures.count did.grows did.moved since refusal
+    (lacks-here (list_length a.members.newest) a.work.resync c.shape_in-shape.result m refusal (c.shape_in-shape.ensures ∙ sym did.moved.shape)
+    (refused-of (LacksTooMany c.shape_in-shape.result m) c.fill-filled.result.refusal refusal c.in-Some-refusal.is did.refused)))
     did.counts (behind-keeps c.args.who end roles spares (Refused refusal ∷ []) (alone-keeps c.args.who end (Refused refusal) (λ n. refl) refl))
     did.given (scope-same given a.backup did.given c.enter_behind.ensures.uuid c.enter_behind.ensures.given) c.enter_behind.ensures.first refl c.enter_behind.ensures.items
     (omega (arith, c.enter_behind.ensures.room, was.room_left, some)))
@@ -226,7 +231,7 @@ invariant_of-self-then-is_vacant g c =
     (fill-gone a.ahead c.args.who end role slot roles spares c.shape_in-shape.result was.kept c.in_default.ensures goes c.requires.caller c.ops-end.ensures.count c.shape_in-shape.ensures below leaves
     synced c.set_rebuilt.ensures.known (sym c.is_vacant.ensures ∙ c.if-is_vacant.true)) in
     with-buffers (omega (arith, was.rows_fit, did.rows)) (rw did.buffer was.buffer_fits) (ready (entries_of c.args.who end (losses_of roles spares)) was (rows-moved given a.members m did.moved)
-    kept
+    kept (plain-lost was c.args.who end goes c.requires.caller c.ops-end.ensures.count did.grows did.moved since)
     did.counts (losses-keep c.args.who end roles spares)
     did.given (scope-same given a.backup did.given c.enter_lost.ensures.uuid c.enter_lost.ensures.given) c.enter_lost.ensures.first refl c.enter_lost.ensures.items
     (omega (arith, c.enter_lost.ensures.room, was.room_left, some)))
@@ -373,7 +378,7 @@ invariant_of-self-2 g c =
     (fill-done a.ahead c.args.who end role slot roles spares c.shape_in-shape.result was.kept c.in_default.ensures goes c.requires.caller c.ops-end.ensures.count c.shape_in-shape.ensures below leaves
     left synced c.set_rebuilt.ensures.known pending.1 (sym c.is_vacant.ensures ∙ c.if-is_vacant.false) told (did.filled c.in_default-refusal.is)) in
     with-buffers (omega (arith, was.rows_fit, did.rows)) (rw did.buffer was.buffer_fits) (ready (entries_of c.args.who end (losses_of roles spares ++ Step RebuildStripe left ∷ [])) was (rows-moved given a.members m did.moved)
-    kept
+    kept (filled-plain was c.args.who end goes c.requires.caller c.ops-end.ensures.count did.grows did.moved since left role slot below c.set_rebuilt.ensures.known c.in-Some-recovering_slot.ensures.some pending.1 told)
     did.counts (behind-keeps c.args.who end roles spares (Step RebuildStripe left ∷ []) (alone-keeps c.args.who end (Step RebuildStripe left) (λ n. refl) refl))
     did.given (scope-same given a.backup did.given c.enter_behind-2.ensures.uuid c.enter_behind-2.ensures.given) c.enter_behind-2.ensures.first refl c.enter_behind-2.ensures.items
     (omega (arith, c.enter_behind-2.ensures.room, was.room_left, some)))

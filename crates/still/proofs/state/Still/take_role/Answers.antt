@@ -35,6 +35,7 @@ use Rattle.still_laws.proofs.Kept.{ready, rows-moved}
 use Rattle.still_laws.proofs.Going.{step-going}
 use Rattle.still_laws.proofs.StepLaws.{shapes-moved, planned-same, stepped, stepped-more, fewer-more}
 use Rattle.still_laws.proofs.RebuildLaws.{taken-less, take-done}
+use Rattle.still_laws.proofs.PlainSteps.{taken-plain}
 use Rattle.still.proofs.state.Still.take_role.Goals as goal
 
 -- ---- refused before anything is done
@@ -134,7 +135,7 @@ invariant_of-self g c =
     let kept = subst (λ (w : Work). IsStill g.B.Bank.tells given tape' (scope_in given a.epoch.uuid a.epoch.given a.backup) a.epoch.first (a.epoch.entries.items ++ entries_of c.args.who end (losses_of roles spares ++ Step RebuildTaken left ∷ [])) m w (still_left w m a.ahead)) (sym next)
     (take-done a.ahead c.args.who end role slot roles spares was.kept c.in_default.ensures goes c.requires.caller c.ops-end.ensures.count c.set_rebuilt.ensures.known leaves left told plans) in
     ready (entries_of c.args.who end (losses_of roles spares ++ Step RebuildTaken left ∷ [])) was (rows-moved given (with_recovering role slot a.members) m did.moved)
-    kept
+    kept (taken-plain was c.args.who end c.in_default.ensures goes c.requires.caller c.ops-end.ensures.count c.set_rebuilt.ensures.known leaves left told)
     did.counts (behind-keeps c.args.who end roles spares (Step RebuildTaken left ∷ []) (alone-keeps c.args.who end (Step RebuildTaken left) (λ n. refl) refl))
     did.given (scope-same given a.backup did.given c.enter_behind.ensures.uuid c.enter_behind.ensures.given) c.enter_behind.ensures.first refl c.enter_behind.ensures.items
     (omega (arith, c.enter_behind.ensures.room, was.room_left, some))
