@@ -8,7 +8,7 @@ use Rattle.md_base.specs.declared.answers.Who.{Who}
 use Rattle.bank.specs.declared.bank.Operation.{Operation}
 use Rattle.bank.specs.Given.{Given}
 use Rattle.superblocks.specs.declared.members.Members.{Members}
-use Rattle.superblocks.specs.Reading.{Scope}
+use Rattle.superblocks.specs.Reading.{Scope, shape_of}
 use Rattle.flat_history.specs.declared.events.Entry.{Entry}
 use Rattle.flat_history.specs.declared.events.Event.{Event}
 use Rattle.flat_history.specs.declared.events.Event.TheVariants.{Refused, Stepped}
@@ -17,6 +17,8 @@ use Rattle.flat_history.specs.Plain.{entries_of}
 use Rattle.flat_history.specs.Reshaped.{open_plans}
 use Rattle.flat_history.specs.World.{World}
 use Rattle.views.specs.declared.work.Work.{Work}
+use Rattle.views.specs.Status.{left_of}
+use Rattle.grow_asked.specs.Left.{phases_of}
 use Rattle.views.proofs.LackingLaws.{never-both}
 use Rattle.call_entries.proofs.LeftLaws.{left-more, keeps-left}
 use Rattle.array_kept.specs.Calls.{IsLossBy}

@@ -61,18 +61,19 @@ use Rattle.array_kept.proofs.OnlyLaws.{MakeSpares, only-more, only-since}
 use Rattle.array_kept.proofs.ReadyLaws.{settles-of}
 use Rattle.array_kept.proofs.RecordLaws.{told-more}
 use Rattle.grow_asked.specs.declared.window.PhasesLeft.{PhasesLeft}
+use Rattle.grow_asked.specs.Left.{phases_of}
 use Rattle.kept_history.specs.Recorded.{IsCallGoing}
 use Rattle.kept_history.specs.Safe.{world_in}
 use Rattle.kept_history.proofs.Ledgers.{unsynced-still}
 use Rattle.running_words.specs.Parts.{still_left}
-use Rattle.running_words.specs.Plans.{KeepsShape}
+use Rattle.running_words.specs.Plans.{turns_shape, KeepsShape}
 use Rattle.still_kept.specs.Still.{AreAtRest}
 use Rattle.still_kept.proofs.Reading.{visible-behind, now-behind}
 use Rattle.still_kept.proofs.Stood.{within-count}
 use Rattle.still_laws.specs.Plain.{MayTellPlainly, AreToldPlainly, IsPlainKept}
 use Rattle.still_laws.specs.Ready.{IsReady}
-use Rattle.still_laws.specs.Steps.{IsEndedRight, IsStepsReplyNow}
-use Rattle.still_laws.proofs.Plain.{IsLeftPlain, filled-right, plain-called}
+use Rattle.still_laws.specs.Steps.{IsEndedRight, MayEndNow, IsStepsReplyNow}
+use Rattle.still_laws.proofs.Plain.{IsLeftPlain, filled-right, turned-plain, turns-first, plain-called}
 use Rattle.still_laws.proofs.Reading.{seen, read-holds}
 
 -- ---- refusals
@@ -409,26 +410,38 @@ module _ {tells : Type 0} {given : Given} {tape tape' : List Operation} {scope :
   pub answered-plain : (event : Event) → IsStepsReplyNow work m ahead event → IsLeftPlain tells given tape' scope first entries (entries_of who end (event ∷ [])) m
   answered-plain (Refused Nothing) reply =
       refused-plain Nothing (λ t p. nothing-left (world_in given tape scope first) work was.kept.members_are p (was.kept.pending t) (none-first (left_of work m) _ reply)) tt
-  answered-plain (Stepped done left ended) reply =
-      plain-alone (Stepped done left ended) (λ role. refl) (λ role. refl) (λ slot spare is. inl is)
-      (λ t p. (
-        (
-          keeps-left (still_left work m ahead) entries (one who end (Stepped done left ended)) [] left was.kept.left_told reply.0,
-          (λ none. nothing-left (world_in given tape scope first) work was.kept.members_are p (was.kept.pending t) (none-first (left_of work m) _ (sym reply.0 ∙ none))),
-        ),
-        right ended reply.1 t p,
-      ))
-      (plainly ended reply.1)
+  answered-plain (Stepped done left ended) reply = by ended reply.1
     where
-      right : (ended : Option Refusal) → MatchOption ended ⊤ (IsEndedRight work m) → tells → IsPlainKept (world_in given tape scope first) m entries
-          → IfSome ended (IsOneShapeRefusal (opening_in (world_in given tape scope first)) entries)
-      right None why t p = tt
-      right (Some refusal) why t p =
-          refusal-right (world_in given tape scope first) 0 (list_length m.newest) work.resync m entries refusal was.kept.members_are.still (limited (shape_of m.newest) (valid given m was.kept.members_are.placed)).most
-          p.disks p.tolerated (was.kept.pending t) (sym (seen was.kept was.unlimited t)) p.told
-          (step-here given m was.kept.members_are.placed (list_length m.newest) refusal work.resync why.0 why.1)
+      told : (ended : Option Refusal) → MatchOption ended ⊤ (IsEndedRight work m) → IsLeftPlain tells given tape' scope first entries (entries_of who end (Stepped done left ended ∷ [])) m
+      told ended why =
+          plain-alone (Stepped done left ended) (λ role. refl) (λ role. refl) (λ slot spare is. inl is)
+          (λ t p. (
+            (
+              keeps-left (still_left work m ahead) entries (one who end (Stepped done left ended)) [] left was.kept.left_told reply.0,
+              (λ none. nothing-left (world_in given tape scope first) work was.kept.members_are p (was.kept.pending t) (none-first (left_of work m) _ (sym reply.0 ∙ none))),
+            ),
+            right ended why t p,
+          ))
+          (plainly ended why)
+        where
+          right : (ended : Option Refusal) → MatchOption ended ⊤ (IsEndedRight work m) → tells → IsPlainKept (world_in given tape scope first) m entries
+              → IfSome ended (IsOneShapeRefusal (opening_in (world_in given tape scope first)) entries)
+          right None why t p = tt
+          right (Some refusal) why t p =
+              refusal-right (world_in given tape scope first) 0 (list_length m.newest) work.resync m entries refusal was.kept.members_are.still (limited (shape_of m.newest) (valid given m was.kept.members_are.placed)).most
+              p.disks p.tolerated (was.kept.pending t) (sym (seen was.kept was.unlimited t)) p.told
+              (step-here given m was.kept.members_are.placed (list_length m.newest) refusal work.resync why.0 why.1)
 
-      plainly : (ended : Option Refusal) → MatchOption ended ⊤ (IsEndedRight work m) → IfSome ended EndsIdleSteps
-      plainly None why = tt
-      plainly (Some refusal) why = ended-plainly m refusal why.0
+          plainly : (ended : Option Refusal) → MatchOption ended ⊤ (IsEndedRight work m) → IfSome ended EndsIdleSteps
+          plainly None why = tt
+          plainly (Some refusal) why = ended-plainly m refusal why.0
+
+      -- phases are ahead, so that a plan was told
+      turned : phases_of ahead ≢ [] → list_any (λ e. turns_shape e.event) entries ≡ true
+      turned ahead_some = elim was.ahead_told [ | inl none ↦ absurd (ahead_some none) | inr was_told ↦ was_told ]
+
+      by : (ended : Option Refusal) → MatchOption ended ⊤ (MayEndNow work m ahead) → IsLeftPlain tells given tape' scope first entries (entries_of who end (Stepped done left ended ∷ [])) m
+      by None why = told None tt
+      by (Some refusal) (inl why) = told (Some refusal) why
+      by (Some refusal) (inr begins) = turned-plain (turns-first entries (entries_of who end (Stepped done left (Some refusal) ∷ [])) (turned begins.1))
   answered-plain event reply = absurd reply
