@@ -1,12 +1,12 @@
 -- Where nothing speaks against a plan, no role is missing, and nothing is left to do before it.
-use Rattle.std.proofs.Common.{◌≡◌, inl, inr, ℕ, zero, suc, ◌+◌, ◌*◌, ◌<◌, Bool, true, false, not, cond, min, Option, Some, None, List, ◌∷◌, refl, sym, ◌∙◌, ap, subst, arith, eq-or-lt_of_le, le_of_suc-le-suc}
+use Rattle.std.proofs.Common.{◌≡◌, inl, inr, ℕ, zero, suc, ◌+◌, ◌*◌, ◌<◌, Bool, true, false, not, cond, min, Option, Some, None, List, [], ◌∷◌, length, refl, sym, ◌∙◌, ap, subst, arith, eq-or-lt_of_le, le_of_suc-le-suc}
 use Rattle.std.specs.Prelude.{◌⊎◌, is_some}
 use Rattle.std.specs.Option.{option_or}
 use Rattle.std.proofs.Math.Nat.{min-le_left}
 use Rattle.md_base.specs.Search.{least_below, count_below}
 use Rattle.md_base.specs.declared.answers.Refusal.{Refusal}
 use Rattle.md_base.specs.declared.answers.Refusal.TheVariants.{Busy, Degraded, PastEnd, TooManyMissing, NotResynced}
-use Rattle.md_base.specs.declared.answers.BusyKind.TheVariants.{Resync}
+use Rattle.md_base.specs.declared.answers.BusyKind.TheVariants.{Resync, Plan}
 use Rattle.md_base.specs.declared.places.Shape.{Shape}
 use Rattle.md_base.specs.declared.status.Role.{Role}
 use Rattle.md_base.specs.declared.status.Role.TheVariants.{Whole, Recovering, Missing}
@@ -112,6 +112,17 @@ pub planned-idle : (a : Asked) (wish : Wish) (work : Work) → a.resync ≡ work
 planned-idle a wish work same within none =
     none-left work a.members (λ role lt. planned-whole a wish none role (within role lt))
     (sym same ∙ none-pending a.resync (λ is. nothing-against a wish none (Busy Resync) is))
+
+-- no resync is pending, and no phase is ahead
+none-ahead : (l : List Phase) → (0 < length l → ⊥) → l ≡ []
+none-ahead [] none = refl
+none-ahead (phase ∷ rest) none = absurd (none (omega arith))
+
+pub planned-alone : (a : Asked) (wish : Wish) (ahead : List Phase) → a.phases ≡ length ahead → grow_refusal a wish ≡ None → (a.resync ≡ None) × (ahead ≡ [])
+planned-alone a wish ahead same none = (
+  none-pending a.resync (λ is. nothing-against a wish none (Busy Resync) is),
+  none-ahead ahead (λ some. nothing-against a wish none (Busy Plan) (omega (arith, some, same))),
+)
 
 -- ---- the steps of its plan
 

@@ -82,9 +82,10 @@ use Rattle.history_calls.specs.Reliable.{IsReliable, AreToldGone, IsNonePast}
 use Rattle.history_calls.proofs.LastStep.{last-behind, last-step}
 use Rattle.moving_kept.specs.Moving.{HasListInCourse, HasListStill, IsMoving}
 use Rattle.history_calls.proofs.Behind.{IsAmong, inner-of, legal-losses}
+use Rattle.history_calls.proofs.Plans.{behind-all, ArePlannedTo, plans-behind, plans-done}
 use Rattle.moving_ends.proofs.Consistent.{consistent-at}
 use Rattle.moving_ends.proofs.EndedRows.{HaveEnded, ended-short, listed-still}
-use Rattle.moving_ends.proofs.Ending.{length_by, grown_to, ending_events, only-adds, only-gives, only-lost, ending-gives, ending-settles, ending-level, ending-values, ending-length, ending-lost, ending-late, ending-last, ending-comes, ending-ends, behind-all, comes-more, before-step, ArePlannedTo, plans-behind, plans-done, told-longer}
+use Rattle.moving_ends.proofs.Ending.{length_by, grown_to, ending_events, only-adds, only-gives, only-lost, ending-gives, ending-settles, ending-level, ending-values, ending-length, ending-lost, ending-late, ending-last, ending-comes, ending-ends, comes-more, before-step, told-longer}
 use Rattle.moving_kept.proofs.Quiet.{safe-now}
 use Rattle.moving_kept.proofs.NoneLeft.{all_below-each, none-held}
 use Rattle.moving_kept.proofs.ReadShapes.{HasShapesOf, IsEitherRead}

@@ -8,10 +8,12 @@ pub mod Reading
 pub mod Writing
 pub mod Going
 pub mod StepLaws
+pub mod Closing
 pub mod MendLaws
 pub mod RebuildLaws
 pub mod AddLaws
 pub mod AnswerLaws
+pub mod PlansKept
 pub mod PlainBehind
 pub mod PlainSteps
 pub mod PlainAdds

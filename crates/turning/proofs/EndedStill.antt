@@ -66,7 +66,8 @@ use Rattle.still.specs.moving_kept_Moving.{IsMoving, IsStillKept}
 use Rattle.moving_ends.proofs.Ended.{IsPlannedTo, IsStepped}
 use Rattle.moving_ends.proofs.EndedCall.{IsEndedBy, ended-since}
 use Rattle.moving_ends.proofs.EndedMembers.{array-ends}
-use Rattle.moving_ends.proofs.Ending.{length_by, grown_to, ending_events, ending-length, ending-lost, ending-late, ArePlannedTo}
+use Rattle.history_calls.proofs.Plans.{ArePlannedTo}
+use Rattle.moving_ends.proofs.Ending.{length_by, grown_to, ending_events, ending-length, ending-lost, ending-late}
 use Rattle.still.specs.still_kept_Still.{IsStill, AreNoneMissing}
 use Rattle.still.proofs.still_kept_Bridges.{kept-again}
 use Rattle.still.proofs.still_kept_Leaving.{unsynced-later}

@@ -1,5 +1,6 @@
 -- An array without a reshape whose backup failed as one was to begin goes on as it was: nothing but the backup's header was tried.
-use Rattle.std.proofs.Common.{◌≡◌, ◌≢◌, ◌⊎◌, inl, inr, ℕ, ◌+◌, Option, Some, List, [], ◌∷◌, ◌++◌, length, refl, sym, ◌∙◌, subst, arith}
+use Rattle.std.proofs.Common.{◌≡◌, ◌≢◌, ◌⊎◌, inl, inr, ℕ, ◌+◌, Option, Some, Result, Ok, Err, List, [], ◌∷◌, ◌++◌, length, refl, sym, ◌∙◌, subst, arith}
+use Rattle.std.specs.Prelude.{IsErr, OnErr}
 use Rattle.md_base.specs.Sectors.{Sector}
 use Rattle.md_base.specs.declared.answers.Refusal.{Refusal}
 use Rattle.md_base.specs.declared.answers.Refusal.TheVariants.{BackupFault, PastEnd, TooManyMissing, NotResynced}
@@ -112,3 +113,8 @@ fault-stands {tells = tells} {given = given} {tape = tape} {tape' = tape'} {scop
     rows t role slot row held =
         let far = was.members_are.placed.behind role slot held in
         others t slot (data_offset_of (reading_of m) slot + row) (λ is. absurd (omega (arith, far, is))) (inr (λ is. absurd (omega (arith, far, is))))
+
+-- what is said of an Err holds where there is one
+pub err-tape : {T E : Type 0} {P : Type 0} (result : Result T E) → IsErr result → OnErr result P → P
+err-tape (Ok x) fails said = absurd fails
+err-tape (Err e) fails said = said

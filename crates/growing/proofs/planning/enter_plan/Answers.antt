@@ -123,6 +123,7 @@ returns-clause-planned g c =
       some = let more = some-steps shape p.members.newest.size (phases shape wish) _ plan.result.first plan.ensures.phases in let is = plan.ensures.steps in omega (arith, more, is);
       idle = planned-idle a wish p.work refl (λ role. within-count given p.members was.kept.members_are.placed role) taken;
       whole = planned-whole a wish taken;
+      sound = subst (AreSound shape p.members.newest.size) (sym ahead) plan.ensures.sound;
       backed = subst (λ (l : List Phase). HasWideBackup given p.backup (largest_window shape p.members.newest.size l)) (sym ahead) (wide-backup given p.backup a wish refl taken);
       told = λ t right. (λ i. phases_left (world_is i) (items i))
           ∙ phases-told who end wish plan.result.steps was.kept (planned-whole a wish taken) c.ops-end.ensures.count t (subst (λ (w : World). IsReliable w (p.epoch.entries.items ++ entries_of who end (Planned plan.result.steps wish ∷ []))) world_is

@@ -1,0 +1,7 @@
+mod Events
+mod Went
+mod Plain
+mod Begun
+mod Ended
+mod Batch
+mod Replies
