@@ -2,7 +2,6 @@
 use Rattle.std.proofs.Common.{◌≡◌, ◌⊎◌, inl, inr, ℕ, ◌*◌, ◌<◌, ◌≤◌, true, false, List, [], ◌++◌, refl, sym, ◌∙◌, ap, subst, arith}
 use Rattle.std.specs.List.{list_any}
 use Rattle.std.proofs.lemmas.List.Elements.{All-append}
-use Rattle.std.proofs.lemmas.List.Folds.{list_any-append}
 use Rattle.md_base.specs.declared.places.Shape.{Shape}
 use Rattle.bank.specs.declared.bank.Operation.{Operation}
 use Rattle.bank.specs.Given.{Given, NeverFalls}
@@ -18,14 +17,14 @@ use Rattle.views.proofs.Fit.{list-alike}
 use Rattle.array_kept.proofs.NowLaws.{length-more, limit-more}
 use Rattle.grow_asked.specs.declared.window.PhasesLeft.{PhasesLeft}
 use Rattle.grow_asked.specs.Left.{phases_of}
-use Rattle.kept_history.proofs.Tests.{neither, or-left}
+use Rattle.kept_history.proofs.Tests.{none-before}
 use Rattle.still_kept.specs.Still.{IsStill}
 use Rattle.running_words.specs.Parts.{still_left}
 use Rattle.running_words.specs.Plans.{turns_shape}
 use Rattle.running_words.proofs.Lengths.{IsLengthKept}
 use Rattle.still_laws.specs.Plain.{MayTellPlainly, AreToldPlainly}
 use Rattle.still_laws.specs.Ready.{IsReady}
-use Rattle.still_laws.proofs.Plain.{IsLeftPlain}
+use Rattle.still_laws.proofs.Plain.{IsLeftPlain, turns-first}
 
 -- as many rows of the same shape, and as long a list
 pub record AreRowsSame (old new : Sb) : Type 0 where
@@ -43,15 +42,14 @@ rows-moved given old new moved = record { shape = moved.shape; size = moved.size
 pub told-still : (ahead : PhasesLeft) (entries added : List Entry) → (phases_of ahead ≡ []) ⊎ (list_any (λ e. turns_shape e.event) entries ≡ true)
     → (phases_of ahead ≡ []) ⊎ (list_any (λ e. turns_shape e.event) (entries ++ added) ≡ true)
 told-still ahead entries added (inl none) = inl none
-told-still ahead entries added (inr told) = inr (list_any-append (λ e. turns_shape e.event) entries added ∙ or-left (list_any (λ e. turns_shape e.event) entries) (list_any (λ e. turns_shape e.event) added) told)
+told-still ahead entries added (inr told) = inr (turns-first entries added told)
 
 -- as long as none of them turns the shape, they tell no refusal of a reshape
-pub plainly-more : (entries added all : List Entry) → all ≡ entries ++ added → (list_any (λ e. turns_shape e.event) entries ≡ false → AreToldPlainly entries) → (list_any (λ e. turns_shape e.event) added ≡ false → AreToldPlainly added)
+pub plainly-more : (entries added all : List Entry) → all ≡ entries ++ added → (list_any (λ e. turns_shape e.event) entries ≡ false → AreToldPlainly entries) → (list_any (λ e. turns_shape e.event) (entries ++ added) ≡ false → AreToldPlainly added)
     → list_any (λ e. turns_shape e.event) all ≡ false → AreToldPlainly all
 plainly-more entries added all is was left none =
-    let parts = neither (list_any (λ e. turns_shape e.event) entries) (list_any (λ e. turns_shape e.event) added)
-    (sym (list_any-append (λ e. turns_shape e.event) entries added) ∙ ap (λ (l : List Entry). list_any (λ e. turns_shape e.event) l) (sym is) ∙ none) in
-    subst AreToldPlainly (sym is) (All-append (λ e. MayTellPlainly e.event) entries added (was parts.0) (left parts.1))
+    let here : list_any (λ e. turns_shape e.event) (entries ++ added) ≡ false = ap (λ (l : List Entry). list_any (λ e. turns_shape e.event) l) (sym is) ∙ none in
+    subst AreToldPlainly (sym is) (All-append (λ e. MayTellPlainly e.event) entries added (was (none-before (λ e. turns_shape e.event) entries added here)) (left here))
 
 -- The array is ready after a call's last step in memory.
 pub ready : {tells : Type 0} {given given' : Given} {tape tape' : List Operation} {scope scope' : Scope} {first first' : ℕ} {entries mid entries' : List Entry} {members members' : Members}

@@ -33,7 +33,7 @@ use Rattle.array_kept.proofs.OnlyLaws.{TellsOnly}
 use Rattle.kept_history.specs.Recorded.{IsCallGoing, MayGoOn}
 use Rattle.kept_history.specs.Safe.{world_in, IsReshapeFit, OpensOnCourse, IsFilledRight}
 use Rattle.kept_history.proofs.Growing.{reading-grown}
-use Rattle.kept_history.proofs.Tests.{neither, none-before, or-right}
+use Rattle.kept_history.proofs.Tests.{neither, none-before, or-left, or-right}
 use Rattle.one_shape_history.proofs.Kept.{filled-alike}
 use Rattle.still_kept.specs.Still.{IsStill}
 use Rattle.still_kept.proofs.Leaving.{fit-earlier}
@@ -120,16 +120,24 @@ open-of opening ops entries who legal goes = record {
 
 -- ---- what a call leaves
 
--- The array that it leaves keeps what one of one shape does, as long as its history keeps its shape; and where it tells nothing that turns the shape, it tells no refusal of a reshape.
+-- The array that it leaves keeps what one of one shape does, as long as its history keeps its shape; and where nothing told turns the shape, the call tells no refusal of a reshape.
 pub record IsLeftPlain (tells : Type 0) (given : Given) (tape : List Operation) (scope : Scope) (first : ℕ) (entries added : List Entry) (members : Members) : Type 0 where
   pub plain : tells → KeepsShape (world_in given tape scope first) (entries ++ added) → IsPlainKept (world_in given tape scope first) members (entries ++ added)
-  pub plainly : list_any (λ e. turns_shape e.event) added ≡ false → AreToldPlainly added
+  pub plainly : list_any (λ e. turns_shape e.event) (entries ++ added) ≡ false → AreToldPlainly added
 
--- a history that turns the shape doesn't keep it
-pub turned-plain : (world : World) (members : Members) (entries : List Entry) → list_any (λ e. turns_shape e.event) entries ≡ true → KeepsShape world entries → IsPlainKept world members entries
-turned-plain world members entries told keeps = absurd (let clash : true ≡ false = sym told ∙ keeps.none in cc)
+-- behind what turned the shape there is nothing to keep of that
+pub turned-plain : {tells : Type 0} {given : Given} {tape : List Operation} {scope : Scope} {first : ℕ} {entries added : List Entry} {members : Members} → list_any (λ e. turns_shape e.event) (entries ++ added) ≡ true
+    → IsLeftPlain tells given tape scope first entries added members
+turned-plain told = record {
+  plain = λ t keeps. absurd (let clash : true ≡ false = sym told ∙ keeps.none in cc);
+  plainly = λ none. absurd (let clash : true ≡ false = sym told ∙ none in cc);
+}
 
--- entries that turn the shape do so behind others
+-- entries that turn it do so before others, and behind them
+pub turns-first : (entries added : List Entry) → list_any (λ e. turns_shape e.event) entries ≡ true → list_any (λ e. turns_shape e.event) (entries ++ added) ≡ true
+turns-first entries added told =
+    list_any-append (λ e. turns_shape e.event) entries added ∙ or-left (list_any (λ e. turns_shape e.event) entries) (list_any (λ e. turns_shape e.event) added) told
+
 pub turns-behind : (entries added : List Entry) → list_any (λ e. turns_shape e.event) added ≡ true → list_any (λ e. turns_shape e.event) (entries ++ added) ≡ true
 turns-behind entries added told =
     list_any-append (λ e. turns_shape e.event) entries added ∙ or-right (list_any (λ e. turns_shape e.event) entries) (list_any (λ e. turns_shape e.event) added) told
