@@ -12,7 +12,7 @@ give_back-requires g c =
     let fails : IsErr c.flush.result = did.cause.stays_failed (c.requires.ready.failed c.args.backup c.requires.slot c.requires.failing) in
     record {
       ready = ready-same {tells = g.B.Bank.tells} {backup = p.backup} did.given (err-tape c.flush.result fails did.err) did.cause.never_falls c.requires.ready;
-      open = c.requires.open;
+      «open» = c.requires.open;
       caller = c.requires.caller;
       room = c.requires.room;
       told = c.requires.told;
