@@ -1,5 +1,5 @@
 -- A reply to a request for steps in a reshape: what is kept behind it.
-use Rattle.std.proofs.Common.{◌≡◌, ◌≢◌, inl, inr, ℕ, ◌*◌, ◌<◌, Option, Some, None, List, [], ◌∷◌, ◌++◌, length, refl, sym, ◌∙◌, subst, arith}
+use Rattle.std.proofs.Common.{◌≡◌, ◌≢◌, inl, inr, ℕ, ◌*◌, ◌<◌, Bool, Option, Some, None, List, [], ◌∷◌, ◌++◌, length, refl, sym, ◌∙◌, subst, arith}
 use Rattle.std.specs.Prelude.{IfSome, is_some, MatchOption, ⊤}
 use Rattle.md_base.specs.declared.answers.Refusal.{Refusal}
 use Rattle.md_base.specs.declared.answers.Who.{Who}
@@ -50,9 +50,9 @@ quiet-reply done left ended some = record { adds = refl; gives = refl; ends = no
 -- what is told of a missing role that has data is right, where the history tells that a resync is pending
 unmended-right : (world : World) (before : List Entry) (given : Given) (m : Members) (work : Work) → IsPlaced given m → AreToldGone world before m → is_unsynced world before ≡ is_some work.resync
     → (refusal : Refusal) → IsUnmendableNow work m refusal → IsRefusedRight world before refusal
-unmended-right world before given m work placed gone pending refusal (waits, shape, force, role, told, unsynced, missing, data) =
-    subst (λ (r : Refusal). IsRefusedRight world before r) (sym told)
-    (gone role (let lt = data.0 in let disks = force-disks m.newest placed.fit shape force in omega (arith, lt, disks)) missing, pending ∙ waits)
+unmended-right world before given m work placed gone pending refusal (waits, shape, force, lacked) =
+    subst (λ (r : Refusal). IsRefusedRight world before r) (sym lacked.1)
+    (gone lacked.0 (let lt = lacked.4.0 in let disks = force-disks m.newest placed.fit shape force in omega (arith, lt, disks)) lacked.3, pending ∙ waits)
 
 pub answer-moves : {tells : Type 0} {given : Given} {tape : List Operation} {scope : Scope} {first : ℕ} {entries : List Entry} {m : Members} {buffer : List ℕ} (work : Work) (course : Course) (ahead : PhasesLeft) (who : Who) (end : ℕ) (event : Event)
     → IsMoving tells given tape scope first entries m (is_carried work) work.resync course buffer (left_in work m course ahead)

@@ -1,17 +1,21 @@
 -- Which entries the calls of a running array enter: none of them is a plan.
 use Rattle.std.proofs.Common.{◌≡◌, inl, inr, ℕ, Bool, true, false, cond, ◌||◌, Option, Some, None, Result, Ok, Err, List, [], ◌∷◌, ◌++◌, append-nil, nat_lt, MatchOption, refl, sym, ◌∙◌, ap, subst}
 use Rattle.std.specs.List.{list_any, All}
+use Rattle.std.specs.Prelude.{IfOk, IfErr}
 use Rattle.std.proofs.lemmas.List.Elements.{All-head, All-tail}
 use Rattle.std.proofs.lemmas.List.Folds.{list_any-append}
 use Rattle.md_base.specs.Sectors.{Sector}
 use Rattle.md_base.specs.declared.answers.Fault.{Fault}
 use Rattle.md_base.specs.declared.answers.Fault.TheVariants.{Refused as IsRefusedWith, NoMemory}
 use Rattle.md_base.specs.declared.answers.Refusal.TheVariants.{BackupFault}
+use Rattle.md_base.specs.declared.answers.NoMemory.{NoMemory as WantsMemory}
 use Rattle.md_base.specs.declared.answers.Who.{Who}
+use Rattle.md_base.specs.declared.status.Status.{Status}
+use Rattle.bank.specs.declared.bank.Operation.{Operation}
 use Rattle.superblocks.specs.declared.members.Members.{Members}
 use Rattle.flat_history.specs.declared.events.Entry.{Entry}
 use Rattle.flat_history.specs.declared.events.Event.{Event}
-use Rattle.flat_history.specs.declared.events.Event.TheVariants.{Planned, Refused, Resized, Step}
+use Rattle.flat_history.specs.declared.events.Event.TheVariants.{Planned, Refused, Resized, Shown, Step}
 use Rattle.flat_history.specs.declared.events.Request.{Request}
 use Rattle.flat_history.specs.declared.events.StepKind.{StepKind}
 use Rattle.flat_history.specs.declared.events.StepKind.TheVariants.{Finished, Begun, RebuildEnded}
@@ -22,7 +26,7 @@ use Rattle.flat_history.specs.World.{World}
 use Rattle.views.specs.declared.work.Work.{Work}
 use Rattle.call_entries.specs.Losing.{losses_of}
 use Rattle.call_entries.proofs.LosingLaws.{entries-both}
-use Rattle.array_kept.specs.Calls.{StandsInside, IsRebuildStepped, IsUnsettled}
+use Rattle.array_kept.specs.Calls.{IsEntered, StandsInside, IsRebuildStepped, IsUnsettled}
 use Rattle.kept_history.specs.Recorded.{entry_of}
 use Rattle.kept_history.proofs.Tests.{neither}
 use Rattle.running_words.specs.Calls.{IsStepTaken}
@@ -33,8 +37,7 @@ use Rattle.still_steps.specs.Stepping.{IsStepEntered}
 use Rattle.moving_laws.specs.Writing.{IsRepliedBehind, IsWriteReplied}
 use Rattle.turning.specs.Begun.{begun_length, IsBegunWith}
 use Rattle.turning.specs.Ended.{ended_length, IsEndedWith}
-use Rattle.growing.specs.Plans.{PlanNone, AddNoPlan}
-use Rattle.growing.proofs.PlanLaws.{none-behind, add-behind, add-behind_all, add-nothing, add-step}
+use Rattle.still_laws.proofs.PlansKept.{PlanNone, AddNoPlan, none-behind, add-entered, add-behind, add-behind_all, add-nothing, add-step}
 
 -- ---- lists
 
@@ -74,6 +77,12 @@ add-written size at body (Ok x) is = add-behind_call size _ _ is refl
 add-written {who = who} size at body (Err (IsRefusedWith BackupFault)) is = record { more = entry_of who is.0 (Refused BackupFault) ∷ []; grown = is.1; none = refl }
 add-written size at body (Err (IsRefusedWith refusal)) is = add-behind_call size _ (Refused refusal) is refl
 add-written size at body (Err NoMemory) is = add-nothing is
+
+-- ---- a status
+
+pub add-shown : {tells : Type 0} {tape : List Operation} {who : Who} {old new : List Entry} (result : Result Status WantsMemory) → IfOk result (λ status. IsEntered tells tape who old new (Shown status ∷ [])) → IfErr result (λ none. new ≡ old) → AddNoPlan old new
+add-shown (Ok status) is none = add-entered (Shown status ∷ []) is (λ end. refl)
+add-shown (Err none) is same = add-nothing same
 
 -- ---- a stop
 
@@ -137,10 +146,14 @@ ended-none : (who : Who) (end : ℕ) (longer : Bool) (size : ℕ) → PlanNone (
 ended-none who end true size = refl
 ended-none who end false size = refl
 
+-- what stands behind the step
+pub ended-tail : (who : Who) (end before size late late_spares : ℕ) → PlanNone (entries_of who end (ended_length before size ++ losses_of late late_spares))
+ended-tail who end before size late late_spares = length-none who end late late_spares (ended_length before size) (ended-none who end (nat_lt before size) size)
+
 pub add-ended : {who : Who} {before size : ℕ} {was later : Members} {old new : List Entry} {left : ℕ} → IsEndedWith who before size was later old new left → AddNoPlan old new
 add-ended {who = who} {before = before} {size = size} {left = left} is = record {
   more = entries_of who is.end (losses_of is.roles is.spares ++ Step Finished left ∷ (ended_length before size ++ losses_of is.late is.late_spares));
   grown = is.is;
   none = none-behind who is.end is.roles is.spares (Step Finished left ∷ (ended_length before size ++ losses_of is.late is.late_spares))
-      (length-none who is.end is.late is.late_spares (ended_length before size) (ended-none who is.end (nat_lt before size) size));
+      (ended-tail who is.end before size is.late is.late_spares);
 }

@@ -15,7 +15,7 @@ ghost use Rattle.array_kept.specs.Calls.{AreHeldOrSpare, IsWholeOrLost, by_answe
 ghost use Rattle.kept_history.specs.Recorded.{IsCallGoing};
 ghost use Rattle.running_words.specs.Parts.{still_left};
 ghost use Rattle.running_words.specs.Calls.{moving_world};
-ghost use Rattle.still_laws.specs.Steps.{IsStepped, IsCallUnbroken};
+ghost use Rattle.still_laws.specs.Steps.{IsStepped, IsClosable, IsCallUnbroken};
 ghost use Rattle.still_steps.specs.Resyncing.{is_at_end};
 ghost use Rattle.still_steps.specs.Rebuilding.{rebuilt_role, IsGivenToSpare};
 ghost use Rattle.still_steps.specs.Stepping.{IsUndone, IsEnd, IsStepEntered, next_kind, after_step, IsHeldOrDue};
@@ -55,6 +55,7 @@ impl<B: Bank> Running<B> {
         ensures held { AreHeldOrSpare self.old.parts.members self.new.parts.members }
         ensures left_still { is_reshaping self.new.parts.members.newest ≡ false }
         ensures ends { IsRefusedInStep self.new result }
+        ensures closable { OnOk result (IsClosable self.new) }
         ensures course { self.new.course ≡ self.old.course }
         ensures given { B.given self.new.parts.bank ≡ B.given self.old.parts.bank }
     {
