@@ -1,5 +1,5 @@
 -- A reply to a request for steps: what is kept behind it.
-use Rattle.std.proofs.Common.{◌≡◌, ◌≢◌, ◌⊎◌, inl, inr, ℕ, ◌==◌, Bool, true, false, Option, Some, None, List, [], ◌∷◌, ◌++◌, length, refl, sym, ◌∙◌, arith}
+use Rattle.std.proofs.Common.{◌≡◌, ◌≢◌, inl, inr, ℕ, ◌==◌, Bool, true, false, Option, Some, None, List, [], ◌∷◌, ◌++◌, length, refl, sym, ◌∙◌, arith}
 use Rattle.std.proofs.lemmas.Bool.Decides.{nat_tests}
 use Rattle.std.specs.Prelude.{IfSome, MatchOption, ⊤}
 use Rattle.md_base.specs.declared.answers.Refusal.{Refusal}
@@ -7,7 +7,6 @@ use Rattle.md_base.specs.declared.answers.Refusal.TheVariants.{Degraded, NeedSpa
 use Rattle.md_base.specs.declared.answers.Who.{Who}
 use Rattle.bank.specs.declared.bank.Operation.{Operation}
 use Rattle.bank.specs.Given.{Given}
-use Rattle.grow_plan.specs.Plans.{phases_steps}
 use Rattle.superblocks.specs.declared.members.Members.{Members}
 use Rattle.superblocks.specs.Reading.{Scope, shape_of}
 use Rattle.flat_history.specs.declared.events.Entry.{Entry}
@@ -15,19 +14,18 @@ use Rattle.flat_history.specs.declared.events.Event.{Event}
 use Rattle.flat_history.specs.declared.events.Event.TheVariants.{Refused, Stepped}
 use Rattle.flat_history.specs.Legal.{IsRefusedRight}
 use Rattle.flat_history.specs.Plain.{entries_of}
-use Rattle.flat_history.specs.Reshaped.{open_plans}
 use Rattle.flat_history.specs.World.{World}
 use Rattle.views.specs.declared.work.Work.{Work}
 use Rattle.views.specs.Status.{left_of}
+use Rattle.grow_asked.specs.Left.{phases_of}
 use Rattle.views.proofs.LackingLaws.{never-both}
 use Rattle.call_entries.proofs.LeftLaws.{left-more, keeps-left}
 use Rattle.array_kept.specs.Calls.{IsLossBy}
 use Rattle.grow_asked.specs.declared.window.PhasesLeft.{PhasesLeft}
-use Rattle.grow_asked.specs.Left.{phases_of}
 use Rattle.kept_history.specs.Recorded.{IsCallGoing, entry_of}
 use Rattle.kept_history.specs.Safe.{world_in}
 use Rattle.history_calls.specs.Reliable.{IsReliable}
-use Rattle.still_kept.specs.Still.{IsNamedOrClean, IsStill}
+use Rattle.still_kept.specs.Still.{IsStill}
 use Rattle.still_kept.proofs.Ends.{EndsPlans}
 use Rattle.still_kept.proofs.Refusals.{refused-right}
 use Rattle.still_kept.proofs.Resting.{resting-stands}
@@ -58,9 +56,9 @@ answer-stands {tells = tells} {given = given} {tape = tape} {scope = scope} {fir
 
     -- where no step is left, no plan is open, or what is missing can be told; or too many are missing, so that a step was refused
     closes : (ended : Option Refusal) → MatchOption ended ⊤ (MayEndNow work m ahead) → MayAnswer entries work m ahead (Stepped done left ended) → EndsPlans tells (world_in given tape scope first) entries m work (Stepped done left ended)
-    closes (Some refusal) (inr begins) may = leaves-or-closes ahead (Stepped done left (Some refusal)) left plans was.members_are.still refl reply.0 refl refl
+    closes (Some refusal) (inr begins) may = leaves-or-closes m m ahead (Stepped done left (Some refusal)) left plans was.members_are.still refl reply.0 refl refl
         (λ zero can. absurd (begins.1 (ahead-none (shape_of m.newest) m.newest.size (left_of work m) (phases_of ahead) (sym reply.0 ∙ zero))))
-    closes (Some refusal) (inl why) may = leaves-or-closes ahead (Stepped done left (Some refusal)) left plans was.members_are.still refl reply.0 refl refl
+    closes (Some refusal) (inl why) may = leaves-or-closes m m ahead (Stepped done left (Some refusal)) left plans was.members_are.still refl reply.0 refl refl
         (λ zero can. absurd (never-both m refusal can (why.1 (resync-over work m ahead (sym reply.0 ∙ zero)))))
     closes None why may = of (left == 0) refl
       where
@@ -71,7 +69,7 @@ answer-stands {tells = tells} {given = given} {tape = tape} {scope = scope} {fir
         of false is = inl is
         of true is = elim (may (sym reply.0 ∙ zero-is left is)) [
           | inl none ↦ inr (inl (none, refl))
-          | inr named ↦ leaves-or-closes ahead (Stepped done left None) left plans was.members_are.still refl reply.0 refl refl (λ zero can. named)
+          | inr named ↦ leaves-or-closes m m ahead (Stepped done left None) left plans was.members_are.still refl reply.0 refl refl (λ zero can. named)
         ]
 
     ended-right : (ended : Option Refusal) → MatchOption ended ⊤ (MayEndNow work m ahead) → (t : tells) → IsReliable (world_in given tape scope first) entries

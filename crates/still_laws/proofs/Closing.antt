@@ -1,5 +1,5 @@
 -- A step, or a reply, that leaves none: each plan that is open goes to the array's shape then, and nothing waits.
-use Rattle.std.proofs.Common.{◌≡◌, ℕ, ◌+◌, ◌-◌, ◌*◌, ◌≤◌, ◌==◌, min, inl, inr, Bool, true, false, Option, Some, None, List, [], ◌∷◌, refl, sym, ◌∙◌, ap, subst, arith}
+use Rattle.std.proofs.Common.{◌≡◌, ℕ, ◌+◌, ◌-◌, ◌*◌, ◌≤◌, ◌==◌, min, inl, inr, Bool, true, false, Option, Some, None, List, [], ◌∷◌, refl, sym, ◌∙◌, subst, arith}
 use Rattle.std.specs.Prelude.{if◌then◌else◌}
 use Rattle.std.specs.List.{All}
 use Rattle.std.proofs.lemmas.Bool.Decides.{nat_tests}
@@ -71,10 +71,10 @@ zero-is : (n : ℕ) → (n == 0) ≡ true → n ≡ 0
 zero-is n is = grind (arith, nat_tests, is)
 
 -- An event that tells how many steps are left ends no reshape, and leaves some or closes the plans.
-pub leaves-or-closes : {tells : Type 0} {world : World} {entries : List Entry} {old new : Members} {work : Work} (ahead : PhasesLeft) (event : Event) (left : ℕ)
+pub leaves-or-closes : {tells : Type 0} {world : World} {entries : List Entry} {work : Work} (old new : Members) (ahead : PhasesLeft) (event : Event) (left : ℕ)
     → LeadTo tells world entries old ahead → is_reshaping old.newest ≡ false → shape_of new.newest ≡ shape_of old.newest → left ≡ still_left work new ahead
     → is_finish event ≡ false → ends_reshape event ≡ (left == 0) → (left ≡ 0 → DoWithout new → IsNamedOrClean new) → EndsPlans tells world entries new work event
-leaves-or-closes {tells = tells} {world = world} {entries = entries} {old = old} {new = new} {work = work} ahead event left lead still same told other ends named = of (left == 0) refl
+leaves-or-closes {tells = tells} {world = world} {entries = entries} {work = work} old new ahead event left lead still same told other ends named = of (left == 0) refl
   where
     of : (b : Bool) → (left == 0) ≡ b → EndsPlans tells world entries new work event
     of false is = inl (ends ∙ is)

@@ -1,5 +1,5 @@
 -- The steps of a pending resync, from what `mend` of `safe_rows` and `settle` of `safe_updates` leave: what is kept, done or refused.
-use Rattle.std.proofs.Common.{◌≡◌, ◌≢◌, ◌⊎◌, inl, inr, ℕ, ◌+◌, ◌-◌, ◌*◌, ◌<◌, min, false, Some, None, List, [], ◌∷◌, ◌++◌, length, subst, arith}
+use Rattle.std.proofs.Common.{◌≡◌, ◌≢◌, inr, ℕ, ◌+◌, ◌-◌, ◌*◌, ◌<◌, min, false, Some, None, List, [], ◌∷◌, ◌++◌, length, refl, subst, arith}
 use Rattle.md_base.specs.Sectors.{Sector}
 use Rattle.md_base.specs.declared.answers.Refusal.{Refusal}
 use Rattle.md_base.specs.declared.answers.Who.{Who}
@@ -26,6 +26,7 @@ use Rattle.calls_kept.proofs.EndLaws.{enough-mended}
 use Rattle.grow_asked.specs.declared.window.PhasesLeft.{PhasesLeft}
 use Rattle.grow_asked.specs.Left.{phases_of}
 use Rattle.kept_history.specs.Recorded.{IsCallGoing}
+use Rattle.kept_history.specs.Safe.{world_in}
 use Rattle.still_kept.specs.Still.{IsStill}
 use Rattle.still_kept.proofs.Flushing.{IsFlushedStill, IsSettledStill, unflushed-stands}
 use Rattle.still_kept.proofs.Resync.{IsMendingStill, mended-stands, unmended-stands, resynced-stands}
@@ -33,7 +34,7 @@ use Rattle.running_words.specs.Parts.{still_left}
 use Rattle.running_words.proofs.Called.{not_254}
 use Rattle.still_laws.proofs.Closing.{LeadTo, leaves-or-closes}
 use Rattle.still_laws.proofs.Left.{left-alike}
-use Rattle.still_laws.proofs.StepLaws.{shapes-moved, planned-same, left-falls}
+use Rattle.still_laws.proofs.StepLaws.{left-falls}
 
 -- a pending resync has a step left
 some-left : (n recovery waiting more left : ℕ) → left ≡ (n + 1 + recovery + waiting) + more → left ≢ 0
@@ -83,7 +84,7 @@ module _ {tells : Type 0} {given : Given} {tape tape' : List Operation} {scope :
       subst (λ (n : ℕ). IsStill tells given tape' scope first (entries ++ entries_of who end (losses_of roles spares ++ Step ResyncEnded left ∷ [])) new (record work { resync = None }) n) told
       (resynced-stands tells given tape tape' scope first entries old new work (still_left work old ahead) left who end roles spares before after was does goes (not_254 who.caller caller) at_end all
       (left-falls (record work { resync = None }) ahead (left_of work old) left did.moved did.since (left-ended work old all) told)
-      (leaves-or-closes ahead (Step ResyncEnded left) left plans was.members_are.still did.moved.shape told refl refl (λ zero can. inr (done.clean refl))) did done)
+      (leaves-or-closes old new ahead (Step ResyncEnded left) left plans was.members_are.still did.moved.shape told refl refl (λ zero can. inr (done.clean refl))) did done)
 
   -- it is refused
   pub resync-refused : (refusal : Refusal) → AreTooMany new refusal

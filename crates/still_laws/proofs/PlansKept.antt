@@ -1,5 +1,5 @@
 -- What calls leave of the plans that are open: those that enter none keep where they go, and a reshape that begins or ends does too.
-use Rattle.std.proofs.Common.{◌≡◌, ◌⊎◌, inl, inr, ℕ, ◌≤◌, ◌||◌, Bool, true, false, cond, Option, Some, Result, Ok, Err, List, [], ◌∷◌, ◌++◌, length, fold, refl, sym, ◌∙◌, ap, subst, append-nil}
+use Rattle.std.proofs.Common.{◌≡◌, ◌⊎◌, inl, inr, ℕ, ◌≤◌, ◌||◌, Bool, true, false, cond, Some, Result, Ok, Err, List, [], ◌∷◌, ◌++◌, length, fold, refl, sym, ◌∙◌, ap, subst, append-nil}
 use Rattle.std.specs.Prelude.{if◌then◌else◌}
 use Rattle.std.specs.List.{list_any, All}
 use Rattle.std.proofs.lemmas.List.Elements.{All-nil, All-cons, All-head, All-tail}
@@ -38,7 +38,7 @@ use Rattle.kept_history.proofs.Growing.{alike-before, room-before}
 use Rattle.kept_history.proofs.Turned.{filled-before}
 use Rattle.kept_history.proofs.Tests.{neither}
 use Rattle.history_calls.specs.Reliable.{IsReliable}
-use Rattle.history_calls.proofs.Plans.{ArePlannedTo, planned-grown}
+use Rattle.history_calls.proofs.Plans.{planned-grown}
 use Rattle.running_words.specs.Parts.{RunningParts}
 use Rattle.running_words.specs.Calls.{moving_world, IsSameReshape, IsStepTaken}
 use Rattle.running_words.specs.Plans.{GoTo, aim_of, ArePlansKept}
@@ -241,15 +241,15 @@ same-aim same active = record {
 }
 
 -- a reshape begins: it goes to its shape, and the phases behind it are ahead
-pub aim-begun : {B : Type 0} {old new : RunningParts B} (to : Shape) (behind : List Phase) → is_reshaping old.parts.members.newest ≡ false → is_reshaping new.parts.members.newest ≡ true → final_shape new.parts.members.newest ≡ to
+pub aim-begun : {B : Type 0} (old new : RunningParts B) (to : Shape) (behind : List Phase) → is_reshaping old.parts.members.newest ≡ false → is_reshaping new.parts.members.newest ≡ true → final_shape new.parts.members.newest ≡ to
     → phases_of old.ahead ≡ Reshape to ∷ behind → phases_of new.ahead ≡ behind → aim_of new ≡ aim_of old
-aim-begun {old = old} {new = new} to behind still active final was now =
+aim-begun old new to behind still active final was now =
     (λ i. last_shape (if active i then final i else shape_of new.parts.members.newest) (now i))
     ∙ sym (λ i. last_shape (if still i then final_shape old.parts.members.newest else shape_of old.parts.members.newest) (was i))
 
 -- it ends: its shape is that of the array
-pub aim-ended : {B : Type 0} {old new : RunningParts B} → is_reshaping old.parts.members.newest ≡ true → is_reshaping new.parts.members.newest ≡ false → shape_of new.parts.members.newest ≡ final_shape old.parts.members.newest
+pub aim-ended : {B : Type 0} (old new : RunningParts B) → is_reshaping old.parts.members.newest ≡ true → is_reshaping new.parts.members.newest ≡ false → shape_of new.parts.members.newest ≡ final_shape old.parts.members.newest
     → new.ahead ≡ old.ahead → aim_of new ≡ aim_of old
-aim-ended {old = old} {new = new} active still shape ahead =
+aim-ended old new active still shape ahead =
     (λ i. last_shape (if still i then final_shape new.parts.members.newest else shape i) (phases_of (ahead i)))
     ∙ sym (λ i. last_shape (if active i then final_shape old.parts.members.newest else shape_of old.parts.members.newest) (phases_of old.ahead))

@@ -1,5 +1,5 @@
 -- The steps of a rebuild, from what `give_role`, `fill` and `flush_and_record` leave: what is kept, done or refused.
-use Rattle.std.proofs.Common.{◌≡◌, ◌≢◌, ◌⊎◌, inl, inr, ℕ, zero, suc, ◌+◌, ◌-◌, ◌*◌, ◌<◌, ◌≤◌, min, true, false, not, is_some, Option, Some, None, List, [], ◌∷◌, ◌++◌, length, refl, sym, ◌∙◌, ap, subst, arith, append-nil, append_assoc}
+use Rattle.std.proofs.Common.{◌≡◌, ◌≢◌, inl, inr, ℕ, zero, suc, ◌+◌, ◌-◌, ◌*◌, ◌<◌, ◌≤◌, min, true, false, not, is_some, Option, Some, None, List, [], ◌∷◌, ◌++◌, length, refl, sym, ◌∙◌, ap, subst, arith, append-nil, append_assoc}
 use Rattle.std.specs.List.{Contains}
 use Rattle.std.proofs.lemmas.Bool.{cases_lt}
 use Rattle.std.proofs.lemmas.List.Elements.{All-nil}
@@ -58,7 +58,7 @@ use Rattle.running_words.specs.Parts.{still_left}
 use Rattle.running_words.proofs.Called.{not_254}
 use Rattle.still_laws.proofs.Closing.{LeadTo, leaves-or-closes}
 use Rattle.still_laws.proofs.Left.{left-alike}
-use Rattle.still_laws.proofs.StepLaws.{shapes-moved, planned-same, left-falls}
+use Rattle.still_laws.proofs.StepLaws.{left-falls}
 
 -- ---- steps are left
 
@@ -93,6 +93,12 @@ still-recovers {old = old} {new = new} moved role slot recovers held = by (holde
 
 pub recovering-held : (m : Members) (role slot : ℕ) → role_state (reading_of m) role ≡ Recovering slot → is_vacant (reading_of m) role ≡ false
 recovering-held m role slot recovers = ap (λ (s : Role). not (is_some (holder s))) recovers
+
+-- so a step is left of it
+pub held-some : {given : Given} {old new : Members} → IsMoved given old new → (next : Work) (ahead : PhasesLeft) (role slot : ℕ) → role < (shape_of old.newest).disks → role_state (reading_of old) role ≡ Recovering slot
+    → is_vacant (reading_of new) role ≡ false → still_left next new ahead ≢ 0
+held-some {new = new} moved next ahead role slot below recovers held =
+    recovers-some next new ahead role slot (still_left next new ahead) (subst (λ (s : Shape). role < s.disks) (sym moved.shape) below) (still-recovers moved role slot recovers held) refl
 
 -- nor is one that is made whole
 pub whole-held : (given : Given) (m : Members) (placed : IsPlaced given m) (role slot : ℕ) → IsReceiver given m role slot → is_vacant (reading_of (with_whole role slot m)) role ≡ false
@@ -136,7 +142,7 @@ module _ {tells : Type 0} {given : Given} {tape tape' : List Operation} {scope :
       subst (λ (n : ℕ). IsStill tells given tape' scope first (entries ++ entries_of who end (losses_of roles spares ++ Step RebuildTaken left ∷ [])) new (with_rebuilt role 0 work) n) told
       (taken-stands tells given tape tape' scope first entries old new work (still_left work old ahead) left who end role slot roles spares before after was does goes (not_254 who.caller caller) at_end known
       (left-falls (with_rebuilt role 0 work) ahead (left_of work old) left did.moved did.since taken-less told)
-      (leaves-or-closes ahead (Step RebuildTaken left) left plans was.members_are.still did.moved.shape told refl refl (λ zero can. inl did.missing)) did)
+      (leaves-or-closes old new ahead (Step RebuildTaken left) left plans was.members_are.still did.moved.shape told refl refl (λ zero can. inl did.missing)) did)
 
 -- ---- a stripe is rebuilt
 
@@ -215,7 +221,7 @@ module _ {tells : Type 0} {given : Given} {tape tape' : List Operation} {scope :
       subst (λ (n : ℕ). IsStill tells given tape' scope first (entries ++ entries_of who end (losses_of roles spares ++ Step RebuildEnded left ∷ Rebuilt role ∷ [])) new work n) told
       (whole-stands tells given tape tape' scope first entries old new work (still_left work old ahead) left who end role slot roles spares before after was does goes (not_254 who.caller caller) at_end all synced did
       whole_is (left-falls work ahead (left_of work old) left did.moved did.since whole-less told)
-      (leaves-or-closes ahead (Step RebuildEnded left) left plans was.members_are.still did.moved.shape told refl refl (λ zero can. inl did.missing))
+      (leaves-or-closes old new ahead (Step RebuildEnded left) left plans was.members_are.still did.moved.shape told refl refl (λ zero can. inl did.missing))
       (open-later tells given tape tape' scope first entries who (entries_of who end ((losses_of roles spares ++ Step RebuildEnded left ∷ []) ++ Rebuilt role ∷ [])) did.grows (λ t. (was.recorded t).begun) (λ t. (was.recorded t).ends) goes kept))
 
   pub end-lost : is_vacant (reading_of new) role ≡ true → IsStill tells given tape' scope first (entries ++ entries_of who end (losses_of roles spares)) new work (still_left work new ahead)

@@ -15,5 +15,6 @@ give_back-requires g c =
       open = c.requires.open;
       caller = c.requires.caller;
       room = c.requires.room;
+      told = c.requires.told;
       why = tt;
     }
