@@ -1,5 +1,5 @@
 -- An array without a reshape whose backup failed as one was to begin goes on as it was: nothing but the backup's header was tried.
-use Rattle.std.proofs.Common.{◌≡◌, ◌≢◌, ◌⊎◌, inl, inr, ℕ, ◌+◌, Option, Some, Result, Ok, Err, List, [], ◌∷◌, ◌++◌, length, refl, sym, ◌∙◌, subst, arith}
+use Rattle.std.proofs.Common.{◌≡◌, ◌≢◌, ◌⊎◌, inl, inr, ℕ, ◌+◌, true, false, Option, Some, Result, Ok, Err, List, [], ◌∷◌, ◌++◌, length, refl, sym, ◌∙◌, subst, arith}
 use Rattle.std.specs.Prelude.{IsErr, OnErr}
 use Rattle.md_base.specs.Sectors.{Sector}
 use Rattle.md_base.specs.declared.answers.Refusal.{Refusal}
@@ -122,5 +122,5 @@ fault-stands {tells = tells} {given = given} {tape = tape} {tape' = tape'} {scop
 
 -- what is said of an Err holds where there is one
 pub err-tape : {T E : Type 0} {P : Type 0} (result : Result T E) → IsErr result → OnErr result P → P
-err-tape (Ok x) fails said = absurd fails
+err-tape (Ok x) fails said = absurd (let clash : false ≡ true = fails in cc)
 err-tape (Err e) fails said = said

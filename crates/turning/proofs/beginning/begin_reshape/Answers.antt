@@ -76,6 +76,23 @@ returns-in-Some-clause-caused g c = rw (c.take_apart-pieces.ensures.same) (inl (
 pub returns-in-Some-clause-grows : goal.returns-in-Some-clause-grows
 returns-in-Some-clause-grows g c = rw (c.take_apart-pieces.ensures.same) (rw (c.give_back.ensures.bank) (grows-none (λ t. refl)))
 
+-- ---- the backup was found failing
+
+pub returns-then-not-contains-clause-caused : goal.returns-then-not-contains-clause-caused
+returns-then-not-contains-clause-caused g c =
+    let p = c.take_apart-pieces.result in
+    rw (c.take_apart-pieces.ensures.same) (inr (
+      c.in_default.ensures,
+      refl,
+      subst (λ (o : Option ℕ). IfSome o (λ slot. IsFaulted slot (g.B.Bank.faults_of p.bank) (g.B.Bank.faults_of c.fail_backup-still.result.parts.bank))) (sym c.in-Some-backup.is) c.fail_backup-still.ensures.failed,
+    ))
+
+pub returns-then-not-contains-clause-grows : goal.returns-then-not-contains-clause-grows
+returns-then-not-contains-clause-grows g c = rw (c.take_apart-pieces.ensures.same) (grows-none c.fail_backup-still.ensures.tape)
+
+pub returns-then-not-contains-clause-never_falls : goal.returns-then-not-contains-clause-never_falls
+returns-then-not-contains-clause-never_falls g c = rw (c.take_apart-pieces.ensures.same) c.fail_backup-still.ensures.never_falls
+
 -- ---- the backup failed
 
 pub of_pieces-requires : goal.of_pieces-requires
@@ -218,7 +235,7 @@ of_pieces-requires-2-clause-ready g c =
     let size_is : c.told_of-told.result.size ≡ list_length new.newest = c.told_of-told.ensures.size in
     let spares_is : c.told_of-told.result.spares ≡ spares = c.told_of-told.ensures.spares in
     begun-ready p.epoch.uuid p.epoch.given backup p.ahead behind to who end roles spares was turned c.requires.caller idle next (goes_back (shape_of p.members.newest) to) refl
-    (backup-here given p.members to p.backup backup backed c.in-Some-backup.is) c.here c.in_default.ensures update c.ops-end.ensures.count c.check_sizes.ensures.own c.check_sizes.ensures.uuid
+    (backup-here given p.members to p.backup backup backed c.in-Some-backup.is) (sym c.contains.ensures ∙ c.if-not-contains.false) c.in_default.ensures update c.ops-end.ensures.count c.check_sizes.ensures.own c.check_sizes.ensures.uuid
     c.told_of-told.ensures.roles
     c.args.window.items wide did.given
     (scope-same given p.backup did.given c.enter_begun.ensures.uuid c.enter_begun.ensures.given ∙ ap (λ (o : Option ℕ). scope_in given p.epoch.uuid p.epoch.given o) c.in-Some-backup.is) c.enter_begun.ensures.first refl
