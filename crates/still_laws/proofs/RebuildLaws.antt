@@ -94,6 +94,12 @@ still-recovers {old = old} {new = new} moved role slot recovers held = by (holde
 pub recovering-held : (m : Members) (role slot : ℕ) → role_state (reading_of m) role ≡ Recovering slot → is_vacant (reading_of m) role ≡ false
 recovering-held m role slot recovers = ap (λ (s : Role). not (is_some (holder s))) recovers
 
+-- so a step is left of it
+pub held-some : {given : Given} {old new : Members} → IsMoved given old new → (next : Work) (ahead : PhasesLeft) (role slot : ℕ) → role < (shape_of old.newest).disks → role_state (reading_of old) role ≡ Recovering slot
+    → is_vacant (reading_of new) role ≡ false → still_left next new ahead ≢ 0
+held-some {new = new} moved next ahead role slot below recovers held =
+    recovers-some next new ahead role slot (still_left next new ahead) (subst (λ (s : Shape). role < s.disks) (sym moved.shape) below) (still-recovers moved role slot recovers held) refl
+
 -- nor is one that is made whole
 pub whole-held : (given : Given) (m : Members) (placed : IsPlaced given m) (role slot : ℕ) → IsReceiver given m role slot → is_vacant (reading_of (with_whole role slot m)) role ≡ false
 whole-held given m placed role slot to = ap (λ (s : Role). not (is_some (holder s))) (state-here given m placed None role slot to)

@@ -22,6 +22,7 @@ ghost use Rattle.still_laws.specs.running_words_Calls.{moving_world};
 ghost use Rattle.still_laws.specs.running_words_Plans.{ArePlansKept};
 ghost use Rattle.still_laws.specs.Steps.{IsStepped, IsClosable, IsCallUnbroken};
 
+use crate::naming::{fill_and_name, give_and_name, record_and_name};
 use crate::state::steps::check_going;
 use crate::state::{Still, all_left};
 use array_state::work::set_rebuilt;
@@ -29,8 +30,7 @@ use bank::Bank;
 use call_entries::calls::{enter, enter_behind, enter_lost};
 use flat_history::{Event, StepKind};
 use md_base::{Fault, Who};
-use safe_rows::filling::{fill, recovering_slot};
-use safe_updates::giving::{flush_and_record, give_role};
+use safe_rows::filling::recovering_slot;
 use safe_updates::naming::newly_vacant;
 use safe_updates::refusing::too_many;
 use safe_updates::roles::{is_vacant, shape_in, vacant_roles};
@@ -70,7 +70,7 @@ impl<B: Bank> Still<B> {
         check_going(&self.epoch.entries, who);
         let disks = shape_in(&self.members).disks;
         let before = without(vacant_roles(&self.members, disks), with(0, role));
-        let spares = give_role(&mut self.members, &mut self.bank, role, slot);
+        let spares = give_and_name(&mut self.members, &mut self.bank, role, slot);
         let roles = newly_vacant(&self.members, disks, before);
         set_rebuilt(&mut self.work, role, 0);
         let end = self.bank.ops();
@@ -116,7 +116,7 @@ impl<B: Bank> Still<B> {
         let Some(slot) = recovering_slot(&self.members, role) else {
             unreachable!()
         };
-        let filled = fill(
+        let filled = fill_and_name(
             &mut self.members,
             &mut self.bank,
             &shape,
@@ -185,7 +185,7 @@ impl<B: Bank> Still<B> {
         let Some(slot) = recovering_slot(&self.members, role) else {
             unreachable!()
         };
-        let spares = flush_and_record(&mut self.members, &mut self.bank, role, slot);
+        let spares = record_and_name(&mut self.members, &mut self.bank, role, slot);
         let roles = newly_vacant(&self.members, disks, before);
         let end = self.bank.ops();
         if is_vacant(&self.members, role) {

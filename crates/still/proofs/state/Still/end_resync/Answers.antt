@@ -16,7 +16,8 @@ use Rattle.array_kept.proofs.ReplyLaws.{too-many-of, refused-for}
 use Rattle.array_kept.proofs.StepsLeft.{left-ended, steps-fewer, steps-kept}
 use Rattle.kept_history.specs.Recorded.{IsCallGoing}
 use Rattle.still_laws.proofs.still_kept_Flushing.{IsFlushedStill, IsSettledStill}
-use Rattle.still_laws.specs.Steps.{MayLeaveNone}
+use Rattle.still_laws.specs.running_words_Calls.{moving_world}
+use Rattle.still_laws.specs.running_words_Plans.{ArePlansKept}
 use Rattle.still_laws.proofs.running_words_Called.{risen-told}
 use Rattle.still_laws.proofs.running_words_Lengths.{alone-keeps, behind-keeps}
 use Rattle.still_laws.proofs.Kept.{ready, rows-moved}
@@ -146,7 +147,7 @@ invariant_of-self-2 g c =
     let given = g.B.Bank.given a.bank in
     let goes : IsCallGoing a.epoch.entries.items c.args.who = subst (λ p. IsCallGoing p.parts.entries c.args.who) (sym c.self.view_is) c.requires.open in
     let all : IsAllMended a.work.resync a.members = subst (λ p. IsAllMended p.parts.work.resync p.parts.members) (sym c.self.view_is) c.requires.pending in
-    let plans = subst (λ p. MayLeaveNone p) (sym c.self.view_is) c.requires.plans in
+    let plans = subst (λ p. ArePlansKept g.B.Bank.tells (moving_world (g.B.Bank.given p.parts.bank) (g.B.Bank.tape p.parts.bank) p) p) (sym c.self.view_is) c.requires.plans in
     let some : 1 ≤ a.steps = subst (λ p. 1 ≤ p.parts.steps) (sym c.self.view_is) c.requires.room in
     let did = c.settle-settled.ensures in
     let m = c.settle-settled.new.members in
