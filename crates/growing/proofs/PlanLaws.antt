@@ -41,10 +41,8 @@ use Rattle.kept_history.proofs.Turned.{filled-before}
 use Rattle.kept_history.proofs.Tests.{neither}
 use Rattle.history_calls.specs.Reliable.{IsReliable}
 use Rattle.still.specs.still_kept_Still.{AreNoneMissing, IsStill}
-use Rattle.still.specs.running_words_Calls.{IsStepTaken}
+use Rattle.still.specs.running_words_Plans.{GoTo}
 use Rattle.growing.specs.Planned.{HasWideBackup}
-use Rattle.growing.specs.Plans.{GoTo, PlanNone, AddNoPlan, AreNoneOpen, IsPlanKept}
-use Rattle.growing.proofs.Idle.{some-steps}
 use Rattle.growing.proofs.Fitting.{right-before}
 use Rattle.growing.proofs.Read.{read-whole}
 

@@ -113,7 +113,7 @@ pub record IsEndingCall (given : Given) (tape : List Operation) (scope : Scope) 
 
 -- If no step is left, the plans that are open go to the shape of this reshape.
 abbrev pub IsPlannedTo : World → List Entry → Members → ℕ → Type 0
-IsPlannedTo world entries old left = left ≡ 0 → ArePlannedTo world (final_shape old.newest) (open_plans entries)
+IsPlannedTo world entries old left = IsReliable world entries → left ≡ 0 → ArePlannedTo world (final_shape old.newest) (open_plans entries)
 
 -- As many steps are left as one fewer, or a role is missing, so that more steps may follow the reshape, or the call tells a loss.
 abbrev pub IsStepped : Members → ℕ → ℕ → List Event → Type 0
@@ -612,7 +612,7 @@ module _ (given : Given) (tape : List Operation) (scope : Scope) (first : ℕ) (
         of true is =
             subst (λ (l : List Entry). ArePlansDone later (entries ++ flushed) step l (open_plans (entries ++ flushed))) (sym comes-too)
             (subst (λ (plans : List Entry). ArePlansDone later (entries ++ flushed) step rest plans) (sym (plans-behind entries who end losses (losses-are roles spares)))
-            (plans-done world ops (entries ++ flushed) step rest (final_shape old.newest) (consistent fit) entries recorded.ends (planned (is-zero left is))))
+            (plans-done world ops (entries ++ flushed) step rest (final_shape old.newest) (consistent fit) entries recorded.ends (planned before (is-zero left is))))
 
     pub ended-right : OpensFit later → IsReshapedCall later entries who end events
     ended-right fit = reshaped-losses later entries who end losses (Step Finished left ∷ tail) (faults-are losses (losses-are roles spares))

@@ -1,4 +1,5 @@
 pub use Rattle.still_laws.proofs.AddLaws as still_laws_AddLaws
+pub use Rattle.still_laws.proofs.Closing as still_laws_Closing
 pub use Rattle.still_laws.proofs.Going as still_laws_Going
 pub use Rattle.still_laws.proofs.Kept as still_laws_Kept
 pub use Rattle.still_laws.proofs.Left as still_laws_Left

@@ -1,15 +1,11 @@
-use Rattle.std.proofs.Common.{Some, refl, sym, ◌∙◌, ap, subst}
+use Rattle.std.proofs.Common.{Some, refl, sym, ◌∙◌, subst}
 use Rattle.bank.specs.Given.{Given}
-use Rattle.bank.specs.Tape.{Contents}
 use Rattle.flat_history.specs.Sound.{OpensFit}
-use Rattle.superblocks.specs.declared.members.Members.{Members}
 use Rattle.row_io.specs.Rows.{present}
 use Rattle.shape_changes.specs.Marking.{AreOthersPresent}
-use Rattle.shape_changes.specs.Steady.{IsUncleanTold}
 use Rattle.shape_changes.proofs.Risen.{risen-then, room-first, room-then}
 use Rattle.views.specs.Placed.{IsPlaced}
 use Rattle.views.specs.Rebuilding.{AreSparesFree, with_recovering}
-use Rattle.views.proofs.GivenMembers.{placed-given}
 use Rattle.views.proofs.LackingLaws.{since-then, in-either}
 use Rattle.views.proofs.MovedLaws.{grows-then, moved-then, moved-from}
 use Rattle.views.proofs.SafeStretch.{gone-before, safe-then, grows-longer, over-at, keeps-from}

@@ -3,7 +3,6 @@ use Rattle.std.proofs.lemmas.Bool.Decides.{nat_tests}
 use Rattle.md_base.specs.declared.status.Role.{Role}
 use Rattle.md_base.specs.declared.status.Role.TheVariants.{Whole}
 use Rattle.bank.specs.Given.{Given}
-use Rattle.bank.specs.Tape.{Contents}
 use Rattle.flat_history.specs.Sound.{OpensFit}
 use Rattle.flat_history.specs.World.{World}
 use Rattle.superblocks.specs.declared.members.Members.{Members}
@@ -17,7 +16,6 @@ use Rattle.views.specs.Moving.{IsMoved}
 use Rattle.shape_changes.proofs.Risen.{risen-then, room-first, room-then}
 use Rattle.views.specs.Placed.{IsPlaced}
 use Rattle.views.specs.Rebuilding.{AreSparesFree, with_whole}
-use Rattle.views.proofs.GivenMembers.{placed-given}
 use Rattle.views.proofs.LackingLaws.{since-then, in-either}
 use Rattle.views.proofs.MovedLaws.{grows-then, moved-then, moved-from}
 use Rattle.views.proofs.SafeStretch.{gone-before, safe-then, grows-longer, over-at, keeps-from}
