@@ -5,7 +5,7 @@ use Rattle.std.specs.Option.{option_or}
 use Rattle.std.proofs.Math.Nat.{min-le_left}
 use Rattle.md_base.specs.Search.{least_below, count_below}
 use Rattle.md_base.specs.declared.answers.Refusal.{Refusal}
-use Rattle.md_base.specs.declared.answers.Refusal.TheVariants.{Busy, Degraded, PastEnd, TooManyMissing, NotResynced}
+use Rattle.md_base.specs.declared.answers.Refusal.TheVariants.{Busy, Degraded, PastEnd, TooManyMissing, NotResynced, NoSuchRole, NoSuchSlot, SlotTaken, SlotTooSmall, BackupFault, Nothing}
 use Rattle.md_base.specs.declared.answers.BusyKind.TheVariants.{Resync, Plan}
 use Rattle.md_base.specs.declared.places.Shape.{Shape}
 use Rattle.md_base.specs.declared.status.Role.{Role}
@@ -17,12 +17,16 @@ use Rattle.grow_plan.specs.Plans.{phases_steps, phase_steps}
 use Rattle.superblocks.specs.declared.members.Members.{Members}
 use Rattle.superblocks.specs.Reading.{is_whole, shape_of, role_count, role_state, holder}
 use Rattle.row_io.specs.Rows.{reading_of, is_missing}
+use Rattle.flat_history.specs.declared.events.Entry.{Entry}
+use Rattle.flat_history.specs.declared.events.Event.TheVariants.{Refused}
+use Rattle.flat_history.specs.OneShape.{ShapeOpening, IsOneShapeRefusal}
 use Rattle.views.specs.declared.work.Work.{Work}
 use Rattle.views.specs.Placed.{is_vacant}
 use Rattle.views.specs.Status.{stripes_of, rebuilt_of, vacant_count, spare_count, resync_left, role_left, recovery_left, left_of}
 use Rattle.grow_asked.specs.Asked.{Asked, lowest_missing, IsUngrowable, grow_refusal}
 use Rattle.grow_asked.proofs.FirstLaws.{judged, none-exactly}
 use Rattle.still.specs.still_kept_Still.{AreNoneMissing}
+use Rattle.still.specs.still_laws_Plain.{MayTellPlainly}
 use Rattle.still.proofs.still_kept_Refusals.{IsRefusedStill}
 
 -- ---- what speaks against it
@@ -36,6 +40,22 @@ grow-plain a wish resync m (PastEnd visible) is = absurd is
 grow-plain a wish resync m (TooManyMissing count most) is = absurd is
 grow-plain a wish resync m (NotResynced role) is = absurd is
 grow-plain a wish resync m refusal is = tt
+
+-- it is right by any history of one shape, and is none of a reshape
+pub grow-shaped : (opening : ShapeOpening) (before : List Entry) (a : Asked) (wish : Wish) (refusal : Refusal) → IsUngrowable a wish refusal → IsOneShapeRefusal opening before refusal
+grow-shaped opening before a wish (PastEnd visible) is = absurd is
+grow-shaped opening before a wish (TooManyMissing count most) is = absurd is
+grow-shaped opening before a wish (NotResynced role) is = absurd is
+grow-shaped opening before a wish (NoSuchRole role) is = absurd is
+grow-shaped opening before a wish (NoSuchSlot slot) is = absurd is
+grow-shaped opening before a wish (SlotTaken slot) is = absurd is
+grow-shaped opening before a wish (SlotTooSmall have want) is = absurd is
+grow-shaped opening before a wish Nothing is = absurd is
+grow-shaped opening before a wish refusal is = tt
+
+pub grow-plainly : (a : Asked) (wish : Wish) (refusal : Refusal) → IsUngrowable a wish refusal → MayTellPlainly (Refused refusal)
+grow-plainly a wish BackupFault is = absurd is
+grow-plainly a wish refusal is = tt
 
 -- ---- no role is missing
 

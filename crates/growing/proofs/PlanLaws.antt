@@ -1,13 +1,10 @@
 -- What is kept of plans as a plan is entered, and what the backup has room for.
-use Rattle.std.proofs.Common.{None, ◌≡◌, ◌⊎◌, inl, inr, ℕ, ◌+◌, ◌<◌, ◌≤◌, ◌||◌, Bool, true, false, cond, Option, Some, Result, Ok, Err, List, [], ◌∷◌, ◌++◌, length, fold, refl, sym, ◌∙◌, ap, subst, arith, append-nil, ◌==◌, unwrap_or}
+use Rattle.std.proofs.Common.{None, ◌≡◌, ℕ, ◌+◌, ◌<◌, ◌≤◌, ◌==◌, true, cond, Option, Some, List, [], ◌∷◌, ◌++◌, length, sym, ◌∙◌, ap, subst, arith, unwrap_or}
 use Rattle.std.specs.Prelude.{option_map}
-use Rattle.std.specs.List.{list_any, All}
+use Rattle.std.specs.List.{All}
 use Rattle.std.proofs.lemmas.Bool.Decides.{nat_tests}
-use Rattle.std.proofs.lemmas.List.Elements.{All-nil, All-cons, All-head, All-tail}
-use Rattle.std.proofs.lemmas.List.Folds.{list_any-append}
+use Rattle.std.proofs.lemmas.List.Elements.{All-nil, All-cons}
 use Rattle.std.proofs.lemmas.List.Sums.{fold-append}
-use Rattle.md_base.specs.declared.answers.Fault.{Fault}
-use Rattle.md_base.specs.declared.answers.Fault.TheVariants.{Refused as IsRefusedWith, NoMemory}
 use Rattle.md_base.specs.declared.answers.Who.{Who}
 use Rattle.md_base.specs.declared.places.Shape.{Shape}
 use Rattle.md_base.specs.declared.wishes.Phase.{Phase}
@@ -15,30 +12,18 @@ use Rattle.md_base.specs.declared.wishes.Phase.TheVariants.{Reshape, UpTo6, Down
 use Rattle.md_base.specs.declared.wishes.Wish.{Wish}
 use Rattle.bank.specs.declared.bank.Operation.{Operation}
 use Rattle.bank.specs.Given.{Given}
-use Rattle.grow_plan.specs.Plans.{phases, phases_steps, phase_window, largest_window, last_shape, target, phases_to, taken_up, before_down, reshape_unless_same}
+use Rattle.grow_plan.specs.Plans.{phases, phase_window, largest_window, last_shape, target, phases_to, taken_up, before_down, reshape_unless_same}
 use Rattle.grow_plan.proofs.Sound.{phases_lead}
 use Rattle.superblocks.specs.declared.members.Members.{Members}
 use Rattle.superblocks.specs.Reading.{Scope, Reading, shape_of}
 use Rattle.flat_history.specs.declared.events.Entry.{Entry}
-use Rattle.flat_history.specs.declared.events.Event.{Event}
-use Rattle.flat_history.specs.declared.events.Event.TheVariants.{Planned, Step, Lost, SpareLost, Refused}
-use Rattle.flat_history.specs.declared.events.LostCause.TheVariants.{Fault as ByFault}
-use Rattle.flat_history.specs.declared.events.Request.{Request}
-use Rattle.flat_history.specs.declared.events.StepKind.{StepKind}
-use Rattle.flat_history.specs.Growing.{grown, EndBy}
+use Rattle.flat_history.specs.declared.events.Event.TheVariants.{Planned}
 use Rattle.flat_history.specs.Plain.{entries_of}
-use Rattle.flat_history.specs.Reshaped.{is_done, is_planned, plans_after, open_plans, planned_shape}
+use Rattle.flat_history.specs.Reshaped.{plans_after, open_plans, planned_shape}
 use Rattle.flat_history.specs.World.{World, reading_at}
 use Rattle.views.specs.declared.work.Work.{Work}
-use Rattle.call_entries.specs.Losing.{losses_of}
-use Rattle.call_entries.proofs.CallLaws.{AreLossEvents, losses-are}
-use Rattle.call_entries.proofs.LosingLaws.{entries-both}
-use Rattle.array_kept.specs.Calls.{IsEntered, StandsInside, IsReplied, IsAnswered, IsBehind, IsBehindAll}
 use Rattle.kept_history.specs.Recorded.{entry_of}
 use Rattle.kept_history.specs.Safe.{world_in}
-use Rattle.kept_history.proofs.Growing.{reading-grown, alike-before, room-before}
-use Rattle.kept_history.proofs.Turned.{filled-before}
-use Rattle.kept_history.proofs.Tests.{neither}
 use Rattle.history_calls.specs.Reliable.{IsReliable}
 use Rattle.still.specs.still_kept_Still.{AreNoneMissing, IsStill}
 use Rattle.still.specs.running_words_Plans.{GoTo}

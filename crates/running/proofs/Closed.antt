@@ -51,9 +51,9 @@ use Rattle.running.proofs.Entered.{ended-tail}
 -- ---- calls that do no step
 
 -- as much is under way, and each role was whole where each is
-pub closed-kept : {B : Type 0} {old new : RunningParts B} → new.parts.work.resync ≡ old.parts.work.resync → new.ahead ≡ old.ahead → (AreWhole new.parts.members → AreWhole old.parts.members)
+pub closed-kept : {B : Type 0} (old new : RunningParts B) → new.parts.work.resync ≡ old.parts.work.resync → new.ahead ≡ old.ahead → (AreWhole new.parts.members → AreWhole old.parts.members)
     → AddNoPlan old.parts.entries new.parts.entries → AreClosedIdle old → AreClosedIdle new
-closed-kept {old = old} resync ahead whole added was synced none all =
+closed-kept old new resync ahead whole added was synced none all =
     subst (λ (l : List Entry). open_plans l ≡ []) (sym added.grown)
     (none-open old.parts.entries added.more added.none (was (sym resync ∙ synced) (sym (ap phases_of ahead) ∙ none) (whole all)))
 

@@ -106,9 +106,9 @@ turned-out given tape old bank epoch given_is grows uuid slots first added was t
     absurd (turned-on given tape old (handed old bank epoch) (record { given_is = given_is; grows = grows; uuid = uuid; slots = slots; first = first; backup = refl; added = added }) was.within was.turned t keeps)
 
 -- the aim of an array that is in the same shapes
-aim-same : {B : Type 0} {old new : RunningParts B} → is_reshaping new.parts.members.newest ≡ is_reshaping old.parts.members.newest → final_shape new.parts.members.newest ≡ final_shape old.parts.members.newest
+aim-same : {B : Type 0} (old new : RunningParts B) → is_reshaping new.parts.members.newest ≡ is_reshaping old.parts.members.newest → final_shape new.parts.members.newest ≡ final_shape old.parts.members.newest
     → shape_of new.parts.members.newest ≡ shape_of old.parts.members.newest → new.ahead ≡ old.ahead → aim_of new ≡ aim_of old
-aim-same active final shape ahead = λ i. last_shape (if active i then final i else shape i) (phases_of (ahead i))
+aim-same old new active final shape ahead = λ i. last_shape (if active i then final i else shape i) (phases_of (ahead i))
 
 -- ---- without a reshape
 
@@ -169,7 +169,7 @@ module _ {B : Type 0} {tells : Type 0} (given : B → Given) (tape : B → List 
     aside = aside-kept was.aside;
     closed = closed;
     plans = plans-on given tape old new on was.within
-        (aim-same (now.still ∙ sym was.now.still) leaves.final leaves.shape leaves.ahead) was.plans;
+        (aim-same old new (now.still ∙ sym was.now.still) leaves.final leaves.shape leaves.ahead) was.plans;
   }
 
 -- ---- in one
@@ -182,7 +182,7 @@ module _ {B : Type 0} {tells : Type 0} (given : B → Given) (tape : B → List 
     within = within;
     last = ap phases_of ahead ∙ was.last;
     turned = turned-on given tape old new on was.within was.turned;
-    plans = plans-on given tape old new on was.within (aim-same (active ∙ sym was.active) final shape ahead) was.plans;
+    plans = plans-on given tape old new on was.within (aim-same old new (active ∙ sym was.active) final shape ahead) was.plans;
   }
 
 -- ---- what each call leaves
@@ -209,7 +209,7 @@ module _ {B : Type 0} {tells : Type 0} (given : B → Given) (tape : B → List 
       → IsAtRest tells (given old.parts.bank) (tape old.parts.bank) window old → IsAtRest tells (given new.parts.bank) (tape new.parts.bank) window new
   rest-called did whole now within was =
       rest-kept given tape window old new (goes-same did.grows did.same) (leaves-same did.same (λ role slot has. inl (did.held role slot has)) (λ slot backup is. did.spares slot is)) now within
-      (closed-kept (ap (λ (w : Work). w.resync) did.work) did.same.ahead whole added was.closed) was
+      (closed-kept old new (ap (λ (w : Work). w.resync) did.work) did.same.ahead whole added was.closed) was
 
   pub reshape-called : {f g : ℕ → ℕ} → IsCalled tells (given old.parts.bank) (tape old.parts.bank) (tape new.parts.bank) f g old new → is_reshaping new.parts.members.newest ≡ true → IsWithin tells (tape new.parts.bank) new
       → IsInReshape tells (given old.parts.bank) (tape old.parts.bank) old → IsInReshape tells (given new.parts.bank) (tape new.parts.bank) new
@@ -238,7 +238,7 @@ module _ {B : Type 0} {tells : Type 0} (given : B → Given) (tape : B → List 
       → IsAtRest tells (given old.parts.bank) (tape old.parts.bank) window old → IsAtRest tells (given new.parts.bank) (tape new.parts.bank) window new
   rest-alone bank same members work now within was = rest-kept given tape window old new (goes-same (grows-none (λ t. ap tape bank)) same)
       (leaves-same same (λ role slot has. inl (subst (λ (m : Members). Held m role slot) members has)) (λ slot backup is. subst (λ (m : Members). has_spare m.spares slot ≡ true) members is)) now within
-      (closed-kept (ap (λ (w : Work). w.resync) work) same.ahead (λ whole. subst AreWhole members whole) added was.closed) was
+      (closed-kept old new (ap (λ (w : Work). w.resync) work) same.ahead (λ whole. subst AreWhole members whole) added was.closed) was
 
   pub reshape-alone : {before after : World} → new.parts.bank ≡ old.parts.bank → IsSameReshape tells old new before after → is_reshaping new.parts.members.newest ≡ true → IsWithin tells (tape new.parts.bank) new
       → IsInReshape tells (given old.parts.bank) (tape old.parts.bank) old → IsInReshape tells (given new.parts.bank) (tape new.parts.bank) new
@@ -269,7 +269,7 @@ module _ {B : Type 0} {tells : Type 0} (given : B → Given) (tape : B → List 
       → IsAtRest tells (given old.parts.bank) (tape old.parts.bank) window old → IsAtRest tells (given new.parts.bank) (tape new.parts.bank) window new
   rest-added result caused whole now within was = rest-kept given tape window old new (goes-same given tape window old new given_is added did.grows did.same)
       (leaves-same given tape window old new given_is added did.same (λ role s has. inl (did.held role s has)) (λ s backup has. by s backup has (did.spares s has))) now within
-      (closed-kept did.work.resync did.same.ahead whole added was.closed) was
+      (closed-kept old new did.work.resync did.same.ahead whole added was.closed) was
     where
       by : (s : ℕ) → old.parts.backup ≡ Some s → has_spare new.parts.members.spares s ≡ true → (has_spare old.parts.members.spares s ≡ true) ⊎ (s ≡ slot) → has_spare old.parts.members.spares s ≡ true
       by s backup has (inl was) = was
@@ -306,7 +306,7 @@ module _ {B : Type 0} {tells : Type 0} (given : B → Given) (tape : B → List 
     held = λ role slot has. inl (subst (λ p. Held p.parts.members role slot) same has);
     spares = λ slot backup is. subst (λ p. has_spare p.parts.members.spares slot ≡ true) same is;
   }) now within
-      (closed-kept (ap (λ p. p.parts.work.resync) same) (ap (λ p. p.ahead) same) (λ whole. subst (λ p. AreWhole p.parts.members) same whole) (add-nothing (ap (λ p. p.parts.entries) same)) was.closed) was
+      (closed-kept old new (ap (λ p. p.parts.work.resync) same) (ap (λ p. p.ahead) same) (λ whole. subst (λ p. AreWhole p.parts.members) same whole) (add-nothing (ap (λ p. p.parts.entries) same)) was.closed) was
 
   pub reshape-looked : is_reshaping new.parts.members.newest ≡ true → IsWithin tells (tape new.parts.bank) new → IsInReshape tells (given old.parts.bank) (tape old.parts.bank) old
       → IsInReshape tells (given new.parts.bank) (tape new.parts.bank) new
@@ -359,7 +359,7 @@ reshape-begun {behind = behind} given tape window to old new given_is next none 
     first = did.same.first;
     backup = did.same.backup;
     added = add-begun did.entered;
-  }) was.within (aim-begun to [] was.now.still did.start.active did.start.final next (ap phases_of did.ahead ∙ none)) was.plans;
+  }) was.within (aim-begun old new to [] was.now.still did.start.active did.start.final next (ap phases_of did.ahead ∙ none)) was.plans;
 }
 
 -- it couldn't
@@ -405,7 +405,7 @@ rest-ended given tape window old new given_is did apart now within was = record 
     first = did.same.first;
     backup = did.same.backup;
     added = add-ended did.entered;
-  }) was.within (aim-ended was.active now.still did.over.shape did.ahead) was.plans;
+  }) was.within (aim-ended old new was.active now.still did.over.shape did.ahead) was.plans;
 }
   where
     none : phases_of new.ahead ≡ []

@@ -70,7 +70,7 @@ module _ {B : Type 0} {tells : Type 0} (given : B → Given) (tape : B → List 
     rest-refused window now within was =
         let added = add-refused fault answered in
         rest-kept given tape window old new (refused-on added) (refused-leaves ahead) now within
-        (closed-kept (ap (λ (w : Work). w.resync) before.work) ahead (λ whole. subst AreWhole before.members whole) added was.closed) was
+        (closed-kept old new (ap (λ (w : Work). w.resync) before.work) ahead (λ whole. subst AreWhole before.members whole) added was.closed) was
 
     pub reshape-refused : is_reshaping new.parts.members.newest ≡ true → IsWithin tells (tape new.parts.bank) new → IsInReshape tells (given old.parts.bank) (tape old.parts.bank) old → IsInReshape tells (given new.parts.bank) (tape new.parts.bank) new
     reshape-refused active within was =

@@ -1,38 +1,34 @@
 -- A step by which a reshape begins, or can't.
-use Rattle.std.proofs.Common.{◌≡◌, ◌⊎◌, inl, inr, ℕ, ◌+◌, ◌*◌, ◌<◌, ◌≤◌, ◌&&◌, ◌++◌, nat_lt, min, max, Bool, true, false, not, cond, Option, Some, None, List, [], ◌∷◌, get_or, length, MatchBool, refl, sym, ◌∙◌, ap, subst, arith}
+use Rattle.std.proofs.Common.{◌≡◌, inl, inr, ℕ, ◌+◌, ◌*◌, ◌&&◌, ◌||◌, ◌++◌, min, Bool, true, false, not, Some, None, List, [], ◌∷◌, refl, sym, ◌∙◌, ap, subst, arith}
 use Rattle.std.proofs.lemmas.Bool.{cases_lt, and_parts}
 use Rattle.std.proofs.lemmas.Bool.Decides.{nat_tests}
 use Rattle.std.proofs.lemmas.List.{get_or_past}
-use Rattle.std.proofs.lemmas.List.Elements.{All-nil, All-cons, All-weaker}
-use Rattle.std.specs.Prelude.{MatchOption, IfSome, IsSome}
-use Rattle.std.specs.List.{All, list_any}
+use Rattle.std.proofs.lemmas.List.Elements.{All-nil, All-cons}
+use Rattle.std.specs.Prelude.{nat_lt, IsSome}
 use Rattle.md_base.specs.Search.{tabulate}
 use Rattle.md_base.specs.Shapes.{data_disks, has_slot}
 use Rattle.md_base.specs.declared.answers.Refusal.{Refusal}
-use Rattle.md_base.specs.declared.answers.Refusal.TheVariants.{Degraded, NeedSpares, BackupFault}
 use Rattle.md_base.specs.declared.answers.Who.{Who}
 use Rattle.md_base.specs.declared.places.Shape.{Shape}
 use Rattle.md_base.specs.declared.status.Role.TheVariants.{Missing}
 use Rattle.md_base.proofs.Tabulated.{length-tabulate, get_or-tabulate}
 use Rattle.bank.specs.declared.bank.Operation.{Operation}
-use Rattle.bank.specs.Given.{Given, NeverFalls, IsFaulted}
+use Rattle.bank.specs.Given.{Given, NeverFalls}
 use Rattle.sb1.specs.declared.sb.Sb.{Sb}
 use Rattle.superblocks.specs.declared.change.Change.{Change}
 use Rattle.superblocks.specs.declared.change.Give.{Give}
 use Rattle.superblocks.specs.declared.members.Members.{Members}
 use Rattle.superblocks.specs.Outcome.{planned_state}
-use Rattle.superblocks.specs.Reading.{is_reshaping, shape_of, final_shape, list_length, role_count, role_state, holder}
+use Rattle.superblocks.specs.Reading.{is_reshaping, shape_of, list_length, role_count, holder}
 use Rattle.superblocks.specs.Reads.{has_spare}
 use Rattle.superblocks.specs.Update.{give_of, planned_role, is_planned_spare}
 use Rattle.superblock_reads.proofs.SaidLists.{role-holder}
 use Rattle.superblock_reads.proofs.SaidSlots.{has-slots_below}
-use Rattle.row_io.specs.Rows.{reading_of}
 use Rattle.flat_history.specs.declared.events.Entry.{Entry}
 use Rattle.flat_history.specs.declared.events.Event.{Event}
-use Rattle.flat_history.specs.declared.events.Event.TheVariants.{Step, Refused, Resized}
+use Rattle.flat_history.specs.declared.events.Event.TheVariants.{Resized, Step, Refused}
 use Rattle.flat_history.specs.declared.events.StepKind.TheVariants.{Begun}
 use Rattle.flat_history.specs.Flat.{length_of}
-use Rattle.flat_history.specs.OneShape.{IsOfCall}
 use Rattle.flat_history.specs.Plain.{entries_of}
 use Rattle.call_entries.specs.Losing.{losses_of}
 use Rattle.call_entries.proofs.PlainLaws.{one}
@@ -41,7 +37,7 @@ use Rattle.shape_views.proofs.Stands.{final-still}
 use Rattle.views.specs.Moving.{Grows}
 use Rattle.views.specs.Placed.{AreStillHeld}
 use Rattle.views.specs.Rebuilding.{Held, MayHold}
-use Rattle.array_kept.specs.Calls.{AreSparesFewer, AreHeldOrSpare, IsLossBy}
+use Rattle.array_kept.specs.Calls.{AreHeldOrSpare, AreSparesFewer, IsLossBy}
 use Rattle.array_kept.proofs.LossLaws.{behind-alone}
 use Rattle.reshape_updates.specs.Beginning.{beginning, goes_back}
 use Rattle.reshape_updates.proofs.NewRoles.{new-or}
@@ -49,15 +45,16 @@ use Rattle.reshape_ends.specs.Begun.{begun_plan}
 use Rattle.grow_asked.specs.declared.window.PhasesLeft.{PhasesLeft}
 use Rattle.grow_asked.specs.Left.{IsAtStartOf}
 use Rattle.kept_history.specs.Recorded.{MayGoOn, IsCallGoing}
-use Rattle.running_words.specs.Parts.{RunningParts, left_in, still_left}
+use Rattle.running_words.specs.Parts.{RunningParts, left_in}
+use Rattle.turning.specs.Begun.{is_resize, begun_length, IsReshapeBegun, IsGivenBack, IsBeginRefused}
 use Rattle.running_replies.specs.Replies.{EndsRunningSteps, IsRefusalBy, IsRefusalToldBy}
-use Rattle.running_replies.specs.Going.{is_finish, IsSameEpoch}
-use Rattle.turning.specs.Begun.{is_resize, HasKeptLength, begun_length, IsUnbegun, IsReshapeBegun, IsGivenBack, IsBeginRefused}
+use Rattle.running_replies.specs.Going.{is_finish}
 use Rattle.running.specs.Calls.{running_left, MayEndSteps}
-use Rattle.running_steps.specs.Steps.{IsOpenFor, TellsLeft, IsStepDone, IsStepRefused}
-use Rattle.running_steps.proofs.Events.{EachOf, each-append, each-losses, each-entry, each-own, any-none, count-one, IsNoStep, long-kept, going-more}
+use Rattle.running_steps.specs.Steps.{TellsLeft, IsStepDone, IsStepRefused}
+use Rattle.running_steps.proofs.Events.{EachOf, each-losses, each-entry, each-own, any-none, count-one, IsNoStep, long-kept, going-more}
 use Rattle.running_steps.proofs.Went.{epoch-itself, held-behind, held-same, losses-along}
-use Rattle.running_steps.proofs.Plain.{going-of, open-moving, faulted-in, IsPlainStep, plain-refused}
+use Rattle.running_steps.proofs.Plain.{open-moving, still-runs, active-runs, plain-refused}
+use Rattle.running_steps.proofs.Refusals.{faulted-in}
 
 -- ---- the slots that the plan of a begin gives roles: those that had them, and spares
 
@@ -77,7 +74,7 @@ module _ (old : Members) (to : Shape) where
   plan-may : (role slot : ℕ) → Held (begun_plan old to) role slot → MayHold old role slot
   plan-may role slot held = elim (cases_lt role (role_count ch.shared)) [
     | inl below ↦ gets-may role slot
-        (planned-holds old.roles ch.gives old.lost role slot (ap holder (sym (get_or-tabulate (role_count ch.shared) (planned_state old.roles ch.gives old.lost) role Missing below)) ∙ held)).1.1
+        (planned-holds old.roles ch.gives old.lost role slot (ap holder (sym (get_or-tabulate (role_count ch.shared) (planned_state old.roles ch.gives old.lost) role Missing below)) ∙ held)).2
     | inr past ↦ absurd (
         let none = get_or_past (tabulate (role_count ch.shared) (planned_state old.roles ch.gives old.lost)) role Missing (let long = length-tabulate (role_count ch.shared) (planned_state old.roles ch.gives old.lost) in omega (arith, past, long)) in
         let both = ap holder (sym none) ∙ held in cc)
@@ -130,7 +127,7 @@ begun-length who end left roles spares n size false same = same refl ∙ sym (lo
 -- ---- what is entered
 
 each-begun : (P : Event → Type 0) (left roles spares size : ℕ) (back : Bool) → P (Step Begun left) → P (Resized size) → EachOf P (losses_of roles spares) → EachOf P (Step Begun left ∷ begun_length back size ++ losses_of roles spares)
-each-begun P left roles spares size true step resized losses = (step, resized, losses)
+each-begun P left roles spares size true step resized losses = (step, (resized, losses))
 each-begun P left roles spares size false step resized losses = (step, losses)
 
 each-rest : (P : Event → Type 0) (roles spares size : ℕ) (back : Bool) → P (Resized size) → EachOf P (losses_of roles spares) → EachOf P (begun_length back size ++ losses_of roles spares)
@@ -143,17 +140,11 @@ IsUnfinished event = is_finish event ≡ false
 
 -- ---- it begins
 
-pub still-runs : {B : Type 0} (array : RunningParts B) → is_reshaping array.parts.members.newest ≡ false → running_left array ≡ still_left array.parts.work array.parts.members array.ahead
-still-runs array still = ap (λ (b : Bool). cond b (left_in array.parts.work array.parts.members array.course array.ahead) (still_left array.parts.work array.parts.members array.ahead)) still
-
-pub active-runs : {B : Type 0} (array : RunningParts B) → is_reshaping array.parts.members.newest ≡ true → running_left array ≡ left_in array.parts.work array.parts.members array.course array.ahead
-active-runs array active = ap (λ (b : Bool). cond b (left_in array.parts.work array.parts.members array.course array.ahead) (still_left array.parts.work array.parts.members array.ahead)) active
-
 module _ {B : Type 0} (tells : Type 0) (given : B → Given) (tape : B → List Operation) (faults : B → ℕ → ℕ) (who : Who) (old new : RunningParts B) where
-  pub begin-done : (to : Shape) (behind : PhasesLeft) → is_reshaping old.parts.members.newest ≡ false → IsOpenFor old who
+  pub begin-done : (to : Shape) (behind : PhasesLeft) → is_reshaping old.parts.members.newest ≡ false → IsCallGoing old.parts.entries who
       → IsReshapeBegun tells (given old.parts.bank) (tape old.parts.bank) (tape new.parts.bank) (faults old.parts.bank) (faults new.parts.bank) who to behind old new → given new.parts.bank ≡ given old.parts.bank
       → IsStepDone tells given tape faults who old new false
-  begin-done to behind still open_ was given_is = record {
+  begin-done to behind still goes was given_is = record {
     inner = inner;
     is = was.entered.is;
     own = each-own MayGoOn who end events (each-begun MayGoOn left roles spares size back tt tt (each-losses MayGoOn (λ role. tt) (λ slot. tt) roles spares));
@@ -163,7 +154,7 @@ module _ {B : Type 0} (tells : Type 0) (given : B → Given) (tape : B → List 
     over_told = sym (any-none is_finish IsUnfinished (λ event is. is) inner
         (each-entry IsUnfinished who end events (each-begun IsUnfinished left roles spares size back refl refl (each-losses IsUnfinished (λ role. refl) (λ slot. refl) roles spares))));
     left = λ none. record { one = λ quiet. fewer; some = λ quiet. let one = fewer in omega (arith, one) };
-    open = λ none some. open-moving new who was.start.active going;
+    next_open = λ none some. open-moving new who was.start.active going;
     going = going;
     went = record {
       more = inner;
@@ -184,38 +175,38 @@ module _ {B : Type 0} (tells : Type 0) (given : B → Given) (tape : B → List 
     ended = was.ended;
   }
     where
-      abbrev end : ℕ
+      end : ℕ
       end = was.entered.end
 
-      abbrev roles : ℕ
+      roles : ℕ
       roles = was.entered.roles
 
-      abbrev spares : ℕ
+      spares : ℕ
       spares = was.entered.spares
 
-      abbrev back : Bool
+      back : Bool
       back = goes_back (shape_of old.parts.members.newest) to
 
-      abbrev size : ℕ
+      size : ℕ
       size = list_length new.parts.members.newest
 
-      abbrev left : ℕ
+      left : ℕ
       left = left_in new.parts.work new.parts.members new.course new.ahead
 
-      abbrev events : List Event
+      events : List Event
       events = Step Begun left ∷ begun_length back size ++ losses_of roles spares
 
-      abbrev inner : List Entry
+      inner : List Entry
       inner = entries_of who end events
 
-      abbrev told : Event → Type 0
+      told : Event → Type 0
       told = IsRefusalToldBy old.parts.backup (faults old.parts.bank) (faults new.parts.bank)
 
       runs : running_left new ≡ left
       runs = active-runs new was.start.active
 
       going : IsCallGoing new.parts.entries who
-      going = going-more inner (going-of old who open_) was.entered.is
+      going = going-more inner goes was.entered.is
           (each-own MayGoOn who end events (each-begun MayGoOn left roles spares size back tt tt (each-losses MayGoOn (λ role. tt) (λ slot. tt) roles spares)))
 
       fewer : running_left new + 1 ≡ running_left old
@@ -224,19 +215,19 @@ module _ {B : Type 0} (tells : Type 0) (given : B → Given) (tape : B → List 
   -- ---- it doesn't
 
   begin-ends : (before now : ℕ → ℕ) (to : Shape) (refusal : Refusal) → IsBeginRefused before now to refusal old new → EndsRunningSteps refusal
-  begin-ends before now to refusal (inl (inl unbegun, same)) = subst EndsRunningSteps (sym unbegun.1.1) tt
-  begin-ends before now to refusal (inl (inr unbegun, same)) = let few = unbegun.1.0 in subst EndsRunningSteps (sym unbegun.1.1) (omega (arith, few))
-  begin-ends before now to refusal (inr failed) = subst EndsRunningSteps (sym failed.1.0) tt
+  begin-ends before now to refusal (inl (inl unbegun, same)) = subst EndsRunningSteps (sym unbegun.2) tt
+  begin-ends before now to refusal (inl (inr unbegun, same)) = let few = unbegun.1 in subst EndsRunningSteps (sym unbegun.2) (omega (arith, few))
+  begin-ends before now to refusal (inr failed) = subst EndsRunningSteps (sym failed.1) tt
 
   begin-cause : (before now : ℕ → ℕ) (to : Shape) (refusal : Refusal) → IsSome old.parts.backup → IsBeginRefused before now to refusal old new → IsRefusalBy old.parts.backup before now refusal
-  begin-cause before now to refusal some (inl (inl unbegun, same)) = subst (IsRefusalBy old.parts.backup before now) (sym unbegun.1.1) tt
-  begin-cause before now to refusal some (inl (inr unbegun, same)) = subst (IsRefusalBy old.parts.backup before now) (sym unbegun.1.1) tt
-  begin-cause before now to refusal some (inr failed) = subst (IsRefusalBy old.parts.backup before now) (sym failed.1.0) (faulted-in old.parts.backup before now some failed.1.1)
+  begin-cause before now to refusal some (inl (inl unbegun, same)) = subst (IsRefusalBy old.parts.backup before now) (sym unbegun.2) tt
+  begin-cause before now to refusal some (inl (inr unbegun, same)) = subst (IsRefusalBy old.parts.backup before now) (sym unbegun.2) tt
+  begin-cause before now to refusal some (inr failed) = subst (IsRefusalBy old.parts.backup before now) (sym failed.1) (faulted-in old.parts.backup before now some failed.2)
 
-  pub begin-refused : (to : Shape) (refusal : Refusal) → IsOpenFor old who → IsSome old.parts.backup → IsGivenBack tells (given old.parts.bank) (tape old.parts.bank) (tape new.parts.bank) who refusal old new
+  pub begin-refused : (to : Shape) (refusal : Refusal) → IsCallGoing old.parts.entries who → IsSome old.parts.backup → IsGivenBack tells (given old.parts.bank) (tape old.parts.bank) (tape new.parts.bank) who refusal old new
       → IsBeginRefused (faults old.parts.bank) (faults new.parts.bank) to refusal old new → MayEndSteps new refusal → Grows tells (tape old.parts.bank) (tape new.parts.bank) → NeverFalls (faults old.parts.bank) (faults new.parts.bank)
       → given new.parts.bank ≡ given old.parts.bank → IsStepRefused tells given tape faults who old new refusal
-  begin-refused to refusal open_ some back caused right grows rises given_is =
+  begin-refused to refusal goes some back caused right grows rises given_is =
       plain-refused tells given tape faults who old new (Held old.parts.members) refusal
       (record {
         long = ap (λ (m : Members). list_length m.newest) back.members;
@@ -253,5 +244,5 @@ module _ {B : Type 0} (tells : Type 0) (given : B → Given) (tape : B → List 
         epoch = epoch-itself old new back.same;
         ended = back.ended;
       })
-      (behind-alone who back.end (Refused refusal) refl back.entered) (going-of old who open_) (begin-ends (faults old.parts.bank) (faults new.parts.bank) to refusal caused)
+      (behind-alone who back.end (Refused refusal) refl back.entered) goes (begin-ends (faults old.parts.bank) (faults new.parts.bank) to refusal caused)
       (begin-cause (faults old.parts.bank) (faults new.parts.bank) to refusal some caused) right

@@ -1,42 +1,40 @@
 -- A step by which the active reshape ends.
-use Rattle.std.proofs.Common.{◌≡◌, ◌⊎◌, inl, inr, ℕ, ◌+◌, ◌*◌, ◌<◌, ◌≤◌, ◌++◌, ◌||◌, nat_lt, min, Bool, true, false, List, [], ◌∷◌, refl, sym, ◌∙◌, ap, subst, arith}
+use Rattle.std.proofs.Common.{◌≡◌, ◌⊎◌, inl, inr, ℕ, ◌*◌, ◌≤◌, ◌||◌, ◌++◌, min, Bool, true, false, List, [], ◌∷◌, refl, sym, ◌∙◌, arith}
 use Rattle.std.proofs.Math.Nat.{min-le_right}
 use Rattle.std.proofs.lemmas.Bool.Decides.{nat_tests}
-use Rattle.std.proofs.lemmas.List.Folds.{list_any-append}
-use Rattle.std.specs.Prelude.{IsTrue, if◌then◌else◌}
-use Rattle.std.specs.List.{All, list_any}
+use Rattle.std.specs.Prelude.{nat_lt, if◌then◌else◌, IsTrue}
+use Rattle.std.specs.List.{list_any}
 use Rattle.md_base.specs.Shapes.{data_disks}
 use Rattle.md_base.specs.declared.answers.Who.{Who}
 use Rattle.bank.specs.declared.bank.Operation.{Operation}
 use Rattle.bank.specs.Given.{Given}
 use Rattle.sb1.specs.declared.sb.Sb.{Sb}
 use Rattle.superblocks.specs.declared.members.Members.{Members}
-use Rattle.superblocks.specs.Reading.{is_reshaping, shape_of, final_shape, list_length}
+use Rattle.superblocks.specs.Reading.{shape_of, final_shape, list_length}
 use Rattle.superblocks.specs.Reads.{has_spare}
 use Rattle.flat_history.specs.declared.events.Entry.{Entry}
 use Rattle.flat_history.specs.declared.events.Event.{Event}
-use Rattle.flat_history.specs.declared.events.Event.TheVariants.{Lost, SpareLost, Step, Resized}
+use Rattle.flat_history.specs.declared.events.Event.TheVariants.{Lost, SpareLost, Resized, Step}
 use Rattle.flat_history.specs.declared.events.LostCause.TheVariants.{Fault}
 use Rattle.flat_history.specs.declared.events.StepKind.TheVariants.{Finished}
-use Rattle.flat_history.specs.Flat.{length_of, length_after}
+use Rattle.flat_history.specs.Flat.{length_of}
 use Rattle.flat_history.specs.Plain.{entries_of}
 use Rattle.call_entries.specs.Losing.{losses_of}
+use Rattle.call_entries.proofs.PlainLaws.{one}
 use Rattle.call_entries.proofs.CallLaws.{losses-are, length-losses}
-use Rattle.call_entries.proofs.LosingLaws.{entries-both}
 use Rattle.views.specs.Placed.{AreStillHeld}
-use Rattle.views.specs.Rebuilding.{Held, MayHold}
-use Rattle.array_kept.specs.Calls.{AreStepsFewer}
+use Rattle.views.specs.Rebuilding.{Held}
 use Rattle.kept_history.specs.Recorded.{MayGoOn, IsCallGoing}
 use Rattle.running_words.specs.Parts.{RunningParts, still_left}
-use Rattle.running_replies.specs.Replies.{IsRefusalToldBy}
-use Rattle.running_replies.specs.Going.{is_finish, AreHeldBehind, MayBeDropped}
 use Rattle.turning.specs.Ended.{ended_length, AreSparesOrDropped, IsReshapeEnded}
+use Rattle.running_replies.specs.Replies.{IsRefusalToldBy}
+use Rattle.running_replies.specs.Going.{is_finish, MayBeDropped, AreHeldBehind}
 use Rattle.running.specs.Calls.{running_left}
-use Rattle.running_steps.specs.Steps.{IsOpenFor, TellsLeft, IsStepDone}
-use Rattle.running_steps.proofs.Events.{EachOf, each-append, each-behind, each-losses, each-entry, each-own, count-one, IsNoStep, going-more}
+use Rattle.running_steps.specs.Steps.{TellsLeft, IsStepDone}
+use Rattle.running_steps.proofs.Events.{EachOf, each-behind, each-losses, each-entry, each-own, count-one, IsNoStep, going-more}
 use Rattle.running_steps.proofs.Went.{epoch-itself, losses-along}
-use Rattle.running_steps.proofs.Plain.{going-of}
-use Rattle.running_steps.proofs.Begun.{losses-long, still-runs}
+use Rattle.running_steps.proofs.Plain.{still-runs}
+use Rattle.running_steps.proofs.Begun.{losses-long}
 
 -- ---- what is entered
 
@@ -93,10 +91,10 @@ dropped-behind old new entries told held spares = record { roles = λ role slot 
     by slot (inr (role, past, had)) = inr (told, role, had)
 
 module _ {B : Type 0} (tells : Type 0) (given : B → Given) (tape : B → List Operation) (faults : B → ℕ → ℕ) (who : Who) (old new : RunningParts B) where
-  pub finish-done : IsOpenFor old who
+  pub finish-done : IsCallGoing old.parts.entries who
       → IsReshapeEnded tells (given old.parts.bank) (tape old.parts.bank) (tape new.parts.bank) (faults old.parts.bank) (faults new.parts.bank) who old new → given new.parts.bank ≡ given old.parts.bank
       → IsStepDone tells given tape faults who old new true
-  finish-done open_ was given_is = record {
+  finish-done goes was given_is = record {
     inner = inner;
     is = was.entered.is;
     own = each-own MayGoOn who end events (each MayGoOn (λ role. tt) (λ slot. tt) tt tt);
@@ -105,8 +103,8 @@ module _ {B : Type 0} (tells : Type 0) (given : B → Given) (tape : B → List 
         (each-rest IsNoStep late late_spares before size refl (each-losses IsNoStep (λ role. refl) (λ slot. refl) late late_spares)));
     over_told = sym finished;
     left = λ over. absurd (cc);
-    open = λ over some. absurd (cc);
-    going = going-more inner (going-of old who open_) was.entered.is (each-own MayGoOn who end events (each MayGoOn (λ role. tt) (λ slot. tt) tt tt));
+    next_open = λ over some. absurd (cc);
+    going = going-more inner goes was.entered.is (each-own MayGoOn who end events (each MayGoOn (λ role. tt) (λ slot. tt) tt tt));
     went = record {
       more = inner;
       grown = was.entered.is;
@@ -126,37 +124,37 @@ module _ {B : Type 0} (tells : Type 0) (given : B → Given) (tape : B → List 
     ended = was.ended;
   }
     where
-      abbrev end : ℕ
+      end : ℕ
       end = was.entered.end
 
-      abbrev roles : ℕ
+      roles : ℕ
       roles = was.entered.roles
 
-      abbrev spares : ℕ
+      spares : ℕ
       spares = was.entered.spares
 
-      abbrev late : ℕ
+      late : ℕ
       late = was.entered.late
 
-      abbrev late_spares : ℕ
+      late_spares : ℕ
       late_spares = was.entered.late_spares
 
-      abbrev before : ℕ
+      before : ℕ
       before = list_length old.parts.members.newest
 
-      abbrev size : ℕ
+      size : ℕ
       size = list_length new.parts.members.newest
 
-      abbrev left : ℕ
+      left : ℕ
       left = still_left new.parts.work new.parts.members new.ahead
 
-      abbrev events : List Event
+      events : List Event
       events = losses_of roles spares ++ Step Finished left ∷ (ended_length before size ++ losses_of late late_spares)
 
-      abbrev inner : List Entry
+      inner : List Entry
       inner = entries_of who end events
 
-      abbrev told : Event → Type 0
+      told : Event → Type 0
       told = IsRefusalToldBy old.parts.backup (faults old.parts.bank) (faults new.parts.bank)
 
       each : (P : Event → Type 0) → ((role : ℕ) → P (Lost role Fault)) → ((slot : ℕ) → P (SpareLost slot)) → P (Step Finished left) → P (Resized size) → EachOf P events

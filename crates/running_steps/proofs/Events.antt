@@ -1,19 +1,18 @@
 -- The entries of a step: what may stand in them, and what they tell.
-use Rattle.std.proofs.Common.{◌≡◌, ◌⊎◌, inl, inr, ℕ, zero, suc, ◌+◌, ◌<◌, ◌≤◌, ◌==◌, ◌||◌, Bool, true, false, not, cond, Option, List, [], ◌∷◌, ◌++◌, length, drop, refl, sym, ◌∙◌, ap, subst, arith, append_assoc, append-nil}
+use Rattle.std.proofs.Common.{◌≡◌, inl, inr, ℕ, zero, suc, ◌+◌, ◌<◌, ◌≤◌, ◌==◌, ◌||◌, ◌++◌, Bool, true, false, cond, Option, List, [], ◌∷◌, length, drop, refl, sym, ◌∙◌, ap, arith, append_assoc}
 use Rattle.std.proofs.Math.Seq.{drop-append_seam}
 use Rattle.std.proofs.lemmas.Bool.Decides.{nat_tests}
-use Rattle.std.proofs.lemmas.List.Elements.{All-nil, All-cons, All-append, All-head, All-tail, All-weaker, Contains-append_left}
+use Rattle.std.proofs.lemmas.List.Elements.{All-nil, All-cons, All-append, All-head, All-tail}
 use Rattle.std.proofs.lemmas.List.Folds.{list_any-append}
 use Rattle.std.proofs.lemmas.List.Sums.{sum_by-append}
 use Rattle.std.specs.Prelude.{count_by, slice_index_or, ⊤}
 use Rattle.std.specs.List.{All, Contains, list_any}
-use Rattle.md_base.specs.declared.answers.Who.{Who}
 use Rattle.md_base.specs.declared.answers.Refusal.{Refusal}
+use Rattle.md_base.specs.declared.answers.Who.{Who}
 use Rattle.flat_history.specs.declared.events.Entry.{Entry}
 use Rattle.flat_history.specs.declared.events.Event.{Event}
 use Rattle.flat_history.specs.declared.events.Event.TheVariants.{Lost, SpareLost, Rebuilt, Resized, Step, Refused}
 use Rattle.flat_history.specs.declared.events.LostCause.TheVariants.{Fault}
-use Rattle.flat_history.specs.declared.events.StepKind.{StepKind}
 use Rattle.flat_history.specs.declared.events.StepKind.TheVariants.{Finished}
 use Rattle.flat_history.specs.Fits.{is_step_event, is_lost_event}
 use Rattle.flat_history.specs.Flat.{length_of}
@@ -22,13 +21,12 @@ use Rattle.flat_history.specs.Plain.{entries_of}
 use Rattle.flat_history.specs.Reshaped.{is_done}
 use Rattle.call_entries.specs.Losing.{losses_of}
 use Rattle.call_entries.proofs.PlainLaws.{one}
-use Rattle.call_entries.proofs.LosingLaws.{entries-both}
 use Rattle.call_entries.proofs.CallLaws.{AreLossEvents, losses-are}
-use Rattle.array_kept.specs.Calls.{IsBehind, IsRoleLost}
+use Rattle.array_kept.specs.Calls.{IsRoleLost}
 use Rattle.kept_history.specs.Recorded.{MayGoOn, IsCallGoing}
+use Rattle.turning.specs.Begun.{is_resize, HasKeptLength}
 use Rattle.running_replies.specs.Replies.{IsRefusalToldBy}
 use Rattle.running_replies.specs.Going.{is_finish}
-use Rattle.turning.specs.Begun.{is_resize, HasKeptLength}
 use Rattle.running_steps.specs.Steps.{TellsLeft, TellOneStep}
 
 -- ---- what stands behind the old entries
@@ -86,14 +84,14 @@ count-both p xs ys = sum_by-append (λ e. cond (p e.event) 1 0) xs ys
 
 count-first : (p : Event → Bool) (x : Entry) (xs : List Entry) (b : Bool) → p x.event ≡ b → count_by (λ e. p e.event) (x ∷ xs) ≡ cond b 1 0 + count_by (λ e. p e.event) xs
 count-first p x xs b is =
-    let here : ◌≡◌ {A = ℕ} (count_by (λ e. p e.event) (x ∷ [])) (cond b 1 0) = ap (λ (t : Bool). cond t 1 0) is in
+    let here : ◌≡◌ {A = ℕ} (count_by (λ e. p e.event) (x ∷ [])) (0 + cond b 1 0) = ap (λ (t : Bool). 0 + cond t 1 0) is in
     let both = count-both p (x ∷ []) xs in omega (arith, both, here)
 
 -- no step
 abbrev pub IsNoStep : Event → Type 0
 IsNoStep event = is_step_event event ≡ false
 
-count-none : (who : Who) (end : ℕ) (xs : List Event) → EachOf IsNoStep xs → count_by (λ e. is_step_event e.event) (entries_of who end xs) ≡ 0
+pub count-none : (who : Who) (end : ℕ) (xs : List Event) → EachOf IsNoStep xs → count_by (λ e. is_step_event e.event) (entries_of who end xs) ≡ 0
 count-none who end [] each = refl
 count-none who end (x ∷ xs) each =
     let first = count-first is_step_event (one who end x) (entries_of who end xs) false each.0 in
@@ -195,7 +193,8 @@ entries-lost who old new left role was = record {
   own = each-own (IsOfStep left) who was.end (losses_of was.roles was.spares) (each-losses (IsOfStep left) (λ r. tt) (λ s. tt) was.roles was.spares);
   one = inr (
     count-none who was.end (losses_of was.roles was.spares) (each-losses IsNoStep (λ r. refl) (λ s. refl) was.roles was.spares),
-    count-lost who was.end (Lost role Fault) (losses_of was.roles was.spares) refl was.among);
+    count-lost who was.end (Lost role Fault) (losses_of was.roles was.spares) refl was.among,
+  );
 }
 
 -- ---- the length of the list
@@ -203,15 +202,17 @@ entries-lost who old new left role was = record {
 -- entries that change no length leave it
 pub long-kept : (xs : List Entry) → list_any (λ e. is_resize e.event) xs ≡ false → (n : ℕ) → length_of n xs ≡ n
 long-kept [] none n = refl
-long-kept (x ∷ xs) none n = by x.event (is_resize x.event) refl (either (is_resize x.event) (list_any (λ e. is_resize e.event) xs) none)
+long-kept (x ∷ xs) none n =
+    let parts = either (is_resize x.event) (list_any (λ e. is_resize e.event) xs) none in
+    by x.event parts.0 (long-kept xs parts.1 n)
   where
     either : (a b : Bool) → (a || b) ≡ false → (a ≡ false) × (b ≡ false)
     either false b is = (refl, is)
     either true b is = absurd (cc)
 
-    by : (event : Event) (b : Bool) → is_resize event ≡ b → (b ≡ false) × (list_any (λ e. is_resize e.event) xs ≡ false) → length_of n (record x { event = event } ∷ xs) ≡ n
-    by (Resized m) b is none = absurd (let e : true ≡ false = is ∙ none.0 in cc)
-    by event b is none = long-kept xs none.1 n
+    by : (event : Event) → is_resize event ≡ false → length_of n xs ≡ n → length_of n (record x { event = event } ∷ xs) ≡ n
+    by (Resized m) none rest = absurd (cc)
+    by event none rest = rest
 
 -- ---- the call goes on
 
@@ -227,6 +228,7 @@ going-more {who = who} inner was is own = record {
 -- and has changed no length so far
 pub kept-more : {old new : List Entry} {who : Who} (inner : List Entry) → HasKeptLength old who → new ≡ old ++ inner → All (λ e. IsOfCall who e × MayGoOn e.event) inner
     → list_any (λ e. is_resize e.event) inner ≡ false → list_any (λ e. is_done e.event) inner ≡ false → HasKeptLength new who
+unfolding going-more
 kept-more {who = who} inner was is own lengthless undone = record {
   goes = going-more inner was.goes is own;
   lengths = list_any-append (λ e. is_resize e.event) was.goes.call inner ∙ neither (list_any (λ e. is_resize e.event) was.goes.call) (list_any (λ e. is_resize e.event) inner) was.lengths lengthless;

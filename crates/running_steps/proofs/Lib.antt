@@ -1,7 +1,10 @@
 mod Events
 mod Went
 mod Plain
+mod Refusals
+mod Own
+mod Moved
 mod Begun
 mod Ended
-mod Batch
+mod StepsOf
 mod Replies

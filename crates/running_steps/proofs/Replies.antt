@@ -1,5 +1,5 @@
 -- The reply to a request for steps.
-use Rattle.std.proofs.Common.{◌≡◌, ◌⊎◌, inl, inr, ℕ, ◌+◌, ◌<◌, ◌≤◌, ◌==◌, ◌&&◌, ◌||◌, Bool, true, false, not, cond, length, drop, Option, Some, None, List, [], ◌∷◌, ◌++◌, refl, sym, ◌∙◌, ap, subst, arith, append_assoc, append-nil}
+use Rattle.std.proofs.Common.{◌≡◌, ◌⊎◌, inl, inr, ℕ, ◌+◌, ◌<◌, ◌≤◌, ◌==◌, ◌&&◌, ◌||◌, ◌++◌, Bool, true, false, not, cond, Option, Some, None, Err, List, [], ◌∷◌, length, drop, refl, sym, ◌∙◌, ap, subst, arith, append_assoc, append-nil}
 use Rattle.std.proofs.Math.Seq.{drop-append_seam}
 use Rattle.std.proofs.lemmas.Bool.Decides.{nat_tests}
 use Rattle.std.proofs.lemmas.List.{reverse-append}
@@ -8,23 +8,23 @@ use Rattle.std.proofs.lemmas.List.Folds.{list_any-append}
 use Rattle.std.proofs.lemmas.List.Sums.{fold-append}
 use Rattle.std.specs.Prelude.{reverse, count_by, IfSome, IsSome, IsTrue, MatchOption, ⊤}
 use Rattle.std.specs.List.{All, list_any}
+use Rattle.md_base.specs.declared.answers.Fault.TheVariants.{Refused as IsRefusedWith}
 use Rattle.md_base.specs.declared.answers.Refusal.{Refusal}
-use Rattle.md_base.specs.declared.answers.Refusal.TheVariants.{SlotFault, BackupFault, Nothing}
+use Rattle.md_base.specs.declared.answers.Refusal.TheVariants.{Nothing}
 use Rattle.md_base.specs.declared.answers.Who.{Who}
 use Rattle.bank.specs.declared.bank.Operation.{Operation}
-use Rattle.bank.specs.Given.{Given, NeverFalls, IsFaulted}
+use Rattle.bank.specs.Given.{Given, NeverFalls}
 use Rattle.superblocks.specs.declared.members.Members.{Members}
-use Rattle.superblocks.specs.Reading.{is_reshaping, list_length}
+use Rattle.superblocks.specs.Reading.{list_length}
 use Rattle.superblocks.specs.Reads.{has_spare}
 use Rattle.flat_history.specs.declared.events.Entry.{Entry}
 use Rattle.flat_history.specs.declared.events.Event.{Event}
 use Rattle.flat_history.specs.declared.events.Event.TheVariants.{Lost, SpareLost, Rebuilt, Resized, Step, Stepped, Refused}
 use Rattle.flat_history.specs.declared.events.LostCause.TheVariants.{Fault}
-use Rattle.flat_history.specs.declared.events.Request.{Request}
 use Rattle.flat_history.specs.declared.events.Request.TheVariants.{Steps as AsksSteps}
 use Rattle.flat_history.specs.declared.events.StepKind.TheVariants.{Finished}
-use Rattle.flat_history.specs.Flat.{rest_of_call, next_number, length_of, length_after}
 use Rattle.flat_history.specs.Fits.{IsTornOf, AreTornOf, is_step_event, is_lost_event}
+use Rattle.flat_history.specs.Flat.{rest_of_call, next_number, length_of, length_after}
 use Rattle.flat_history.specs.Legal.{MayBeInner, call_before}
 use Rattle.flat_history.specs.OneShape.{IsOfCall}
 use Rattle.flat_history.specs.Plain.{entries_of}
@@ -32,16 +32,16 @@ use Rattle.call_entries.proofs.PlainLaws.{one}
 use Rattle.call_entries.proofs.CallLaws.{torn-reverse}
 use Rattle.views.specs.Moving.{Grows}
 use Rattle.views.specs.Rebuilding.{Held}
-use Rattle.array_kept.specs.Calls.{IsEntered, IsLossBy, TellNoRoleLoss}
+use Rattle.array_kept.specs.Calls.{IsEntered, IsLossBy, AreStepsFewer, IsBehind, TellNoRoleLoss}
 use Rattle.array_kept.proofs.ReplyLaws.{none_before}
-use Rattle.kept_history.specs.Recorded.{MayGoOn, IsCallGoing}
+use Rattle.kept_history.specs.Recorded.{MayGoOn}
 use Rattle.running_words.specs.Parts.{RunningParts}
 use Rattle.running_words.specs.Calls.{IsCalled}
 use Rattle.running_replies.specs.Replies.{may_end_early, DidRunningSteps, EndsRunningSteps, IsRefusalBy, IsRefusalToldBy, HasToldBy, IsAnsweredWith}
 use Rattle.running_replies.specs.Going.{is_finish, MayHoldBehind, AreLossesAlong, HasRunOn, IsSameEpoch}
-use Rattle.running_replies.proofs.GoneOn.{told-then, along-append, may-then, spares-then}
+use Rattle.running_replies.proofs.GoneOn.{refusal-wider, told-then, along-append, may-then, spares-then, gone-then}
 use Rattle.running.specs.Calls.{running_left}
-use Rattle.running_steps.specs.Steps.{AreStepsOf, has_finished}
+use Rattle.running_steps.specs.Steps.{IsStepDone, IsStepRefused, IsStepAnswered, AreStepsOf, has_finished}
 use Rattle.running_steps.proofs.Events.{count-both}
 
 -- ---- what stands in a call before its reply
@@ -281,7 +281,7 @@ module _ {B : Type 0} (tells : Type 0) (given : B → Given) (tape : B → List 
     same = record { uuid = epoch.uuid ∙ was.same.uuid; given = epoch.given ∙ was.same.given; first = epoch.first ∙ was.same.first; backup = epoch.backup ∙ was.same.backup };
   }
     where
-      abbrev last : List Entry
+      last : List Entry
       last = entries_of who end (event ∷ [])
 
 -- as many steps are left behind a reply
@@ -289,6 +289,48 @@ pub left-answered : {B tells : Type 0} {given : Given} {tape tape' : List Operat
     → running_left new ≡ running_left mid
 left-answered mid new called members course i = running_left (record mid { parts = record mid.parts { work = called.work i; members = members i }; course = course i; ahead = called.same.ahead i })
 
--- the call begins
-pub going-begins : (entries : List Entry) (who : Who) → who.number ≡ next_number who.caller entries → IsCallGoing entries who
-going-begins entries who number = record { before = entries; call = []; is = sym (append-nil entries); own = All-nil (λ e. IsOfCall who e × MayGoOn e.event); number = number }
+-- a refusal's cause in some of the steps is one in all of them
+pub cause-later : {B : Type 0} (tells : Type 0) (given : B → Given) (tape : B → List Operation) (faults : B → ℕ → ℕ) (old mid new : RunningParts B) → HasRunOn tells given tape faults old mid → HasRunOn tells given tape faults mid new → (refusal : Refusal)
+    → IsRefusalBy mid.parts.backup (faults mid.parts.bank) (faults new.parts.bank) refusal → IsRefusalBy old.parts.backup (faults old.parts.bank) (faults new.parts.bank) refusal
+cause-later tells given tape faults old mid new one two refusal was =
+    refusal-wider one.never_falls two.never_falls (λ s. omega arith) old.parts.backup refusal
+    (subst (λ (b : Option ℕ). IsRefusalBy b (faults mid.parts.bank) (faults new.parts.bank) refusal) one.same.backup was)
+
+-- ---- a step, or some, that had room made for them
+
+module _ {B : Type 0} (tells : Type 0) (given : B → Given) (tape : B → List Operation) (faults : B → ℕ → ℕ) (old mid new : RunningParts B) (n : ℕ) (room : mid ≡ record old { parts = record old.parts { steps = n } }) where
+  pub gone-behind : HasRunOn tells given tape faults mid new → HasRunOn tells given tape faults old new
+  gone-behind was = gone-then tells given tape faults old mid new (gone-room tells given tape faults old mid n room) was
+
+  pub done-behind : (who : Who) (over : Bool) → IsStepDone tells given tape faults who mid new over → IsStepDone tells given tape faults who old new over
+  done-behind who over was = record {
+    inner = was.inner;
+    is = was.is ∙ ap (λ (a : RunningParts B). a.parts.entries ++ was.inner) room;
+    own = was.own;
+    told = was.told;
+    one = was.one;
+    over_told = was.over_told;
+    left = λ none. subst (λ (a : RunningParts B). AreStepsFewer a.parts.entries new.parts.entries (running_left a) (running_left new)) room (was.left none);
+    next_open = was.next_open;
+    going = was.going;
+    went = gone-behind was.went;
+    ended = was.ended;
+  }
+
+  pub refused-behind : (who : Who) (refusal : Refusal) → IsStepRefused tells given tape faults who mid new refusal → IsStepRefused tells given tape faults who old new refusal
+  refused-behind who refusal was = record {
+    behind = subst (λ (a : RunningParts B). IsBehind who a.parts.entries new.parts.entries (Refused refusal)) room was.behind;
+    why = was.why;
+    cause = subst (λ (a : RunningParts B). IsRefusalBy a.parts.backup (faults a.parts.bank) (faults new.parts.bank) refusal) room was.cause;
+    right = was.right;
+    going = was.going;
+    went = gone-behind was.went;
+    ended = was.ended;
+  }
+
+  pub answered-refused : (who : Who) (refusal : Refusal) → IsStepRefused tells given tape faults who mid new refusal → IsStepAnswered {T = ⊤} tells given tape faults who old new (Err (IsRefusedWith refusal))
+  answered-refused who refusal was = by refusal was.why (refused-behind who refusal was)
+    where
+      by : (r : Refusal) → EndsRunningSteps r → IsStepRefused tells given tape faults who old new r → IsStepAnswered {T = ⊤} tells given tape faults who old new (Err (IsRefusedWith r))
+      by Nothing why refused = absurd why
+      by r why refused = refused

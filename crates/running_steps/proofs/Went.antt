@@ -1,16 +1,14 @@
 -- What steps leave, from what each kind of them says.
-use Rattle.std.proofs.Common.{◌≡◌, ◌⊎◌, inl, inr, ℕ, ◌*◌, min, true, List, [], ◌∷◌, ◌++◌, refl, sym, ◌∙◌, ap, subst}
+use Rattle.std.proofs.Common.{◌≡◌, inl, ℕ, ◌*◌, ◌++◌, min, true, List, [], ◌∷◌, subst}
 use Rattle.std.proofs.lemmas.List.Elements.{All-head, All-tail}
 use Rattle.std.specs.List.{All}
 use Rattle.md_base.specs.Shapes.{data_disks}
-use Rattle.md_base.specs.declared.answers.Refusal.{Refusal}
-use Rattle.sb1.specs.declared.sb.Sb.{Sb}
 use Rattle.superblocks.specs.declared.members.Members.{Members}
-use Rattle.superblocks.specs.Reading.{shape_of, final_shape, list_length}
+use Rattle.superblocks.specs.Reading.{list_length}
 use Rattle.superblocks.specs.Reads.{has_spare}
 use Rattle.flat_history.specs.declared.events.Entry.{Entry}
 use Rattle.flat_history.specs.declared.events.Event.{Event}
-use Rattle.flat_history.specs.declared.events.Event.TheVariants.{Lost, SpareLost}
+use Rattle.flat_history.specs.declared.events.Event.TheVariants.{Lost}
 use Rattle.flat_history.specs.declared.events.LostCause.TheVariants.{Fault, Command}
 use Rattle.flat_history.specs.World.{World}
 use Rattle.views.specs.Placed.{AreStillHeld}
@@ -18,8 +16,8 @@ use Rattle.views.specs.Rebuilding.{Held, MayHold}
 use Rattle.array_kept.specs.Calls.{AreHeldOrSpare, AreSparesFewer, IsLossBy, AreLossesBy}
 use Rattle.running_words.specs.Parts.{RunningParts}
 use Rattle.running_words.specs.Calls.{IsSameReshape}
-use Rattle.running_replies.specs.Going.{MayHoldBehind, AreHeldBehind, AreLossesAlong, IsSameEpoch}
 use Rattle.turning.specs.Begun.{StaysItself}
+use Rattle.running_replies.specs.Going.{MayHoldBehind, AreHeldBehind, AreLossesAlong, IsSameEpoch}
 use Rattle.running_steps.proofs.Events.{same-rest}
 
 -- ---- the same array

@@ -49,7 +49,7 @@ pub record IsStepDone {B : Type 0} (tells : Type 0) (given : B → Given) (tape 
   pub one : TellOneStep inner
   pub over_told : over ≡ list_any (λ e. is_finish e.event) inner
   pub left : over ≡ false → AreStepsFewer old.parts.entries new.parts.entries (running_left old) (running_left new)
-  pub open : over ≡ false → 0 < running_left new → IsOpenFor new who
+  pub next_open : over ≡ false → 0 < running_left new → IsOpenFor new who
   pub going : IsCallGoing new.parts.entries who
   pub went : HasRunOn tells given tape faults old new
   pub ended : IsEndOf tells new.parts.first new.parts.entries (tape new.parts.bank)

@@ -30,7 +30,8 @@ fn take_steps<B: Bank>(array: &mut Running<B>, who: Who, count: u64) -> Batch
     requires open { IsOpenFor array.old who }
     requires caller { who.caller ≢ 254 }
     requires room { count + 2 ≤ array.old.parts.steps }
-    requires some { (0 < count) × (0 < running_left array.old) }
+    requires some { 0 < count }
+    requires pending { 0 < running_left array.old }
     ensures entered { AreStepsOf who array.old.parts.entries array.new.parts.entries result.done }
     ensures done { result.done ≤ count }
     ensures all { MatchOption result.ended ((result.done ≡ count) ⊎ (running_left array.new ≡ 0) ⊎ (has_finished array.old.parts.entries array.new.parts.entries ≡ true)) (λ refusal. result.done < count) }

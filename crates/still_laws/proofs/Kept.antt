@@ -105,3 +105,26 @@ with-buffers rows_fit buffer_fits was = record {
   plainly = was.plainly;
   ahead_told = was.ahead_told;
 }
+
+-- with room for more entries
+pub roomier : {tells : Type 0} {given : Given} {tape : List Operation} {scope : Scope} {first : ℕ} {entries entries' : List Entry} {members : Members}
+    {work : Work} {ahead : PhasesLeft} {steps room room' rows buffer far_rows far_buffer : ℕ} {faults : ℕ → ℕ}
+    → IsReady tells given tape scope first entries members work ahead faults steps room rows buffer far_rows far_buffer → entries' ≡ entries → room ≤ room'
+    → IsReady tells given tape scope first entries' members work ahead faults steps room' rows buffer far_rows far_buffer
+roomier {tells = tells} {given = given} {tape = tape} {scope = scope} {first = first} {members = members} {work = work} {ahead = ahead} {steps = steps} {room' = room'}
+    {rows = rows} {buffer = buffer} {far_rows = far_rows} {far_buffer = far_buffer} {faults = faults} was same more =
+    subst (λ (l : List Entry). IsReady tells given tape scope first l members work ahead faults steps room' rows buffer far_rows far_buffer) (sym same) (record {
+      kept = was.kept;
+      sized = was.sized;
+      unlimited = was.unlimited;
+      planned = was.planned;
+      failed = was.failed;
+      room_left = (let had = was.room_left in omega (arith, had, more));
+      rows_fit = was.rows_fit;
+      buffer_fits = was.buffer_fits;
+      far_rows_fit = was.far_rows_fit;
+      far_buffer_fits = was.far_buffer_fits;
+      plain = was.plain;
+      plainly = was.plainly;
+      ahead_told = was.ahead_told;
+    })

@@ -438,7 +438,7 @@ module _ {tells : Type 0} {given : Given} {tape tape' : List Operation} {scope :
 
       -- phases are ahead, so that a plan was told
       turned : phases_of ahead ≢ [] → list_any (λ e. turns_shape e.event) entries ≡ true
-      turned ahead_some = elim was.ahead_told [ | inl none ↦ absurd (ahead_some none) | inr was_told ↦ was_told ]
+      turned ahead_some = elim was.ahead_told [ inl none ↦ absurd (ahead_some none) | inr was_told ↦ was_told ]
 
       by : (ended : Option Refusal) → MatchOption ended ⊤ (MayEndNow work m ahead) → IsLeftPlain tells given tape' scope first entries (entries_of who end (Stepped done left ended ∷ [])) m
       by None why = told None tt

@@ -1,7 +1,7 @@
 -- What the end of a reshape leaves is ready as an array without one; and refused, it is ready in its reshape.
 use Rattle.std.proofs.Common.{◌≡◌, ◌≢◌, inl, inr, ℕ, ◌*◌, ◌<◌, ◌≤◌, ◌&&◌, ◌||◌, nat_lt, Bool, true, false, not, Option, Some, None, List, [], ◌∷◌, ◌++◌, length, refl, sym, ◌∙◌, ap, subst, arith, append-nil}
 use Rattle.std.specs.Prelude.{if◌then◌else◌, is_some}
-use Rattle.std.specs.List.{All}
+use Rattle.std.specs.List.{list_any, All}
 use Rattle.std.proofs.lemmas.Bool.{and_parts}
 use Rattle.std.proofs.lemmas.Bool.Decides.{nat_tests}
 use Rattle.std.proofs.lemmas.List.Elements.{All-nil, All-cons}
@@ -29,6 +29,7 @@ use Rattle.views.specs.Placed.{is_vacant}
 use Rattle.views.specs.Rebuilding.{Held}
 use Rattle.call_entries.specs.Losing.{losses_of}
 use Rattle.call_entries.proofs.CallLaws.{all-losses}
+use Rattle.call_entries.proofs.LosingLaws.{entries-both}
 use Rattle.call_entries.proofs.PlainLaws.{one}
 use Rattle.array_kept.specs.Calls.{AreLossesOf, IsLossBy}
 use Rattle.array_kept.proofs.NowLaws.{limit-more}
@@ -42,10 +43,11 @@ use Rattle.still.specs.moving_kept_Moving.{IsMoving}
 use Rattle.moving_ends.proofs.Ended.{IsPlannedTo, IsStepped}
 use Rattle.moving_ends.proofs.Ending.{length_by, grown_to, ending_events}
 use Rattle.still.specs.running_words_Parts.{left_in, still_left}
-use Rattle.still.specs.running_words_Plans.{GoTo}
+use Rattle.still.specs.running_words_Plans.{GoTo, turns_shape}
 use Rattle.still.proofs.still_laws_Closing.{LeadTo, plans-of, ahead-none}
 use Rattle.still.proofs.running_words_Called.{not_254}
 use Rattle.still.specs.still_laws_Ready.{IsReady as IsReadyStill}
+use Rattle.still.proofs.still_laws_Plain.{IsLeftPlain, turned-plain, turns-behind}
 use Rattle.moving.specs.moving_laws_Ready.{IsReady as IsReadyMoving, bytes_in}
 use Rattle.moving.proofs.moving_laws_Kept.{left_by, takes-before}
 use Rattle.turning.specs.Ended.{AreKeptOrFailed}
@@ -164,8 +166,22 @@ module _ {tells : Type 0} {given : Given} {tape tape' : List Operation} {scope :
         buffer_fits = was.buffer_fits;
         far_rows_fit = was.far_rows_fit;
         far_buffer_fits = was.far_buffer_fits;
+        plain = turned.plain;
+        plainly = λ none. absurd (let clash : true ≡ false = sym told ∙ none in cc);
+        ahead_told = inr told;
       }))))
     where
+      -- the end of a reshape turns the shape
+      told : list_any (λ e. turns_shape e.event) (entries ++ added) ≡ true
+      told = turns-behind entries added
+          (ap (λ (l : List Entry). list_any (λ e. turns_shape e.event) l)
+          (entries-both who end (losses_of roles spares) (Step Finished (still_left work new ahead) ∷ (grown_to (list_length old.newest) (list_length new.newest) ++ losses_of late late_spares)))
+          ∙ turns-behind (entries_of who end (losses_of roles spares))
+          (entries_of who end (Step Finished (still_left work new ahead) ∷ (grown_to (list_length old.newest) (list_length new.newest) ++ losses_of late late_spares))) refl)
+
+      turned : IsLeftPlain tells given tape' scope first entries (entries_of who end (ending_events roles spares (still_left work new ahead) (grown_to (list_length old.newest) (list_length new.newest)) late late_spares)) new
+      turned = turned-plain told
+
       settled : tells → is_unsynced (world_in given tape scope first) entries ≡ false
       settled t = was.kept.pending t ∙ ap (λ (o : Option ℕ). is_some o) synced
 

@@ -9,12 +9,15 @@ use Rattle.array_kept.proofs.LossLaws.{ended-behind}
 use Rattle.array_kept.proofs.ReadyLaws.{scope-same}
 use Rattle.still_laws.specs.running_words_Parts.{still_left}
 use Rattle.still_laws.proofs.running_words_Lengths.{alone-keeps}
-use Rattle.still_laws.proofs.Kept.{ready, rows-same}
+use Rattle.still_laws.proofs.Kept.{ready, rows-same, roomier}
 use Rattle.still_laws.proofs.Asking.{status-same, shown-stands}
 use Rattle.views.proofs.MovedLaws.{grows-none}
 use Rattle.kept_history.proofs.Records.{begins-going}
 use Rattle.still_laws.proofs.PlainBehind.{shown-plain}
 use Rattle.still.proofs.state.Still.status.Goals as goal
+
+pub invariant_of-self : goal.invariant_of-self
+invariant_of-self g c = roomier c.self.invariant c.make_room.ensures.items c.make_room.ensures.keeps
 
 pub invariant_of-self-2 : goal.invariant_of-self-2
 invariant_of-self-2 g c =

@@ -1,9 +1,9 @@
 -- Steps of a call, one after another.
-use Rattle.std.proofs.Common.{◌≡◌, ◌⊎◌, inl, inr, ℕ, ◌+◌, ◌≤◌, ◌||◌, Bool, true, false, not, List, [], ◌∷◌, ◌++◌, length, drop, refl, sym, ◌∙◌, ap, subst, arith, append_assoc, append-nil}
+use Rattle.std.proofs.Common.{◌≡◌, inl, inr, ℕ, ◌+◌, ◌||◌, ◌++◌, Bool, true, false, not, List, [], ◌∷◌, length, drop, refl, sym, ◌∙◌, ap, arith, append_assoc, append-nil}
 use Rattle.std.proofs.Math.Seq.{drop-append_seam}
 use Rattle.std.proofs.lemmas.List.Elements.{All-nil, All-append}
 use Rattle.std.proofs.lemmas.List.Folds.{list_any-append}
-use Rattle.std.specs.Prelude.{count_by, IsTrue}
+use Rattle.std.specs.Prelude.{IsTrue}
 use Rattle.std.specs.List.{All, list_any}
 use Rattle.md_base.specs.declared.answers.Refusal.{Refusal}
 use Rattle.md_base.specs.declared.answers.Who.{Who}
@@ -14,10 +14,11 @@ use Rattle.flat_history.specs.Fits.{is_step_event, is_lost_event}
 use Rattle.flat_history.specs.OneShape.{IsOfCall}
 use Rattle.flat_history.specs.Plain.{entries_of}
 use Rattle.call_entries.specs.Losing.{losses_of}
+use Rattle.call_entries.proofs.PlainLaws.{one}
 use Rattle.array_kept.specs.Calls.{IsBehind}
 use Rattle.kept_history.specs.Recorded.{MayGoOn}
 use Rattle.running_steps.specs.Steps.{TellOneStep, AreStepsOf}
-use Rattle.running_steps.proofs.Events.{count-both, count-none, each-behind, IsNoStep, refused-own}
+use Rattle.running_steps.proofs.Events.{each-behind, count-both, count-none, IsNoStep, refused-own}
 
 -- ---- as many as were done
 
@@ -72,6 +73,10 @@ module _ (p : Event → Bool) (old mid new more rest : List Entry) (early : mid 
       right : (a b : Bool) → b ≡ true → (a || b) ≡ true
       right true b is = refl
       right false b is = is
+
+  -- so it isn't so that none is
+  pub none-late : {Fact : Type 0} → list_any (λ e. p e.event) rest ≡ true → list_any (λ e. p e.event) (drop (length old) new) ≡ false → Fact
+  none-late is none = absurd (let told = any-late is in let both : true ≡ false = sym told ∙ none in cc)
 
   -- none is told before them, nor among them, where none is
   none-parts : list_any (λ e. p e.event) (drop (length old) new) ≡ false → (list_any (λ e. p e.event) more ≡ false) × (list_any (λ e. p e.event) rest ≡ false)
