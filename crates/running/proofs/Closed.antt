@@ -1,6 +1,6 @@
 -- Where all is done in an array at rest, no plan is open: what keeps that over each call.
-use Rattle.std.proofs.Common.{◌≡◌, ◌≢◌, ◌⊎◌, inl, inr, ℕ, ◌+◌, ◌<◌, ◌≤◌, ◌==◌, max, Bool, true, false, not, Option, Some, None, Result, Ok, Err, List, [], ◌∷◌, ◌++◌, append_assoc, refl, sym, ◌∙◌, ap, subst, arith}
-use Rattle.std.specs.Prelude.{IsSome, is_some, MatchOption, unwrap_or}
+use Rattle.std.proofs.Common.{◌≡◌, ◌≢◌, inl, inr, ℕ, ◌<◌, ◌==◌, max, Bool, true, false, not, Option, Some, None, Result, Ok, Err, List, [], ◌∷◌, ◌++◌, append_assoc, refl, sym, ◌∙◌, ap, subst, arith}
+use Rattle.std.specs.Prelude.{is_some, MatchOption, unwrap_or}
 use Rattle.md_base.specs.declared.answers.Fault.{Fault}
 use Rattle.md_base.specs.declared.answers.Fault.TheVariants.{Refused as IsRefusedWith, NoMemory}
 use Rattle.md_base.specs.declared.answers.Refusal.{Refusal}
@@ -14,7 +14,7 @@ use Rattle.bank.specs.Given.{Given}
 use Rattle.grow_plan.specs.Plans.{phases_steps}
 use Rattle.superblocks.specs.declared.members.Members.{Members}
 use Rattle.superblocks.specs.Reading.{is_whole, shape_of, final_shape, role_count, role_state, holder, list_length}
-use Rattle.row_io.specs.Rows.{reading_of, is_missing}
+use Rattle.row_io.specs.Rows.{reading_of}
 use Rattle.flat_history.specs.declared.events.Entry.{Entry}
 use Rattle.flat_history.specs.declared.events.Event.{Event}
 use Rattle.flat_history.specs.declared.events.Event.TheVariants.{Step, Rebuilt}
@@ -22,7 +22,6 @@ use Rattle.flat_history.specs.declared.events.StepKind.{StepKind}
 use Rattle.flat_history.specs.declared.events.StepKind.TheVariants.{Finished, RebuildEnded}
 use Rattle.flat_history.specs.Plain.{entries_of}
 use Rattle.flat_history.specs.Reshaped.{is_done, open_plans}
-use Rattle.views.specs.declared.work.Work.{Work}
 use Rattle.views.specs.Placed.{is_vacant, AreWhole, IsPlaced}
 use Rattle.views.specs.Lacking.{AreTooMany}
 use Rattle.views.specs.Status.{left_of}
@@ -30,9 +29,8 @@ use Rattle.views.proofs.Fit.{force-disks}
 use Rattle.views.proofs.LackingLaws.{never-too-many}
 use Rattle.call_entries.specs.Losing.{losses_of}
 use Rattle.call_entries.proofs.LosingLaws.{entries-both}
-use Rattle.array_kept.specs.Calls.{HasRole, IsBehind, IsFailedFor, IsRefusedFor, IsFaultFor, IsCausedBy, IsUnmendable, IsRebuildStepped}
+use Rattle.array_kept.specs.Calls.{IsBehind, IsFailedFor, IsRefusedFor, IsFaultFor, IsCausedBy, IsUnmendable, IsRebuildStepped}
 use Rattle.kept_history.specs.Recorded.{entry_of}
-use Rattle.grow_asked.specs.declared.window.PhasesLeft.{PhasesLeft}
 use Rattle.grow_asked.specs.Left.{phases_of}
 use Rattle.running_words.specs.Parts.{RunningParts, still_left}
 use Rattle.running_words.specs.Calls.{IsStepTaken}

@@ -1,5 +1,5 @@
 -- A step that is refused, and one that ends a reshape: what a reply may tell of it.
-use Rattle.std.proofs.Common.{◌≡◌, ◌≢◌, ◌⊎◌, inl, inr, ℕ, ◌+◌, ◌-◌, nat_lt, Bool, true, false, Option, Some, None, Result, Ok, Err, List, [], ◌∷◌, refl, sym, ◌∙◌, ap, subst}
+use Rattle.std.proofs.Common.{◌≡◌, ◌≢◌, inl, inr, ℕ, ◌+◌, ◌-◌, nat_lt, Bool, true, false, Option, Some, None, Result, Ok, Err, List, [], ◌∷◌, refl, sym, ◌∙◌, ap, subst}
 use Rattle.std.specs.Prelude.{if◌then◌else◌, is_some, MatchBool, MatchOption}
 use Rattle.md_base.specs.declared.answers.Fault.{Fault}
 use Rattle.md_base.specs.declared.answers.Fault.TheVariants.{Refused as IsRefusedWith, NoMemory}
@@ -120,8 +120,12 @@ module _ {B : Type 0} (T : Type 0) (old new : RunningParts B) (shape : shape_of 
       of : (mended : ℕ) → old.parts.work.resync ≡ Some mended → IsNotMended (mend_shape old.parts.members.newest mended) new.parts.members refusal → IsEndedInReshape new.parts.work new.parts.members refusal
       of mended waits (inl many) = inl many
       of mended waits (inr (able, lacked)) =
-          inr (inl (ap (λ (o : Option ℕ). is_some o) (resync ∙ waits), mend_shape old.parts.members.newest mended,
-          force-on old.parts.members.newest new.parts.members.newest (mend_shape old.parts.members.newest mended) shape final (mend-force old.parts.members.newest mended), lacked))
+          inr (inl (
+            ap (λ (o : Option ℕ). is_some o) (resync ∙ waits),
+            mend_shape old.parts.members.newest mended,
+            force-on old.parts.members.newest new.parts.members.newest (mend_shape old.parts.members.newest mended) shape final (mend-force old.parts.members.newest mended),
+            lacked,
+          ))
   due-ends Copy is caused = inl (why-of (list_length old.parts.members.newest) AreTooMany old.parts.members new.parts.members refusal caused)
   due-ends Record is caused = inl (why-of (list_length old.parts.members.newest) AreTooMany old.parts.members new.parts.members refusal caused)
   due-ends EndResync is caused = inl (why-of (list_length old.parts.members.newest) AreTooMany old.parts.members new.parts.members refusal caused)

@@ -28,13 +28,12 @@ mod stepping;
 mod writing;
 
 use bank::Bank;
+pub use choosing::Next;
 use core::mem::replace_with;
 use moving::Moving;
 use std::alloc::Global;
 use std::marker::Model;
 use still::Still;
-
-pub use choosing::Next;
 
 // Whether a reshape is active in it.
 #[derive(Drop)]

@@ -1,4 +1,4 @@
-use Rattle.std.proofs.Common.{length, ap, sym, ◌∙◌, subst}
+use Rattle.std.proofs.Common.{length}
 use Rattle.running.proofs.Ended.{moved-refused}
 use Rattle.still_laws.proofs.PlansKept.{add-step}
 use Rattle.moving_state.specs.Due.{due_of}

@@ -7,7 +7,6 @@ use Rattle.flat_history.specs.declared.events.Event.TheVariants.{Planned, Refuse
 use Rattle.flat_history.specs.Flat.{next_number}
 use Rattle.growing.specs.Replied.{IsGrowReplied}
 use Rattle.growing.proofs.Replied.{grow-went}
-use Rattle.grow_asked.specs.Left.{phases_of}
 use Rattle.running_words.specs.Calls.{moving_world}
 use Rattle.running_words.specs.Parts.{still_left}
 use Rattle.growing.specs.Planned.{asked_in}
