@@ -3,6 +3,7 @@ pub mod Causes
 pub mod Growth
 pub mod Legal
 pub mod Losses
+pub mod Plain
 pub mod Told
 pub mod Worlds
 pub mod Writing

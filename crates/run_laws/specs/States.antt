@@ -1,5 +1,5 @@
 -- The bank of a run with or without an array on it, and what a line does to it.
-use Rattle.std.specs.Prelude.{◌≡◌, ◌⊎◌, ℕ, ◌+◌, ◌<◌, ◌≤◌, ◌^◌, ◌++◌, true, List, [], ◌∷◌, length, slice_get, vec_capacity, Option, Some, MatchOption, Result, Ok, Err, IfSome, IsSome, IsTrue, ⊤}
+use Rattle.std.specs.Prelude.{◌≡◌, ◌⊎◌, ℕ, ◌+◌, ◌<◌, ◌≤◌, ◌^◌, ◌++◌, true, List, [], ◌∷◌, length, take, slice_get, vec_capacity, Option, Some, MatchOption, Result, Ok, Err, IfSome, IsSome, IsTrue, ⊤}
 use Rattle.std.specs.List.{All}
 use Rattle.md_base.specs.declared.answers.NoMemory.{NoMemory}
 use Rattle.md_base.specs.declared.answers.Refusal.{Refusal}
@@ -158,7 +158,7 @@ IsWaitingAt size entries [] number next = next ≡ number
 IsWaitingAt size entries (first ∷ others) number next =
     IsReplyAt size entries first number (Step steps_at_once) × IsTrue (leaves_more_at entries first) × IsWaitingAt size entries others (number + 1) next
 
--- the array that runs was asked by a wait, for which memory was short after so many of its calls, when its list had this length
+-- the array that runs was asked by a wait, for which memory was short after so many of its calls, when its list had the length that the entries so far tell
 pub record IsWaitCut (histories : List History) (old new : Course) : Type 0 where
   pub running : IsTrue old.running
   pub place : ℕ
@@ -168,8 +168,9 @@ pub record IsWaitCut (histories : List History) (old new : Course) : Type 0 wher
   pub earlier : List ℕ
   pub next : ℕ
   pub waiting : IsWaitingAt old.size history.entries earlier old.calls next
-  pub size : ℕ
-  pub now : new ≡ gone_on next size old
+  pub upto : ℕ
+  pub within : upto ≤ length history.entries
+  pub now : new ≡ gone_on next (length_of old.size (take upto history.entries)) old
 
 -- a line that was cut short is a wait
 abbrev pub IsCutShort : List History → Course → Line → Course → Type 0

@@ -1,2 +1,4 @@
-//! What a running array replies to a caller, and what its steps leave, whether a reshape is active in it or not. Definitions alone.
+//! What a running array replies to a caller, and what its steps leave, whether a reshape is active in it or not.
 #![tactic(auto)]
+
+pub mod laws;
