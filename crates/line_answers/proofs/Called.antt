@@ -1,5 +1,5 @@
 -- Calls of the script, which go on with none of the former ones.
-use Rattle.std.proofs.Common.{◌≡◌, ◌⊎◌, inl, inr, ℕ, ◌+◌, ◌*◌, min, ◌<◌, ◌≤◌, ◌==◌, ◌&&◌, Bool, false, Option, List, [], ◌∷◌, ◌++◌, refl, sym, ◌∙◌, ap, subst, arith, append_assoc, append-nil}
+use Rattle.std.proofs.Common.{◌≡◌, ◌≢◌, ◌⊎◌, inl, inr, ℕ, ◌+◌, ◌*◌, min, ◌<◌, ◌≤◌, ◌==◌, ◌&&◌, Bool, false, Option, List, [], ◌∷◌, ◌++◌, refl, sym, ◌∙◌, ap, subst, arith, append_assoc, append-nil}
 use Rattle.std.proofs.lemmas.List.Sums.{fold-append}
 use Rattle.std.proofs.lemmas.Bool.Decides.{nat_tests}
 use Rattle.std.proofs.lemmas.List.Elements.{All-nil, All-cons, All-append, All-head, All-weaker}
@@ -17,8 +17,16 @@ use Rattle.running_words.specs.Parts.{RunningParts}
 use Rattle.running_words.specs.Calls.{IsCalled, IsSameReshape}
 use Rattle.running_words.specs.Adding.{IsAddCalled}
 use Rattle.running_replies.specs.Going.{IsSameEpoch, HasRunOn}
-use Rattle.running_replies.specs.Replies.{HasToldBy}
+use Rattle.running_replies.specs.Replies.{IsAnsweredWith, HasToldBy}
 use Rattle.md_base.specs.declared.answers.NoMemory.{NoMemory}
+use Rattle.md_base.specs.declared.answers.Fault.{Fault}
+use Rattle.md_base.specs.declared.answers.Fault.TheVariants.{Refused as IsRefusedWith, NoMemory as WantsMemory}
+use Rattle.md_base.specs.declared.answers.Who.{Who}
+use Rattle.md_base.specs.declared.wishes.Wish.{Wish}
+use Rattle.flat_history.specs.declared.events.Event.{Event}
+use Rattle.flat_history.specs.declared.events.Event.TheVariants.{Planned, Refused}
+use Rattle.flat_history.specs.declared.events.Request.TheVariants.{Grow as AsksGrow}
+use Rattle.growing.specs.Replied.{IsGrowReplied}
 use Rattle.std.specs.Prelude.{Result, Ok, Err, IfErr}
 use Rattle.array_kept.specs.Calls.{AreLossesBy}
 use Rattle.run_laws.specs.Asked.{IsSizedBy}
@@ -159,3 +167,14 @@ parts-unchanged {B = B} old new (Err none) same = ap (λ (a : RunningParts B). a
 -- what is told by a backup that is the run's
 pub told-backup : {backup other : Option ℕ} {before now : ℕ → ℕ} {old new : List Entry} → backup ≡ other → HasToldBy backup before now old new → HasToldBy other before now old new
 told-backup {before = before} {now = now} {old = old} {new = new} same told = subst (λ (b : Option ℕ). HasToldBy b before now old new) same told
+
+-- ---- a grow
+
+-- its answer is a reply, unless memory was short
+pub grown-reply : {T : Type 0} (size : ℕ) (wish : Wish) (who : Who) (old new : List Entry) (left : ℕ) (r : Result T Fault) → IsGrowReplied size wish who old new left r → r ≢ Err WantsMemory → (e : Event) × IsAnsweredWith size (AsksGrow wish) who old new e
+grown-reply size wish who old new left (Ok x) was some = (Planned left wish, was)
+grown-reply size wish who old new left (Err (IsRefusedWith refusal)) was some = (Refused refusal, was)
+grown-reply size wish who old new left (Err WantsMemory) was some = absurd (some refl)
+
+pub grown-none : {T : Type 0} (size : ℕ) (wish : Wish) (who : Who) (old new : List Entry) (left : ℕ) (r : Result T Fault) → IsGrowReplied size wish who old new left r → r ≡ Err WantsMemory → new ≡ old
+grown-none {T = T} size wish who old new left r was is = subst (λ (x : Result T Fault). IsGrowReplied size wish who old new left x) is was

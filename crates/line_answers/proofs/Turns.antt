@@ -12,6 +12,7 @@ use Rattle.md_base.specs.declared.answers.NoMemory.{NoMemory}
 use Rattle.md_base.specs.declared.answers.Refusal.{Refusal}
 use Rattle.md_base.specs.declared.answers.Refusal.TheVariants.{Running as IsRunning}
 use Rattle.md_base.specs.declared.status.Status.{Status}
+use Rattle.md_base.specs.declared.wishes.Wish.{Wish}
 use Rattle.md_base.specs.Shapes.{data_disks}
 use Rattle.superblocks.specs.Reading.{list_length}
 use Rattle.running_words.specs.Parts.{RunningParts}
@@ -22,7 +23,7 @@ use Rattle.flat_history.specs.declared.events.Entry.{Entry}
 use Rattle.flat_history.specs.declared.events.Epoch.{Epoch}
 use Rattle.flat_history.specs.declared.events.Event.{Event}
 use Rattle.flat_history.specs.declared.events.Event.TheVariants.{Shown, Stopped, Halted}
-use Rattle.flat_history.specs.declared.events.Request.TheVariants.{Read as AsksRead, Write as AsksWrite, Flush as AsksFlush, Fail as AsksFail, Add as AsksAdd, Steps as AsksSteps}
+use Rattle.flat_history.specs.declared.events.Request.TheVariants.{Read as AsksRead, Write as AsksWrite, Flush as AsksFlush, Fail as AsksFail, Add as AsksAdd, Grow as AsksGrow, Steps as AsksSteps}
 use Rattle.flat_history.specs.Flat.{rest_of_call, next_number, number_after, length_after, length_of}
 use Rattle.flat_history.specs.Legal.{call_before}
 use Rattle.flat_history.specs.Plain.{entries_of}

@@ -199,15 +199,7 @@ pub fn ask_grow<B: Bank>(array: &mut Running<B>, wish: Wish) -> Result<u64, NoMe
     ensures asked { IsAsked (list_length array.old.parts.members.newest) (GrowLine wish) array.old.parts.entries array.new.parts.entries result }
     ensures ended { IfOk result (λ place. IsEndOf B.tells array.new.parts.first array.new.parts.entries (B.tape array.new.parts.bank)) }
     ensures unchanged { IfErr result (λ none. array.new ≡ array.old) }
-    ensures grows { Grows B.tells (B.tape array.old.parts.bank) (B.tape array.new.parts.bank) }
-    ensures held { AreStillHeld array.old.parts.members array.new.parts.members }
-    ensures spares { AreSparesFewer array.old.parts.members array.new.parts.members }
-    ensures losses { AreLossesOf array.old.parts.members (B.faults_of array.old.parts.bank) (B.faults_of array.new.parts.bank) array.old.parts.entries array.new.parts.entries }
-    ensures never_falls { NeverFalls (B.faults_of array.old.parts.bank) (B.faults_of array.new.parts.bank) }
-    ensures given { B.given array.new.parts.bank ≡ B.given array.old.parts.bank }
-    ensures same { IsSameEpoch array.old array.new }
-    ensures sized { IsSizedBy (list_length array.old.parts.members.newest) (list_length array.new.parts.members.newest) array.old.parts.entries array.new.parts.entries }
-    ensures told { HasToldBy array.old.parts.backup (B.faults_of array.old.parts.bank) (B.faults_of array.new.parts.bank) array.old.parts.entries array.new.parts.entries }
+    ensures went { HasRunOn B.tells B.given B.tape B.faults_of array.old array.new }
 {
     let who = script_call(array);
     let answer = array.plan_grow(who, wish);

@@ -14,10 +14,9 @@ use Rattle.md_base.proofs.SectorLaws.{length-sectors_of}
 use Rattle.md_base.proofs.Tabulated.{length-tabulate}
 use Rattle.flat_history.specs.declared.events.Entry.{Entry}
 use Rattle.flat_history.specs.declared.events.Event.{Event}
-use Rattle.flat_history.specs.declared.events.Event.TheVariants.{Wrote, Added, Planned, Stopped, Halted, Refused}
+use Rattle.flat_history.specs.declared.events.Event.TheVariants.{Wrote, Added, Stopped, Halted, Refused}
 use Rattle.flat_history.specs.Fits.{FitsStop, IsWriteRefused, AreTornOf}
 use Rattle.flat_history.specs.Transfers.{IsPastEnd}
-use Rattle.md_base.specs.declared.wishes.Wish.{Wish}
 use Rattle.bank.specs.declared.bank.Operation.{Operation}
 use Rattle.md_base.specs.declared.answers.Refusal.{Refusal}
 use Rattle.md_base.specs.declared.answers.Refusal.TheVariants.{PastEnd, SlotFault, BackupFault}
@@ -29,14 +28,14 @@ use Rattle.call_entries.specs.Losing.{losses_of}
 use Rattle.call_entries.proofs.CallLaws.{losses-are}
 use Rattle.array_kept.proofs.ReplyLaws.{inside-losses, none-inside, none_before}
 use Rattle.flat_history.specs.declared.events.Request.{Request}
-use Rattle.flat_history.specs.declared.events.Request.TheVariants.{Write as AsksWrite, Add as AsksAdd, Grow as AsksGrow}
+use Rattle.flat_history.specs.declared.events.Request.TheVariants.{Write as AsksWrite, Add as AsksAdd}
 use Rattle.moving_laws.specs.Writing.{IsRepliedBehind, IsWriteReplied}
 use Rattle.flat_history.specs.Flat.{rest_of_call, next_number, visible_of}
 use Rattle.flat_history.specs.Plain.{entries_of}
 use Rattle.flat_history.specs.OneShape.{IsOfCall, OneShapeFits}
 use Rattle.views.specs.Lacking.{AreTooMany}
 use Rattle.flat_history.specs.Legal.{MayBeInner}
-use Rattle.running_replies.specs.Replies.{RunningFits, IsAnsweredWith, IsAnsweredAlone, IsGrowReplied}
+use Rattle.running_replies.specs.Replies.{RunningFits, IsAnsweredWith}
 use Rattle.running_replies.proofs.Fitting.{inside-inner, fits-write}
 use Rattle.array_kept.specs.Calls.{OnNoMemory, StandsInside, IsReplied, IsAnswered, IsAddedFor, IsCausedBy, IsEntered, IsBehind, IsRefusedFor}
 use Rattle.script.specs.declared.lines.Line.TheVariants.{Wait, Stop, Halt}
@@ -147,28 +146,6 @@ written_none size at body who old new r was is = subst (λ (x : Result (Unit {0}
 -- what a write that was refused for the backup says of its end
 pub barred_within : {T : Type 0} (size to : ℕ) (why : Members → Refusal → Type 0) (members after : Members) (r : Result T Fault) → IsCausedBy size to why members after r → r ≡ Err (IsRefusedWith BackupFault) → to ≤ size
 barred_within {T = T} size to why members after r caused is = (subst (λ (x : Result T Fault). IsCausedBy size to why members after x) is caused).0
-
--- ---- a grow
-
--- a reply that stands alone is one behind nothing
-alone_with : {size : ℕ} {request : Request} {who : Who} {old new : List Entry} {event : Event} → IsAnsweredAlone size request who old new event → IsAnsweredWith size request who old new event
-alone_with {size = size} {request = request} {who = who} {old = old} {event = event} was = record {
-  inner = [];
-  end = was.end;
-  own = All-nil (λ e. IsOfCall who e);
-  inside = All-nil (λ e. MayBeInner e.event);
-  is = was.is;
-  fits = subst (λ (l : List Entry). RunningFits size l (one who was.end event) request) (sym (append-nil old)) was.fits;
-}
-
--- its answer is a reply, unless memory was short
-pub grown_reply : {T : Type 0} (size : ℕ) (wish : Wish) (who : Who) (old new : List Entry) (left : ℕ) (r : Result T Fault) → IsGrowReplied size wish who old new left r → r ≢ Err NoMemory → (e : Event) × IsAnsweredWith size (AsksGrow wish) who old new e
-grown_reply size wish who old new left (Ok x) was some = (Planned left wish, alone_with was)
-grown_reply size wish who old new left (Err (IsRefusedWith refusal)) was some = (Refused refusal, alone_with was)
-grown_reply size wish who old new left (Err NoMemory) was some = absurd (some refl)
-
-pub grown_none : {T : Type 0} (size : ℕ) (wish : Wish) (who : Who) (old new : List Entry) (left : ℕ) (r : Result T Fault) → IsGrowReplied size wish who old new left r → r ≡ Err NoMemory → new ≡ old
-grown_none {T = T} size wish who old new left r was is = subst (λ (x : Result T Fault). IsGrowReplied size wish who old new left x) is was
 
 -- a request that was answered is a line that was
 pub asked_at : {size : ℕ} {request : Request} {who : Who} {old new : List Entry} {event : Event} (line : Line) (place : ℕ) → IsReplied size request who old new event

@@ -7,7 +7,6 @@ use Rattle.md_base.specs.declared.answers.Who.{Who}
 use Rattle.md_base.specs.declared.answers.Fault.{Fault}
 use Rattle.md_base.specs.declared.answers.Fault.TheVariants.{Refused as IsRefusedWith, NoMemory}
 use Rattle.md_base.specs.declared.answers.Refusal.TheVariants.{BackupFault}
-use Rattle.md_base.specs.declared.wishes.Wish.{Wish}
 use Rattle.bank.specs.declared.bank.Operation.{Operation}
 use Rattle.flat_history.specs.declared.events.Entry.{Entry}
 use Rattle.flat_history.specs.declared.events.Event.{Event}
@@ -22,7 +21,6 @@ use Rattle.array_kept.specs.Calls.{StandsInside, IsReplied, IsAnswered, IsBehind
 use Rattle.array_kept.proofs.ReplyLaws.{inside-losses}
 use Rattle.kept_history.specs.Recorded.{entry_of}
 use Rattle.moving_laws.specs.Writing.{IsRepliedBehind, IsWriteReplied}
-use Rattle.running_replies.specs.Replies.{IsAnsweredAlone, IsGrowReplied}
 use Rattle.run_laws.specs.Asked.{IsSizedBy}
 use Rattle.run_laws.proofs.AskLaws.{one, entries_of-append}
 
@@ -107,12 +105,3 @@ sized-written size at body who (Ok x) same was = sized-repeated same (λ n. refl
 sized-written size at body who (Err (IsRefusedWith BackupFault)) same was = record { more = entry_of who (was.0) (Refused BackupFault) ∷ []; grown = was.1; sized = same }
 sized-written size at body who (Err (IsRefusedWith refusal)) same was = sized-repeated same (λ n. refl) was
 sized-written size at body who (Err NoMemory) same was = sized-none same was
-
--- a plan leaves the list as long as it is
-sized-alone : {a b size : ℕ} {request : Request} {who : Who} {old new : List Entry} {event : Event} → b ≡ a → ((n : ℕ) → length_after n event ≡ n) → IsAnsweredAlone size request who old new event → IsSizedBy a b old new
-sized-alone {a = a} {who = who} {event = event} same leaves was = record { more = one who was.end event ∷ []; grown = was.is; sized = same ∙ sym (leaves a) }
-
-pub sized-grown : {T : Type 0} {a b : ℕ} (size : ℕ) (wish : Wish) (who : Who) {old new : List Entry} (left : ℕ) (r : Result T Fault) → b ≡ a → IsGrowReplied size wish who old new left r → IsSizedBy a b old new
-sized-grown size wish who left (Ok x) same was = sized-alone same (λ n. refl) was
-sized-grown size wish who left (Err (IsRefusedWith refusal)) same was = sized-alone same (λ n. refl) was
-sized-grown size wish who left (Err NoMemory) same was = sized-none same was

@@ -7,7 +7,6 @@ use Rattle.std.specs.List.{All}
 use Rattle.bank.specs.Given.{Given, IsFaulted}
 use Rattle.bank.specs.declared.bank.Operation.{Operation}
 use Rattle.md_base.specs.declared.answers.Who.{Who}
-use Rattle.md_base.specs.declared.wishes.Wish.{Wish}
 use Rattle.md_base.specs.declared.answers.Fault.{Fault}
 use Rattle.md_base.specs.declared.answers.Fault.TheVariants.{Refused as IsRefusedWith, NoMemory as WantsMemory}
 use Rattle.md_base.specs.declared.answers.Refusal.{Refusal}
@@ -17,7 +16,7 @@ use Rattle.flat_history.specs.declared.events.Entry.{Entry}
 use Rattle.flat_history.specs.declared.events.Event.{Event}
 use Rattle.flat_history.specs.declared.events.Event.TheVariants.{Added, Stepped, Refused}
 use Rattle.flat_history.specs.declared.events.Request.{Request}
-use Rattle.flat_history.specs.declared.events.Request.TheVariants.{Read as AsksRead, Write as AsksWrite, Flush as AsksFlush, Fail as AsksFail, Add as AsksAdd, Grow as AsksGrow}
+use Rattle.flat_history.specs.declared.events.Request.TheVariants.{Read as AsksRead, Write as AsksWrite, Flush as AsksFlush, Fail as AsksFail, Add as AsksAdd}
 use Rattle.flat_history.specs.Flat.{visible_of}
 use Rattle.flat_history.specs.Fits.{IsReadRefused, FitsStop}
 use Rattle.flat_history.specs.Plain.{entries_of}
@@ -30,7 +29,7 @@ use Rattle.array_kept.specs.Calls.{StandsInside, IsReplied, IsAnswered, IsAddedF
 use Rattle.kept_history.specs.Recorded.{entry_of}
 use Rattle.moving_laws.specs.Writing.{IsRepliedBehind, IsWriteReplied}
 use Rattle.flat_history.specs.Legal.{call_before}
-use Rattle.running_replies.specs.Replies.{MayRefuseGrow, RunningAnswers, IsAnsweredAlone, IsGrowReplied, IsRefusalBy, IsRefusalToldBy, HasToldBy}
+use Rattle.running_replies.specs.Replies.{IsRefusalBy, IsRefusalToldBy, HasToldBy}
 use Rattle.run_laws.specs.Making.{Setting}
 use Rattle.run_laws.proofs.AskLaws.{one, entries_of-append}
 
@@ -160,27 +159,6 @@ module _ (backup : Option ℕ) (before now : ℕ → ℕ) where
       record { more = entry_of who (was.0) (Refused BackupFault) ∷ []; grown = was.1; told = All-cons Told (entry_of who (was.0) (Refused BackupFault)) [] (failed refl) (All-nil Told) }
   write_told_by size at body who (Err (IsRefusedWith refusal)) failed was = told_written was
   write_told_by size at body who (Err WantsMemory) failed was = told_none was
-
-  -- ---- a grow, which is refused for no fault
-
-  grow_may : (visible : ℕ) (refusal : Refusal) → MayRefuseGrow visible refusal → IsRefusalBy backup before now refusal
-  grow_may visible (SlotFault slot) is = absurd is
-  grow_may visible BackupFault is = absurd is
-  grow_may visible refusal is = tt
-
-  grow_told : (size : ℕ) (wish : Wish) (before_reply call : List Entry) (event : Event) → RunningAnswers size before_reply call (AsksGrow wish) event → IsRefusalToldBy backup before now event
-  grow_told size wish before_reply call (Refused refusal) is = grow_may (visible_of size before_reply) refusal is
-  grow_told size wish before_reply call (Stepped done left ended) is = absurd is
-  grow_told size wish before_reply call event is = tt
-
-  told_alone : {size : ℕ} {request : Request} {who : Who} {old new : List Entry} {event : Event} → IsAnsweredAlone size request who old new event → IsRefusalToldBy backup before now event → HasToldBy backup before now old new
-  told_alone {who = who} {event = event} was told = record { more = one who was.end event ∷ []; grown = was.is; told = All-cons Told (one who was.end event) [] told (All-nil Told) }
-
-  pub grow_told_by : {T : Type 0} (size : ℕ) (wish : Wish) (who : Who) {old new : List Entry} (left : ℕ) (r : Result T Fault) → IsGrowReplied size wish who old new left r → HasToldBy backup before now old new
-  grow_told_by size wish who {old = old} left (Ok x) was = told_alone was tt
-  grow_told_by size wish who {old = old} left (Err (IsRefusedWith refusal)) was =
-      told_alone was (grow_told size wish old (call_before old (one who was.end (Refused refusal))) (Refused refusal) was.fits.answers)
-  grow_told_by size wish who left (Err WantsMemory) was = told_none was
 
   -- ---- a slot that was to be made a spare
 

@@ -1,13 +1,10 @@
 -- Which reply entries answer a request to a running array, as far as that needs no superblocks: `Fits` of flat_history says the rest. `before` are the
 -- entries before the reply, and `call` are those of its call directly before it.
-use Rattle.std.specs.Prelude.{◌≡◌, ◌⊎◌, ℕ, ◌+◌, ◌<◌, ◌≤◌, ◌++◌, Bool, true, false, List, [], ◌∷◌, length, count_by, Option, MatchOption, Result, Ok, Err, IfSome, IsSome, IsTrue, ⊤}
+use Rattle.std.specs.Prelude.{◌≡◌, ◌⊎◌, ℕ, ◌+◌, ◌<◌, ◌≤◌, ◌++◌, Bool, true, false, List, [], ◌∷◌, length, count_by, Option, MatchOption, IfSome, IsSome, IsTrue, ⊤}
 use Rattle.std.specs.List.{list_any, All}
-use Rattle.md_base.specs.declared.answers.Fault.{Fault}
-use Rattle.md_base.specs.declared.answers.Fault.TheVariants.{Refused as IsRefusedWith, NoMemory}
 use Rattle.md_base.specs.declared.answers.Refusal.{Refusal}
 use Rattle.md_base.specs.declared.answers.Refusal.TheVariants.{TooManyMissing, NotResynced, BackupFault, SlotFault, Busy, Degraded, SameShape, BadShape, SizeNotMultiple, NeedSpares, NeedBackup, BackupTooSmall, ArraySizeFirst, Nothing}
 use Rattle.md_base.specs.declared.answers.Who.{Who}
-use Rattle.md_base.specs.declared.wishes.Wish.{Wish}
 use Rattle.bank.specs.Given.{IsFaulted}
 use Rattle.flat_history.specs.declared.events.Entry.{Entry}
 use Rattle.flat_history.specs.declared.events.Event.{Event}
@@ -94,18 +91,6 @@ pub record IsAnsweredWith (size : ℕ) (request : Request) (who : Who) (old new 
   pub inside : All (λ e. MayBeInner e.event) inner
   pub is : new ≡ old ++ (inner ++ record { caller = who.caller; number = who.number; end = end; event = event } ∷ [])
   pub fits : RunningFits size (old ++ inner) (record { caller = who.caller; number = who.number; end = end; event = event }) request
-
--- So it was, and nothing else was entered.
-pub record IsAnsweredAlone (size : ℕ) (request : Request) (who : Who) (old new : List Entry) (event : Event) : Type 0 where
-  pub end : ℕ
-  pub is : new ≡ old ++ record { caller = who.caller; number = who.number; end = end; event = event } ∷ []
-  pub fits : RunningFits size old (record { caller = who.caller; number = who.number; end = end; event = event }) request
-
--- the reply to a request for a grow by its answer: so many steps are left where it is planned
-abbrev pub IsGrowReplied : {T : Type 0} → ℕ → Wish → Who → List Entry → List Entry → ℕ → Result T Fault → Type 0
-IsGrowReplied size wish who old new left (Ok x) = IsAnsweredAlone size (AsksGrow wish) who old new (Planned left wish)
-IsGrowReplied size wish who old new left (Err (IsRefusedWith refusal)) = IsAnsweredAlone size (AsksGrow wish) who old new (Refused refusal)
-IsGrowReplied size wish who old new left (Err NoMemory) = new ≡ old
 
 -- ---- a refusal's cause
 

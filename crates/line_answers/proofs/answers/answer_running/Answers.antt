@@ -116,13 +116,14 @@ returns-in-Grow-clause-answered g c =
     let array = c.args.array in
     let new = c.ask_grow.new.array in
     let did = c.ask_grow.ensures in
-    let same = did.same in
+    let went = did.went in
+    let same = went.same in
     let on = c.goes_on-in-Grow in
     subst (λ (l : Line). IsTurnOrNone (setting_of g.B.Bank.tells (g.B.Bank.given array.parts.bank) (g.B.Bank.tape array.parts.bank) (g.B.Bank.tape (bank_in on.result.0)) c.args.backup (g.B.Bank.faults_of array.parts.bank) (g.B.Bank.faults_of (bank_in on.result.0))) (IsRunning array c.args.epochs) on.result.0 l on.result.1) (sym c.in-Grow.is)
     (subst (λ (s : State g.row.B.Denot). IsTurnOrNone (setting_of g.B.Bank.tells (g.B.Bank.given array.parts.bank) (g.B.Bank.tape array.parts.bank) (g.B.Bank.tape (bank_in s)) c.args.backup (g.B.Bank.faults_of array.parts.bank) (g.B.Bank.faults_of (bank_in s))) (IsRunning array c.args.epochs) s (Grow c.in-Grow.wish) on.result.1) (sym on.ensures.state)
     (subst (λ (r : Result Answered NoMemory). IsTurnOrNone (setting_of g.B.Bank.tells (g.B.Bank.given array.parts.bank) (g.B.Bank.tape array.parts.bank) (g.B.Bank.tape new.parts.bank) c.args.backup (g.B.Bank.faults_of array.parts.bank) (g.B.Bank.faults_of new.parts.bank)) (IsRunning array c.args.epochs) (IsRunning new c.args.epochs) (Grow c.in-Grow.wish) r) (sym on.ensures.answer)
-    (turn_of_ask (setting_of g.B.Bank.tells (g.B.Bank.given array.parts.bank) (g.B.Bank.tape array.parts.bank) (g.B.Bank.tape new.parts.bank) c.args.backup (g.B.Bank.faults_of array.parts.bank) (g.B.Bank.faults_of new.parts.bank)) array new c.args.epochs c.requires.own (losses-of (setting_of g.B.Bank.tells (g.B.Bank.given array.parts.bank) (g.B.Bank.tape array.parts.bank) (g.B.Bank.tape new.parts.bank) c.args.backup (g.B.Bank.faults_of array.parts.bank) (g.B.Bank.faults_of new.parts.bank)) (running_history new.parts) (held-before (g.B.Bank.given array.parts.bank) c.args.backup (running_history array.parts) (running_history new.parts) array.parts.members did.grows (epoch-opening same) c.requires.former.held) did.losses (told-backup c.requires.former.backup_is did.told)) same.uuid same.given same.first did.sized
-    (Grow c.in-Grow.wish) c.ask_grow.result (λ p asked. going_grow c.in-Grow.wish asked) (grows_longer did.grows) did.ended did.asked)))
+    (turn_of_ask (setting_of g.B.Bank.tells (g.B.Bank.given array.parts.bank) (g.B.Bank.tape array.parts.bank) (g.B.Bank.tape new.parts.bank) c.args.backup (g.B.Bank.faults_of array.parts.bank) (g.B.Bank.faults_of new.parts.bank)) array new c.args.epochs c.requires.own (losses-steps (setting_of g.B.Bank.tells (g.B.Bank.given array.parts.bank) (g.B.Bank.tape array.parts.bank) (g.B.Bank.tape new.parts.bank) c.args.backup (g.B.Bank.faults_of array.parts.bank) (g.B.Bank.faults_of new.parts.bank)) array.parts.entries (running_history new.parts) array.parts.members (held-before (g.B.Bank.given array.parts.bank) c.args.backup (running_history array.parts) (running_history new.parts) array.parts.members went.grows (epoch-opening same) c.requires.former.held) went.more went.grown went.losses (told-backup c.requires.former.backup_is went.refusals)) same.uuid same.given same.first (ran-sized went)
+    (Grow c.in-Grow.wish) c.ask_grow.result (λ p asked. going_grow c.in-Grow.wish asked) (grows_longer went.grows) did.ended did.asked)))
 
 pub returns-in-Step-clause-answered : goal.returns-in-Step-clause-answered
 returns-in-Step-clause-answered g c =
@@ -227,8 +228,9 @@ returns-in-Grow-clause-former g c =
     let array = c.args.array in
     let new = c.ask_grow.new.array in
     let did = c.ask_grow.ensures in
+    let went = did.went in
     subst (λ (s : State g.row.B.Denot). IsRunKept g.B.Bank.tells (g.B.Bank.given array.parts.bank) (g.B.Bank.tape (bank_in s)) c.args.backup s) (sym c.goes_on-in-Grow.ensures.state)
-    (going_asked (g.B.Bank.given array.parts.bank) (λ (b : g.row.B.Denot). g.B.Bank.tape b) c.args.backup array.parts new.parts c.args.epochs.items c.ask_grow.result did.grows (epoch-later did.same did.losses) did.same.backup (on-lost new.parts.entries did.held did.spares) did.ended (parts-unchanged array new c.ask_grow.result did.unchanged) c.requires.former)
+    (going_asked (g.B.Bank.given array.parts.bank) (λ (b : g.row.B.Denot). g.B.Bank.tape b) c.args.backup array.parts new.parts c.args.epochs.items c.ask_grow.result went.grows (ran-later went) went.same.backup (ran-on went) did.ended (parts-unchanged array new c.ask_grow.result did.unchanged) c.requires.former)
 
 pub returns-in-Step-clause-former : goal.returns-in-Step-clause-former
 returns-in-Step-clause-former g c =
@@ -247,6 +249,10 @@ returns-in-Wait-clause-former g c =
     let went = did.went in
     subst (λ (s : State g.row.B.Denot). IsRunKept g.B.Bank.tells (g.B.Bank.given array.parts.bank) (g.B.Bank.tape (bank_in s)) c.args.backup s) (sym c.goes_on-in-Wait.ensures.state)
     (going_grown (g.B.Bank.given array.parts.bank) c.args.backup array.parts new.parts c.args.epochs.items went.grows (ran-later went) went.same.backup (ran-on went) did.ended c.requires.former)
+
+pub returns-in-Grow-clause-never_falls : goal.returns-in-Grow-clause-never_falls
+returns-in-Grow-clause-never_falls g c =
+    subst (λ (s : State g.row.B.Denot). NeverFalls (g.B.Bank.faults_of c.args.array.parts.bank) (g.B.Bank.faults_of (bank_in s))) (sym c.goes_on-in-Grow.ensures.state) c.ask_grow.ensures.went.never_falls
 
 pub returns-in-Step-clause-never_falls : goal.returns-in-Step-clause-never_falls
 returns-in-Step-clause-never_falls g c =
@@ -283,10 +289,6 @@ returns-in-Fail-clause-never_falls g c =
 pub returns-in-Add-clause-never_falls : goal.returns-in-Add-clause-never_falls
 returns-in-Add-clause-never_falls g c =
     subst (λ (s : State g.row.B.Denot). NeverFalls (g.B.Bank.faults_of c.args.array.parts.bank) (g.B.Bank.faults_of (bank_in s))) (sym c.goes_on-in-Add.ensures.state) c.ask_add.ensures.never_falls
-
-pub returns-in-Grow-clause-never_falls : goal.returns-in-Grow-clause-never_falls
-returns-in-Grow-clause-never_falls g c =
-    subst (λ (s : State g.row.B.Denot). NeverFalls (g.B.Bank.faults_of c.args.array.parts.bank) (g.B.Bank.faults_of (bank_in s))) (sym c.goes_on-in-Grow.ensures.state) c.ask_grow.ensures.never_falls
 
 pub returns-in-Read-clause-written : goal.returns-in-Read-clause-written
 returns-in-Read-clause-written g c =
@@ -334,7 +336,7 @@ pub returns-in-Grow-clause-written : goal.returns-in-Grow-clause-written
 returns-in-Grow-clause-written g c =
     let did = c.ask_grow.ensures in
     written_going g.B.Bank.tells (g.B.Bank.given c.args.array.parts.bank) (λ (b : g.row.B.Denot). g.B.Bank.tape b) c.args.backup (λ (b : g.row.B.Denot). g.B.Bank.faults_of b) c.args.array c.ask_grow.new.array c.args.epochs c.goes_on-in-Grow.result.0 c.args.line c.goes_on-in-Grow.result.1
-    c.goes_on-in-Grow.ensures.state did.same.first did.grows c.requires.former (returns-in-Grow-clause-former g c)
+    c.goes_on-in-Grow.ensures.state did.went.same.first did.went.grows c.requires.former (returns-in-Grow-clause-former g c)
 
 pub returns-in-Step-clause-written : goal.returns-in-Step-clause-written
 returns-in-Step-clause-written g c =
