@@ -1,4 +1,5 @@
 pub mod Ready
 pub mod Same
+pub mod Unplanned
 pub mod FoundMoving
 pub mod FoundArrays

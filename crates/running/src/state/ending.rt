@@ -45,7 +45,11 @@ impl<B: Bank> Running<B> {
         ensures first { result.1.first ≡ self.parts.first }
         ensures last { B.tells → result.1.last ≡ length (B.tape self.parts.bank) }
     {
-        let Running { state, window: _ } = self;
+        let Running {
+            alloc: _,
+            state,
+            window: _,
+        } = self;
         match state {
             State::Still(still) => still.halt(who),
             State::Moving(moving) => {
@@ -67,8 +71,8 @@ impl<B: Bank> Running<B> {
         ensures flushed { IfOk result (λ r. is_reshaping self.parts.members.newest ≡ false → B.tells → AreLeftSettled self.parts.members self.parts.entries r.1.entries.items (B.given self.parts.bank) (B.tape r.0)) }
         ensures grows { IfOk result (λ r. Grows B.tells (B.tape self.parts.bank) (B.tape r.0)) }
         ensures losses { IfOk result (λ r. AreLossesOf self.parts.members (B.faults_of self.parts.bank) (B.faults_of r.0) self.parts.entries r.1.entries.items) }
-        ensures ends { IfOk result (λ r. is_reshaping self.parts.members.newest ≡ false → B.tells → EndBy (length (B.tape r.0)) r.1.entries.items) }
-        ensures ended { IfOk result (λ r. is_reshaping self.parts.members.newest ≡ false → IsEndOf B.tells r.1.first r.1.entries.items (B.tape r.0)) }
+        ensures ends { IfOk result (λ r. B.tells → EndBy (length (B.tape r.0)) r.1.entries.items) }
+        ensures ended { IfOk result (λ r. IsEndOf B.tells r.1.first r.1.entries.items (B.tape r.0)) }
         ensures right { IfOk result (λ r. B.tells → IsReliable (world_of (B.given r.0) (B.tape r.0) self.parts.backup r.1) r.1.entries.items → IsEpochKept (B.given r.0) (B.tape r.0) self.parts.backup r.1) }
         ensures uuid { IfOk result (λ r. r.1.uuid ≡ self.parts.uuid) }
         ensures slots { IfOk result (λ r. r.1.given ≡ self.parts.given) }
@@ -79,11 +83,15 @@ impl<B: Bank> Running<B> {
         ensures refused { IfErr result (λ e. IsUnsettled who self.parts.entries e.0.parts.entries e.1) }
         ensures caused { IfErr result (λ e. IsFaultFor (list_length self.parts.members.newest) 0 AreTooMany self.parts.members e.0.parts.members e.1) }
         ensures called { IfErr result (λ e. IsCalled B.tells (B.given self.parts.bank) (B.tape self.parts.bank) (B.tape e.0.parts.bank) (B.faults_of self.parts.bank) (B.faults_of e.0.parts.bank) self e.0) }
-        ensures left_failed { IfErr result (λ e. is_reshaping self.parts.members.newest ≡ false → HaveRolesFailed self.parts.members e.0.parts.members (B.faults_of self.parts.bank) (B.faults_of e.0.parts.bank)) }
+        ensures left_failed { IfErr result (λ e. HaveRolesFailed self.parts.members e.0.parts.members (B.faults_of self.parts.bank) (B.faults_of e.0.parts.bank)) }
         ensures left_given { IfErr result (λ e. B.given e.0.parts.bank ≡ B.given self.parts.bank) }
         ensures course { IfErr result (λ e. e.0.course ≡ self.course) }
     {
-        let Running { state, window } = self;
+        let Running {
+            alloc,
+            state,
+            window,
+        } = self;
         match state {
             State::Still(still) => match still.stop(who) {
                 Ok(ended) => Ok(ended),
@@ -91,7 +99,12 @@ impl<B: Bank> Running<B> {
                     let mut still = still;
                     check_still(&mut still);
                     let state = State::Still(still);
-                    Err((Running { state, window }, fault))
+                    let running = Running {
+                        alloc,
+                        state,
+                        window,
+                    };
+                    Err((running, fault))
                 }
             },
             State::Moving(moving) => match moving.stop(who) {
@@ -100,7 +113,12 @@ impl<B: Bank> Running<B> {
                     let mut moving = moving;
                     check_moving(&mut moving);
                     let state = State::Moving(moving);
-                    Err((Running { state, window }, fault))
+                    let running = Running {
+                        alloc,
+                        state,
+                        window,
+                    };
+                    Err((running, fault))
                 }
             },
         }

@@ -183,7 +183,7 @@ of_pieces-requires-2-clause-ready g c =
     let some : 1 ≤ p.steps = subst (λ s. 1 ≤ s.parts.steps) same c.requires.room in
     let idle = subst (λ s. left_of s.parts.work s.parts.members ≡ 0) same c.requires.done in
     let next = subst (λ s. phases_of s.ahead ≡ Reshape to ∷ phases_of behind) same c.requires.next in
-    let backed = subst (λ s. (slot : ℕ) × (s.parts.backup ≡ Some slot) × IsBackupAt (g.B.Bank.given s.parts.bank) s.parts.given s.parts.members to slot) same c.requires.backed in
+    let backed = subst (λ s. (slot : ℕ) × (s.parts.backup ≡ Some slot) × IsBackupAt (g.B.Bank.given s.parts.bank) s.parts.members to slot) same c.requires.backed in
     let wide = subst (λ s. 512 * phase_window (shape_of s.parts.members.newest) s.parts.members.newest.size (Reshape to) ≤ length c.args.window.items) same c.requires.wide in
     let update : IsUpdated g.B.Bank.tells given (g.B.Bank.tape p.bank) (g.B.Bank.tape c.begin-begun.new.bank) backup p.epoch.uuid to p.members new spares (g.B.Bank.faults_of p.bank) (g.B.Bank.faults_of c.begin-begun.new.bank) = record {
       begun = did.begun none;
@@ -203,7 +203,7 @@ of_pieces-requires-2-clause-ready g c =
     let size_is : c.told_of-told.result.size ≡ list_length new.newest = c.told_of-told.ensures.size in
     let spares_is : c.told_of-told.result.spares ≡ spares = c.told_of-told.ensures.spares in
     begun-ready p.epoch.uuid p.epoch.given backup p.ahead behind to who end roles spares was turned c.requires.caller idle next (goes_back (shape_of p.members.newest) to) refl
-    (backup-here given p.epoch.given p.members to p.backup backup backed c.in-Some-backup.is) c.in_default.ensures update c.ops-end.ensures.count c.check_sizes.ensures.own c.check_sizes.ensures.uuid
+    (backup-here given p.members to p.backup backup backed c.in-Some-backup.is) c.here c.in_default.ensures update c.ops-end.ensures.count c.check_sizes.ensures.own c.check_sizes.ensures.uuid
     c.told_of-told.ensures.roles
     c.args.window.items wide did.given
     (scope-same given p.backup did.given c.enter_begun.ensures.uuid c.enter_begun.ensures.given ∙ ap (λ (o : Option ℕ). scope_in given p.epoch.uuid p.epoch.given o) c.in-Some-backup.is) c.enter_begun.ensures.first refl

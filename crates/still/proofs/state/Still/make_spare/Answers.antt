@@ -282,6 +282,9 @@ returns-then-contains-clause-others g c =
 pub returns-then-contains-clause-held : goal.returns-then-contains-clause-held
 returns-then-contains-clause-held g c = rw (← c.self.view_is) c.add_member-lost.ensures.moved.held
 
+pub returns-then-contains-clause-whole : goal.returns-then-contains-clause-whole
+returns-then-contains-clause-whole g c = rw (← c.self.view_is) c.add_member-lost.ensures.moved.whole
+
 pub returns-then-contains-clause-work : goal.returns-then-contains-clause-work
 returns-then-contains-clause-work g c =
     let a = c.self.inside in
@@ -404,6 +407,9 @@ returns-clause-others g c =
 
 pub returns-clause-held : goal.returns-clause-held
 returns-clause-held g c = rw (← c.self.view_is) c.add_member-lost.ensures.moved.held
+
+pub returns-clause-whole : goal.returns-clause-whole
+returns-clause-whole g c = rw (← c.self.view_is) c.add_member-lost.ensures.moved.whole
 
 pub returns-clause-work : goal.returns-clause-work
 returns-clause-work g c =

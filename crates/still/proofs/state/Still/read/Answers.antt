@@ -273,6 +273,9 @@ returns-in-Some-refusal-clause-others g c = rw (← c.self.view_is) c.fetch-fetc
 pub returns-in-Some-refusal-clause-failed : goal.returns-in-Some-refusal-clause-failed
 returns-in-Some-refusal-clause-failed g c = rw (← c.self.view_is) c.fetch-fetched.ensures.failed.roles
 
+pub returns-in-Some-refusal-clause-whole : goal.returns-in-Some-refusal-clause-whole
+returns-in-Some-refusal-clause-whole g c = rw (← c.self.view_is) c.fetch-fetched.ensures.moved.whole
+
 -- ---- done
 
 pub invariant_of-self-2 : goal.invariant_of-self-2
@@ -395,6 +398,9 @@ returns-clause-caused g c = rw (← c.self.view_is) c.in_default.ensures.why
 
 pub returns-clause-failed : goal.returns-clause-failed
 returns-clause-failed g c = rw (← c.self.view_is) c.fetch-fetched.ensures.failed.roles
+
+pub returns-clause-whole : goal.returns-clause-whole
+returns-clause-whole g c = rw (← c.self.view_is) c.fetch-fetched.ensures.moved.whole
 
 pub returns-clause-first : goal.returns-clause-first
 returns-clause-first g c = rw (← c.self.view_is) (sym c.in_default.ensures.first)

@@ -144,6 +144,9 @@ returns-in-Some-refusal-clause-others g c = rw (← c.self.view_is) c.settle-set
 pub returns-in-Some-refusal-clause-failed : goal.returns-in-Some-refusal-clause-failed
 returns-in-Some-refusal-clause-failed g c = rw (← c.self.view_is) c.settle-settled.ensures.failed.roles
 
+pub returns-in-Some-refusal-clause-whole : goal.returns-in-Some-refusal-clause-whole
+returns-in-Some-refusal-clause-whole g c = rw (← c.self.view_is) c.settle-settled.ensures.moved.whole
+
 -- ---- it is done
 
 pub invariant_of-self-2 : goal.invariant_of-self-2
@@ -222,6 +225,9 @@ returns-clause-others g c = rw (← c.self.view_is) c.settle-settled.ensures.oth
 
 pub returns-clause-failed : goal.returns-clause-failed
 returns-clause-failed g c = rw (← c.self.view_is) c.settle-settled.ensures.failed.roles
+
+pub returns-clause-whole : goal.returns-clause-whole
+returns-clause-whole g c = rw (← c.self.view_is) c.settle-settled.ensures.moved.whole
 
 pub returns-clause-flushed : goal.returns-clause-flushed
 returns-clause-flushed g c = rw (← c.self.view_is) c.settle-settled.ensures.flushed

@@ -211,6 +211,9 @@ returns-in-Some-refusal-clause-first g c =
 pub returns-in-Some-refusal-clause-failed : goal.returns-in-Some-refusal-clause-failed
 returns-in-Some-refusal-clause-failed g c = rw (← c.self.view_is) c.put-done.ensures.failed.roles
 
+pub returns-in-Some-refusal-clause-whole : goal.returns-in-Some-refusal-clause-whole
+returns-in-Some-refusal-clause-whole g c = rw (← c.self.view_is) c.put-done.ensures.moved.whole
+
 pub returns-in-Some-refusal-clause-called : goal.returns-in-Some-refusal-clause-called
 returns-in-Some-refusal-clause-called g c =
     let was = c.self.invariant in
@@ -320,6 +323,9 @@ returns-clause-caused g c = rw (← c.self.view_is) c.in_default.ensures.why
 
 pub returns-clause-failed : goal.returns-clause-failed
 returns-clause-failed g c = rw (← c.self.view_is) c.put-done.ensures.failed.roles
+
+pub returns-clause-whole : goal.returns-clause-whole
+returns-clause-whole g c = rw (← c.self.view_is) c.put-done.ensures.moved.whole
 
 pub returns-clause-first : goal.returns-clause-first
 returns-clause-first g c = rw (← c.self.view_is) (sym c.in_default.ensures.first)
