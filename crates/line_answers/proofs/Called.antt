@@ -168,6 +168,10 @@ parts-unchanged {B = B} old new (Err none) same = ap (λ (a : RunningParts B). a
 pub told-backup : {backup other : Option ℕ} {before now : ℕ → ℕ} {old new : List Entry} → backup ≡ other → HasToldBy backup before now old new → HasToldBy other before now old new
 told-backup {before = before} {now = now} {old = old} {new = new} same told = subst (λ (b : Option ℕ). HasToldBy b before now old new) same told
 
+-- the script's next call has the next number
+pub script-numbered : (entries : List Entry) (who : Who) → who ≡ script_who entries → who.number ≡ next_number who.caller entries
+script-numbered entries who is = ap (λ (w : Who). w.number) is ∙ ap (λ (w : Who). next_number w.caller entries) (sym is)
+
 -- ---- a grow
 
 -- its answer is a reply, unless memory was short

@@ -1,5 +1,5 @@
 -- What stands in the superblocks of an array that was made or found.
-use Rattle.std.proofs.Common.{◌≡◌, ◌⊎◌, inl, inr, ℕ, zero, suc, ◌+◌, ◌-◌, ◌/◌, ◌*◌, ◌<◌, min, max, not, nat_lt, Bool, true, false, Option, Some, None, List, [], ◌∷◌, ◌++◌, length, take, drop, replicate, slice_index_or, map, refl, sym, ◌∙◌, ap, ap₂, subst, arith}
+use Rattle.std.proofs.Common.{◌≡◌, inl, ℕ, zero, suc, ◌+◌, ◌-◌, ◌/◌, ◌*◌, ◌<◌, min, max, not, nat_lt, Bool, true, false, Option, Some, None, List, [], ◌∷◌, ◌++◌, length, take, drop, replicate, slice_index_or, map, refl, sym, ◌∙◌, ap, ap₂, subst, arith}
 use Rattle.std.specs.Prelude.{if◌then◌else◌, MatchOption, MatchBool, IfSome, IsFalse, IsTrue}
 use Rattle.std.specs.Option.{option_map_or}
 use Rattle.md_base.specs.Shapes.{data_disks}
@@ -46,7 +46,7 @@ use Rattle.grow_plan.specs.Plans.{phases_steps}
 use Rattle.md_base.specs.declared.wishes.Phase.{Phase}
 use Rattle.flat_history.specs.Left.{opened_role, opened_roles}
 use Rattle.flat_history.specs.Plain.{entries_of}
-use Rattle.openings.specs.Found.{IsStillFound, IsMovingFound}
+use Rattle.openings.specs.Found.{IsStillFound, IsMovingFound, IsRunningFound}
 use Rattle.superblocks.specs.Reads.{has_spare}
 use Rattle.run_laws.specs.Histories.{History}
 use Rattle.run_laws.specs.Making.{Setting, world_at, history_world, MissingAtFirst, AreHeldSince, found_members, found_window, found_left, IsStored, IsStoredNew, IsStoredAs}
@@ -484,6 +484,9 @@ found_history setting found history uuid given first =
 
 -- so it is of either
 pub found_here : {B tells : Type 0} {before after : ℕ → ℕ} (given : Given) (tape : List Operation) (backup : Option ℕ) (asked : Option (List ℕ)) (found : RunningParts B)
-    → IsStillFound tells given tape backup asked before after found ⊎ IsMovingFound tells given tape backup asked before after found → IsFoundHere tells given tape backup asked before after found
-found_here given tape backup asked found (inl is) = still_here given tape backup asked found is
-found_here given tape backup asked found (inr is) = moving_here given tape backup asked found is
+    → IsRunningFound tells given tape backup asked before after found → IsFoundHere tells given tape backup asked before after found
+found_here {tells = tells} {before = before} {after = after} given tape backup asked found is = by (is_reshaping found.parts.members.newest) is
+  where
+    by : (b : Bool) → MatchBool b (IsMovingFound tells given tape backup asked before after found) (IsStillFound tells given tape backup asked before after found) → IsFoundHere tells given tape backup asked before after found
+    by true is = moving_here given tape backup asked found is
+    by false is = still_here given tape backup asked found is

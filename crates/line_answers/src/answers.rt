@@ -18,12 +18,12 @@ use crate::asks::{
     ask_add, ask_fail, ask_flush, ask_grow, ask_read, ask_steps, ask_wait, ask_write, last_place, script_call,
 };
 use crate::examines::{examine_idle, examine_running};
-use crate::opens::open_running;
 use crate::shows::ask_show;
 use array::CreateSpec;
 use bank::Bank;
 use flat_history::{Entry, Epoch};
 use md_base::{Fault, NoMemory, Refusal};
+use openings::open_running;
 use run_laws::{Answered, Outside, State};
 use running::Running;
 use script::{CreateLine, Line};

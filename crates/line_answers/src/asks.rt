@@ -1,6 +1,6 @@
 //! One request of the script to a running array.
 
-ghost use Rattle.std.specs.Prelude.{◌≡◌, ◌≢◌, ◌⊎◌, ◌+◌, ◌*◌, ◌/◌, ◌<◌, ◌≤◌, ◌^◌, ℕ, true, length, slice_get, Err, IfOk, IfErr, IsTrue, IsFalse, IsSome};
+ghost use Rattle.std.specs.Prelude.{◌≡◌, ◌≢◌, ◌⊎◌, ◌+◌, ◌*◌, ◌/◌, ◌<◌, ◌≤◌, ◌^◌, ℕ, true, length, slice_get, Err, IfOk, IfErr, IsTrue, IsFalse, IsSome, None};
 ghost use Rattle.md_base.specs.declared.answers.Fault.TheVariants.{NoMemory as WantsMemory};
 ghost use Rattle.bank.specs.Given.{NeverFalls};
 ghost use Rattle.md_base.specs.Sectors.{IsWhole};
@@ -45,14 +45,14 @@ pub fn last_place<B: Bank>(array: &Running<B>) -> u64
 }
 
 // Whether a call was answered want of memory.
-fn wants_memory(answer: &Result<(), Fault>) -> bool
+fn wants_memory<T>(answer: &Result<T, Fault>) -> bool
     ensures yes { IsTrue result → answer.now ≡ Err WantsMemory }
     ensures no { IsFalse result → answer.now ≢ Err WantsMemory }
 {
     match answer {
         Err(Fault::NoMemory) => true,
         Err(Fault::Refused(_)) => false,
-        Ok(()) => false,
+        Ok(_) => false,
     }
 }
 
@@ -98,6 +98,7 @@ pub fn ask_write<B: Bank>(
     count: u32,
     seed: u32,
 ) -> Result<u64, NoMemory>
+    requires some { 1 ≤ count }
     requires few { count ≤ 128 }
     requires short { at + count < 2 ^ 63 }
     ensures asked { IsAsked (list_length array.old.parts.members.newest) (WriteLine at count seed) array.old.parts.entries array.new.parts.entries result }
@@ -196,6 +197,7 @@ pub fn ask_add<B: Bank>(array: &mut Running<B>, slot: u32) -> Result<u64, NoMemo
 
 /// Plans a grow. Ok is the place of the reply entry. It makes no device call.
 pub fn ask_grow<B: Bank>(array: &mut Running<B>, wish: Wish) -> Result<u64, NoMemory>
+    requires level { wish.level ≡ None }
     ensures asked { IsAsked (list_length array.old.parts.members.newest) (GrowLine wish) array.old.parts.entries array.new.parts.entries result }
     ensures ended { IfOk result (λ place. IsEndOf B.tells array.new.parts.first array.new.parts.entries (B.tape array.new.parts.bank)) }
     ensures unchanged { IfErr result (λ none. array.new ≡ array.old) }

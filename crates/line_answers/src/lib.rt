@@ -4,7 +4,6 @@
 mod answers;
 mod asks;
 mod examines;
-mod opens;
 mod shows;
 
 pub use answers::{answer, entry_of};

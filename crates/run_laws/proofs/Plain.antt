@@ -30,7 +30,7 @@ takes-none world role (e ∷ entries) keeps none =
 
 on-course : (world : World) (o : Option Reading) → MatchOption o ⊤ (λ r. is_reshaping r.newest ≡ false) → IfSome o (λ r. IsTrue (is_reshaping r.newest) → IsReshapeFit world.scope (contents_at world world.first) r)
 on-course world None found = tt
-on-course world (Some r) found moving = absurd (true≢false (sym moving ∙ found))
+on-course world (Some r) found = λ moving. absurd (true≢false (sym moving ∙ found))
 
 -- what is filled in is right
 pub kept-fills : (world : World) (entries : List Entry) → KeepsShape world entries → FillsRight world entries → IsFilledRight world entries

@@ -1,5 +1,7 @@
-use Rattle.std.proofs.Common.{true, length, Result, refl, sym, subst, arith}
+use Rattle.std.proofs.Common.{◌≡◌, ℕ, true, is_none, Option, Some, None, length, Result, refl, sym, subst, arith}
+use Rattle.std.specs.Prelude.{IsTrue}
 use Rattle.bank.specs.Given.{NeverFalls}
+use Rattle.script.specs.Script.{is_within_limits}
 use Rattle.md_base.specs.declared.answers.NoMemory.{NoMemory}
 use Rattle.script.specs.declared.lines.Line.{Line}
 use Rattle.script.specs.declared.lines.Line.TheVariants.{Read, Write, Flush, Fail, Add, Grow, Step, Wait, Detail, Mdstat}
@@ -19,6 +21,13 @@ use Rattle.line_answers.proofs.Statuses.{going_detail, going_mdstat}
 use Rattle.run_laws.specs.Written.{HasWritten}
 use Rattle.run_laws.proofs.Writing.{written-nothing, written_going}
 use Rattle.line_answers.proofs.answers.answer_running.Goals as goal
+
+none_level : (o : Option ℕ) → is_none o ≡ true → o ≡ None
+none_level None is = refl
+none_level (Some level) is = absurd (cc)
+
+pub ask_grow-requires : goal.ask_grow-requires
+ask_grow-requires g c = none_level c.in-Grow.wish.level (subst (λ (l : Line). IsTrue (is_within_limits l)) c.in-Grow.is c.requires.limits)
 
 pub returns-in-Read-clause-answered : goal.returns-in-Read-clause-answered
 returns-in-Read-clause-answered g c =

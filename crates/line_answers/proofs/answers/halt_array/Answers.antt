@@ -41,7 +41,7 @@ returns-clause-former g c =
     let room = c.requires.own.room in
     let items : c.push_reserved.new.self.items ≡ c.args.epochs.items ++ epoch ∷ [] = search rules in
     former_halted g.B.Bank.tells (λ (b : g.row.B.Denot). g.B.Bank.given b) (λ (b : g.row.B.Denot). g.B.Bank.tape b) c.args.backup array.parts c.halt-bank.result.0 epoch c.args.epochs.items c.push_reserved.new.self.items items did.bank did.uuid did.given did.first
-    did.ends did.last did.right c.requires.former
+    did.ends did.last did.right did.plain c.requires.former
 
 pub returns-clause-written : goal.returns-clause-written
 returns-clause-written g c told =

@@ -15,7 +15,8 @@ use Rattle.run_laws.proofs.AskLaws.{asked_stop, asked_unstopped, behind_grew}
 use Rattle.running_words.specs.Calls.{IsEpochKept}
 use Rattle.running_replies.specs.Replies.{IsRefusalToldBy}
 use Rattle.bank.specs.Given.{Given}
-use Rattle.run_laws.specs.Ended.{IfReliable}
+use Rattle.run_laws.specs.Ended.{IfReliable, IfShapeKept}
+use Rattle.still_laws.specs.Plain.{IsPlainEpoch}
 use Rattle.run_laws.proofs.Legal.{grows_longer, going_grown, former_more, legal_epoch}
 use Rattle.run_laws.proofs.Sizes.{sized-none, sized-behind}
 use Rattle.run_laws.proofs.Told.{told_none, told_behind, stop_told}
@@ -83,8 +84,10 @@ returns-in-Ok-clause-former g c =
     let backup = c.requires.former.backup_is in
     let right : g.B.Bank.tells → IfReliable given tape c.args.backup epoch (IsEpochKept given tape c.args.backup epoch) = λ told. subst (λ (b : Option ℕ). IfReliable given tape b epoch (IsEpochKept given tape b epoch)) backup
         (subst (λ (known : Given). IfReliable known tape array.parts.backup epoch (IsEpochKept known tape array.parts.backup epoch)) did.given (did.right told)) in
+    let plain : g.B.Bank.tells → IfShapeKept given tape c.args.backup epoch (IsPlainEpoch given tape c.args.backup epoch) = λ told. subst (λ (b : Option ℕ). IfShapeKept given tape b epoch (IsPlainEpoch given tape b epoch)) backup
+        (subst (λ (known : Given). IfShapeKept known tape array.parts.backup epoch (IsPlainEpoch known tape array.parts.backup epoch)) did.given (did.plain told)) in
     former_more given c.args.backup array.parts c.args.epochs.items c.push_reserved.new.self.items epoch items did.grows did.first c.requires.former
-    (legal_epoch given c.args.backup array.parts c.args.epochs.items epoch did.grows (record { uuid = did.uuid; given = did.slots; first = did.first }) c.requires.former did.ends right)
+    (legal_epoch given c.args.backup array.parts c.args.epochs.items epoch did.grows (record { uuid = did.uuid; given = did.slots; first = did.first }) c.requires.former did.ends right plain)
     did.last right
 
 pub returns-in-NoMemory-clause-former : goal.returns-in-NoMemory-clause-former
