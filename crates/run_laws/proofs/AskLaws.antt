@@ -330,5 +330,5 @@ pub halt_grew : {tells : Type 0} {tape : List Operation} {old new : List Entry} 
 halt_grew {old = old} who was = longer old [] (one who was.end Halted) was.is
 
 -- what holds where memory was short
-pub on_no_memory : {fact : Type 0} (r : Result (Unit {0}) Fault) → OnNoMemory r fact → r ≡ Err NoMemory → fact
-on_no_memory {fact = fact} r was is = subst (λ (x : Result (Unit {0}) Fault). OnNoMemory x fact) is was
+pub on_no_memory : {fact T : Type 0} (r : Result T Fault) → OnNoMemory r fact → r ≡ Err NoMemory → fact
+on_no_memory {fact = fact} {T = T} r was is = subst (λ (x : Result T Fault). OnNoMemory x fact) is was

@@ -27,7 +27,7 @@ none_level None is = refl
 none_level (Some level) is = absurd (cc)
 
 pub ask_grow-requires : goal.ask_grow-requires
-ask_grow-requires g c = none_level c.in-Grow.wish.level (subst (λ (l : Line). IsTrue (is_within_limits l)) c.in-Grow.is c.requires.limits)
+ask_grow-requires g c = record { level = none_level c.in-Grow.wish.level (subst (λ (l : Line). IsTrue (is_within_limits l)) c.in-Grow.is c.requires.limits) }
 
 pub returns-in-Read-clause-answered : goal.returns-in-Read-clause-answered
 returns-in-Read-clause-answered g c =

@@ -34,4 +34,4 @@ loop-at-init g c = record {
 }
 
 pub leaves_more-requires : goal.leaves_more-requires
-leaves_more-requires g c = subst (λ (o : Option Entry). IsSome o) (sym (entry_there c.in-Ok.ensures.asked)) refl
+leaves_more-requires g c = record { there = subst (λ (o : Option Entry). IsSome o) (sym (entry_there c.in-Ok.ensures.asked)) refl }
