@@ -44,15 +44,15 @@ err-both P Q (Err e) p q = (p, q)
 -- ---- either
 
 -- what was found runs, by what its superblocks tell
-as-told : {B tells : Type 0} (bank : Given) (tape : List Operation) (backup : Option ℕ) (asked : Option (List ℕ)) (before after : ℕ → ℕ) (run : RunningParts B) (b : Bool) → is_reshaping run.parts.members.newest ≡ b
+as-told : {B : Type 0} (tells : Type 0) (bank : Given) (tape : List Operation) (backup : Option ℕ) (asked : Option (List ℕ)) (before after : ℕ → ℕ) (run : RunningParts B) (b : Bool) → is_reshaping run.parts.members.newest ≡ b
     → MatchBool b (IsMovingFound tells bank tape backup asked before after run) (IsStillFound tells bank tape backup asked before after run) → IsRunningFound tells bank tape backup asked before after run
-as-told {tells = tells} bank tape backup asked before after run b is found =
+as-told tells bank tape backup asked before after run b is found =
     subst (λ (b : Bool). MatchBool b (IsMovingFound tells bank tape backup asked before after run) (IsStillFound tells bank tape backup asked before after run)) (sym is) found
 
 -- it is one of the two
-pub either-found : {B tells : Type 0} (bank : Given) (tape : List Operation) (backup : Option ℕ) (asked : Option (List ℕ)) (before after : ℕ → ℕ) (run : RunningParts B) → IsRunningFound tells bank tape backup asked before after run
+pub either-found : {B : Type 0} (tells : Type 0) (bank : Given) (tape : List Operation) (backup : Option ℕ) (asked : Option (List ℕ)) (before after : ℕ → ℕ) (run : RunningParts B) → IsRunningFound tells bank tape backup asked before after run
     → IsStillFound tells bank tape backup asked before after run ⊎ IsMovingFound tells bank tape backup asked before after run
-either-found {tells = tells} bank tape backup asked before after run = by (is_reshaping run.parts.members.newest)
+either-found tells bank tape backup asked before after run = by (is_reshaping run.parts.members.newest)
   where
     by : (b : Bool) → MatchBool b (IsMovingFound tells bank tape backup asked before after run) (IsStillFound tells bank tape backup asked before after run)
         → IsStillFound tells bank tape backup asked before after run ⊎ IsMovingFound tells bank tape backup asked before after run
@@ -70,7 +70,7 @@ pub still-found : {B tells : Type 0} (tape_of : B → List Operation) (faults_of
     → IfSome asked (λ uuid. opened.members.newest.set_uuid ≡ uuid) → (run : RunningParts B) → IsAdopted tells device (tape_of device) opened.given backup opened.members run.parts → phases_of run.ahead ≡ []
     → IsRunningFound tells bank (tape_of run.parts.bank) backup asked before (faults_of run.parts.bank) run
 still-found {B = B} {tells = tells} tape_of faults_of device bank backup asked before opened is given named run did planless =
-    as-told bank (tape_of run.parts.bank) backup asked before (faults_of run.parts.bank) run false (ap (λ (m : Members). is_reshaping m.newest) did.members_are ∙ is.still)
+    as-told tells bank (tape_of run.parts.bank) backup asked before (faults_of run.parts.bank) run false (ap (λ (m : Members). is_reshaping m.newest) did.members_are ∙ is.still)
     (subst (λ (b : B). IsStillFound tells bank (tape_of b) backup asked before (faults_of b) run) (sym did.bank_is) (record {
       assembled = assembled device bank (tape_of device) backup opened run.parts did asked before (faults_of device) is given named;
       planless = planless;
@@ -121,7 +121,7 @@ pub moving-found : {B tells : Type 0} (tape_of : B → List Operation) (faults_o
     → NeverFalls mid (faults_of run.parts.bank) → IsMovingAdopted tells bank tape opened.given slot opened.members run
     → IsRunningFound tells bank (tape_of run.parts.bank) backup asked before (faults_of run.parts.bank) run
 moving-found {tells = tells} tape_of faults_of bank tape slot backup backup_is asked before mid opened is are rose given named run same falls did =
-    as-told bank (tape_of run.parts.bank) backup asked before (faults_of run.parts.bank) run true (ap (λ (m : Members). is_reshaping m.newest) did.members_are ∙ are.active) (record {
+    as-told tells bank (tape_of run.parts.bank) backup asked before (faults_of run.parts.bank) run true (ap (λ (m : Members). is_reshaping m.newest) did.members_are ∙ are.active) (record {
       former = opened.members;
       slot = slot;
       backup_is = backup_is;

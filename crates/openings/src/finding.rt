@@ -1,11 +1,13 @@
 //! An array that is found in a bank's slots, and runs.
 
-ghost use Rattle.std.specs.Prelude.{◌≡◌, ◌<◌, ◌≤◌, ℕ, [], false, length, IfOk, IfErr, IfSome};
+ghost use Rattle.std.specs.Prelude.{◌≡◌, ◌<◌, ◌≤◌, ℕ, [], false, length, Some, IfOk, IfErr, IfSome};
 ghost use Rattle.md_base.specs.declared.answers.Fault.TheVariants.{NoMemory as WantsMemory};
 ghost use Rattle.md_base.specs.Shapes.{has_slot};
 ghost use Rattle.bank.specs.Tape.{contents};
+ghost use Rattle.superblocks.specs.Reads.{has_spare};
 ghost use Rattle.row_io.specs.Rows.{present};
 ghost use Rattle.views.specs.Flushing.{OnlyFlushesAdded, OnlyItsSlotsFail};
+ghost use Rattle.views.specs.Rebuilding.{Held};
 ghost use Rattle.array_kept.specs.Kept.{scope_in};
 ghost use Rattle.array_kept.specs.Adopting.{IsAdoptable, IsAdopted};
 ghost use Rattle.grow_asked.specs.Left.{phases_of};
@@ -23,7 +25,7 @@ use std::alloc::Global;
 use still::Still;
 use superblocks::says::is_reshaping;
 
-// The array runs that has no active reshape.
+// The array runs that has no active reshape, and whose backup holds no role and is no spare.
 pub(crate) fn run_still<B: Bank>(
     alloc: Global,
     bank: B,
@@ -32,6 +34,7 @@ pub(crate) fn run_still<B: Bank>(
 ) -> Result<Running<B>, (B, Fault)>
     requires adoptable { IsAdoptable B.tells (B.given bank) (B.tape bank) (scope_in (B.given bank) found.members.newest.set_uuid found.given backup) found.members }
     requires failed { (slot : ℕ) → slot < (B.given bank).slots → has_slot found.given slot ≡ false → 0 < B.faults_of bank slot }
+    requires aside { (slot : ℕ) → backup ≡ Some slot → (has_spare found.members.spares slot ≡ false) × ((role : ℕ) → Held found.members role slot → ⊥) }
     ensures run { IfOk result (λ run. IsAdopted B.tells bank (B.tape bank) found.given backup found.members run.parts) }
     ensures planless { IfOk result (λ run. phases_of run.ahead ≡ []) }
     ensures handed_back { IfErr result (λ e. e.0 ≡ bank) }

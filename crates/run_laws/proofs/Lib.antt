@@ -4,6 +4,7 @@ pub mod Growth
 pub mod Legal
 pub mod Losses
 pub mod Plain
+pub mod PlainReplies
 pub mod Told
 pub mod Worlds
 pub mod Writing

@@ -14,7 +14,7 @@ use Rattle.flat_history.specs.Sound.{FillsRight}
 use Rattle.flat_history.specs.World.{World, contents_at, reading_at}
 use Rattle.kept_history.specs.Safe.{TakesNone, IsReshapeFit, OpensOnCourse, IsFilledRight}
 use Rattle.running_words.specs.Plans.{turns_shape, KeepsShape}
-use Rattle.running_replies.proofs.Plain.{neither}
+use Rattle.run_laws.proofs.PlainReplies.{neither}
 
 -- an event that tells no reshape takes a role's holder away only where it tells that lost
 takes-told : (r : Option Reading) (role : ℕ) (event : Event) → turns_shape event ≡ false → takes r role event ≡ loses_role role event

@@ -1,5 +1,5 @@
 -- What the calls of a running array tell of it, by whether a reshape is active in it.
-use Rattle.std.specs.Prelude.{◌≡◌, ◌≢◌, ◌⊎◌, ℕ, ◌+◌, ◌<◌, true, false, List, [], ◌∷◌, if◌then◌else◌, MatchBool, MatchOption, Result, Ok, Err, ⊤}
+use Rattle.std.specs.Prelude.{◌≡◌, ◌≢◌, ℕ, ◌+◌, ◌<◌, true, false, List, [], ◌∷◌, if◌then◌else◌, MatchBool, MatchOption, Result, Ok, Err, ⊤}
 use Rattle.md_base.specs.declared.answers.Fault.{Fault}
 use Rattle.md_base.specs.declared.answers.Fault.TheVariants.{Refused as IsRefusedWith, NoMemory}
 use Rattle.md_base.specs.declared.answers.Refusal.{Refusal}
@@ -26,8 +26,7 @@ use Rattle.moving_state.specs.Due.{due_of}
 use Rattle.moving_state.specs.declared.stepping.Due.TheVariants.{Finish as EndsReshape}
 use Rattle.moving_state.specs.First.{IsUnreadAround}
 use Rattle.moving_laws.specs.Writing.{IsWriteBarred}
-use Rattle.still_laws.specs.Steps.{IsEndedRight}
-use Rattle.turning.specs.Begun.{IsPlain}
+use Rattle.still_laws.specs.Steps.{MayEndNow}
 use Rattle.moving_steps.specs.Replies.{IsEndedInReshape}
 use Rattle.running.specs.declared.state.choosing.Next.{Next}
 use Rattle.running.specs.declared.state.choosing.Next.TheVariants.{Nothing, Own, Begin, Move, Finish}
@@ -72,7 +71,7 @@ IsNext array Finish = (is_reshaping array.parts.members.newest ≡ true) × (due
 -- Such a step may have been refused so: in a reshape for what is missing now, or for the backup; or else for what is missing, or because the reshape that is ahead can't begin.
 abbrev pub MayEndSteps : {B : Type 0} → RunningParts B → Refusal → Type 0
 MayEndSteps array refusal = MatchBool (is_reshaping array.parts.members.newest) (IsEndedInReshape array.parts.work array.parts.members refusal)
-    (IsEndedRight array.parts.work array.parts.members refusal ⊎ IsPlain refusal)
+    (MayEndNow array.parts.work array.parts.members array.ahead refusal)
 
 -- a step that was refused was so for that
 abbrev pub IsRefusedInStep : {B T : Type 0} → RunningParts B → Result T Fault → Type 0

@@ -1,5 +1,5 @@
 -- What a running array keeps, by whether a reshape is active in it.
-use Rattle.std.specs.Prelude.{◌≡◌, ℕ, ◌*◌, ◌≤◌, true, false, List, [], ◌∷◌, Some, None, ⊤}
+use Rattle.std.specs.Prelude.{◌≡◌, ℕ, ◌*◌, ◌≤◌, true, false, List, [], ◌∷◌, length, Some, None, ⊤}
 use Rattle.md_base.specs.declared.places.Shape.{Shape}
 use Rattle.md_base.specs.declared.wishes.Phase.{Phase}
 use Rattle.md_base.specs.declared.wishes.Phase.TheVariants.{Reshape}
@@ -8,6 +8,7 @@ use Rattle.bank.specs.declared.bank.Operation.{Operation}
 use Rattle.grow_plan.specs.Plans.{phase_window}
 use Rattle.superblocks.specs.Reading.{is_reshaping, shape_of}
 use Rattle.superblocks.specs.Reads.{has_spare}
+use Rattle.flat_history.specs.Growing.{EndBy}
 use Rattle.flat_history.specs.Reshaped.{open_plans}
 use Rattle.views.specs.Placed.{AreWhole}
 use Rattle.views.specs.Rebuilding.{Held}
@@ -43,6 +44,11 @@ pub record CanBeNext {B : Type 0} (given : Given) (window : ℕ) (array : Runnin
   pub serves : IsBackupAt given array.parts.members to slot
   pub wide : 512 * phase_window (shape_of array.parts.members.newest) array.parts.members.newest.size (Reshape to) ≤ window
 
+-- its epoch began within the tape, where its entries end too
+pub record IsWithin {B : Type 0} (tells : Type 0) (tape : List Operation) (array : RunningParts B) : Type 0 where
+  pub begun : tells → array.parts.first ≤ length tape
+  pub ends : tells → EndBy (length tape) array.parts.entries
+
 -- the backup, if there is one, holds no role and is no spare
 abbrev pub IsBackupAside : {B : Type 0} → RunningParts B → Type 0
 IsBackupAside array = (slot : ℕ) → array.parts.backup ≡ Some slot
@@ -55,6 +61,7 @@ AreClosedIdle array = array.parts.work.resync ≡ None → phases_of array.ahead
 -- Without a reshape one may be ahead, which can be next; each plan that is open goes where that leads, and none is where all is done.
 pub record IsAtRest {B : Type 0} (tells : Type 0) (given : Given) (tape : List Operation) (window : ℕ) (array : RunningParts B) : Type 0 where
   pub now : IsStillNow array
+  pub within : IsWithin tells tape array
   pub one : IsOneReshape (phases_of array.ahead)
   pub next : (to : Shape) → phases_of array.ahead ≡ Reshape to ∷ [] → CanBeNext given window array to
   pub aside : IsBackupAside array
@@ -64,6 +71,7 @@ pub record IsAtRest {B : Type 0} (tells : Type 0) (given : Given) (tape : List O
 -- In a reshape none is ahead; each plan that is open goes where the reshape does, which the opening found or the history tells.
 pub record IsInReshape {B : Type 0} (tells : Type 0) (given : Given) (tape : List Operation) (array : RunningParts B) : Type 0 where
   pub active : is_reshaping array.parts.members.newest ≡ true
+  pub within : IsWithin tells tape array
   pub last : phases_of array.ahead ≡ []
   pub turned : tells → KeepsShape (moving_world given tape array) array.parts.entries → ⊥
   pub plans : ArePlansKept tells (moving_world given tape array) array

@@ -1,14 +1,14 @@
 //! A running array, with a reshape active in it or without one.
 
-ghost use Rattle.std.specs.Prelude.{◌≡◌, ◌<◌, ◌≤◌, true, [], length};
+ghost use Rattle.std.specs.Prelude.{◌≡◌, ◌<◌, true, [], IsSome};
 ghost use Rattle.superblocks.specs.Reading.{is_reshaping};
-ghost use Rattle.flat_history.specs.Growing.{EndBy};
 ghost use Rattle.flat_history.specs.Reshaped.{open_plans};
+ghost use Rattle.views.specs.Placed.{IsPlaced};
 ghost use Rattle.grow_asked.specs.Left.{phases_of};
 ghost use Rattle.running_words.specs.Parts.{left_in};
 ghost use Rattle.running_words.specs.Calls.{moving_world};
 ghost use Rattle.running_words.specs.Plans.{KeepsShape};
-ghost use Rattle.running.specs.State.{IsStillNow};
+ghost use Rattle.running.specs.State.{IsStillNow, IsWithin, IsBackupAside};
 
 mod adding;
 mod answering;
@@ -20,6 +20,7 @@ mod examining;
 mod failing;
 mod finishing;
 mod mending;
+mod planning;
 mod reading;
 mod rooms;
 mod settling;
@@ -68,8 +69,8 @@ impl<B: Bank> Model for Running<B> {
 fn still_again<B: Bank>(still: Still<B>, _none: ()) -> (Still<B>, ())
     ensures same { result.0 ≡ still }
     ensures rest { IsStillNow still }
-    ensures begun { B.tells → still.parts.first ≤ length (B.tape still.parts.bank) }
-    ensures ends { B.tells → EndBy (length (B.tape still.parts.bank)) still.parts.entries }
+    ensures within { IsWithin B.tells (B.tape still.parts.bank) still }
+    ensures placed { IsPlaced (B.given still.parts.bank) still.parts.members }
 {
     (Still::of_pieces(still.take_apart()), ())
 }
@@ -78,9 +79,10 @@ fn still_again<B: Bank>(still: Still<B>, _none: ()) -> (Still<B>, ())
 fn moving_again<B: Bank>(moving: Moving<B>, _none: ()) -> (Moving<B>, ())
     ensures same { result.0 ≡ moving }
     ensures active { is_reshaping moving.parts.members.newest ≡ true }
+    ensures backed { IsSome moving.parts.backup }
     ensures some { 0 < left_in moving.parts.work moving.parts.members moving.course moving.ahead }
-    ensures begun { B.tells → moving.parts.first ≤ length (B.tape moving.parts.bank) }
-    ensures ends { B.tells → EndBy (length (B.tape moving.parts.bank)) moving.parts.entries }
+    ensures within { IsWithin B.tells (B.tape moving.parts.bank) moving }
+    ensures aside { IsBackupAside moving }
 {
     let (pieces, course, window) = moving.take_apart();
     let Some(backup) = pieces.backup else {
@@ -93,8 +95,8 @@ fn moving_again<B: Bank>(moving: Moving<B>, _none: ()) -> (Moving<B>, ())
 fn check_still<B: Bank>(still: &mut Still<B>)
     ensures same { still.new ≡ still.old }
     ensures rest { IsStillNow still.old }
-    ensures begun { B.tells → still.old.parts.first ≤ length (B.tape still.old.parts.bank) }
-    ensures ends { B.tells → EndBy (length (B.tape still.old.parts.bank)) still.old.parts.entries }
+    ensures within { IsWithin B.tells (B.tape still.old.parts.bank) still.old }
+    ensures placed { IsPlaced (B.given still.old.parts.bank) still.old.parts.members }
 {
     replace_with(still, (), still_again)
 }
@@ -103,18 +105,20 @@ fn check_still<B: Bank>(still: &mut Still<B>)
 fn check_moving<B: Bank>(moving: &mut Moving<B>)
     ensures same { moving.new ≡ moving.old }
     ensures active { is_reshaping moving.old.parts.members.newest ≡ true }
+    ensures backed { IsSome moving.old.parts.backup }
     ensures some { 0 < left_in moving.old.parts.work moving.old.parts.members moving.old.course moving.old.ahead }
-    ensures begun { B.tells → moving.old.parts.first ≤ length (B.tape moving.old.parts.bank) }
-    ensures ends { B.tells → EndBy (length (B.tape moving.old.parts.bank)) moving.old.parts.entries }
+    ensures within { IsWithin B.tells (B.tape moving.old.parts.bank) moving.old }
+    ensures aside { IsBackupAside moving.old }
 {
     replace_with(moving, (), moving_again)
 }
 
 impl<B: Bank> Running<B> {
-    /// An array without an active reshape, which has no plan.
+    /// An array without an active reshape, which has no plan; its backup holds no role and is no spare.
     pub fn of_still(alloc: Global, still: Still<B>) -> Running<B>
         requires planless { phases_of still.ahead ≡ [] }
         requires unplanned { open_plans still.parts.entries ≡ [] }
+        requires aside { IsBackupAside still }
         ensures { result ≡ still }
     {
         let mut still = still;

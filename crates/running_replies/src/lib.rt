@@ -1,4 +1,2 @@
-//! What a running array replies to a caller, and what its steps leave, whether a reshape is active in it or not.
+//! What a running array replies to a caller, and what its steps leave, whether a reshape is active in it or not. Definitions alone.
 #![tactic(auto)]
-
-pub mod laws;

@@ -17,12 +17,11 @@ use Rattle.flat_history.specs.OneShape.{IsOfCall}
 use Rattle.array_kept.specs.Calls.{IsBehind, IsEndOf, AreStepsFewer, TellNoLoss}
 use Rattle.kept_history.specs.Recorded.{MayGoOn, IsCallGoing}
 use Rattle.running_words.specs.Parts.{RunningParts}
-use Rattle.running_replies.specs.Replies.{EndsRunningSteps}
+use Rattle.running_replies.specs.Replies.{EndsRunningSteps, IsRefusalBy}
 use Rattle.running_replies.specs.Going.{is_finish, HasRunOn}
-use Rattle.still_laws.specs.Steps.{IsEndedRight}
-use Rattle.moving_steps.specs.Replies.{IsEndedInReshape}
+use Rattle.still_laws.specs.Steps.{IsClosable}
 use Rattle.turning.specs.Begun.{HasKeptLength}
-use Rattle.running.specs.Calls.{running_left}
+use Rattle.running.specs.Calls.{running_left, MayEndSteps}
 
 -- ---- what is asked
 
@@ -42,7 +41,7 @@ abbrev pub TellOneStep : List Entry → Type 0
 TellOneStep entries = (count_by (λ e. is_step_event e.event) entries ≡ 1)
     ⊎ ((count_by (λ e. is_step_event e.event) entries ≡ 0) × (1 ≤ count_by (λ e. is_lost_event e.event) entries))
 
--- What a step leaves that is done, whether a reshape ended by it (`over`) or not: what it entered, with the steps that are left, which are one fewer, and that the call goes on.
+-- What a step leaves that is done, whether a reshape ended by it (`over`) or not: what it entered, with the steps that are left, which are one fewer, that the call goes on, and that a reply may close its plans.
 pub record IsStepDone {B : Type 0} (tells : Type 0) (given : B → Given) (tape : B → List Operation) (faults : B → ℕ → ℕ) (who : Who) (old new : RunningParts B) (over : Bool) : Type 0 where
   pub inner : List Entry
   pub is : new.parts.entries ≡ old.parts.entries ++ inner
@@ -51,20 +50,18 @@ pub record IsStepDone {B : Type 0} (tells : Type 0) (given : B → Given) (tape 
   pub one : TellOneStep inner
   pub over_told : over ≡ list_any (λ e. is_finish e.event) inner
   pub left : over ≡ false → AreStepsFewer old.parts.entries new.parts.entries (running_left old) (running_left new)
-  pub open : over ≡ false → 0 < running_left new → IsOpenFor new who
+  pub next_open : over ≡ false → 0 < running_left new → IsOpenFor new who
   pub going : IsCallGoing new.parts.entries who
+  pub closable : is_reshaping new.parts.members.newest ≡ false → IsClosable new
   pub went : HasRunOn tells given tape faults old new
   pub ended : IsEndOf tells new.parts.first new.parts.entries (tape new.parts.bank)
 
--- the refusal of a step is right for the array as it is then, with a reshape or without one
-abbrev pub IsEndedNow : {B : Type 0} → RunningParts B → Refusal → Type 0
-IsEndedNow array refusal = MatchBool (is_reshaping array.parts.members.newest) (IsEndedInReshape array.parts.work array.parts.members refusal) (IsEndedRight array.parts.work array.parts.members refusal)
-
--- What a step leaves that is refused: the refusal is its last entry.
+-- What a step leaves that is refused: the refusal is its last entry, for a slot or the backup only where that failed.
 pub record IsStepRefused {B : Type 0} (tells : Type 0) (given : B → Given) (tape : B → List Operation) (faults : B → ℕ → ℕ) (who : Who) (old new : RunningParts B) (refusal : Refusal) : Type 0 where
   pub behind : IsBehind who old.parts.entries new.parts.entries (Refused refusal)
   pub why : EndsRunningSteps refusal
-  pub right : IsEndedNow new refusal
+  pub cause : IsRefusalBy old.parts.backup (faults old.parts.bank) (faults new.parts.bank) refusal
+  pub right : MayEndSteps new refusal
   pub going : IsCallGoing new.parts.entries who
   pub went : HasRunOn tells given tape faults old new
   pub ended : IsEndOf tells new.parts.first new.parts.entries (tape new.parts.bank)

@@ -1,15 +1,16 @@
 //! As many background steps as a caller asks for.
 
 ghost use Rattle.std.specs.Prelude.{◌≡◌, ◌≢◌, ◌⊎◌, ◌+◌, ◌<◌, ◌≤◌, true, false, None, IfOk, IfErr, IfSome, MatchOption, ⊤};
-ghost use Rattle.superblocks.specs.Reading.{list_length};
+ghost use Rattle.superblocks.specs.Reading.{is_reshaping, list_length};
 ghost use Rattle.flat_history.specs.Flat.{next_number};
 ghost use Rattle.flat_history.specs.declared.events.Request.TheVariants.{Steps as AsksSteps};
 ghost use Rattle.array_kept.specs.Calls.{IsEndOf, TellNoLoss, TellNoRoleLoss};
 ghost use Rattle.kept_history.specs.Recorded.{IsCallGoing};
-ghost use Rattle.running_replies.specs.Replies.{IsAnsweredWith, EndsRunningSteps};
+ghost use Rattle.still_laws.specs.Steps.{IsClosable};
+ghost use Rattle.running_replies.specs.Replies.{IsAnsweredWith, EndsRunningSteps, IsRefusalBy};
 ghost use Rattle.running_replies.specs.Going.{HasRunOn};
-ghost use Rattle.running.specs.Calls.{running_left};
-ghost use Rattle.running_steps.specs.Steps.{IsOpenFor, IsEndedNow, AreStepsOf, IsStepCount, has_finished};
+ghost use Rattle.running.specs.Calls.{running_left, MayEndSteps};
+ghost use Rattle.running_steps.specs.Steps.{IsOpenFor, AreStepsOf, IsStepCount, has_finished};
 
 use crate::stepping::take_step;
 use bank::Bank;
@@ -30,18 +31,21 @@ fn take_steps<B: Bank>(array: &mut Running<B>, who: Who, count: u64) -> Batch
     requires open { IsOpenFor array.old who }
     requires caller { who.caller ≢ 254 }
     requires room { count + 2 ≤ array.old.parts.steps }
-    requires some { (0 < count) × (0 < running_left array.old) }
+    requires some { 0 < count }
+    requires pending { 0 < running_left array.old }
     ensures entered { AreStepsOf who array.old.parts.entries array.new.parts.entries result.done }
     ensures done { result.done ≤ count }
     ensures all { MatchOption result.ended ((result.done ≡ count) ⊎ (running_left array.new ≡ 0) ⊎ (has_finished array.old.parts.entries array.new.parts.entries ≡ true)) (λ refusal. result.done < count) }
     ensures some { MatchOption result.ended (1 ≤ result.done) (λ refusal. ⊤) }
     ensures why { IfSome result.ended EndsRunningSteps }
-    ensures right { IfSome result.ended (IsEndedNow array.new) }
+    ensures cause { IfSome result.ended (IsRefusalBy array.old.parts.backup (B.faults_of array.old.parts.bank) (B.faults_of array.new.parts.bank)) }
+    ensures right { IfSome result.ended (MayEndSteps array.new) }
     ensures left { TellNoLoss array.old.parts.entries array.new.parts.entries → has_finished array.old.parts.entries array.new.parts.entries ≡ false → result.ended ≡ None
         → running_left array.new + result.done ≡ running_left array.old }
     ensures fewer { TellNoRoleLoss array.old.parts.entries array.new.parts.entries → has_finished array.old.parts.entries array.new.parts.entries ≡ false → result.ended ≡ None
         → running_left array.new + result.done ≤ running_left array.old }
     ensures going { IsCallGoing array.new.parts.entries who }
+    ensures closable { result.ended ≡ None → is_reshaping array.new.parts.members.newest ≡ false → IsClosable array.new }
     ensures room { 1 ≤ array.new.parts.steps }
     ensures ended { IsEndOf B.tells array.new.parts.first array.new.parts.entries (B.tape array.new.parts.bank) }
     ensures went { HasRunOn B.tells B.given B.tape B.faults_of array.old array.new }

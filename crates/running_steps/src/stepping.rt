@@ -1,6 +1,6 @@
 //! One background step of an array that may be in a reshape.
 
-ghost use Rattle.std.specs.Prelude.{◌≡◌, ◌≢◌, ◌+◌, ◌<◌, ◌≤◌, false, Ok, Err};
+ghost use Rattle.std.specs.Prelude.{◌≡◌, ◌≢◌, ◌+◌, ◌<◌, ◌≤◌, false, Err, IfOk};
 ghost use Rattle.md_base.specs.declared.answers.Fault.TheVariants.{NoMemory as WantsMemory};
 ghost use Rattle.array_kept.specs.Calls.{IsEndOf};
 ghost use Rattle.running_replies.specs.Going.{HasRunOn};
@@ -22,7 +22,7 @@ pub(crate) fn take_step<B: Bank>(array: &mut Running<B>, who: Who) -> Result<boo
     requires room { 2 ≤ array.old.parts.steps }
     ensures taken { IsStepTaken B.tells B.given B.tape B.faults_of who array.old array.new result }
     ensures room { array.old.parts.steps ≤ array.new.parts.steps + 2 }
-    ensures one { result ≡ Ok false → array.new.parts.steps + 1 ≡ array.old.parts.steps }
+    ensures one { IfOk result (λ over. over ≡ false → array.new.parts.steps + 1 ≡ array.old.parts.steps) }
 {
     match array.next() {
         Next::Nothing => unreachable!(),

@@ -66,7 +66,8 @@ use Rattle.still.specs.moving_kept_Moving.{IsMoving, IsStillKept}
 use Rattle.moving_ends.proofs.Ended.{IsPlannedTo, IsStepped}
 use Rattle.moving_ends.proofs.EndedCall.{IsEndedBy, ended-since}
 use Rattle.moving_ends.proofs.EndedMembers.{array-ends}
-use Rattle.moving_ends.proofs.Ending.{length_by, grown_to, ending_events, ending-length, ending-lost, ending-late, ArePlannedTo}
+use Rattle.history_calls.proofs.Plans.{ArePlannedTo}
+use Rattle.moving_ends.proofs.Ending.{length_by, grown_to, ending_events, ending-length, ending-lost, ending-late}
 use Rattle.still.specs.still_kept_Still.{IsStill, AreNoneMissing}
 use Rattle.still.proofs.still_kept_Bridges.{kept-again}
 use Rattle.still.proofs.still_kept_Leaving.{unsynced-later}
@@ -115,25 +116,6 @@ ended-free who end roles spares left late late_spares size longer =
     of : (b : Bool) → fold (λ (limit : Option ℕ) e. limit_after limit e.event) None (entries_of who end (length_by b size ++ losses_of late late_spares)) ≡ None
     of true = alone
     of false = alone
-
--- ---- the plans
-
-pub plans-of : (world : World) (shape : Shape) (plans : List Entry) → All (λ plan. planned_shape world plan.end plan.event ≡ Some shape) plans → ArePlannedTo world shape plans
-plans-of world shape [] to = tt
-plans-of world shape (plan ∷ plans) to = (All-head (λ plan. planned_shape world plan.end plan.event ≡ Some shape) plan plans to, plans-of world shape plans (All-tail (λ plan. planned_shape world plan.end plan.event ≡ Some shape) plan plans to))
-
--- each phase has a step
-phase-some : (now : Shape) (size : ℕ) (phase : Phase) → 1 ≤ phase_steps now size phase
-phase-some now size (Reshape to) = omega arith
-phase-some now size (UpTo6 to) = omega arith
-phase-some now size (DownTo5 to) = omega arith
-
-phases-none : (now : Shape) (size : ℕ) (ahead : List Phase) → phases_steps now size ahead ≡ 0 → ahead ≡ []
-phases-none now size [] none = refl
-phases-none now size (phase ∷ ahead) none = absurd (let some = phase-some now size phase in omega (arith, some, none))
-
-pub ahead-none : (now : Shape) (size left : ℕ) (ahead : List Phase) → left + phases_steps now size ahead ≡ 0 → ahead ≡ []
-ahead-none now size left ahead none = phases-none now size ahead (omega (arith, none))
 
 -- ---- the length of the list
 

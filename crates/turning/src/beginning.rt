@@ -1,6 +1,7 @@
 //! A reshape begins in an array that had none.
 
-ghost use Rattle.std.specs.Prelude.{◌≡◌, ◌≢◌, ◌⊎◌, ◌+◌, ◌*◌, ◌<◌, ◌≤◌, ◌&&◌, ◌++◌, ◌∷◌, [], ℕ, nat_lt, false, length, vec_capacity, Some, IfOk, IfErr};
+ghost use Rattle.std.specs.Prelude.{◌≡◌, ◌≢◌, ◌⊎◌, ◌+◌, ◌*◌, ◌<◌, ◌≤◌, ◌&&◌, ◌++◌, ◌∷◌, [], ℕ, nat_lt, true, false, length, vec_capacity, Some, IfOk, IfErr};
+ghost use Rattle.std.specs.List.{list_any};
 ghost use Rattle.md_base.specs.Shapes.{has_slot};
 ghost use Rattle.md_base.specs.declared.wishes.Phase.TheVariants.{Reshape};
 ghost use Rattle.md_base.specs.declared.answers.Refusal.TheVariants.{BackupFault};
@@ -22,6 +23,7 @@ ghost use Rattle.grow_asked.specs.Left.{phases_of, grow_left, IsReshapeUnderWay}
 ghost use Rattle.kept_history.specs.Recorded.{IsCallGoing};
 ghost use Rattle.course_kept.specs.Laws.{closed};
 ghost use Rattle.still.specs.running_words_Parts.{RunningParts};
+ghost use Rattle.still.specs.running_words_Plans.{turns_shape};
 ghost use Rattle.still.specs.still_laws_Ready.{IsReady};
 ghost use Rattle.turning.specs.Begun.{begun_length, HasKeptLength, IsBackupAt, IsPlain, IsReshapeBegun, IsGivenBack, IsBeginRefused};
 
@@ -138,7 +140,7 @@ fn enter_begun(epoch: &mut Epoch, who: Who, end: u64, told: &BeginTold)
     enter_lost(epoch, who, end, told.roles, told.spares);
 }
 
-// The array goes on as it was, and the step is refused.
+// The array, in whose history a plan was told, goes on as it was, and the step is refused.
 fn give_back<B: Bank>(pieces: Pieces<B>, who: Who, refusal: Refusal) -> Still<B>
     requires ready { IsReady B.tells (B.given pieces.bank) (B.tape pieces.bank) (scope_in (B.given pieces.bank) pieces.epoch.uuid pieces.epoch.given pieces.backup)
         pieces.epoch.first pieces.epoch.entries.items pieces.members pieces.work pieces.ahead (B.faults_of pieces.bank) pieces.steps pieces.epoch.entries.room
@@ -146,6 +148,7 @@ fn give_back<B: Bank>(pieces: Pieces<B>, who: Who, refusal: Refusal) -> Still<B>
     requires open { IsCallGoing pieces.epoch.entries.items who }
     requires caller { who.caller ≢ 254 }
     requires room { 1 ≤ pieces.steps }
+    requires told { list_any (λ e. turns_shape e.event) pieces.epoch.entries.items ≡ true }
     requires why { IsPlain refusal }
     ensures back { let old : RunningParts B = record {
       parts = record {
@@ -181,6 +184,7 @@ fn fail_backup<B: Bank>(pieces: Pieces<B>, who: Who, backup: u32) -> Still<B>
     requires open { IsCallGoing pieces.epoch.entries.items who }
     requires caller { who.caller ≢ 254 }
     requires room { 1 ≤ pieces.steps }
+    requires told { list_any (λ e. turns_shape e.event) pieces.epoch.entries.items ≡ true }
     requires slot { backup < (B.given pieces.bank).slots }
     requires failing { has_slot pieces.epoch.given backup ≡ false }
     ensures back { let old : RunningParts B = record {

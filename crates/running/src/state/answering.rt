@@ -1,9 +1,11 @@
 //! The answer to a request for steps.
 
-ghost use Rattle.std.specs.Prelude.{◌≡◌, ◌≢◌, ◌+◌, ◌≤◌, ◌∷◌, []};
+ghost use Rattle.std.specs.Prelude.{◌≡◌, ◌≢◌, ◌+◌, ◌≤◌, ◌∷◌, [], false};
+ghost use Rattle.superblocks.specs.Reading.{is_reshaping};
 ghost use Rattle.array_kept.specs.Calls.{IsEntered};
 ghost use Rattle.kept_history.specs.Recorded.{IsCallGoing};
 ghost use Rattle.running_words.specs.Calls.{IsCalled};
+ghost use Rattle.still_laws.specs.Steps.{MayAnswer};
 ghost use Rattle.moving_steps.specs.Replies.{IsReplyInReshape};
 ghost use Rattle.running.specs.Calls.{IsReplyNow};
 
@@ -32,13 +34,15 @@ fn answer_in<B: Bank>(moving: Moving<B>, reply: (Who, Event)) -> (Moving<B>, ())
 }
 
 impl<B: Bank> Running<B> {
-    /// Answers a request for steps: that nothing was left to do, or how many were done and what refused one. It makes no device
-    /// call, and takes no memory.
+    /// Answers a request for steps: that nothing was left to do, or how many were done and what refused one. Without a reshape, and where none
+    /// is left and none was refused, what is missing is to be told by the superblocks, or no plan is open. It makes no device call, and takes
+    /// no memory.
     pub fn answer(&mut self, who: Who, event: Event)
         requires open { IsCallGoing self.old.parts.entries who }
         requires caller { who.caller ≢ 254 }
         requires room { 1 ≤ self.old.parts.steps }
         requires reply { IsReplyNow self.old event }
+        requires closable { is_reshaping self.old.parts.members.newest ≡ false → MayAnswer self.old.parts.entries self.old.parts.work self.old.parts.members self.old.ahead event }
         ensures entered { IsEntered B.tells (B.tape self.old.parts.bank) who self.old.parts.entries self.new.parts.entries (event ∷ []) }
         ensures room { self.new.parts.steps + 1 ≡ self.old.parts.steps }
         ensures bank { self.new.parts.bank ≡ self.old.parts.bank }
@@ -52,6 +56,7 @@ impl<B: Bank> Running<B> {
                 check_still(still);
             }
             State::Moving(moving) => {
+                check_moving(moving);
                 replace_with(moving, (who, event), answer_in);
                 check_moving(moving);
             }

@@ -1,6 +1,6 @@
 //! A reshape that is ahead begins.
 
-ghost use Rattle.std.specs.Prelude.{◌≡◌, ◌≢◌, ◌≤◌, ◌∷◌, [], false, IfOk, IfErr};
+ghost use Rattle.std.specs.Prelude.{◌≡◌, ◌≢◌, ◌≤◌, ◌∷◌, [], false, IfOk, IfErr, IsSome};
 ghost use Rattle.md_base.specs.declared.wishes.Phase.TheVariants.{Reshape};
 ghost use Rattle.bank.specs.Given.{NeverFalls};
 ghost use Rattle.superblocks.specs.Reading.{is_reshaping};
@@ -38,6 +38,7 @@ impl<B: Bank> Running<B> {
         ensures grows { IfErr result (λ e. Grows B.tells (B.tape self.parts.bank) (B.tape e.0.parts.bank)) }
         ensures never_falls { IfErr result (λ e. NeverFalls (B.faults_of self.parts.bank) (B.faults_of e.0.parts.bank)) }
         ensures left_still { IfErr result (λ e. is_reshaping e.0.parts.members.newest ≡ false) }
+        ensures backed { IfErr result (λ e. IsSome self.parts.backup) }
         ensures left_given { IfErr result (λ e. B.given e.0.parts.bank ≡ B.given self.parts.bank) }
     {
         let Running {

@@ -9,6 +9,7 @@ ghost use Rattle.kept_history.specs.Recorded.{IsCallGoing};
 ghost use Rattle.moving_state.specs.Due.{due_of};
 ghost use Rattle.moving_state.specs.declared.stepping.Due.TheVariants.{Finish};
 ghost use Rattle.running_words.specs.Calls.{IsCalled};
+ghost use Rattle.still_laws.specs.Steps.{IsClosable};
 ghost use Rattle.turning.specs.Ended.{IsReshapeEnded};
 ghost use Rattle.running.specs.Calls.{MayEndSteps};
 
@@ -28,6 +29,7 @@ impl<B: Bank> Running<B> {
         requires active { is_reshaping self.parts.members.newest ≡ true }
         requires due { due_of self.parts.members.newest self.course self.parts.work.resync ≡ Finish }
         ensures ended { IfOk result (λ r. IsReshapeEnded B.tells (B.given self.parts.bank) (B.tape self.parts.bank) (B.tape r.parts.bank) (B.faults_of self.parts.bank) (B.faults_of r.parts.bank) who self r) }
+        ensures closable { IfOk result (λ r. IsClosable r) }
         ensures given { IfOk result (λ r. B.given r.parts.bank ≡ B.given self.parts.bank) }
         ensures refused { IfErr result (λ e. IsBehind who self.parts.entries e.0.parts.entries (Refused e.1)) }
         ensures ends { IfErr result (λ e. MayEndSteps e.0 e.1) }
@@ -46,6 +48,8 @@ impl<B: Bank> Running<B> {
         let State::Moving(moving) = state else {
             unreachable!()
         };
+        let mut moving = moving;
+        check_moving(&mut moving);
         match finish_reshape(moving, who) {
             Ok(still) => {
                 let mut still = still;

@@ -1,6 +1,6 @@
 //! The step of a reshape that is due.
 
-ghost use Rattle.std.specs.Prelude.{◌≡◌, ◌≢◌, ◌⊎◌, ◌+◌, ◌≤◌, true, OnOk, OnErr};
+ghost use Rattle.std.specs.Prelude.{◌≡◌, ◌≢◌, ◌⊎◌, ◌+◌, ◌≤◌, true, OnOk, OnErr, IsSome};
 ghost use Rattle.superblocks.specs.Reading.{is_reshaping};
 ghost use Rattle.array_kept.specs.Calls.{by_answer};
 ghost use Rattle.kept_history.specs.Recorded.{IsCallGoing};
@@ -37,6 +37,7 @@ impl<B: Bank> Running<B> {
         ensures left { OnOk result (left_in self.new.parts.work self.new.parts.members self.new.course self.new.ahead + 1 ≡ left_in self.old.parts.work self.old.parts.members self.old.course self.old.ahead) }
         ensures course { OnErr result ((self.new.course ≡ self.old.course) ⊎ IsNextUnsure self.old.parts.members self.new.course) }
         ensures stays { is_reshaping self.new.parts.members.newest ≡ true }
+        ensures backed { IsSome self.new.parts.backup }
         ensures ends { IsRefusedInStep self.new result }
         ensures room { self.new.parts.steps + 1 ≡ self.old.parts.steps }
         ensures given { B.given self.new.parts.bank ≡ B.given self.old.parts.bank }

@@ -6,6 +6,7 @@ use Rattle.assemble.specs.declared.opening.Opened.{Opened}
 use Rattle.assemble.specs.Opening.{scope_of}
 use Rattle.assemble.specs.Running.{IsCreated}
 use Rattle.assemble.proofs.RunningLaws.{new-adoptable, new-failed, created, ok-then}
+use Rattle.openings.proofs.Aside.{made-aside}
 use Rattle.openings.proofs.creating.create_array.Goals as goal
 
 pub run_still-requires-clause-adoptable : goal.run_still-requires-clause-adoptable
@@ -21,6 +22,10 @@ run_still-requires-clause-failed g c slot known out =
     let bank : Given = g.B.Bank.given c.args.bank in
     new-failed bank (g.B.Bank.tape c.make.new.bank) c.args.backup c.args.spec c.in-Ok.opened c.in-Ok.ensures.new c.in-Ok.ensures.opened (g.B.Bank.faults_of c.make.new.bank) slot
     (omega (arith, known, ap (λ (b : Given). b.slots) c.make.ensures.slots)) out
+
+pub run_still-requires-clause-aside : goal.run_still-requires-clause-aside
+run_still-requires-clause-aside g c =
+    made-aside (g.B.Bank.given c.args.bank) c.args.backup c.args.spec c.in-Ok.opened c.in-Ok.ensures.new c.requires.last c.in-Ok.ensures.unrefused
 
 pub returns-clause-created : goal.returns-clause-created
 returns-clause-created g c =

@@ -15,6 +15,7 @@ use Rattle.assemble.proofs.RunningLaws.{slots-failed, ok-then}
 use Rattle.moving_opens.specs.Opening.{AreOpenedMoving}
 use Rattle.openings.specs.Adopted.{IsMovingAdopted, IsNotAdopted}
 use Rattle.openings.specs.Found.{IsRunningFound}
+use Rattle.openings.proofs.Aside.{found-aside}
 use Rattle.openings.proofs.FoundArrays.{ok-both, err-then, err-both, opened-still, still-found, found-there, moving-found, counts-both, none-found, not-adopted}
 use Rattle.openings.proofs.finding.open_running.Goals as goal
 
@@ -45,6 +46,14 @@ run_still-requires-clause-adoptable g c =
     (placed-found bank c.requires.few opened.members found.found.elected still found.writable found.counted)
     (unlost-found bank c.requires.few opened.members found.found.elected still found.writable found.counted opened.given found.own found.found.lost)
     (free-found bank c.requires.few opened.members found.found.elected still found.writable found.counted opened.given found.own found.found.lost))
+
+pub run_still-requires-clause-aside : goal.run_still-requires-clause-aside
+run_still-requires-clause-aside g c =
+    let bank : Given = g.B.Bank.given c.args.bank in
+    let tape : List Operation = g.B.Bank.tape c.find.new.bank in
+    let opened : Opened = c.in-Ok.found in
+    let found = c.in-Ok.ensures in
+    found-aside bank (contents bank.start tape (length tape)) c.args.backup c.args.uuid opened c.requires.few found.found (sym c.is_reshaping.ensures ∙ c.if-is_reshaping.false) found.aside found.writable found.own found.counted
 
 pub returns-else-is_reshaping-clause-found : goal.returns-else-is_reshaping-clause-found
 returns-else-is_reshaping-clause-found g c =

@@ -1,8 +1,12 @@
-use Rattle.running.proofs.Kept.{rest-kept, reshape-kept, called-leaves}
-use Rattle.std.proofs.Common.{◌/◌, length}
+use Rattle.std.proofs.Common.{◌/◌, length, refl}
+use Rattle.flat_history.specs.declared.events.Event.TheVariants.{Wrote}
+use Rattle.flat_history.specs.declared.events.Request.TheVariants.{Write as AsksWrite}
+use Rattle.still_laws.proofs.PlansKept.{add-answered}
+use Rattle.running.proofs.Entered.{add-written}
+use Rattle.running.proofs.Kept.{rest-called, reshape-called}
 use Rattle.md_base.specs.Sectors.{sectors_of}
 use Rattle.superblocks.specs.Reading.{list_length}
-use Rattle.running.proofs.Chosen.{write-still, write-moving, write-answered, on-ok}
+use Rattle.running.proofs.Chosen.{write-still, write-moving, write-replied, no-backup_fault, on-ok}
 use Rattle.running.proofs.state.Running.write.Goals as goal
 use Rattle.running.proofs.state.Running.write.Goals.{in-Still, in-Moving}
 
@@ -10,7 +14,7 @@ pub returns-clause-answered : goal.returns-clause-answered
 returns-clause-answered g c = elim c.match-self.branch [
   | in-Still w ↦
       rw (← c.self.view_is, w.in-Still.is, w.self-inside-is, w.check_still.ensures.same, w.result-is)
-      (write-answered (list_length w.in-Still.still.parts.members.newest) c.args.at (sectors_of c.args.from.now) c.args.who _ _ w.write-done.result w.write-done.ensures.answered)
+      (write-replied w.in-Still.still.parts.members w.write-done.new.self.parts.members c.args.at (sectors_of c.args.from.now) c.args.who _ _ w.write-done.result w.write-done.ensures.answered w.write-done.ensures.caused)
   | in-Moving w ↦ rw (← c.self.view_is, w.in-Moving.is, w.self-inside-is, w.check_moving.ensures.same, w.result-is) w.write-done-in-Moving.ensures.answered
 ]
 
@@ -38,6 +42,13 @@ returns-clause-caused g c = elim c.match-self.branch [
       rw (← c.self.view_is, w.in-Moving.is, w.self-inside-is, w.check_moving.ensures.same, w.result-is) (write-moving w.in-Moving.moving c.args.at (length c.args.from.now / 512) w.in-Moving.moving.parts.members w.write-done-in-Moving.new.self.parts.members w.write-done-in-Moving.result active.active w.write-done-in-Moving.ensures.caused)
 ]
 
+pub returns-clause-backup : goal.returns-clause-backup
+returns-clause-backup g c = elim c.match-self.branch [
+  | in-Still w ↦
+      rw (← c.self.view_is, w.in-Still.is, w.result-is) (λ fault. no-backup_fault w.in-Still.still.parts.members w.write-done.new.self.parts.members w.write-done.result fault w.write-done.ensures.caused)
+  | in-Moving w ↦ rw (← c.self.view_is, w.in-Moving.is, w.self-inside-is, w.check_moving.ensures.same, w.result-is) w.write-done-in-Moving.ensures.backup
+]
+
 pub returns-clause-closed : goal.returns-clause-closed
 returns-clause-closed g c = elim c.match-self.branch [
   | in-Still w ↦
@@ -53,9 +64,13 @@ invariant_of-self g c = elim c.match-self.branch [
       let old = w.in-Still.still in
       let new = w.write-done.new.self in
       let did = w.write-done.ensures in
-      let leaves = called-leaves (g.B.Bank.given old.parts.bank) (g.B.Bank.given new.parts.bank) old new did.given did.called.same did.called.held did.called.spares in
-      rw (w.self-inside-is, w.check_still.ensures.same) (rest-kept (g.B.Bank.given old.parts.bank) (g.B.Bank.given new.parts.bank) (length c.self.inside.window.items) old new leaves w.check_still.ensures.rest was)
+      let added = add-answered c.args.who (list_length old.parts.members.newest) (AsksWrite c.args.at (sectors_of c.args.from.now)) (Wrote c.args.at (sectors_of c.args.from.now)) w.write-done.result did.answered refl in
+      rw (w.self-inside-is, w.check_still.ensures.same) (rest-called g.B.Bank.given g.B.Bank.tape (length c.self.inside.window.items) old new did.given added did.called did.whole w.check_still.ensures.rest w.check_still.ensures.within was)
   | in-Moving w ↦
       let was = rw w.in-Moving.is at c.self.invariant in
-      rw (w.self-inside-is, w.check_moving.ensures.same) (reshape-kept w.in-Moving.moving w.write-done-in-Moving.new.self w.check_moving.ensures.active w.write-done-in-Moving.ensures.called.same.ahead was)
+      let old = w.in-Moving.moving in
+      let new = w.write-done-in-Moving.new.self in
+      let did = w.write-done-in-Moving.ensures in
+      let added = add-written (list_length old.parts.members.newest) c.args.at (sectors_of c.args.from.now) w.write-done-in-Moving.result did.answered in
+      rw (w.self-inside-is, w.check_moving.ensures.same) (reshape-called g.B.Bank.given g.B.Bank.tape (length c.self.inside.window.items) old new did.given added did.called w.check_moving.ensures.active w.check_moving.ensures.within was)
 ]

@@ -20,7 +20,7 @@ use Rattle.flat_history.specs.Transfers.{IsRefusedAt, IsPastEnd}
 use Rattle.running_words.specs.Plans.{turns_shape}
 use Rattle.running_replies.specs.Replies.{may_end_early, EndsRunningSteps, DidRunningSteps, RunningAnswers, RunningFits}
 use Rattle.still_laws.specs.Plain.{MayTellPlainly}
-use Rattle.running_replies.specs.Plain.{is_grow}
+use Rattle.run_laws.specs.Plain.{is_grow}
 
 -- ---- what none of some entries is, none of one call before another is
 

@@ -1,0 +1,130 @@
+-- A running array keeps what it keeps over a request to grow, planned or refused.
+use Rattle.std.proofs.Common.{◌≡◌, inl, ◌*◌, ◌≤◌, ℕ, true, false, Some, None, Result, Err, List, [], ◌∷◌, refl, sym, ◌∙◌, ap, subst, arith}
+use Rattle.md_base.specs.declared.answers.Fault.{Fault}
+use Rattle.md_base.specs.declared.answers.Fault.TheVariants.{Refused as IsRefusedWith, NoMemory}
+use Rattle.md_base.specs.declared.answers.Who.{Who}
+use Rattle.md_base.specs.declared.places.Shape.{Shape}
+use Rattle.md_base.specs.declared.wishes.Phase.{Phase}
+use Rattle.md_base.specs.declared.wishes.Phase.TheVariants.{Reshape}
+use Rattle.md_base.specs.declared.wishes.Wish.{Wish}
+use Rattle.bank.specs.Given.{Given}
+use Rattle.bank.specs.declared.bank.Operation.{Operation}
+use Rattle.grow_plan.specs.Plans.{AreSound, largest_window, target}
+use Rattle.superblocks.specs.declared.members.Members.{Members}
+use Rattle.superblocks.specs.Reading.{is_reshaping, shape_of, final_shape}
+use Rattle.superblocks.specs.Reads.{has_spare}
+use Rattle.flat_history.specs.declared.events.Entry.{Entry}
+use Rattle.flat_history.specs.declared.events.Event.{Event}
+use Rattle.flat_history.specs.declared.events.Event.TheVariants.{Refused}
+use Rattle.flat_history.specs.Plain.{entries_of}
+use Rattle.flat_history.specs.World.{World}
+use Rattle.views.specs.declared.work.Work.{Work}
+use Rattle.views.specs.Placed.{AreWhole}
+use Rattle.views.specs.Rebuilding.{Held}
+use Rattle.views.proofs.MovedLaws.{grows-none}
+use Rattle.grow_asked.specs.Asked.{Asked, grow_refusal}
+use Rattle.grow_asked.specs.Left.{phases_of}
+use Rattle.running_words.specs.Parts.{RunningParts}
+use Rattle.running_words.specs.Calls.{moving_world}
+use Rattle.still_laws.proofs.PlansKept.{AddNoPlan, add-nothing}
+use Rattle.growing.specs.Planned.{asked_in, HasWideBackup, IsAsBefore, IsGrowAnswered, IsGrowPlanned}
+use Rattle.growing.specs.Plans.{GoesTo}
+use Rattle.growing.proofs.Idle.{planned-alone, planned-whole}
+use Rattle.growing.proofs.PlanLaws.{one-reshape}
+use Rattle.growing.proofs.Windows.{reshape-backed}
+use Rattle.running.specs.State.{IsStillNow, IsOneReshape, CanBeNext, IsWithin, IsBackupAside, IsAtRest, IsInReshape}
+use Rattle.running.proofs.Closed.{closed-kept}
+use Rattle.running.proofs.Kept.{GoesOn, LeavesAhead, rest-kept, reshape-kept}
+
+-- a refusal is no plan
+add-refused : {T : Type 0} {tells : Type 0} {world : World} {a : Asked} {wish : Wish} {who : Who} {old new : List Entry} {event : Event} (fault : Fault) → IsGrowAnswered {T} tells world a wish who old new event (Err fault) → AddNoPlan old new
+add-refused {who = who} (IsRefusedWith refusal) is = record { more = entries_of who is.end (Refused refusal ∷ []); grown = is.is; none = refl }
+add-refused NoMemory is = add-nothing is
+
+module _ {B : Type 0} {tells : Type 0} (given : B → Given) (tape : B → List Operation) (old new : RunningParts B) (before : IsAsBefore old new) where
+  -- ---- refused
+
+  refused-on : AddNoPlan old.parts.entries new.parts.entries → GoesOn tells given tape old new
+  refused-on added = record {
+    given_is = ap given before.bank;
+    grows = grows-none (λ t. ap tape before.bank);
+    uuid = before.uuid;
+    slots = before.given;
+    first = before.first;
+    backup = before.backup;
+    added = added;
+  }
+
+  refused-leaves : new.ahead ≡ old.ahead → LeavesAhead old new
+  refused-leaves ahead = record {
+    shape = ap (λ (m : Members). shape_of m.newest) before.members;
+    final = ap (λ (m : Members). final_shape m.newest) before.members;
+    size = ap (λ (m : Members). m.newest.size) before.members;
+    ahead = ahead;
+    held = λ role slot has. inl (subst (λ (m : Members). Held m role slot) before.members has);
+    spares = λ slot backup is. subst (λ (m : Members). has_spare m.spares slot ≡ true) before.members is;
+  }
+
+  module _ {T : Type 0} {world : World} {a : Asked} {wish : Wish} {who : Who} {event : Event} (fault : Fault) (answered : IsGrowAnswered {T} tells world a wish who old.parts.entries new.parts.entries event (Err fault)) (ahead : new.ahead ≡ old.ahead) where
+    pub rest-refused : (window : ℕ) → IsStillNow new → IsWithin tells (tape new.parts.bank) new → IsAtRest tells (given old.parts.bank) (tape old.parts.bank) window old → IsAtRest tells (given new.parts.bank) (tape new.parts.bank) window new
+    rest-refused window now within was =
+        let added = add-refused fault answered in
+        rest-kept given tape window old new (refused-on added) (refused-leaves ahead) now within
+        (closed-kept old new (ap (λ (w : Work). w.resync) before.work) ahead (λ whole. subst AreWhole before.members whole) added was.closed) was
+
+    pub reshape-refused : is_reshaping new.parts.members.newest ≡ true → IsWithin tells (tape new.parts.bank) new → IsInReshape tells (given old.parts.bank) (tape old.parts.bank) old → IsInReshape tells (given new.parts.bank) (tape new.parts.bank) new
+    reshape-refused active within was =
+        reshape-kept given tape old new (refused-on (add-refused fault answered)) (ap (λ (m : Members). shape_of m.newest) before.members) (ap (λ (m : Members). final_shape m.newest) before.members) ahead active within was
+
+  -- ---- planned
+
+  module _ (wish : Wish) (left window room : ℕ) (level : wish.level ≡ None) (none : grow_refusal (asked_in (given old.parts.bank) old) wish ≡ None)
+      (planned : IsGrowPlanned tells (given new.parts.bank) (moving_world (given new.parts.bank) (tape new.parts.bank) new) wish left new)
+      (goes : GoesTo tells (moving_world (given new.parts.bank) (tape new.parts.bank) new) old new)
+      (wide : 512 * largest_window (shape_of old.parts.members.newest) old.parts.members.newest.size (phases_of new.ahead) ≤ room) (was : IsAtRest tells (given old.parts.bank) (tape old.parts.bank) window old) where
+    abbrev shape : Shape
+    shape = shape_of new.parts.members.newest
+
+    abbrev size : ℕ
+    size = new.parts.members.newest.size
+
+    -- one reshape is ahead
+    ahead-is : phases_of new.ahead ≡ Reshape (target (shape_of new.parts.members.newest) wish) ∷ []
+    ahead-is = planned.ahead ∙ one-reshape (shape_of new.parts.members.newest) wish level
+
+    aside-still : IsBackupAside new
+    aside-still slot is =
+        let apart = was.aside slot (sym before.backup ∙ is) in (
+          subst (λ (m : Members). has_spare m.spares slot ≡ false) (sym before.members) apart.0,
+          λ role held. apart.1 role (subst (λ (m : Members). Held m role slot) before.members held),
+        )
+
+    -- which the backup serves, and for which the buffer is long enough
+    next-planned : (to : Shape) → phases_of new.ahead ≡ Reshape to ∷ [] → CanBeNext (given new.parts.bank) room new to
+    next-planned to is =
+        let sound : AreSound shape size (Reshape to ∷ []) = subst (λ (l : List Phase). AreSound shape size l) is planned.sound in
+        let backed : HasWideBackup (given new.parts.bank) new.parts.backup (largest_window shape size (Reshape to ∷ [])) =
+        subst (λ (l : List Phase). HasWideBackup (given new.parts.bank) new.parts.backup (largest_window shape size l)) is planned.backed in
+        let found = reshape-backed (given new.parts.bank) new.parts.backup shape to size sound.0 backed in
+        let long : 512 * largest_window shape size (phases_of new.ahead) ≤ room = subst (λ (m : Members). 512 * largest_window (shape_of m.newest) m.newest.size (phases_of new.ahead) ≤ room) (sym before.members) wide in
+        let enough : 512 * largest_window shape size (Reshape to ∷ []) ≤ room = subst (λ (l : List Phase). 512 * largest_window shape size l ≤ room) is long in
+        let apart = aside-still found.0 found.1 in
+        record {
+          slot = found.0;
+          backup = found.1;
+          serves = record { known = found.2; apart = apart.0; own = apart.1; room = found.3 };
+          wide = omega (arith, enough);
+        }
+
+    pub rest-planned : IsStillNow new → IsWithin tells (tape new.parts.bank) new → IsAtRest tells (given new.parts.bank) (tape new.parts.bank) room new
+    rest-planned now within =
+        let alone = planned-alone (asked_in (given old.parts.bank) old) wish (phases_of old.ahead) refl none in
+        record {
+          now = now;
+          within = within;
+          one = subst IsOneReshape (sym ahead-is) tt;
+          next = next-planned;
+          aside = aside-still;
+          plans = goes (was.closed alone.0 alone.1 (planned-whole (asked_in (given old.parts.bank) old) wish none));
+          closed = λ synced empty whole. absurd (let e : [] ≡ Reshape (target shape wish) ∷ [] = sym empty ∙ ahead-is in cc);
+        }
