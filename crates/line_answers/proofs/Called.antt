@@ -1,12 +1,13 @@
 -- Calls of the script, which go on with none of the former ones.
-use Rattle.std.proofs.Common.{◌≡◌, ◌≢◌, ◌⊎◌, inl, inr, ℕ, ◌+◌, ◌*◌, min, ◌<◌, ◌≤◌, ◌==◌, ◌&&◌, Bool, false, Option, List, [], ◌∷◌, ◌++◌, refl, sym, ◌∙◌, ap, subst, arith, append_assoc, append-nil}
+use Rattle.std.proofs.Common.{◌≡◌, ◌≢◌, ◌⊎◌, inl, inr, ℕ, ◌+◌, ◌*◌, min, ◌<◌, ◌≤◌, ◌==◌, ◌&&◌, Bool, false, Option, None, List, [], ◌∷◌, ◌++◌, refl, sym, ◌∙◌, ap, subst, arith, append_assoc, append-nil}
 use Rattle.std.proofs.lemmas.List.Sums.{fold-append}
 use Rattle.std.proofs.lemmas.Bool.Decides.{nat_tests}
 use Rattle.std.proofs.lemmas.List.Elements.{All-nil, All-cons, All-append, All-head, All-weaker}
 use Rattle.std.specs.Prelude.{if◌then◌else◌}
 use Rattle.std.specs.List.{All}
+use Rattle.std.specs.Option.{option_map_or}
 use Rattle.flat_history.specs.declared.events.Entry.{Entry}
-use Rattle.flat_history.specs.Flat.{rest_of_call, next_number, number_after}
+use Rattle.flat_history.specs.Flat.{rest_of_call, next_number, number_after, length_of, limit_of, visible_of}
 use Rattle.flat_history.specs.OneShape.{IsOfCall}
 use Rattle.md_base.specs.Shapes.{data_disks}
 use Rattle.bank.specs.declared.bank.Operation.{Operation}
@@ -171,6 +172,10 @@ told-backup {before = before} {now = now} {old = old} {new = new} same told = su
 -- the script's next call has the next number
 pub script-numbered : (entries : List Entry) (who : Who) → who ≡ script_who entries → who.number ≡ next_number who.caller entries
 script-numbered entries who is = ap (λ (w : Who). w.number) is ∙ ap (λ (w : Who). next_number w.caller entries) (sym is)
+
+-- all of a list that is limited nowhere can be read and written
+pub all-visible : (size : ℕ) (entries : List Entry) → length_of size entries ≡ size → limit_of entries ≡ None → visible_of size entries ≡ size
+all-visible size entries sized unlimited = ap (λ (o : Option ℕ). option_map_or (λ limit. min limit (length_of size entries)) o (length_of size entries)) unlimited ∙ sized
 
 -- ---- a grow
 

@@ -1,5 +1,5 @@
 -- An array that kept its shape: where its history fills in right, it can be relied on.
-use Rattle.std.proofs.Common.{◌≡◌, ◌⊎◌, inl, inr, ℕ, ◌==◌, ◌||◌, Bool, true, false, Option, Some, None, List, [], ◌∷◌, refl, sym, ◌∙◌, ap, true≢false}
+use Rattle.std.proofs.Common.{◌≡◌, inl, inr, ℕ, ◌||◌, Bool, false, Option, Some, None, List, [], ◌∷◌, refl, sym, ◌∙◌, ap, true≢false}
 use Rattle.std.specs.Prelude.{MatchOption, IfSome, IsTrue, ⊤}
 use Rattle.std.specs.List.{list_any}
 use Rattle.superblocks.specs.Reading.{Reading, is_reshaping}
@@ -12,7 +12,7 @@ use Rattle.flat_history.specs.OneShape.{is_lost}
 use Rattle.flat_history.specs.Plain.{loses_role}
 use Rattle.flat_history.specs.Sound.{FillsRight}
 use Rattle.flat_history.specs.World.{World, contents_at, reading_at}
-use Rattle.kept_history.specs.Safe.{TakesNone, IsReshapeFit, OpensOnCourse, IsFilledRight}
+use Rattle.kept_history.specs.Safe.{IsReshapeFit, IsFilledRight}
 use Rattle.running_words.specs.Plans.{turns_shape, KeepsShape}
 use Rattle.run_laws.proofs.PlainReplies.{neither}
 

@@ -1,24 +1,24 @@
 -- Where no reshape was planned or begun, a reply is one of an array of one shape.
-use Rattle.std.proofs.Common.{◌≡◌, ◌⊎◌, inl, inr, ℕ, ◌+◌, ◌||◌, Bool, true, false, cond, Option, Some, None, List, [], ◌∷◌, ◌++◌, length, reverse, refl, sym, ◌∙◌, ap}
+use Rattle.std.proofs.Common.{◌≡◌, ◌⊎◌, inl, inr, ℕ, ◌+◌, ◌||◌, Bool, true, false, cond, Option, List, [], ◌∷◌, length, reverse, refl, sym, ◌∙◌, ap}
 use Rattle.std.proofs.lemmas.List.{reverse-append}
 use Rattle.std.proofs.lemmas.List.Folds.{list_any-append}
-use Rattle.std.specs.Prelude.{MatchBool, nat_lt, IfSome, IsSome, IsTrue}
+use Rattle.std.specs.Prelude.{MatchBool, nat_lt, IsSome, IsTrue}
 use Rattle.std.specs.List.{list_any}
 use Rattle.md_base.specs.declared.answers.Refusal.{Refusal}
 use Rattle.md_base.specs.declared.answers.Refusal.TheVariants.{BackupFault, Nothing}
 use Rattle.flat_history.specs.declared.events.Entry.{Entry}
 use Rattle.flat_history.specs.declared.events.Event.{Event}
-use Rattle.flat_history.specs.declared.events.Event.TheVariants.{Lost, Step, Stepped, Refused}
+use Rattle.flat_history.specs.declared.events.Event.TheVariants.{Step, Stepped, Refused}
 use Rattle.flat_history.specs.declared.events.StepKind.TheVariants.{Finished}
 use Rattle.flat_history.specs.declared.events.Request.{Request}
 use Rattle.flat_history.specs.declared.events.Request.TheVariants.{Read as AsksRead, Write as AsksWrite, Flush as AsksFlush, Fail as AsksFail, Add as AsksAdd, Visible as AsksVisible, Grow as AsksGrow, Steps as AsksSteps, Show as AsksShow}
 use Rattle.flat_history.specs.Flat.{rest_of_call, is_same_call, visible_of}
 use Rattle.flat_history.specs.Fits.{IsReadRefused, IsWriteRefused, is_lost_event}
 use Rattle.flat_history.specs.Legal.{call_before}
-use Rattle.flat_history.specs.OneShape.{EndsIdleSteps, DidOneShapeSteps, OneShapeAnswers, OneShapeFits}
+use Rattle.flat_history.specs.OneShape.{DidOneShapeSteps, OneShapeAnswers, OneShapeFits}
 use Rattle.flat_history.specs.Transfers.{IsRefusedAt, IsPastEnd}
 use Rattle.running_words.specs.Plans.{turns_shape}
-use Rattle.running_replies.specs.Replies.{may_end_early, EndsRunningSteps, DidRunningSteps, RunningAnswers, RunningFits}
+use Rattle.running_replies.specs.Replies.{may_end_early, DidRunningSteps, RunningAnswers, RunningFits}
 use Rattle.still_laws.specs.Plain.{MayTellPlainly}
 use Rattle.run_laws.specs.Plain.{is_grow}
 

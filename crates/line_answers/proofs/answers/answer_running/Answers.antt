@@ -26,6 +26,12 @@ none_level : (o : Option ℕ) → is_none o ≡ true → o ≡ None
 none_level None is = refl
 none_level (Some level) is = absurd (cc)
 
+pub ask_write-requires-clause-sized : goal.ask_write-requires-clause-sized
+ask_write-requires-clause-sized g c = c.requires.own.sized
+
+pub ask_write-requires-clause-unlimited : goal.ask_write-requires-clause-unlimited
+ask_write-requires-clause-unlimited g c = c.requires.own.unlimited
+
 pub ask_grow-requires : goal.ask_grow-requires
 ask_grow-requires g c = record { level = none_level c.in-Grow.wish.level (subst (λ (l : Line). IsTrue (is_within_limits l)) c.in-Grow.is c.requires.limits) }
 
