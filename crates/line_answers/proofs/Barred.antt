@@ -1,5 +1,5 @@
 -- A write that was refused for the backup: the array is in a reshape, and has a backup that failed.
-use Rattle.std.proofs.Common.{◌≡◌, ℕ, ◌+◌, ◌≤◌, ◌/◌, Bool, true, false, Option, Some, None, Result, Ok, Err, List, length, refl, subst, arith}
+use Rattle.std.proofs.Common.{◌≡◌, ℕ, ◌+◌, ◌≤◌, ◌/◌, Bool, true, false, Option, Some, None, Result, Err, List, length, refl, subst, arith}
 use Rattle.std.specs.Prelude.{MatchBool, MatchOption, IfSome, IsSome, nat_lt}
 use Rattle.md_base.specs.Sectors.{sectors_of}
 use Rattle.md_base.proofs.SectorLaws.{length-sectors_of}
@@ -12,7 +12,6 @@ use Rattle.superblocks.specs.declared.members.Members.{Members}
 use Rattle.flat_history.specs.declared.events.Entry.{Entry}
 use Rattle.flat_history.specs.declared.events.Event.TheVariants.{Wrote}
 use Rattle.flat_history.specs.declared.events.Request.TheVariants.{Write as AsksWrite}
-use Rattle.flat_history.specs.Flat.{visible_of}
 use Rattle.flat_history.specs.Fits.{IsReadRefused}
 use Rattle.flat_history.specs.Transfers.{IsRefusedAt, IsPastEnd}
 use Rattle.array_kept.specs.Calls.{IsAnswered, IsCausedBy}

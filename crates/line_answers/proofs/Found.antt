@@ -25,8 +25,6 @@ use Rattle.flat_history.specs.Reopened.{OpensAccepted}
 use Rattle.array_kept.specs.Adopting.{opener, found_loss, absent_loss, absent_losses, found_losses, stripes_held, found_stripes, found_work}
 use Rattle.views.specs.declared.work.Work.{Work}
 use Rattle.views.specs.Parts.{Parts}
-use Rattle.views.specs.Whole.{list_size}
-use Rattle.views.specs.Placed.{places_of}
 use Rattle.views.proofs.Still.{count-still}
 use Rattle.array.specs.declared.spec.CreateSpec.{CreateSpec}
 use Rattle.assemble.specs.Opening.{scope_of, array_of, AreGiven, IsOpened}

@@ -37,13 +37,12 @@ use Rattle.flat_history.specs.Epochs.{OpensAlike}
 use Rattle.flat_history.specs.Opened.{OpensSound}
 use Rattle.bank.specs.Given.{sizes}
 use Rattle.superblocks.specs.declared.members.Members.{Members}
-use Rattle.row_io.specs.Rows.{reading_of}
 use Rattle.array_kept.specs.Adopting.{opener, absent_losses}
 use Rattle.array_kept.specs.Calls.{IsEndOf, IsEntered, world_for}
 use Rattle.assemble.specs.Creating.{create_refusal}
 use Rattle.assemble.specs.Opening.{AreGiven, array_of, scope_of}
 use Rattle.assemble.specs.Made.{used_slot}
-use Rattle.assemble.specs.Running.{IsCreated, IsAssembled, OpensWithZeros}
+use Rattle.assemble.specs.Running.{IsCreated, OpensWithZeros}
 use Rattle.script.specs.declared.lines.CreateLine.{CreateLine}
 use Rattle.script.specs.declared.lines.Line.{Line}
 use Rattle.script.specs.declared.lines.Line.TheVariants.{Create, Read, Write, Flush, Fail, Add, Grow, Step, Wait, Assemble}
@@ -54,7 +53,6 @@ use Rattle.run_laws.specs.Asked.{script_who, IsAskedAt, IsAsked, IsStillWaiting,
 use Rattle.run_laws.specs.Histories.{History, history_of, histories_of, entry_at, is_end, AreGoing}
 use Rattle.run_laws.specs.Making.{Setting, held_at, history_world, MissingAtFirst, IsStoredNew, IsStoredAs}
 use Rattle.run_laws.specs.Replies.{Course, at_rest, begun, gone_on, course_behind, entries_to, course_after, steps_at_once, IsRepliedAt, IsAnsweredInside, IsRefusedOutside, spec_of}
-use Rattle.superblocks.specs.Reading.{shape_of}
 use Rattle.script.specs.Seeds.{seeded}
 use Rattle.run_laws.specs.States.{EndsBetween, AreLossesBehind, AreLossesFrom, running_history, course_with, answer_at, IsGrown, AreGrown, AreLossesSince, IsTurn, IsNoTurn, IsTurnOrNone, RunsOwn, IsOwnEntry, AreByScript, IsByScript, IsOfScript, AreOfScript}
 use Rattle.run_laws.proofs.AskLaws.{one, with_reply, entry_there, replied_at}

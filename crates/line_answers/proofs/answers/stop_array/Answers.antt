@@ -1,4 +1,4 @@
-use Rattle.std.proofs.Common.{rules, ◌≡◌, ◌-◌, [], ◌∷◌, ◌++◌, ℕ, Option, Ok, Err, length, refl, sym, ap, subst, arith}
+use Rattle.std.proofs.Common.{rules, ◌≡◌, ◌-◌, [], ◌∷◌, ◌++◌, ℕ, Option, Ok, Err, refl, sym, ap, subst, arith}
 use Rattle.md_base.specs.declared.answers.Fault.{Fault}
 use Rattle.flat_history.specs.declared.events.Epoch.{Epoch}
 use Rattle.flat_history.specs.declared.events.Event.{Event}

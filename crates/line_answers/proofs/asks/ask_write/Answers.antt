@@ -1,17 +1,13 @@
-use Rattle.std.proofs.Common.{◌≡◌, ◌≤◌, Bool, true, false, Err, refl, ◌∙◌, ap, subst, arith}
-use Rattle.std.proofs.Common.{ℕ, ◌+◌, ◌/◌, List, length}
-use Rattle.std.specs.Prelude.{MatchOption}
+use Rattle.std.proofs.Common.{refl, ◌∙◌, subst, arith}
+use Rattle.std.proofs.Common.{◌/◌, List, length}
 use Rattle.bank.specs.Given.{IsFaulted}
 use Rattle.md_base.specs.Sectors.{Sector, sectors_of}
-use Rattle.md_base.specs.declared.answers.Fault.TheVariants.{Refused as IsRefusedWith}
-use Rattle.md_base.specs.declared.answers.Refusal.TheVariants.{BackupFault}
-use Rattle.md_base.specs.declared.answers.Who.{Who}
 use Rattle.superblocks.specs.Reading.{is_reshaping, list_length}
 use Rattle.flat_history.specs.declared.events.Entry.{Entry}
 use Rattle.flat_history.specs.declared.events.Request.TheVariants.{Write as AsksWrite}
-use Rattle.flat_history.specs.Flat.{next_number, visible_of}
+use Rattle.flat_history.specs.Flat.{visible_of}
 use Rattle.running.specs.Calls.{IsWriteLackedIn}
-use Rattle.running_replies.specs.Replies.{RunningFits, IsRefusalBy}
+use Rattle.running_replies.specs.Replies.{RunningFits}
 use Rattle.script.specs.declared.lines.Line.TheVariants.{Write as WriteLine}
 use Rattle.run_laws.proofs.AskLaws.{on_no_memory, asked_with, with-grew, written_reply, written_none, seeded_count}
 use Rattle.run_laws.proofs.Sizes.{sized-none, sized-written}

@@ -1,6 +1,5 @@
 use Rattle.line_answers.proofs.Statuses.{shown_detail, shown_mdstat, shown_told}
 use Rattle.std.proofs.Common.{refl, ap}
-use Rattle.md_base.specs.declared.answers.NoMemory.{NoMemory}
 use Rattle.running_words.specs.Parts.{RunningParts}
 use Rattle.run_laws.proofs.Sizes.{sized-none, sized-entered}
 use Rattle.run_laws.proofs.Told.{told_none, told_entered}
