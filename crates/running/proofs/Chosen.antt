@@ -1,5 +1,5 @@
 -- What one of the two states says is what the words of both say.
-use Rattle.std.proofs.Common.{◌≡◌, ℕ, ◌+◌, inl, inr, Bool, true, false, List, [], ◌∷◌, ◌++◌, MatchBool, Result, Ok, Err, OnOk, All, refl, sym, ap, subst, length, arith}
+use Rattle.std.proofs.Common.{◌≡◌, ℕ, ◌+◌, inl, inr, Bool, true, false, List, [], ◌∷◌, ◌++◌, MatchBool, Result, Ok, Err, OnOk, OnErr, All, refl, sym, ap, subst, length, arith}
 use Rattle.std.proofs.lemmas.List.Elements.{All-nil, All-cons, All-head, All-tail}
 use Rattle.md_base.specs.Sectors.{Sector}
 use Rattle.md_base.specs.declared.answers.Fault.{Fault}
@@ -32,6 +32,14 @@ use Rattle.running.specs.Calls.{IsReadLacked, IsWriteLackedIn}
 pub on-ok : {T E : Type 0} (r : Result T E) {F : Type 0} → F → OnOk r F
 on-ok (Ok x) fact = fact
 on-ok (Err e) fact = tt
+
+pub on-err : {T E : Type 0} (r : Result T E) {F : Type 0} → F → OnErr r F
+on-err (Ok x) fact = tt
+on-err (Err e) fact = fact
+
+pub err-so : {T E : Type 0} (r : Result T E) {F G : Type 0} → (F → G) → OnErr r F → OnErr r G
+err-so (Ok x) so fact = tt
+err-so (Err e) so fact = so fact
 
 pub ok-so : {T E : Type 0} (r : Result T E) {F G : Type 0} → (F → G) → OnOk r F → OnOk r G
 ok-so (Ok x) so fact = so fact
@@ -90,18 +98,18 @@ replied-behind size request who old new event replied = record {
 -- without a reshape none is refused for the backup
 never-for : (visible to : ℕ) (shape : Shape) (synced : Bool) (old new : Members) → IsRefusedFor visible to (IsUnwritten shape synced) old new BackupFault → ⊥
 never-for visible to shape synced old new (within, inl lacks) = absurd (let told = lacks.told in cc)
-never-for visible to shape synced old new (within, inr (role, told, rest)) = absurd (cc)
+never-for visible to shape synced old new (within, inr lacked) = absurd (let told = lacked.1 in cc)
 
-pub no-backup_fault : {P T : Type 0} {visible to : ℕ} {shape : Shape} {synced : Bool} (old new : Members) (result : Result T Fault) → result ≡ Err (IsRefusedWith BackupFault) → IsCausedBy visible to (IsUnwritten shape synced) old new result → P
-no-backup_fault {visible = visible} {to = to} {shape = shape} {synced = synced} old new result is caused =
+pub no-backup_fault : {P T : Type 0} (visible to : ℕ) (shape : Shape) (synced : Bool) (old new : Members) (result : Result T Fault) → result ≡ Err (IsRefusedWith BackupFault) → IsCausedBy visible to (IsUnwritten shape synced) old new result → P
+no-backup_fault visible to shape synced old new result is caused =
     absurd (never-for visible to shape synced old new (subst (λ r. IsCausedBy visible to (IsUnwritten shape synced) old new r) is caused))
 
-pub write-replied : {T : Type 0} {visible to : ℕ} {shape : Shape} {synced : Bool} (before after : Members) {size : ℕ} (at : ℕ) (body : List Sector) (who : Who) (old new : List Entry) (result : Result T Fault)
+pub write-replied : {T : Type 0} (visible to : ℕ) (shape : Shape) (synced : Bool) (before after : Members) (size at : ℕ) (body : List Sector) (who : Who) (old new : List Entry) (result : Result T Fault)
     → IsAnswered size (AsksWrite at body) who old new (Wrote at body) result → IsCausedBy visible to (IsUnwritten shape synced) before after result → IsWriteReplied size at body who old new result
-write-replied before after {size = size} at body who old new (Ok x) replied caused = replied-behind size (AsksWrite at body) who old new (Wrote at body) replied
-write-replied {visible = visible} {to = to} {shape = shape} {synced = synced} before after at body who old new (Err (IsRefusedWith BackupFault)) replied caused = absurd (never-for visible to shape synced before after caused)
-write-replied before after {size = size} at body who old new (Err (IsRefusedWith refusal)) replied caused = replied-behind size (AsksWrite at body) who old new (Refused refusal) replied
-write-replied before after at body who old new (Err NoMemory) replied caused = replied
+write-replied visible to shape synced before after size at body who old new (Ok x) replied caused = replied-behind size (AsksWrite at body) who old new (Wrote at body) replied
+write-replied visible to shape synced before after size at body who old new (Err (IsRefusedWith BackupFault)) replied caused = absurd (never-for visible to shape synced before after caused)
+write-replied visible to shape synced before after size at body who old new (Err (IsRefusedWith refusal)) replied caused = replied-behind size (AsksWrite at body) who old new (Refused refusal) replied
+write-replied visible to shape synced before after size at body who old new (Err NoMemory) replied caused = replied
 
 -- ---- the end
 

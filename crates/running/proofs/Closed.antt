@@ -84,7 +84,7 @@ unsettled-whole given visible old new NoMemory placed why whole = subst AreWhole
 
 never-unmendable : {P : Type 0} (given : Given) (m : Members) (refusal : Refusal) → IsPlaced given m → AreWhole m → IsUnmendable m refusal → P
 never-unmendable given m refusal placed whole (inl many) = never-too-many given m refusal placed whole many
-never-unmendable given m refusal placed whole (inr (role, told, unsynced, missing, data)) =
+never-unmendable given m refusal placed whole (inr (role, told, unsynced, missing, has)) =
     let lt = has.0 in
     let disks = force-disks m.newest placed.fit (shape_of m.newest) (inl refl) in
     absurd (let both : true ≡ false = sym missing ∙ whole role (omega (arith, lt, disks)) in cc)
@@ -139,7 +139,7 @@ why-of visible why old new refusal is = is.1
 module _ {B : Type 0} (given : Given) (who : Who) (old new : RunningParts B) (placed : IsPlaced given new.parts.members) (shape : shape_of new.parts.members.newest ≡ shape_of old.parts.members.newest)
     (some : 0 < left_of old.parts.work old.parts.members) where
   undone-never : {P : Type 0} (refusal : Refusal) → IsUndone old.parts.work old.parts.members new.parts.members refusal → AreWhole new.parts.members → P
-  undone-never refusal why whole = by old.parts.work.resync why
+  undone-never {P = P} refusal why whole = by old.parts.work.resync why
     where
       ended : (b : Bool) → IsUnmended b new.parts.members refusal → P
       ended true many = never-too-many given new.parts.members refusal placed whole many
@@ -156,7 +156,7 @@ module _ {B : Type 0} (given : Given) (who : Who) (old new : RunningParts B) (pl
   closed-stepped (Err NoMemory) memory entered caused synced none whole = absurd (memory refl)
   closed-stepped (Err (IsRefusedWith refusal)) memory entered caused synced none whole =
       undone-never refusal (why-of (list_length old.parts.members.newest) (IsUndone old.parts.work old.parts.members) old.parts.members new.parts.members refusal caused) whole
-  closed-stepped {T} (Ok x) memory entered caused synced none whole = by old.parts.work.resync refl entered
+  closed-stepped {T = T} (Ok x) memory entered caused synced none whole = by old.parts.work.resync refl entered
     where
       left-none : still_left new.parts.work new.parts.members new.ahead ≡ 0
       left-none = idle-left new synced none whole
@@ -167,9 +167,9 @@ module _ {B : Type 0} (given : Given) (who : Who) (old new : RunningParts B) (pl
           omega (arith, here, disks)
 
       by : (o : Option ℕ) → old.parts.work.resync ≡ o
-          → MatchOption o (IsRebuildStepped {T} who old.parts.entries new.parts.entries new.parts.members (rebuilt_role old.parts.members)
+          → MatchOption o (IsRebuildStepped {T = T} who old.parts.entries new.parts.entries new.parts.members (rebuilt_role old.parts.members)
           (rebuild_events (rebuild_kind old.parts.work old.parts.members) (rebuilt_role old.parts.members) (still_left new.parts.work new.parts.members new.ahead)) (Ok x))
-          (λ mended. IsStepTaken {T} who old.parts.entries new.parts.entries (resync.next_kind old.parts.work.resync old.parts.members) (still_left new.parts.work new.parts.members new.ahead) (Ok x))
+          (λ mended. IsStepTaken {T = T} who old.parts.entries new.parts.entries (resync.next_kind old.parts.work.resync old.parts.members) (still_left new.parts.work new.parts.members new.ahead) (Ok x))
           → open_plans new.parts.entries ≡ []
       by None is (inl (roles, spares, end, grown)) =
           rebuild-closes who (rebuild_kind old.parts.work old.parts.members) roles spares end (rebuilt_role old.parts.members) (still_left new.parts.work new.parts.members new.ahead)

@@ -16,6 +16,7 @@ use Rattle.views.specs.declared.work.Work.{Work}
 use Rattle.shape_views.proofs.Alike.{for-both}
 use Rattle.views.specs.Placed.{IsInForce}
 use Rattle.views.specs.Lacking.{AreTooMany}
+use Rattle.region_mends.specs.declared.stripes.Stripe.{Stripe}
 use Rattle.region_mends.specs.Mends.{low_end, low_shape, high_shape, low_stripes, high_stripe, mend_shape, IsNotMended}
 use Rattle.array_kept.specs.Calls.{by_answer, IsCausedBy}
 use Rattle.grow_asked.specs.declared.window.PhasesLeft.{PhasesLeft}
@@ -98,7 +99,7 @@ mend-pending newest window cleared None is = absurd (never window is)
 mend-force : (newest : Sb) (mended : ℕ) → IsInForce newest (mend_shape newest mended)
 mend-force newest mended = by (nat_lt mended (low_stripes newest))
   where
-    by : (b : Bool) → IsInForce newest ((if b then record { shape = low_shape newest; at = mended } else record { shape = high_shape newest; at = high_stripe newest + (mended - low_stripes newest) }).shape)
+    by : (b : Bool) → let stripe : Stripe = if b then record { shape = low_shape newest; at = mended } else record { shape = high_shape newest; at = high_stripe newest + (mended - low_stripes newest) } in IsInForce newest stripe.shape
     by true = for-both (λ s. IsInForce newest s) newest (inl refl) (inr refl) 0
     by false = for-both (λ s. IsInForce newest s) newest (inl refl) (inr refl) (low_end newest)
 
@@ -106,10 +107,10 @@ force-on : (old new : Sb) (shape : Shape) → shape_of new ≡ shape_of old → 
 force-on old new shape first final (inl is) = inl (is ∙ sym first)
 force-on old new shape first final (inr is) = inr (is ∙ sym final)
 
-module _ {B T : Type 0} (old new : RunningParts B) (shape : shape_of new.parts.members.newest ≡ shape_of old.parts.members.newest) (final : final_shape new.parts.members.newest ≡ final_shape old.parts.members.newest)
+module _ {B : Type 0} (T : Type 0) (old new : RunningParts B) (shape : shape_of new.parts.members.newest ≡ shape_of old.parts.members.newest) (final : final_shape new.parts.members.newest ≡ final_shape old.parts.members.newest)
     (f g : ℕ → ℕ) (refusal : Refusal) (resync : new.parts.work.resync ≡ old.parts.work.resync) where
   due-ends : (due : Due) → due_of old.parts.members.newest old.course old.parts.work.resync ≡ due
-      → IsStepCaused {T} due old.parts.work.resync old.parts.backup old.parts.members new.parts.members f g (Err (IsRefusedWith refusal)) → IsEndedInReshape new.parts.work new.parts.members refusal
+      → IsStepCaused {T = T} due old.parts.work.resync old.parts.backup old.parts.members new.parts.members f g (Err (IsRefusedWith refusal)) → IsEndedInReshape new.parts.work new.parts.members refusal
   due-ends Enter is (inl many) = inl many
   due-ends Enter is (inr fault) = inr (inr fault.0)
   due-ends Mend is caused =
@@ -127,22 +128,22 @@ module _ {B T : Type 0} (old new : RunningParts B) (shape : shape_of new.parts.m
   due-ends Zero is caused = inl (why-of (list_length old.parts.members.newest) AreTooMany old.parts.members new.parts.members refusal caused)
   due-ends Finish is caused = inl (why-of (list_length old.parts.members.newest) AreTooMany old.parts.members new.parts.members refusal caused)
 
-pub moved-refused : {B T : Type 0} {f g : ℕ → ℕ} {kind : StepKind} (old new : RunningParts B) (who : Who) (left : ℕ) (result : Result T Fault) → is_reshaping new.parts.members.newest ≡ true
+pub moved-refused : {B T : Type 0} (f g : ℕ → ℕ) (kind : StepKind) (old new : RunningParts B) (who : Who) (left : ℕ) (result : Result T Fault) → is_reshaping new.parts.members.newest ≡ true
     → shape_of new.parts.members.newest ≡ shape_of old.parts.members.newest → final_shape new.parts.members.newest ≡ final_shape old.parts.members.newest
     → new.parts.work ≡ record old.parts.work { resync = by_answer result (resync_behind (due_of old.parts.members.newest old.course old.parts.work.resync) old.parts.work.resync) old.parts.work.resync }
     → IsStepTaken who old.parts.entries new.parts.entries kind left result
     → IsStepCaused (due_of old.parts.members.newest old.course old.parts.work.resync) old.parts.work.resync old.parts.backup old.parts.members new.parts.members f g result → IsRefusedInStep new result
-moved-refused old new who left (Ok x) active shape final work entered caused = tt
-moved-refused {T = T} {f = f} {g = g} old new who left (Err (IsRefusedWith refusal)) active shape final work entered caused =
+moved-refused f g kind old new who left (Ok x) active shape final work entered caused = tt
+moved-refused {T = T} f g kind old new who left (Err (IsRefusedWith refusal)) active shape final work entered caused =
     ends-moving new refusal active
-    (due-ends {T = T} old new shape final f g refusal (ap (λ (w : Work). w.resync) work) (due_of old.parts.members.newest old.course old.parts.work.resync) refl caused)
-moved-refused old new who left (Err NoMemory) active shape final work entered caused = entered
+    (due-ends T old new shape final f g refusal (ap (λ (w : Work). w.resync) work) (due_of old.parts.members.newest old.course old.parts.work.resync) refl caused)
+moved-refused f g kind old new who left (Err NoMemory) active shape final work entered caused = entered
 
 -- ---- a reshape that doesn't begin
 
-pub begin-refused : {B : Type 0} {f g : ℕ → ℕ} (to : Shape) (old new : RunningParts B) (refusal : Refusal) → is_reshaping new.parts.members.newest ≡ false → new.ahead ≡ old.ahead → phases_of old.ahead ≡ Reshape to ∷ []
+pub begin-refused : {B : Type 0} (f g : ℕ → ℕ) (to : Shape) (old new : RunningParts B) (refusal : Refusal) → is_reshaping new.parts.members.newest ≡ false → new.ahead ≡ old.ahead → phases_of old.ahead ≡ Reshape to ∷ []
     → IsBeginRefused f g to refusal old new → MayEndSteps new refusal
-begin-refused to old new refusal still ahead next why = ends-still new refusal still (inr (by why, some))
+begin-refused f g to old new refusal still ahead next why = ends-still new refusal still (inr (by why, some))
   where
     some : phases_of new.ahead ≢ []
     some none = absurd (let e : [] ≡ Reshape to ∷ [] = sym none ∙ (ap phases_of ahead ∙ next) in cc)

@@ -29,6 +29,7 @@ use Rattle.call_entries.proofs.LosingLaws.{entries-both}
 use Rattle.array_kept.specs.Calls.{IsEntered, StandsInside, IsRebuildStepped, IsUnsettled}
 use Rattle.kept_history.specs.Recorded.{entry_of}
 use Rattle.kept_history.proofs.Tests.{neither}
+use Rattle.running_words.specs.Parts.{RunningParts}
 use Rattle.running_words.specs.Calls.{IsStepTaken}
 use Rattle.running_words.specs.Plans.{turns_shape, KeepsShape}
 use Rattle.still_steps.specs.Resyncing as resync
@@ -72,23 +73,24 @@ add-behind_call {who = who} size request event is none = record {
   none = none-both is.call (entry_of who is.end event ∷ []) (call-none who is.call is.own) (ap (λ (b : Bool). b || false) none);
 }
 
-pub add-written : {T : Type 0} {who : Who} {old new : List Entry} (size at : ℕ) (body : List Sector) (result : Result T Fault) → IsWriteReplied size at body who old new result → AddNoPlan old new
-add-written size at body (Ok x) is = add-behind_call size _ _ is refl
-add-written {who = who} size at body (Err (IsRefusedWith BackupFault)) is = record { more = entry_of who is.0 (Refused BackupFault) ∷ []; grown = is.1; none = refl }
-add-written size at body (Err (IsRefusedWith refusal)) is = add-behind_call size _ (Refused refusal) is refl
-add-written size at body (Err NoMemory) is = add-nothing is
+pub add-written : {T : Type 0} {old new : List Entry} (who : Who) (size at : ℕ) (body : List Sector) (result : Result T Fault) → IsWriteReplied size at body who old new result → AddNoPlan old new
+add-written who size at body (Ok x) is = add-behind_call size _ _ is refl
+add-written who size at body (Err (IsRefusedWith BackupFault)) is = record { more = entry_of who is.0 (Refused BackupFault) ∷ []; grown = is.1; none = refl }
+add-written who size at body (Err (IsRefusedWith refusal)) is = add-behind_call size _ (Refused refusal) is refl
+add-written who size at body (Err NoMemory) is = add-nothing is
 
 -- ---- a status
 
-pub add-shown : {tells : Type 0} {tape : List Operation} {who : Who} {old new : List Entry} (result : Result Status WantsMemory) → IfOk result (λ status. IsEntered tells tape who old new (Shown status ∷ [])) → IfErr result (λ none. new ≡ old) → AddNoPlan old new
-add-shown (Ok status) is none = add-entered (Shown status ∷ []) is (λ end. refl)
-add-shown (Err none) is same = add-nothing same
+pub add-shown : {B : Type 0} (tells : Type 0) (tape : List Operation) (who : Who) (old new : RunningParts B) (result : Result Status WantsMemory)
+    → IfOk result (λ status. IsEntered tells tape who old.parts.entries new.parts.entries (Shown status ∷ [])) → IfErr result (λ none. new ≡ old) → AddNoPlan old.parts.entries new.parts.entries
+add-shown tells tape who old new (Ok status) is none = add-entered (Shown status ∷ []) is (λ end. refl)
+add-shown tells tape who old new (Err none) is same = add-nothing (ap (λ p. p.parts.entries) same)
 
 -- ---- a stop
 
-pub add-unsettled : {who : Who} {old new : List Entry} (fault : Fault) → IsUnsettled who old new fault → AddNoPlan old new
-add-unsettled (IsRefusedWith refusal) is = add-behind (Refused refusal) is refl
-add-unsettled NoMemory is = add-nothing is
+pub add-unsettled : {old new : List Entry} (who : Who) (fault : Fault) → IsUnsettled who old new fault → AddNoPlan old new
+add-unsettled who (IsRefusedWith refusal) is = add-behind (Refused refusal) is refl
+add-unsettled who NoMemory is = add-nothing is
 
 -- ---- a step without a reshape
 

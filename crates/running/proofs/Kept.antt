@@ -79,19 +79,19 @@ module _ {B : Type 0} {tells : Type 0} (given : B → Given) (tape : B → List 
   pub plans-on : aim_of new ≡ aim_of old → ArePlansKept tells (world_over given tape old) old → ArePlansKept tells (world_over given tape new) new
   plans-on aim was =
       subst (λ (g : Given). ArePlansKept tells (moving_world g (tape new.parts.bank) new) new) (sym on.given_is)
-      (plans-kept (given old.parts.bank) on.grows (record { uuid = on.uuid; given = on.slots; first = on.first; backup = on.backup; aim = aim }) on.added within.begun within.ends was)
+      (plans-kept {B = B} (given old.parts.bank) {old = old} {new = new} on.grows (record { uuid = on.uuid; given = on.slots; first = on.first; backup = on.backup; aim = aim }) on.added within.begun within.ends was)
 
   -- where it hadn't kept its shape, it hasn't
   pub turned-on : (tells → KeepsShape (world_over given tape old) old.parts.entries → ⊥) → tells → KeepsShape (world_over given tape new) new.parts.entries → ⊥
   turned-on was t keeps =
       let ops = (on.grows.more t).0 in
       let world = world_over given tape old in
-      let then : KeepsShape (grown world ops) (old.parts.entries ++ on.added.more) =
+      let later : KeepsShape (grown world ops) (old.parts.entries ++ on.added.more) =
       subst (λ (w : World). KeepsShape w (old.parts.entries ++ on.added.more)) (world-on t) (subst (λ (l : List Entry). KeepsShape (world_over given tape new) l) on.added.grown keeps) in
       was t (record {
-        found = subst (λ (o : Option Reading). MatchOption o ⊤ (λ r. is_reshaping r.newest ≡ false)) (reading-grown world ops old.parts.first (within.begun t)) then.found;
+        found = subst (λ (o : Option Reading). MatchOption o ⊤ (λ r. is_reshaping r.newest ≡ false)) (reading-grown world ops old.parts.first (within.begun t)) later.found;
         none = (neither (list_any (λ e. turns_shape e.event) old.parts.entries) (list_any (λ e. turns_shape e.event) on.added.more)
-            (sym (list_any-append (λ e. turns_shape e.event) old.parts.entries on.added.more) ∙ then.none)).0;
+            (sym (list_any-append (λ e. turns_shape e.event) old.parts.entries on.added.more) ∙ later.none)).0;
       })
 
 -- the parts of an array whose bank and history are handed out
@@ -316,7 +316,7 @@ module _ {B : Type 0} {tells : Type 0} (given : B → Given) (tape : B → List 
 
 module _ {B : Type 0} {tells : Type 0} (given : B → Given) (tape : B → List Operation) (window n : ℕ) (old new : RunningParts B) where
   -- where room is made, and where memory is short for it
-  roomy-rest : {T E : Type 0} (result : Result T E) → OnOk result (new ≡ record old { parts = record old.parts { steps = n } }) → OnErr result (new ≡ old)
+  pub roomy-rest : {T E : Type 0} (result : Result T E) → OnOk result (new ≡ record old { parts = record old.parts { steps = n } }) → OnErr result (new ≡ old)
       → IsAtRest tells (given old.parts.bank) (tape old.parts.bank) window old → IsAtRest tells (given new.parts.bank) (tape new.parts.bank) window new
   roomy-rest (Ok x) same none was = subst (λ p. IsAtRest tells (given p.parts.bank) (tape p.parts.bank) window p) (sym same) (record {
     now = record { still = was.now.still; course = was.now.course };
@@ -329,7 +329,7 @@ module _ {B : Type 0} {tells : Type 0} (given : B → Given) (tape : B → List 
   })
   roomy-rest (Err x) none same was = subst (λ p. IsAtRest tells (given p.parts.bank) (tape p.parts.bank) window p) (sym same) was
 
-  roomy-reshape : {T E : Type 0} (result : Result T E) → OnOk result (new ≡ record old { parts = record old.parts { steps = n } }) → OnErr result (new ≡ old)
+  pub roomy-reshape : {T E : Type 0} (result : Result T E) → OnOk result (new ≡ record old { parts = record old.parts { steps = n } }) → OnErr result (new ≡ old)
       → IsInReshape tells (given old.parts.bank) (tape old.parts.bank) old → IsInReshape tells (given new.parts.bank) (tape new.parts.bank) new
   roomy-reshape (Ok x) same none was = subst (λ p. IsInReshape tells (given p.parts.bank) (tape p.parts.bank) p) (sym same) (record {
     active = was.active;

@@ -1,5 +1,6 @@
 -- A running array keeps what it keeps over a request to grow, planned or refused.
-use Rattle.std.proofs.Common.{◌≡◌, inl, ◌*◌, ◌≤◌, ℕ, true, false, Some, None, Result, Err, List, [], ◌∷◌, refl, sym, ◌∙◌, ap, subst, arith}
+use Rattle.std.proofs.Common.{◌≡◌, inl, ◌*◌, ◌≤◌, ℕ, Bool, true, false, Some, None, Ok, Err, List, [], ◌∷◌, refl, sym, ◌∙◌, ap, subst, arith}
+use Rattle.std.specs.Prelude.{if◌then◌else◌}
 use Rattle.md_base.specs.declared.answers.Fault.{Fault}
 use Rattle.md_base.specs.declared.answers.Fault.TheVariants.{Refused as IsRefusedWith, NoMemory}
 use Rattle.md_base.specs.declared.answers.Who.{Who}
@@ -11,11 +12,13 @@ use Rattle.bank.specs.Given.{Given}
 use Rattle.bank.specs.declared.bank.Operation.{Operation}
 use Rattle.grow_plan.specs.Plans.{AreSound, largest_window, target}
 use Rattle.superblocks.specs.declared.members.Members.{Members}
-use Rattle.superblocks.specs.Reading.{is_reshaping, shape_of, final_shape}
+use Rattle.superblocks.specs.Reading.{is_reshaping, shape_of, final_shape, list_length}
 use Rattle.superblocks.specs.Reads.{has_spare}
 use Rattle.flat_history.specs.declared.events.Entry.{Entry}
 use Rattle.flat_history.specs.declared.events.Event.{Event}
-use Rattle.flat_history.specs.declared.events.Event.TheVariants.{Refused}
+use Rattle.flat_history.specs.declared.events.Event.TheVariants.{Planned, Refused}
+use Rattle.flat_history.specs.declared.events.Request.TheVariants.{Grow as AsksGrow}
+use Rattle.flat_history.specs.Flat.{next_number, visible_of}
 use Rattle.flat_history.specs.Plain.{entries_of}
 use Rattle.flat_history.specs.World.{World}
 use Rattle.views.specs.declared.work.Work.{Work}
@@ -24,22 +27,37 @@ use Rattle.views.specs.Rebuilding.{Held}
 use Rattle.views.proofs.MovedLaws.{grows-none}
 use Rattle.grow_asked.specs.Asked.{Asked, grow_refusal}
 use Rattle.grow_asked.specs.Left.{phases_of}
-use Rattle.running_words.specs.Parts.{RunningParts}
+use Rattle.running_words.specs.Parts.{RunningParts, left_in, still_left}
 use Rattle.running_words.specs.Calls.{moving_world}
+use Rattle.running_replies.specs.Going.{HasRunOn}
+use Rattle.running_replies.specs.Replies.{IsAnsweredWith}
 use Rattle.still_laws.proofs.PlansKept.{AddNoPlan, add-nothing}
-use Rattle.growing.specs.Planned.{asked_in, HasWideBackup, IsAsBefore, IsGrowAnswered, IsGrowPlanned}
+use Rattle.growing.specs.Planned.{asked_in, HasWideBackup, IsAsBefore, IsGrowAnswered, IsGrowJudged, IsGrowPlanned}
 use Rattle.growing.specs.Plans.{GoesTo}
+use Rattle.growing.specs.Replied.{IsGrowReplied}
 use Rattle.growing.proofs.Idle.{planned-alone, planned-whole}
 use Rattle.growing.proofs.PlanLaws.{one-reshape}
+use Rattle.growing.proofs.Replied.{grow-replied, grow-went}
 use Rattle.growing.proofs.Windows.{reshape-backed}
+use Rattle.running.specs.Calls.{running_left}
 use Rattle.running.specs.State.{IsStillNow, IsOneReshape, CanBeNext, IsWithin, IsBackupAside, IsAtRest, IsInReshape}
 use Rattle.running.proofs.Closed.{closed-kept}
 use Rattle.running.proofs.Kept.{GoesOn, LeavesAhead, rest-kept, reshape-kept}
 
 -- a refusal is no plan
-add-refused : {T : Type 0} {tells : Type 0} {world : World} {a : Asked} {wish : Wish} {who : Who} {old new : List Entry} {event : Event} (fault : Fault) → IsGrowAnswered {T} tells world a wish who old new event (Err fault) → AddNoPlan old new
-add-refused {who = who} (IsRefusedWith refusal) is = record { more = entries_of who is.end (Refused refusal ∷ []); grown = is.is; none = refl }
-add-refused NoMemory is = add-nothing is
+add-refused : (T tells : Type 0) (world : World) (a : Asked) (wish : Wish) (who : Who) (old new : List Entry) (event : Event) (fault : Fault) → IsGrowAnswered {T = T} tells world a wish who old new event (Err fault) → AddNoPlan old new
+add-refused T tells world a wish who old new event (IsRefusedWith refusal) is = record { more = entries_of who is.end (Refused refusal ∷ []); grown = is.is; none = refl }
+add-refused T tells world a wish who old new event NoMemory is = add-nothing is
+
+refused-leaves : {B : Type 0} (old new : RunningParts B) → IsAsBefore old new → new.ahead ≡ old.ahead → LeavesAhead old new
+refused-leaves old new before ahead = record {
+  shape = ap (λ (m : Members). shape_of m.newest) before.members;
+  final = ap (λ (m : Members). final_shape m.newest) before.members;
+  size = ap (λ (m : Members). m.newest.size) before.members;
+  ahead = ahead;
+  held = λ role slot has. inl (subst (λ (m : Members). Held m role slot) before.members has);
+  spares = λ slot backup is. subst (λ (m : Members). has_spare m.spares slot ≡ true) before.members is;
+}
 
 module _ {B : Type 0} {tells : Type 0} (given : B → Given) (tape : B → List Operation) (old new : RunningParts B) (before : IsAsBefore old new) where
   -- ---- refused
@@ -55,26 +73,16 @@ module _ {B : Type 0} {tells : Type 0} (given : B → Given) (tape : B → List 
     added = added;
   }
 
-  refused-leaves : new.ahead ≡ old.ahead → LeavesAhead old new
-  refused-leaves ahead = record {
-    shape = ap (λ (m : Members). shape_of m.newest) before.members;
-    final = ap (λ (m : Members). final_shape m.newest) before.members;
-    size = ap (λ (m : Members). m.newest.size) before.members;
-    ahead = ahead;
-    held = λ role slot has. inl (subst (λ (m : Members). Held m role slot) before.members has);
-    spares = λ slot backup is. subst (λ (m : Members). has_spare m.spares slot ≡ true) before.members is;
-  }
-
-  module _ {T : Type 0} {world : World} {a : Asked} {wish : Wish} {who : Who} {event : Event} (fault : Fault) (answered : IsGrowAnswered {T} tells world a wish who old.parts.entries new.parts.entries event (Err fault)) (ahead : new.ahead ≡ old.ahead) where
+  module _ (T : Type 0) (world : World) (a : Asked) (wish : Wish) (who : Who) (event : Event) (fault : Fault) (answered : IsGrowAnswered {T = T} tells world a wish who old.parts.entries new.parts.entries event (Err fault)) (ahead : new.ahead ≡ old.ahead) where
     pub rest-refused : (window : ℕ) → IsStillNow new → IsWithin tells (tape new.parts.bank) new → IsAtRest tells (given old.parts.bank) (tape old.parts.bank) window old → IsAtRest tells (given new.parts.bank) (tape new.parts.bank) window new
     rest-refused window now within was =
-        let added = add-refused fault answered in
-        rest-kept given tape window old new (refused-on added) (refused-leaves ahead) now within
+        let added = add-refused T tells world a wish who old.parts.entries new.parts.entries event fault answered in
+        rest-kept given tape window old new (refused-on added) (refused-leaves old new before ahead) now within
         (closed-kept old new (ap (λ (w : Work). w.resync) before.work) ahead (λ whole. subst AreWhole before.members whole) added was.closed) was
 
     pub reshape-refused : is_reshaping new.parts.members.newest ≡ true → IsWithin tells (tape new.parts.bank) new → IsInReshape tells (given old.parts.bank) (tape old.parts.bank) old → IsInReshape tells (given new.parts.bank) (tape new.parts.bank) new
     reshape-refused active within was =
-        reshape-kept given tape old new (refused-on (add-refused fault answered)) (ap (λ (m : Members). shape_of m.newest) before.members) (ap (λ (m : Members). final_shape m.newest) before.members) ahead active within was
+        reshape-kept given tape old new (refused-on (add-refused T tells world a wish who old.parts.entries new.parts.entries event fault answered)) (ap (λ (m : Members). shape_of m.newest) before.members) (ap (λ (m : Members). final_shape m.newest) before.members) ahead active within was
 
   -- ---- planned
 
@@ -128,3 +136,46 @@ module _ {B : Type 0} {tells : Type 0} (given : B → Given) (tape : B → List 
           plans = goes (was.closed alone.0 alone.1 (planned-whole (asked_in (given old.parts.bank) old) wish none));
           closed = λ synced empty whole. absurd (let e : [] ≡ Reshape (target shape wish) ∷ [] = sym empty ∙ ahead-is in cc);
         }
+
+-- ---- the reply
+
+-- an array at rest has no steps of a reshape left
+left-rest : {B : Type 0} (array : RunningParts B) → is_reshaping array.parts.members.newest ≡ false → running_left array ≡ still_left array.parts.work array.parts.members array.ahead
+left-rest array still =
+    ap (λ (b : Bool). if b then left_in array.parts.work array.parts.members array.course array.ahead else still_left array.parts.work array.parts.members array.ahead) still
+
+module _ {B : Type 0} (T tells : Type 0) (given : B → Given) (tape : B → List Operation) (faults : B → ℕ → ℕ) (old new : RunningParts B) (wish : Wish) (who : Who)
+    (number : who.number ≡ next_number who.caller old.parts.entries) (visible : visible_of (list_length old.parts.members.newest) old.parts.entries ≡ list_length old.parts.members.newest) where
+  abbrev asked : Asked
+  asked = asked_in (given old.parts.bank) old
+
+  abbrev world : World
+  world = moving_world (given old.parts.bank) (tape old.parts.bank) old
+
+  pub replied-planned : (plan : T) → is_reshaping new.parts.members.newest ≡ false
+      → IsGrowAnswered {T = T} tells (moving_world (given old.parts.bank) (tape old.parts.bank) old) (asked_in (given old.parts.bank) old) wish who old.parts.entries new.parts.entries
+      (Planned (still_left new.parts.work new.parts.members new.ahead) wish) (Ok plan)
+      → IsGrowJudged {T = T} (asked_in (given old.parts.bank) old) wish (Ok plan)
+      → IsAnsweredWith (list_length old.parts.members.newest) (AsksGrow wish) who old.parts.entries new.parts.entries (Planned (running_left new) wish)
+  replied-planned plan still answered judged =
+      subst (λ (n : ℕ). IsAnsweredWith (list_length old.parts.members.newest) (AsksGrow wish) who old.parts.entries new.parts.entries (Planned n wish)) (sym (left-rest new still))
+      (grow-replied tells world asked (list_length old.parts.members.newest) wish who old.parts.entries new.parts.entries (still_left new.parts.work new.parts.members new.ahead) (Ok plan) number refl visible answered judged)
+
+  module _ (U : Type 0) (event : Event) (left : ℕ) (fault : Fault)
+      (answered : IsGrowAnswered {T = T} tells (moving_world (given old.parts.bank) (tape old.parts.bank) old) (asked_in (given old.parts.bank) old) wish who old.parts.entries new.parts.entries event (Err fault))
+      (judged : IsGrowJudged {T = T} (asked_in (given old.parts.bank) old) wish (Err fault)) where
+    pub replied-refused : IsGrowReplied {T = U} (list_length old.parts.members.newest) wish who old.parts.entries new.parts.entries left (Err fault)
+    replied-refused = by fault answered judged
+      where
+        by : (fault : Fault) → IsGrowAnswered {T = T} tells world asked wish who old.parts.entries new.parts.entries event (Err fault) → IsGrowJudged {T = T} asked wish (Err fault)
+            → IsGrowReplied {T = U} (list_length old.parts.members.newest) wish who old.parts.entries new.parts.entries left (Err fault)
+        by (IsRefusedWith refusal) is because =
+            grow-replied {T = T} tells world asked (list_length old.parts.members.newest) wish who old.parts.entries new.parts.entries left (Err (IsRefusedWith refusal)) number refl visible is because
+        by NoMemory is because = is
+
+    pub went-refused : IsAsBefore old new → HasRunOn tells given tape faults old new
+    went-refused before = by fault answered judged
+      where
+        by : (fault : Fault) → IsGrowAnswered {T = T} tells world asked wish who old.parts.entries new.parts.entries event (Err fault) → IsGrowJudged {T = T} asked wish (Err fault) → HasRunOn tells given tape faults old new
+        by (IsRefusedWith refusal) is because = grow-went tells given tape faults old new before {T = T} world asked wish who left (Err (IsRefusedWith refusal)) is because
+        by NoMemory is because = grow-went tells given tape faults old new before {T = T} world asked wish who left (Err NoMemory) is because

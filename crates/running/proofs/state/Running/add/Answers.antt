@@ -8,6 +8,23 @@ use Rattle.running.proofs.Kept.{rest-added, reshape-added}
 use Rattle.running.proofs.state.Running.add.Goals as goal
 use Rattle.running.proofs.state.Running.add.Goals.{in-Still, in-Moving}
 
+pub returns-clause-called : goal.returns-clause-called
+returns-clause-called g c = elim c.match-self.branch [
+  | in-Still w ↦
+      let did = w.add-done.ensures in
+      rw (← c.self.view_is, w.in-Still.is, w.self-inside-is, w.check_still.ensures.same) (record {
+        grows = did.stepped.grows;
+        ended = did.stepped.ended;
+        held = did.held;
+        spares = did.spares;
+        losses = did.stepped.losses;
+        never_falls = did.stepped.never_falls;
+        work = did.work;
+        same = did.stepped.same;
+      })
+  | in-Moving w ↦ rw (← c.self.view_is, w.in-Moving.is, w.self-inside-is, w.check_moving.ensures.same) w.add-done-in-Moving.ensures.called
+]
+
 pub invariant_of-self : goal.invariant_of-self
 invariant_of-self g c = elim c.match-self.branch [
   | in-Still w ↦

@@ -29,9 +29,9 @@ pub replace_with-requires : goal.replace_with-requires
 replace_with-requires g c =
     let reply : IsReplyNow c.in-Moving.moving c.args.event = subst (λ p. IsReplyNow p c.args.event) (sym c.self.view_is ∙ ap (λ s. parts_in s) c.in-Moving.is) c.requires.reply in
     let here = c.check_moving.ensures in
-    let open = subst (λ p. IsCallGoing p.parts.entries c.args.who) (sym c.self.view_is ∙ ap (λ s. parts_in s) c.in-Moving.is) c.requires.open in
+    let goes = subst (λ p. IsCallGoing p.parts.entries c.args.who) (sym c.self.view_is ∙ ap (λ s. parts_in s) c.in-Moving.is) c.requires.open in
     let room = subst (λ p. 1 ≤ p.parts.steps) (sym c.self.view_is ∙ ap (λ s. parts_in s) c.in-Moving.is) c.requires.room in
-    rw here.same (open, c.requires.caller, room, reply-moving c.in-Moving.moving c.args.event here.active here.some reply)
+    rw here.same (goes, (c.requires.caller, (room, reply-moving c.in-Moving.moving c.args.event here.active here.some reply)))
 
 pub returns-clause-called : goal.returns-clause-called
 returns-clause-called g c = elim c.match-self.branch [
@@ -39,7 +39,13 @@ returns-clause-called g c = elim c.match-self.branch [
       let did = w.answer.ensures in
       rw (← c.self.view_is, w.in-Still.is, w.self-inside-is, w.check_still.ensures.same) (answered-called w.in-Still.still w.answer.new.self did.stepped did.members did.work)
   | in-Moving w ↦
-      rw (← c.self.view_is, w.in-Moving.is, w.self-inside-is, w.check_moving-2.ensures.same, ← w.check_moving.ensures.same) w.replace_with.ensures.5
+      rw (← c.self.view_is, w.in-Moving.is, w.self-inside-is, w.check_moving-in-Moving.ensures.same, ← w.check_moving.ensures.same) w.replace_with.ensures.1.1.1.1.1
+]
+
+pub returns-clause-entered : goal.returns-clause-entered
+returns-clause-entered g c = elim c.match-self.branch [
+  | in-Still w ↦ rw (← c.self.view_is, w.in-Still.is, w.self-inside-is, w.check_still.ensures.same) w.answer.ensures.entered
+  | in-Moving w ↦ rw (← c.self.view_is, w.in-Moving.is, w.self-inside-is, w.check_moving-in-Moving.ensures.same, ← w.check_moving.ensures.same) w.replace_with.ensures.0
 ]
 
 pub invariant_of-self : goal.invariant_of-self
@@ -61,6 +67,6 @@ invariant_of-self g c = elim c.match-self.branch [
       let did = rw w.check_moving.ensures.same at w.replace_with.ensures in
       let reply : IsReplyNow old c.args.event = subst (λ p. IsReplyNow p c.args.event) (sym c.self.view_is ∙ ap (λ s. parts_in s) w.in-Moving.is) c.requires.reply in
       let added = add-entered (c.args.event ∷ []) did.0 (reply-none old c.args.event reply c.args.who) in
-      rw (w.self-inside-is, w.check_moving-2.ensures.same)
-      (reshape-called g.B.Bank.given g.B.Bank.tape (length c.self.inside.window.items) old new (ap g.B.Bank.given did.2) added did.5 w.check_moving-2.ensures.active w.check_moving-2.ensures.within was)
+      rw (w.self-inside-is, w.check_moving-in-Moving.ensures.same)
+      (reshape-called g.B.Bank.given g.B.Bank.tape (length c.self.inside.window.items) old new (ap g.B.Bank.given did.1.1.0) added did.1.1.1.1.1 w.check_moving-in-Moving.ensures.active w.check_moving-in-Moving.ensures.within was)
 ]

@@ -8,6 +8,12 @@ use Rattle.running.proofs.Kept.{rest-called, reshape-called}
 use Rattle.running.proofs.state.Running.fail.Goals as goal
 use Rattle.running.proofs.state.Running.fail.Goals.{in-Still, in-Moving}
 
+pub returns-clause-called : goal.returns-clause-called
+returns-clause-called g c = elim c.match-self.branch [
+  | in-Still w ↦ rw (← c.self.view_is, w.in-Still.is, w.self-inside-is, w.check_still.ensures.same) w.fail-done.ensures.called
+  | in-Moving w ↦ rw (← c.self.view_is, w.in-Moving.is, w.self-inside-is, w.check_moving.ensures.same) w.fail-done-in-Moving.ensures.called
+]
+
 pub invariant_of-self : goal.invariant_of-self
 invariant_of-self g c = elim c.match-self.branch [
   | in-Still w ↦

@@ -13,6 +13,12 @@ returns-clause-caused g c = elim c.match-self.branch [
   | in-Moving w ↦ rw (← c.self.view_is, w.in-Moving.is, w.self-inside-is, w.check_moving.ensures.same, w.result-is) w.flush-done-in-Moving.ensures.caused
 ]
 
+pub returns-clause-flushed : goal.returns-clause-flushed
+returns-clause-flushed g c = elim c.match-self.branch [
+  | in-Still w ↦ rw (← c.self.view_is, w.in-Still.is, w.self-inside-is, w.check_still.ensures.same, w.result-is) w.flush-done.ensures.flushed
+  | in-Moving w ↦ rw (← c.self.view_is, w.in-Moving.is, w.self-inside-is, w.check_moving.ensures.same, w.result-is) w.flush-done-in-Moving.ensures.flushed
+]
+
 pub invariant_of-self : goal.invariant_of-self
 invariant_of-self g c = elim c.match-self.branch [
   | in-Still w ↦

@@ -1,4 +1,4 @@
-use Rattle.std.proofs.Common.{length, ap, sym, ◌∙◌, subst}
+use Rattle.std.proofs.Common.{◌<◌, length, ap, sym, ◌∙◌, subst}
 use Rattle.views.specs.Status.{left_of}
 use Rattle.running.specs.State.{parts_in}
 use Rattle.running.proofs.Closed.{closed-stepped}
@@ -26,6 +26,12 @@ returns-clause-flushed g c = rw (← c.self.view_is, c.in-Still.is, c.check_stil
 
 pub returns-clause-good : goal.returns-clause-good
 returns-clause-good g c = rw (← c.self.view_is, c.in-Still.is, c.check_still.ensures.same) c.still_step-done.ensures.good
+
+pub returns-clause-whole : goal.returns-clause-whole
+returns-clause-whole g c = rw (← c.self.view_is, c.in-Still.is, c.check_still.ensures.same) c.still_step-done.ensures.whole
+
+pub returns-clause-closable : goal.returns-clause-closable
+returns-clause-closable g c = rw c.check_still.ensures.same c.still_step-done.ensures.closable
 
 pub returns-clause-ends : goal.returns-clause-ends
 returns-clause-ends g c =

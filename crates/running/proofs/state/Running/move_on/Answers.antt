@@ -19,4 +19,4 @@ pub returns-clause-ends : goal.returns-clause-ends
 returns-clause-ends g c =
     let did = c.step-done.ensures in
     rw (c.check_moving.ensures.same)
-    (moved-refused c.in-Moving.moving c.step-done.new.self c.args.who _ c.step-done.result c.check_moving.ensures.active did.called.same.array.shape did.called.same.final did.work did.entered did.caused)
+    (moved-refused _ _ _ c.in-Moving.moving c.step-done.new.self c.args.who _ c.step-done.result c.check_moving.ensures.active did.called.same.array.shape did.called.same.final did.work did.entered did.caused)

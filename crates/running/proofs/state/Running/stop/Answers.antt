@@ -16,6 +16,12 @@ returns-in-Ok-clause-right g c = rw (← c.self.view_is, c.in-Still.is) c.in-Ok.
 pub returns-in-Ok-clause-plain : goal.returns-in-Ok-clause-plain
 returns-in-Ok-clause-plain g c = rw (← c.self.view_is, c.in-Still.is) c.in-Ok.ensures.plain
 
+pub returns-in-Err-clause-left_failed : goal.returns-in-Err-clause-left_failed
+returns-in-Err-clause-left_failed g c = rw (← c.self.view_is, c.in-Still.is, c.check_still.ensures.same) c.in-Err.ensures.left_failed
+
+pub returns-in-Err-stop-clause-left_failed : goal.returns-in-Err-stop-clause-left_failed
+returns-in-Err-stop-clause-left_failed g c = rw (← c.self.view_is, c.in-Moving.is, c.check_moving.ensures.same) c.in-Err-stop.ensures.left_failed
+
 pub returns-in-Ok-stop-clause-ready : goal.returns-in-Ok-stop-clause-ready
 returns-in-Ok-stop-clause-ready g c = rw (← c.self.view_is, c.in-Moving.is) c.in-Ok-stop.ensures.ready
 
@@ -36,21 +42,21 @@ returns-in-Ok-stop-clause-plainly g c =
     let active = was.active in
     rw (← c.self.view_is, c.in-Moving.is) (λ still. absurd (cc (active, still)))
 
-pub invariant_of-result : goal.invariant_of-result
-invariant_of-result g c =
+pub invariant_of-running : goal.invariant_of-running
+invariant_of-running g c =
     let was = rw c.in-Still.is at c.self.invariant in
     let old = c.in-Still.still in
     let new = c.in-Err.still in
     let did = c.in-Err.ensures in
     let whole = unsettled-whole (g.B.Bank.given new.parts.bank) (list_length old.parts.members.newest) old.parts.members new.parts.members c.in-Err.fault c.check_still.ensures.placed did.caused in
     rw c.check_still.ensures.same
-    (rest-called g.B.Bank.given g.B.Bank.tape (length c.self.inside.window.items) old new did.left_given (add-unsettled c.in-Err.fault did.refused) did.called whole c.check_still.ensures.rest c.check_still.ensures.within was)
+    (rest-called g.B.Bank.given g.B.Bank.tape (length c.self.inside.window.items) old new did.left_given (add-unsettled c.args.who c.in-Err.fault did.refused) did.called whole c.check_still.ensures.rest c.check_still.ensures.within was)
 
-pub invariant_of-result-in-Err-stop : goal.invariant_of-result-in-Err-stop
-invariant_of-result-in-Err-stop g c =
+pub invariant_of-running-in-Err-stop : goal.invariant_of-running-in-Err-stop
+invariant_of-running-in-Err-stop g c =
     let was = rw c.in-Moving.is at c.self.invariant in
     let old = c.in-Moving.moving in
     let new = c.in-Err-stop.moving in
     let did = c.in-Err-stop.ensures in
     rw c.check_moving.ensures.same
-    (reshape-called g.B.Bank.given g.B.Bank.tape (length c.self.inside.window.items) old new did.left_given (add-unsettled c.in-Err-stop.fault did.refused) did.called c.check_moving.ensures.active c.check_moving.ensures.within was)
+    (reshape-called g.B.Bank.given g.B.Bank.tape (length c.self.inside.window.items) old new did.left_given (add-unsettled c.args.who c.in-Err-stop.fault did.refused) did.called c.check_moving.ensures.active c.check_moving.ensures.within was)

@@ -7,7 +7,7 @@ use Rattle.running.proofs.Entered.{add-written}
 use Rattle.running.proofs.Kept.{rest-called, reshape-called}
 use Rattle.md_base.specs.Sectors.{sectors_of}
 use Rattle.superblocks.specs.Reading.{list_length}
-use Rattle.running.proofs.Chosen.{write-still, write-moving, write-replied, no-backup_fault, on-ok}
+use Rattle.running.proofs.Chosen.{write-still, write-moving, write-replied, no-backup_fault, on-ok, on-err, err-so}
 use Rattle.running.proofs.state.Running.write.Goals as goal
 use Rattle.running.proofs.state.Running.write.Goals.{in-Still, in-Moving}
 
@@ -15,7 +15,7 @@ pub returns-clause-answered : goal.returns-clause-answered
 returns-clause-answered g c = elim c.match-self.branch [
   | in-Still w ↦
       rw (← c.self.view_is, w.in-Still.is, w.self-inside-is, w.check_still.ensures.same, w.result-is)
-      (write-replied w.in-Still.still.parts.members w.write-done.new.self.parts.members c.args.at (sectors_of c.args.from.now) c.args.who _ _ w.write-done.result w.write-done.ensures.answered w.write-done.ensures.caused)
+      (write-replied _ _ _ _ w.in-Still.still.parts.members w.write-done.new.self.parts.members _ c.args.at (sectors_of c.args.from.now) c.args.who _ _ w.write-done.result w.write-done.ensures.answered w.write-done.ensures.caused)
   | in-Moving w ↦ rw (← c.self.view_is, w.in-Moving.is, w.self-inside-is, w.check_moving.ensures.same, w.result-is) w.write-done-in-Moving.ensures.answered
 ]
 
@@ -54,7 +54,7 @@ returns-clause-backed g c = elim c.match-self.branch [
 pub returns-clause-backup : goal.returns-clause-backup
 returns-clause-backup g c = elim c.match-self.branch [
   | in-Still w ↦
-      rw (← c.self.view_is, w.in-Still.is, w.result-is) (λ fault. no-backup_fault w.in-Still.still.parts.members w.write-done.new.self.parts.members w.write-done.result fault w.write-done.ensures.caused)
+      rw (← c.self.view_is, w.in-Still.is, w.result-is) (λ fault. no-backup_fault _ _ _ _ w.in-Still.still.parts.members w.write-done.new.self.parts.members w.write-done.result fault w.write-done.ensures.caused)
   | in-Moving w ↦ rw (← c.self.view_is, w.in-Moving.is, w.self-inside-is, w.check_moving.ensures.same, w.result-is) w.write-done-in-Moving.ensures.backup
 ]
 
@@ -64,6 +64,16 @@ returns-clause-closed g c = elim c.match-self.branch [
       let rest = rw w.in-Still.is at c.self.invariant in
       rw (← c.self.view_is, w.in-Still.is, rest.now.course) (on-ok c.match-self.result (λ touches. absurd (cc (touches.3))))
   | in-Moving w ↦ rw (← c.self.view_is, w.in-Moving.is, w.self-inside-is, w.check_moving.ensures.same, w.result-is) w.write-done-in-Moving.ensures.closed
+]
+
+pub returns-clause-untouched : goal.returns-clause-untouched
+returns-clause-untouched g c = elim c.match-self.branch [
+  | in-Still w ↦
+      rw (← c.self.view_is, w.in-Still.is, w.self-inside-is, w.check_still.ensures.same, w.result-is) (err-so w.write-done.result (λ untouched still. untouched) w.write-done.ensures.untouched)
+  | in-Moving w ↦
+      let active = rw w.in-Moving.is at c.self.invariant in
+      let moving = active.active in
+      rw (← c.self.view_is, w.in-Moving.is, w.result-is) (on-err w.write-done-in-Moving.result (λ still. absurd (cc (moving, still))))
 ]
 
 pub invariant_of-self : goal.invariant_of-self
@@ -80,6 +90,6 @@ invariant_of-self g c = elim c.match-self.branch [
       let old = w.in-Moving.moving in
       let new = w.write-done-in-Moving.new.self in
       let did = w.write-done-in-Moving.ensures in
-      let added = add-written (list_length old.parts.members.newest) c.args.at (sectors_of c.args.from.now) w.write-done-in-Moving.result did.answered in
+      let added = add-written c.args.who (list_length old.parts.members.newest) c.args.at (sectors_of c.args.from.now) w.write-done-in-Moving.result did.answered in
       rw (w.self-inside-is, w.check_moving.ensures.same) (reshape-called g.B.Bank.given g.B.Bank.tape (length c.self.inside.window.items) old new did.given added did.called w.check_moving.ensures.active w.check_moving.ensures.within was)
 ]

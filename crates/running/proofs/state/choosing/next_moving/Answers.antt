@@ -1,5 +1,3 @@
-use Rattle.std.proofs.Common.{sym, ap, subst}
-use Rattle.superblocks.specs.Reading.{is_reshaping}
 use Rattle.moving_laws.proofs.MendLaws.{left-some}
 use Rattle.running.proofs.Answered.{moving-some}
 use Rattle.running.proofs.state.choosing.next_moving.Goals as goal
@@ -8,4 +6,5 @@ pub returns-clause-some : goal.returns-clause-some
 returns-clause-some g c =
     let was = c.take_apart-pieces.ensures.ready in
     let p = c.take_apart-pieces.result.0 in
-    rw c.take_apart-pieces.ensures.same (λ not. moving-some _ was.kept.members_are.active (left-some p.members p.work c.take_apart-pieces.result.1 p.ahead was.kept.members_are.active was.kept.course_is))
+    λ not. moving-some c.args.moving c.requires.active
+    (rw c.take_apart-pieces.ensures.same (left-some p.members p.work c.take_apart-pieces.result.1 p.ahead was.kept.members_are.active was.kept.course_is))
