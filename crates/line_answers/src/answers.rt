@@ -15,7 +15,8 @@ ghost use Rattle.run_laws.specs.declared.report.Outside.TheVariants.{Refused as 
 ghost use Rattle.run_laws.specs.declared.states.State.TheVariants.{Idle as IsIdle, Running as IsRunning};
 
 use crate::asks::{
-    ask_add, ask_fail, ask_flush, ask_grow, ask_read, ask_steps, ask_wait, ask_write, last_place, script_call,
+    ask_add, ask_fail, ask_flush, ask_grow, ask_read, ask_steps, ask_wait, ask_write, last_place,
+    script_call,
 };
 use crate::examines::{examine_idle, examine_running};
 use crate::shows::ask_show;

@@ -83,9 +83,9 @@ returns-in-Ok-clause-former g c =
     let tape = g.B.Bank.tape c.in-Ok.ended.0 in
     let backup = c.requires.former.backup_is in
     let right : g.B.Bank.tells → IfReliable given tape c.args.backup epoch (IsEpochKept given tape c.args.backup epoch) = λ told. subst (λ (b : Option ℕ). IfReliable given tape b epoch (IsEpochKept given tape b epoch)) backup
-        (subst (λ (known : Given). IfReliable known tape array.parts.backup epoch (IsEpochKept known tape array.parts.backup epoch)) did.given (did.right told)) in
+    (subst (λ (known : Given). IfReliable known tape array.parts.backup epoch (IsEpochKept known tape array.parts.backup epoch)) did.given (did.right told)) in
     let plain : g.B.Bank.tells → IfShapeKept given tape c.args.backup epoch (IsPlainEpoch given tape c.args.backup epoch) = λ told. subst (λ (b : Option ℕ). IfShapeKept given tape b epoch (IsPlainEpoch given tape b epoch)) backup
-        (subst (λ (known : Given). IfShapeKept known tape array.parts.backup epoch (IsPlainEpoch known tape array.parts.backup epoch)) did.given (did.plain told)) in
+    (subst (λ (known : Given). IfShapeKept known tape array.parts.backup epoch (IsPlainEpoch known tape array.parts.backup epoch)) did.given (did.plain told)) in
     former_more given c.args.backup array.parts c.args.epochs.items c.push_reserved.new.self.items epoch items did.grows did.first c.requires.former
     (legal_epoch given c.args.backup array.parts c.args.epochs.items epoch did.grows (record { uuid = did.uuid; given = did.slots; first = did.first }) c.requires.former did.ends right plain)
     did.last right
