@@ -1,12 +1,12 @@
 -- Where nothing speaks against a plan, no role is missing, and nothing is left to do before it.
-use Rattle.std.proofs.Common.{◌≡◌, inl, inr, ℕ, zero, suc, ◌+◌, ◌*◌, ◌<◌, Bool, true, false, not, cond, min, Option, Some, None, List, ◌∷◌, refl, sym, ◌∙◌, ap, subst, arith, eq-or-lt_of_le, le_of_suc-le-suc}
+use Rattle.std.proofs.Common.{◌≡◌, inl, inr, ℕ, zero, suc, ◌+◌, ◌*◌, ◌<◌, Bool, true, false, not, cond, min, Option, Some, None, List, [], ◌∷◌, length, refl, sym, ◌∙◌, ap, subst, arith, eq-or-lt_of_le, le_of_suc-le-suc}
 use Rattle.std.specs.Prelude.{◌⊎◌, is_some}
 use Rattle.std.specs.Option.{option_or}
 use Rattle.std.proofs.Math.Nat.{min-le_left}
 use Rattle.md_base.specs.Search.{least_below, count_below}
 use Rattle.md_base.specs.declared.answers.Refusal.{Refusal}
-use Rattle.md_base.specs.declared.answers.Refusal.TheVariants.{Busy, Degraded, PastEnd, TooManyMissing, NotResynced}
-use Rattle.md_base.specs.declared.answers.BusyKind.TheVariants.{Resync}
+use Rattle.md_base.specs.declared.answers.Refusal.TheVariants.{Busy, Degraded, PastEnd, TooManyMissing, NotResynced, NoSuchRole, NoSuchSlot, SlotTaken, SlotTooSmall, BackupFault, Nothing}
+use Rattle.md_base.specs.declared.answers.BusyKind.TheVariants.{Resync, Plan}
 use Rattle.md_base.specs.declared.places.Shape.{Shape}
 use Rattle.md_base.specs.declared.status.Role.{Role}
 use Rattle.md_base.specs.declared.status.Role.TheVariants.{Whole, Recovering, Missing}
@@ -17,12 +17,16 @@ use Rattle.grow_plan.specs.Plans.{phases_steps, phase_steps}
 use Rattle.superblocks.specs.declared.members.Members.{Members}
 use Rattle.superblocks.specs.Reading.{is_whole, shape_of, role_count, role_state, holder}
 use Rattle.row_io.specs.Rows.{reading_of, is_missing}
+use Rattle.flat_history.specs.declared.events.Entry.{Entry}
+use Rattle.flat_history.specs.declared.events.Event.TheVariants.{Refused}
+use Rattle.flat_history.specs.OneShape.{ShapeOpening, IsOneShapeRefusal}
 use Rattle.views.specs.declared.work.Work.{Work}
 use Rattle.views.specs.Placed.{is_vacant}
 use Rattle.views.specs.Status.{stripes_of, rebuilt_of, vacant_count, spare_count, resync_left, role_left, recovery_left, left_of}
 use Rattle.grow_asked.specs.Asked.{Asked, lowest_missing, IsUngrowable, grow_refusal}
 use Rattle.grow_asked.proofs.FirstLaws.{judged, none-exactly}
 use Rattle.still.specs.still_kept_Still.{AreNoneMissing}
+use Rattle.still.specs.still_laws_Plain.{MayTellPlainly}
 use Rattle.still.proofs.still_kept_Refusals.{IsRefusedStill}
 
 -- ---- what speaks against it
@@ -36,6 +40,22 @@ grow-plain a wish resync m (PastEnd visible) is = absurd is
 grow-plain a wish resync m (TooManyMissing count most) is = absurd is
 grow-plain a wish resync m (NotResynced role) is = absurd is
 grow-plain a wish resync m refusal is = tt
+
+-- it is right by any history of one shape, and is none of a reshape
+pub grow-shaped : (opening : ShapeOpening) (before : List Entry) (a : Asked) (wish : Wish) (refusal : Refusal) → IsUngrowable a wish refusal → IsOneShapeRefusal opening before refusal
+grow-shaped opening before a wish (PastEnd visible) is = absurd is
+grow-shaped opening before a wish (TooManyMissing count most) is = absurd is
+grow-shaped opening before a wish (NotResynced role) is = absurd is
+grow-shaped opening before a wish (NoSuchRole role) is = absurd is
+grow-shaped opening before a wish (NoSuchSlot slot) is = absurd is
+grow-shaped opening before a wish (SlotTaken slot) is = absurd is
+grow-shaped opening before a wish (SlotTooSmall have want) is = absurd is
+grow-shaped opening before a wish Nothing is = absurd is
+grow-shaped opening before a wish refusal is = tt
+
+pub grow-plainly : (a : Asked) (wish : Wish) (refusal : Refusal) → IsUngrowable a wish refusal → MayTellPlainly (Refused refusal)
+grow-plainly a wish BackupFault is = absurd is
+grow-plainly a wish refusal is = tt
 
 -- ---- no role is missing
 
@@ -112,6 +132,17 @@ pub planned-idle : (a : Asked) (wish : Wish) (work : Work) → a.resync ≡ work
 planned-idle a wish work same within none =
     none-left work a.members (λ role lt. planned-whole a wish none role (within role lt))
     (sym same ∙ none-pending a.resync (λ is. nothing-against a wish none (Busy Resync) is))
+
+-- no resync is pending, and no phase is ahead
+none-ahead : (l : List Phase) → (0 < length l → ⊥) → l ≡ []
+none-ahead [] none = refl
+none-ahead (phase ∷ rest) none = absurd (none (omega arith))
+
+pub planned-alone : (a : Asked) (wish : Wish) (ahead : List Phase) → a.phases ≡ length ahead → grow_refusal a wish ≡ None → (a.resync ≡ None) × (ahead ≡ [])
+planned-alone a wish ahead same none = (
+  none-pending a.resync (λ is. nothing-against a wish none (Busy Resync) is),
+  none-ahead ahead (λ some. nothing-against a wish none (Busy Plan) (omega (arith, some, same))),
+)
 
 -- ---- the steps of its plan
 

@@ -28,6 +28,8 @@ use Rattle.still.proofs.still_kept_Resting.{resting-stands}
 use Rattle.still.specs.running_words_Parts.{still_left}
 use Rattle.still.proofs.running_words_Called.{not_254}
 use Rattle.still.specs.still_laws_Ready.{IsReady}
+use Rattle.still.proofs.still_laws_Kept.{plainly-more}
+use Rattle.still.proofs.still_laws_Plain.{IsLeftPlain, turned-plain, turns-behind}
 use Rattle.growing.specs.Planned.{HasWideBackup}
 use Rattle.growing.proofs.Idle.{nothing-against}
 
@@ -65,7 +67,14 @@ planned-ready {tells = tells} {given = given} {tape = tape} {scope = scope} {sco
       buffer_fits = was.buffer_fits;
       far_rows_fit = was.far_rows_fit;
       far_buffer_fits = was.far_buffer_fits;
+      plain = turned.plain;
+      plainly = plainly-more entries (entries_of who end (Planned left wish ∷ [])) (entries ++ entries_of who end (Planned left wish ∷ [])) refl was.plainly turned.plainly;
+      ahead_told = inr (turns-behind entries (entries_of who end (Planned left wish ∷ [])) refl);
     })))
+  where
+    -- a plan turns the shape
+    turned : IsLeftPlain tells given tape scope first entries (entries_of who end (Planned left wish ∷ [])) m
+    turned = turned-plain (turns-behind entries (entries_of who end (Planned left wish ∷ [])) refl)
 
 -- ---- its backup
 

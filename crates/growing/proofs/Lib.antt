@@ -6,3 +6,5 @@ pub mod Busy
 pub mod PlanLaws
 pub mod Unbroken
 pub mod Aside
+pub mod Replied
+pub mod Windows

@@ -26,7 +26,7 @@ use Rattle.kept_history.specs.Recorded.{entry_of, IsCallGoing, MayGoOn, IsLength
 use Rattle.kept_history.proofs.Growing.{contents-grown}
 use Rattle.history_calls.specs.Reliable.{IsReliable}
 use Rattle.still.specs.still_laws_Steps.{IsCallUnbroken}
-use Rattle.growing.proofs.PlanLaws.{reliable-before}
+use Rattle.still.proofs.still_laws_PlansKept.{reliable-before}
 
 -- ---- lengths that were kept are so later
 

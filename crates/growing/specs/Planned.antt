@@ -5,7 +5,7 @@ use Rattle.md_base.specs.declared.answers.Fault.TheVariants.{Refused as IsRefuse
 use Rattle.md_base.specs.declared.answers.Who.{Who}
 use Rattle.md_base.specs.declared.wishes.Wish.{Wish}
 use Rattle.bank.specs.Given.{Given, sizes}
-use Rattle.grow_plan.specs.Plans.{phases, phases_steps, largest_window}
+use Rattle.grow_plan.specs.Plans.{phases, phases_steps, largest_window, AreSound}
 use Rattle.superblocks.specs.declared.members.Members.{Members}
 use Rattle.superblocks.specs.Reading.{shape_of, list_length}
 use Rattle.flat_history.specs.declared.events.Entry.{Entry}
@@ -77,12 +77,13 @@ pub record IsAsBefore {B : Type 0} (old new : RunningParts B) : Type 0 where
 abbrev pub HasWideBackup : Given → Option ℕ → ℕ → Type 0
 HasWideBackup given backup window = 0 < window → (slot : ℕ) × (backup ≡ Some slot) × (slot < given.slots) × (8 + window ≤ given.sectors slot)
 
--- The phases of the wish are ahead and nothing else is left to do, no role is missing, the backup has room for each window, and the history tells as many phases that haven't ended.
+-- The phases of the wish are ahead, which can follow each other, and nothing else is left to do, no role is missing, the backup has room for each window, and the history tells as many phases that haven't ended.
 pub record IsGrowPlanned {B : Type 0} (tells : Type 0) (given : Given) (world : World) (wish : Wish) (left : ℕ) (new : RunningParts B) : Type 0 where
   pub ahead : phases_of new.ahead ≡ phases (shape_of new.parts.members.newest) wish
   pub left_is : left ≡ phases_steps (shape_of new.parts.members.newest) new.parts.members.newest.size (phases_of new.ahead)
   pub some : 0 < left
   pub idle : left_of new.parts.work new.parts.members ≡ 0
   pub whole : AreNoneMissing new.parts.members
+  pub sound : AreSound (shape_of new.parts.members.newest) new.parts.members.newest.size (phases_of new.ahead)
   pub backed : HasWideBackup given new.parts.backup (largest_window (shape_of new.parts.members.newest) new.parts.members.newest.size (phases_of new.ahead))
   pub told : tells → IsReliable world new.parts.entries → phases_left world new.parts.entries ≡ length (phases_of new.ahead)

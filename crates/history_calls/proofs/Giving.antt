@@ -30,7 +30,7 @@ use Rattle.shape_changes.specs.Steady.{IsMoreTold, IsSafeOver, KeepsSafe, AreGon
 use Rattle.views.proofs.SoundViews.{throughout-kept}
 use Rattle.call_entries.proofs.CallLaws.{last_end-behind}
 use Rattle.call_entries.proofs.LosingLaws.{entries-both}
-use Rattle.kept_history.specs.Recorded.{IsHistoryKept, IsLegalCall, IsReshapedCall, IsCallGoing, IsOpenBehind, entry_of, gives_some}
+use Rattle.kept_history.specs.Recorded.{IsHistoryKept, IsLegalCall, IsCallGoing, IsOpenBehind, entry_of, gives_some}
 use Rattle.kept_history.specs.Safe.{world_in, IsFilledRight, IsSafeHistory}
 use Rattle.kept_history.specs.Told.{told_now, told_by}
 use Rattle.kept_history.proofs.Growing.{now-grown, alike-before, room-before, room-now}
@@ -43,7 +43,7 @@ use Rattle.kept_history.proofs.Turned.{told-rebuilt, filled-before}
 use Rattle.history_calls.specs.Reliable.{IsReliable, AreToldGone, IsNonePast}
 use Rattle.history_calls.proofs.LastStep.{AreWithin, none-past}
 use Rattle.history_calls.proofs.Behind.{AreTelling, AreLostOrMissing, IsBehind, is-behind, or-false, and-true}
-use Rattle.history_calls.proofs.Quiet.{IsLeftBehind}
+use Rattle.history_calls.proofs.Quiet.{IsLeftBehind, EndsRight}
 
 -- what may stand first may with an event behind it that leaves the level and gives no role
 pub telling-then : {early : List Event} {IsTaken : ℕ → Type 0} (event : Event) → AreTelling early IsTaken → adds_only event ≡ true → gives_some event ≡ false → ((n : ℕ) → level_after n event ≡ n) → AreTelling (early ++ event ∷ []) IsTaken
@@ -71,7 +71,7 @@ pub record GivesRole (given : Given) (tape : List Operation) (scope : Scope) (fi
       → IsSafeOver (world_in given tape scope first) given told old tape → IsSafeOver (world_in given tape scope first) given (given_back role told) new tape'
   pub legal : IsReliable (world_in given tape' scope first) (entries ++ entries_of who end (early ++ Rebuilt role ∷ [])) → IsReliable (world_in given tape scope first) entries
       → IsLegalCall (world_in given tape' scope first) entries who end (early ++ Rebuilt role ∷ [])
-  pub reshaped : IsReshapedCall (world_in given tape' scope first) entries who end (early ++ Rebuilt role ∷ [])
+  pub reshaped : EndsRight given tape' scope first entries new carried reshaping who end (early ++ Rebuilt role ∷ [])
 
 module _ (given : Given) (tape : List Operation) (scope : Scope) (first : ℕ) (entries : List Entry) (old new : Members) (carried : ℕ → Bool) (reshaping : Bool)
     (who : Who) (early : List Event) (IsTaken : ℕ → Type 0) (role : ℕ) (ops : List Operation) (are : AreTelling early IsTaken)
@@ -180,14 +180,6 @@ module _ (given : Given) (tape : List Operation) (scope : Scope) (first : ℕ) (
           ne : (a b : ℕ) → a ≢ b → (a == b) ≡ false
           ne a b apart = grind (arith, nat_tests, apart)
 
-  -- ---- the history
-
-  recorded-all : IsHistoryKept (IsReliable later all) later (list_length new.newest) all
-  recorded-all = kept-call (IsReliable world entries) (IsReliable later all) world ops (list_length old.newest) (list_length new.newest) entries who (early ++ Rebuilt role ∷ []) goes recorded right-before caller
-      (λ right. inl (open_behind right)) (length-adding (length (opening_list world)) entries added adds-all ∙ recorded.sized ∙ sym sized)
-      (last_end-behind first entries who end early (Rebuilt role)) (λ right. call.legal right (right-before right))
-      (λ right fit. call.reshaped)
-
   -- past the list's end it tells no more than before
   past-all : (size : ℕ) → list_length new.newest ≤ size → IsNonePast world entries size → IsNonePast later all size
   past-all size le none fills x high =
@@ -219,6 +211,14 @@ module _ (given : Given) (tape : List Operation) (scope : Scope) (first : ℕ) (
     safe-all : IsSafeHistory ⊤ later given new carried reshaping all
     safe-all = safe-called ⊤ given tape scope first entries old new carried carried reshaping reshaping who early (Rebuilt role ∷ []) told ops (tape ++ ops) end refl refl sizes_are begun recorded.ends was
         fills call.rise (λ claimed opened mark low high. throughout-kept world given told new ops refl begun stretch (was.sound tt) opened mark (omega (arith, begun, low)) high) (record { size = refl; values = λ x lt v may. may; gone = λ role is. is; unclean = λ is. is; reshaping = λ is. refl; carried = λ number is. refl }) stretch last
+
+  -- ---- the history
+
+  recorded-all : IsHistoryKept (IsReliable later all) later (list_length new.newest) all
+  recorded-all = kept-call (IsReliable world entries) (IsReliable later all) world ops (list_length old.newest) (list_length new.newest) entries who (early ++ Rebuilt role ∷ []) goes recorded right-before caller
+      (λ right. inl (open_behind right)) (length-adding (length (opening_list world)) entries added adds-all ∙ recorded.sized ∙ sym sized)
+      (last_end-behind first entries who end early (Rebuilt role)) (λ right. call.legal right (right-before right))
+      (λ right fit. call.reshaped right (gone-all right) (safe-all right.fills right.room right.alike) fit)
 
   level-all : level_at later all ≡ level_at world entries
   level-all = ap (λ (l : List Entry). level_at later l) whole

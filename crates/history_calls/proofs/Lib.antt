@@ -1,5 +1,6 @@
 pub mod LastStep
 pub mod Behind
+pub mod Plans
 pub mod Quiet
 pub mod Adding
 pub mod Settling

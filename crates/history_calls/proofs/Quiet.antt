@@ -95,6 +95,14 @@ pub record LeavesNumbers (given : Given) (tape : List Operation) (scope : Scope)
       → level_at (world_in given tape' scope first) (entries ++ entries_of who end early) ≡ level_at (world_in given tape scope first) entries
       → IsLegalCall (world_in given tape' scope first) entries who end (early ++ tail)
 
+-- What the call ends, it ends right, by what it leaves: as far as the history can be relied on, what is missing is told by it, and each mark is safe; and if the opening was sound.
+abbrev pub EndsRight : Given → List Operation → Scope → ℕ → List Entry → Members → (ℕ → Bool) → Bool → Who → ℕ → List Event → Type 0
+EndsRight given tape' scope first entries new carried reshaping who end events =
+    IsReliable (world_in given tape' scope first) (entries ++ entries_of who end events)
+    → AreToldGone (world_in given tape' scope first) (entries ++ entries_of who end events) new
+    → IsSafeHistory ⊤ (world_in given tape' scope first) given new carried reshaping (entries ++ entries_of who end events)
+    → OpensFit (world_in given tape' scope first) → IsReshapedCall (world_in given tape' scope first) entries who end events
+
 -- What it leaves, of what is kept over a bank that tells its contents.
 pub record IsLeftBehind (given : Given) (tape : List Operation) (scope : Scope) (first : ℕ) (entries all : List Entry) (new : Members) (carried : ℕ → Bool) (reshaping : Bool) (tape' : List Operation) : Type 0 where
   pub right : IsReliable (world_in given tape' scope first) all → IsReliable (world_in given tape scope first) entries
@@ -130,7 +138,7 @@ module _ (given : Given) (tape : List Operation) (scope : Scope) (first : ℕ) (
     (who : Who) (early : List Event) (IsTaken : ℕ → Type 0) (tail : List Event) (ops : List Operation) (are : AreEarly early IsTaken) (carries : (number : ℕ) → carried number ≡ true → carried' number ≡ true)
     (goes : IsCallGoing entries who) (caller : IsFalse (who.caller == 254)) (quiet : AreQuietLast who (length (tape ++ ops)) tail)
     (ended : last_end_from first (entries ++ entries_of who (length (tape ++ ops)) (early ++ tail)) ≡ length (tape ++ ops))
-    (reshaped : IsReshapedCall (world_in given (tape ++ ops) scope first) entries who (length (tape ++ ops)) (early ++ tail)) (few : role_count new.newest ≤ 16)
+    (reshaped : EndsRight given (tape ++ ops) scope first entries new carried' reshaping who (length (tape ++ ops)) (early ++ tail)) (few : role_count new.newest ≤ 16)
     (missing : AreLostOrMissing old new IsTaken)
     (sized : list_length new.newest ≡ list_length old.newest) (clean : is_clean new.newest ≡ is_clean old.newest)
     (gone : IsReliable (world_in given tape scope first) entries → AreToldGone (world_in given tape scope first) entries old)
@@ -196,11 +204,11 @@ module _ (given : Given) (tape : List Operation) (scope : Scope) (first : ℕ) (
 
   -- ---- the history
 
-  recorded-all : IsHistoryKept (IsReliable later all) later (list_length new.newest) all
-  recorded-all = kept-call (IsReliable world entries) (IsReliable later all) world ops (list_length old.newest) (list_length new.newest) entries who (early ++ tail) goes recorded behind.right caller
+  recorded-all : (IsFilledRight later all → HasRoomForEvents later → OpensAlike later → IsSafeHistory ⊤ later given new carried' reshaping all) → IsHistoryKept (IsReliable later all) later (list_length new.newest) all
+  recorded-all safe = kept-call (IsReliable world entries) (IsReliable later all) world ops (list_length old.newest) (list_length new.newest) entries who (early ++ tail) goes recorded behind.right caller
       (λ fills. inr behind.gives_all) (length-adding (length (opening_list world)) entries added adds-all ∙ recorded.sized ∙ sym sized)
       ended (λ fills. legal fills (behind.right fills) (behind.gone_more fills) behind.level_more)
-      (λ fills fit. reshaped)
+      (λ right fit. reshaped right (behind.gone_all right) (safe right.fills right.room right.alike) fit)
 
   -- past the list's end it tells no more than before
   past-all : (size : ℕ) → list_length new.newest ≤ size → IsNonePast world entries size → IsNonePast later all size
@@ -218,7 +226,7 @@ module _ (given : Given) (tape : List Operation) (scope : Scope) (first : ℕ) (
     levelled = behind.level_all;
     gone = behind.gone_all;
     unclean = unclean-all;
-    recorded = recorded-all;
+    recorded = recorded-all safe;
     opened = behind.opened;
     begun = begun;
     grown = (ops, refl);
@@ -257,7 +265,7 @@ module _ (given : Given) (tape : List Operation) (scope : Scope) (first : ℕ) (
     (who : Who) (early : List Event) (IsTaken : ℕ → Type 0) (tail : List Event) (ops : List Operation) (are : AreEarly early IsTaken) (carries : (number : ℕ) → carried number ≡ true → carried' number ≡ true)
     (goes : IsCallGoing entries who) (caller : IsFalse (who.caller == 254)) (quiet : AreQuietLast who (length (tape ++ ops)) tail)
     (ended : last_end_from first (entries ++ entries_of who (length (tape ++ ops)) (early ++ tail)) ≡ length (tape ++ ops))
-    (reshaped : IsReshapedCall (world_in given (tape ++ ops) scope first) entries who (length (tape ++ ops)) (early ++ tail)) (few : role_count new.newest ≤ 16)
+    (reshaped : EndsRight given (tape ++ ops) scope first entries new carried' reshaping who (length (tape ++ ops)) (early ++ tail)) (few : role_count new.newest ≤ 16)
     (missing : AreLostOrMissing old new IsTaken)
     (sized : list_length new.newest ≡ list_length old.newest) (clean : is_clean new.newest ≡ is_clean old.newest) (sizes_are : scope.sizes ≡ sizes given)
     (gone : IsReliable (world_in given tape scope first) entries → AreToldGone (world_in given tape scope first) entries old)
@@ -288,7 +296,7 @@ resting-leaves given tape scope first entries m carried reshaping who event goes
     subst Here (append-nil tape)
     (left-behind given tape scope first entries m m carried carried reshaping who [] (λ role. ⊥) (event ∷ []) [] early-none (λ number is. is) goes caller (quiet-last who (length (tape ++ [])) event quiet)
     (last_end-behind first entries who (length (tape ++ [])) [] event)
-    (call-ends_none (world_in given (tape ++ []) scope first) entries who (length (tape ++ [])) (event ∷ []) (or-false (ends_reshape event) false quiet.ends refl)) few (λ role lt miss. inl (lt, miss)) refl refl gone unclean recorded
+    (λ right told safe fit. call-ends_none (world_in given (tape ++ []) scope first) entries who (length (tape ++ [])) (event ∷ []) (or-false (ends_reshape event) false quiet.ends refl)) few (λ role lt miss. inl (lt, miss)) refl refl gone unclean recorded
     (λ all right told level. (subst Legal (sym (append-nil tape)) legal right, tt, tt))
     (subst Safe (sym (append-nil tape)) idle))
   where
@@ -367,7 +375,7 @@ module _ (given : Given) (tape : List Operation) (scope : Scope) (first : ℕ) (
   pub quiet-leaves : IsLeftBehind given tape scope first entries (entries ++ entries_of who (length (tape ++ ops)) (early ++ event ∷ [])) new carried reshaping (tape ++ ops)
   quiet-leaves = numbers-leaves given tape scope first entries old new carried carried reshaping who early IsTaken (event ∷ []) ops are (λ number is. is) goes caller
       (quiet-last who (length (tape ++ ops)) event quiet) (last_end-behind first entries who (length (tape ++ ops)) early event)
-      (call-ends_none (world_in given (tape ++ ops) scope first) entries who (length (tape ++ ops)) (early ++ event ∷ []) (are.ends (event ∷ []) (or-false (ends_reshape event) false quiet.ends refl))) few missing sized clean sizes_are gone unclean recorded safe now_safe
+      (λ right told safe fit. call-ends_none (world_in given (tape ++ ops) scope first) entries who (length (tape ++ ops)) (early ++ event ∷ []) (are.ends (event ∷ []) (or-false (ends_reshape event) false quiet.ends refl))) few missing sized clean sizes_are gone unclean recorded safe now_safe
       (numbers-of given tape scope first entries old new carried reshaping who early event (tape ++ ops) (length (tape ++ ops)) call)
 
 -- the newest value of each sector is what it was

@@ -42,7 +42,7 @@ use Rattle.kept_history.proofs.Entered.{told-adding, values-more, length-more, l
 use Rattle.kept_history.proofs.Reshapes.{call-ends_none}
 use Rattle.history_calls.specs.Reliable.{IsReliable, AreToldGone, IsNonePast}
 use Rattle.history_calls.proofs.Behind.{telling-of, first-of, AreLostOrMissing, IsAmong, IsBehind, early-losses, is-behind, legal-losses, or-false}
-use Rattle.history_calls.proofs.Quiet.{IsLeftBehind}
+use Rattle.history_calls.proofs.Quiet.{IsLeftBehind, EndsRight}
 
 -- ---- the event
 
@@ -132,7 +132,7 @@ pub record SettlesList (given : Given) (tape : List Operation) (scope : Scope) (
       → AreToldGone (world_in given tape' scope first) (entries ++ entries_of who end (losses_of roles spares)) new
       → level_at (world_in given tape' scope first) (entries ++ entries_of who end (losses_of roles spares)) ≡ level_at (world_in given tape scope first) entries
       → IsLegalEvent (world_in given tape' scope first) (entries ++ entries_of who end (losses_of roles spares)) (entry_of who end event) [] event
-  pub reshaped : IsReshapedCall (world_in given tape' scope first) entries who end (losses_of roles spares ++ event ∷ [])
+  pub reshaped : EndsRight given tape' scope first entries new carried reshaping who end (losses_of roles spares ++ event ∷ [])
 
 module _ (given : Given) (tape : List Operation) (scope : Scope) (first : ℕ) (entries : List Entry) (old new : Members) (carried : ℕ → Bool) (reshaping : Bool) (unsynced : Bool)
     (who : Who) (roles spares : ℕ) (event : Event) (ops : List Operation)
@@ -239,12 +239,6 @@ module _ (given : Given) (tape : List Operation) (scope : Scope) (first : ℕ) (
   legal-call : IsReliable later all → IsLegalCall later entries who end (losses ++ event ∷ [])
   legal-call fills = legal-losses later entries who end losses (event ∷ []) (losses-are roles spares) (call.legal (behind.right fills) (behind.gone_more fills) behind.level_more, tt, tt)
 
-  recorded-all : IsHistoryKept (IsReliable later all) later (list_length new.newest) all
-  recorded-all = kept-call (IsReliable world entries) (IsReliable later all) world ops (list_length old.newest) (list_length new.newest) entries who (losses ++ event ∷ []) goes recorded behind.right caller
-      (λ fills. inr behind.gives_all) (ap (λ (l : List Sector). length_of (length l) all) (sym behind.opened) ∙ length-all ∙ sym sized)
-      (last_end-behind first entries who end losses event) legal-call
-      (λ fills fit. call.reshaped)
-
   -- past the list's end it tells no more than before
   past-all : (size : ℕ) → list_length new.newest ≤ size → IsNonePast world entries size → IsNonePast later all size
   past-all size le none fills x high =
@@ -286,6 +280,12 @@ module _ (given : Given) (tape : List Operation) (scope : Scope) (first : ℕ) (
     safe-all = safe-called ⊤ given tape scope first entries old new carried carried reshaping reshaping who losses (event ∷ []) told ops (tape ++ ops) end refl refl sizes_are begun recorded.ends was
         fills call.rise (λ claimed opened mark low high. throughout-kept world given told new ops refl begun stretch (was.sound tt) opened mark (omega (arith, begun, low)) high)
         (record { size = refl; values = λ x lt v may. may; gone = λ role is. is; unclean = λ is. is; reshaping = λ is. refl; carried = λ number is. refl }) stretch last
+
+  recorded-all : IsHistoryKept (IsReliable later all) later (list_length new.newest) all
+  recorded-all = kept-call (IsReliable world entries) (IsReliable later all) world ops (list_length old.newest) (list_length new.newest) entries who (losses ++ event ∷ []) goes recorded behind.right caller
+      (λ fills. inr behind.gives_all) (ap (λ (l : List Sector). length_of (length l) all) (sym behind.opened) ∙ length-all ∙ sym sized)
+      (last_end-behind first entries who end losses event) legal-call
+      (λ right fit. call.reshaped right (behind.gone_all right) (safe-all right.fills right.room right.alike) fit)
 
   pub settling-leaves : IsLeftBehind given tape scope first entries all new carried reshaping (tape ++ ops)
   settling-leaves = record {

@@ -82,9 +82,10 @@ use Rattle.history_calls.specs.Reliable.{IsReliable, AreToldGone, IsNonePast}
 use Rattle.history_calls.proofs.LastStep.{last-behind, last-step}
 use Rattle.moving_kept.specs.Moving.{HasListInCourse, HasListStill, IsMoving}
 use Rattle.history_calls.proofs.Behind.{IsAmong, inner-of, legal-losses}
+use Rattle.history_calls.proofs.Plans.{behind-all, ArePlannedTo, plans-behind, plans-done}
 use Rattle.moving_ends.proofs.Consistent.{consistent-at}
 use Rattle.moving_ends.proofs.EndedRows.{HaveEnded, ended-short, listed-still}
-use Rattle.moving_ends.proofs.Ending.{length_by, grown_to, ending_events, only-adds, only-gives, only-lost, ending-gives, ending-settles, ending-level, ending-values, ending-length, ending-lost, ending-late, ending-last, ending-comes, ending-ends, behind-all, comes-more, before-step, ArePlannedTo, plans-behind, plans-done, told-longer}
+use Rattle.moving_ends.proofs.Ending.{length_by, grown_to, ending_events, only-adds, only-gives, only-lost, ending-gives, ending-settles, ending-level, ending-values, ending-length, ending-lost, ending-late, ending-last, ending-comes, ending-ends, comes-more, before-step, told-longer}
 use Rattle.moving_kept.proofs.Quiet.{safe-now}
 use Rattle.moving_kept.proofs.NoneLeft.{all_below-each, none-held}
 use Rattle.moving_kept.proofs.ReadShapes.{HasShapesOf, IsEitherRead}
@@ -112,7 +113,7 @@ pub record IsEndingCall (given : Given) (tape : List Operation) (scope : Scope) 
 
 -- If no step is left, the plans that are open go to the shape of this reshape.
 abbrev pub IsPlannedTo : World → List Entry → Members → ℕ → Type 0
-IsPlannedTo world entries old left = left ≡ 0 → ArePlannedTo world (final_shape old.newest) (open_plans entries)
+IsPlannedTo world entries old left = IsReliable world entries → left ≡ 0 → ArePlannedTo world (final_shape old.newest) (open_plans entries)
 
 -- As many steps are left as one fewer, or a role is missing, so that more steps may follow the reshape, or the call tells a loss.
 abbrev pub IsStepped : Members → ℕ → ℕ → List Event → Type 0
@@ -611,7 +612,7 @@ module _ (given : Given) (tape : List Operation) (scope : Scope) (first : ℕ) (
         of true is =
             subst (λ (l : List Entry). ArePlansDone later (entries ++ flushed) step l (open_plans (entries ++ flushed))) (sym comes-too)
             (subst (λ (plans : List Entry). ArePlansDone later (entries ++ flushed) step rest plans) (sym (plans-behind entries who end losses (losses-are roles spares)))
-            (plans-done world ops (entries ++ flushed) step rest (final_shape old.newest) (consistent fit) entries recorded.ends (planned (is-zero left is))))
+            (plans-done world ops (entries ++ flushed) step rest (final_shape old.newest) (consistent fit) entries recorded.ends (planned before (is-zero left is))))
 
     pub ended-right : OpensFit later → IsReshapedCall later entries who end events
     ended-right fit = reshaped-losses later entries who end losses (Step Finished left ∷ tail) (faults-are losses (losses-are roles spares))

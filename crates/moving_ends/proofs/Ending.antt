@@ -1,42 +1,34 @@
 -- The entries of a call by which a reshape ends: losses, the step, the new length where the list grew, and more losses. What they tell, and what a history says
 -- of the step before them and of its plans.
-use Rattle.std.proofs.Common.{◌≡◌, ℕ, suc, ◌+◌, ◌<◌, ◌≤◌, ◌&&◌, ◌||◌, nat_lt, Bool, true, false, cond, Option, Some, option_map, List, [], ◌∷◌, ◌++◌, length, take, fold, MatchOption, refl, sym, ◌∙◌, ap, ap₂, subst, arith, append_assoc, append-nil}
-use Rattle.std.specs.Prelude.{⊤}
+use Rattle.std.proofs.Common.{◌≡◌, ℕ, suc, ◌+◌, ◌<◌, ◌&&◌, ◌||◌, nat_lt, Bool, true, false, cond, List, [], ◌∷◌, ◌++◌, length, take, fold, refl, sym, ◌∙◌, ap, ap₂, subst, arith, append_assoc, append-nil}
 use Rattle.std.specs.List.{list_any, list_all}
 use Rattle.std.proofs.lemmas.List.Folds.{list_any-append}
-use Rattle.std.proofs.lemmas.List.Sums.{fold-append}
 use Rattle.md_base.specs.Sectors.{Sector}
 use Rattle.md_base.specs.declared.answers.Who.{Who}
-use Rattle.md_base.specs.declared.places.Shape.{Shape}
-use Rattle.bank.specs.declared.bank.Operation.{Operation}
 use Rattle.bank.specs.Tape.{IsIn}
-use Rattle.superblocks.specs.Reading.{Reading, shape_of}
-use Rattle.grow_plan.specs.Plans.{target}
 use Rattle.flat_history.specs.declared.events.Entry.{Entry}
 use Rattle.flat_history.specs.declared.events.Event.{Event}
-use Rattle.flat_history.specs.declared.events.Event.TheVariants.{Lost, SpareLost, Resized, Planned, Step}
+use Rattle.flat_history.specs.declared.events.Event.TheVariants.{Lost, SpareLost, Resized, Step}
 use Rattle.flat_history.specs.declared.events.LostCause.TheVariants.{Fault}
 use Rattle.flat_history.specs.declared.events.StepKind.TheVariants.{Finished}
-use Rattle.flat_history.specs.Flat.{is_same_call, length_of, values_after, values_of, resized}
-use Rattle.flat_history.specs.Growing.{grown, EndBy}
+use Rattle.flat_history.specs.Flat.{length_of, values_after, values_of, resized}
 use Rattle.flat_history.specs.Legal.{is_loss, before_last_step, level_after}
 use Rattle.flat_history.specs.Losses.{loses, is_gone_after, is_unsynced, settles, unsettles}
 use Rattle.flat_history.specs.OneShape.{is_lost, is_unsettled}
 use Rattle.flat_history.specs.Plain.{entries_of, loses_role}
-use Rattle.flat_history.specs.Reshaped.{behind, comes_with_finish, comes_with_step, is_rebuilt, is_done, is_planned, plans_after, open_plans, planned_shape, IsConsistentAt, ArePlansDone}
+use Rattle.flat_history.specs.Reshaped.{behind, comes_with_finish, comes_with_step, is_rebuilt}
 use Rattle.flat_history.specs.Transfers.{last_end_from}
 use Rattle.flat_history.specs.World.{World, opening_list}
 use Rattle.history_laws.proofs.OneShapeGrowing.{entries-both}
 use Rattle.call_entries.specs.Losing.{losses_of}
 use Rattle.call_entries.proofs.CallLaws.{AreLossEvents, losses-are, length-losses}
 use Rattle.call_entries.proofs.PlainLaws.{last_end-call}
-use Rattle.kept_history.specs.Recorded.{entry_of, ends_reshape, gives_some}
+use Rattle.kept_history.specs.Recorded.{ends_reshape, gives_some}
 use Rattle.kept_history.specs.Told.{told_by}
 use Rattle.kept_history.proofs.Entered.{AreAdding, length-adding, values-adding, settle-none}
-use Rattle.kept_history.proofs.Growing.{reading-grown}
-use Rattle.kept_history.proofs.Records.{same-call}
 use Rattle.shape_changes.specs.Steady.{IsMoreTold}
 use Rattle.kept_history.proofs.Tests.{or-right}
+use Rattle.flat_history.proofs.LegalLaws.{both}
 use Rattle.history_calls.proofs.Behind.{IsAmong, early-losses, and-true}
 
 -- ---- the call
@@ -174,20 +166,6 @@ module _ (who : Who) (end roles spares left : ℕ) (longer : Bool) (n late late_
 
 -- ---- what comes with a step
 
-both : (a b : Bool) → (a && b) ≡ true → (a ≡ true) × (b ≡ true)
-both true b e = (refl, e)
-both false b e = absurd (cc)
-
--- all that stands behind it in its call, where all of that sort
-pub behind-all : (sort : Event → Bool) (who : Who) (end : ℕ) (event : Event) (events : List Event) → list_all sort events ≡ true
-    → behind sort (entry_of who end event) (entries_of who end events) ≡ entries_of who end events
-behind-all sort who end event [] all = refl
-behind-all sort who end event (x ∷ events) all =
-    let parts = both (sort x) (list_all sort events) all in
-    ap (λ (b : Bool). cond b (entry_of who end x ∷ behind sort (entry_of who end event) (entries_of who end events)) [])
-    (and-true (sort x) (is_same_call (entry_of who end event) (entry_of who end x)) parts.0 (same-call who (entry_of who end event) (entry_of who end x) (refl, refl) (refl, refl)))
-    ∙ ap (λ (l : List Entry). entry_of who end x ∷ l) (behind-all sort who end event events parts.1)
-
 -- what comes with a finish comes with any step
 pub comes-more : (events : List Event) → list_all comes_with_finish events ≡ true → list_all comes_with_step events ≡ true
 comes-more [] all = refl
@@ -216,50 +194,6 @@ step-by n b x entries before other rest =
 pub before-step : (before : List Entry) (e : Entry) → is_loss e.event ≡ false → before_last_step (before ++ e ∷ []) ≡ before
 before-step [] e other = refl
 before-step (x ∷ before) e other = step-by _ (list_all (λ e. is_loss e.event) (before ++ e ∷ [])) x (before ++ e ∷ []) before (ends-other before e other) (before-step before e other)
-
--- ---- plans
-
--- each of these plans goes to this shape
-abbrev pub ArePlannedTo : World → Shape → List Entry → Type 0
-ArePlannedTo world shape [] = ⊤
-ArePlannedTo world shape (plan ∷ plans) = (planned_shape world plan.end plan.event ≡ Some shape) × ArePlannedTo world shape plans
-
--- losses leave the same plans open
-pub plans-behind : (before : List Entry) (who : Who) (end : ℕ) (xs : List Event) → AreLossEvents xs → open_plans (before ++ entries_of who end xs) ≡ open_plans before
-plans-behind before who end xs are = fold-append plans_after [] before (entries_of who end xs) ∙ of (open_plans before) xs are
-  where
-    of : (plans : List Entry) (xs : List Event) → AreLossEvents xs → fold plans_after plans (entries_of who end xs) ≡ plans
-    of plans [] are = refl
-    of plans (Lost role Fault ∷ xs) are = of plans xs are
-    of plans (SpareLost slot ∷ xs) are = of plans xs are
-    of plans (event ∷ xs) are = absurd are
-
--- a plan ends where one of the entries does
-pub plans-end : (mark : ℕ) (plans xs : List Entry) → EndBy mark plans → EndBy mark xs → EndBy mark (fold plans_after plans xs)
-plans-end mark plans [] made ends = made
-plans-end mark plans (x ∷ xs) made ends = plans-end mark (plans_after plans x) xs (of (is_done x.event) (is_planned x.event)) ends.1
-  where
-    of : (a b : Bool) → EndBy mark (cond a [] (cond b (x ∷ plans) plans))
-    of true b = tt
-    of false true = (ends.0, made)
-    of false false = made
-
--- a plan goes to the same shape whatever is done after it
-pub planned-grown : (world : World) (ops : List Operation) (end : ℕ) (event : Event) → end ≤ length world.tape → planned_shape (grown world ops) end event ≡ planned_shape world end event
-planned-grown world ops end (Planned left wish) made = ap (λ (found : Option Reading). option_map (λ r. target (shape_of r.newest) wish) found) (reading-grown world ops end made)
-planned-grown world ops end event made = refl
-
-module _ (world : World) (ops : List Operation) (before : List Entry) (e : Entry) (rest : List Entry) (shape : Shape) (consistent : IsConsistentAt (grown world ops) (before ++ e ∷ rest) e.end shape) where
-  done : (plans : List Entry) → EndBy (length world.tape) plans → ArePlannedTo world shape plans → ArePlansDone (grown world ops) before e rest plans
-  done [] made to = tt
-  done (plan ∷ plans) made to = (
-    subst (λ (o : Option Shape). MatchOption o ⊥ (IsConsistentAt (grown world ops) (before ++ e ∷ rest) e.end)) (sym (planned-grown world ops plan.end plan.event made.0 ∙ to.0)) consistent,
-    done plans made.1 to.1,
-  )
-
-  -- where the open plans go to a shape that is consistent, they are met
-  pub plans-done : (entries : List Entry) → EndBy (length world.tape) entries → ArePlannedTo world shape (open_plans entries) → ArePlansDone (grown world ops) before e rest (open_plans entries)
-  plans-done entries ends to = done (open_plans entries) (plans-end (length world.tape) [] entries tt ends) to
 
 -- ---- what is told
 

@@ -218,7 +218,7 @@ carrying-moves tells given tape tape' scope first entries old new carried carrie
         (subst (Then (tape ++ g.0)) (sym (at_end t ∙ ap (λ (l : List Operation). length l) g.1))
         (λ call_to. numbers-leaves given tape scope first entries old new carried carried' true who early IsTaken (event ∷ []) g.0 are carries goes caller (quiet-last who (length (tape ++ g.0)) event quiet)
         (last_end-behind first entries who (length (tape ++ g.0)) early event)
-        (call-ends_none (world_in given (tape ++ g.0) scope first) entries who (length (tape ++ g.0)) (early ++ event ∷ []) (are.ends (event ∷ []) (or-false (ends_reshape event) false quiet.ends refl))) few missing sized clean was.sizes_are
+        (λ right told safe fit. call-ends_none (world_in given (tape ++ g.0) scope first) entries who (length (tape ++ g.0)) (early ++ event ∷ []) (are.ends (event ∷ []) (or-false (ends_reshape event) false quiet.ends refl))) few missing sized clean was.sizes_are
         (was.gone t) (was.unclean t) (was.recorded t) (was.safe t) (safe-now was live t) (record {
           rise = call_to.rise;
           keeps = λ before told right first_more more same_before same_told room gone unclean safe.

@@ -154,6 +154,6 @@ settling-moves tells given tape tape' scope first entries old new carried resync
           keeps = call_to.keeps;
           settled = call_to.settled;
           legal = λ fills gone level. call_to.legal;
-          reshaped = settling-ends (world_in given (tape ++ g.0) scope first) entries who (length (tape ++ g.0)) roles spares event ends;
+          reshaped = λ right told safe fit. settling-ends (world_in given (tape ++ g.0) scope first) entries who (length (tape ++ g.0)) roles spares event ends;
         })))
         (call t)

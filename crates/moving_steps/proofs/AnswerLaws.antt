@@ -1,82 +1,86 @@
 -- A reply to a request for steps in a reshape: what is kept behind it.
-use Rattle.std.proofs.Common.{◌≡◌, ◌≢◌, inl, inr, ℕ, ◌+◌, ◌*◌, ◌<◌, Bool, Option, Some, None, List, [], ◌∷◌, ◌++◌, length, refl, sym, ◌∙◌, subst, arith}
-use Rattle.std.specs.Prelude.{IfSome, MatchOption, ⊤}
+use Rattle.std.proofs.Common.{◌≡◌, ◌≢◌, inl, inr, ℕ, ◌*◌, ◌<◌, Bool, Option, Some, None, List, [], ◌∷◌, ◌++◌, length, refl, sym, ◌∙◌, subst, arith}
+use Rattle.std.specs.Prelude.{IfSome, is_some, MatchOption, ⊤}
 use Rattle.md_base.specs.declared.answers.Refusal.{Refusal}
 use Rattle.md_base.specs.declared.answers.Who.{Who}
 use Rattle.bank.specs.declared.bank.Operation.{Operation}
 use Rattle.bank.specs.Given.{Given}
-use Rattle.grow_plan.specs.Plans.{phases_steps}
 use Rattle.superblocks.specs.declared.members.Members.{Members}
-use Rattle.superblocks.specs.Reading.{Scope, final_shape}
+use Rattle.superblocks.specs.Reading.{Scope}
 use Rattle.flat_history.specs.declared.events.Entry.{Entry}
 use Rattle.flat_history.specs.declared.events.Event.{Event}
 use Rattle.flat_history.specs.declared.events.Event.TheVariants.{Stepped}
 use Rattle.flat_history.specs.Legal.{IsRefusedRight}
+use Rattle.flat_history.specs.Losses.{is_unsynced}
 use Rattle.flat_history.specs.Plain.{entries_of}
+use Rattle.flat_history.specs.World.{World}
 use Rattle.views.specs.declared.work.Work.{Work}
+use Rattle.views.specs.Numbers.{is_carried}
+use Rattle.views.specs.Placed.{IsPlaced}
+use Rattle.views.proofs.Fit.{force-disks}
 use Rattle.call_entries.proofs.LeftLaws.{keeps-left}
 use Rattle.array_kept.specs.Calls.{IsLossBy}
 use Rattle.grow_asked.specs.declared.window.PhasesLeft.{PhasesLeft}
-use Rattle.grow_asked.specs.Left.{phases_of, reshape_left}
 use Rattle.kept_history.specs.Recorded.{IsCallGoing, entry_of}
 use Rattle.kept_history.specs.Safe.{world_in}
-use Rattle.history_calls.specs.Reliable.{IsReliable}
+use Rattle.history_calls.specs.Reliable.{IsReliable, AreToldGone}
 use Rattle.history_calls.proofs.Quiet.{IsQuiet}
 use Rattle.course_kept.specs.declared.course.Course.{Course}
 use Rattle.moving_kept.specs.Moving.{IsMoving}
 use Rattle.moving_kept.proofs.Refusals.{refused-right}
 use Rattle.moving_kept.proofs.Resting.{resting-moves}
-use Rattle.moving_state.proofs.LeftLaws.{plans-counted, some-left}
 use Rattle.still_kept.proofs.Resync.{not-zero}
 use Rattle.running_words.specs.Parts.{left_in}
 use Rattle.running_words.proofs.Called.{not_254}
 use Rattle.moving_laws.specs.Ready.{IsReady}
 use Rattle.moving_laws.proofs.Kept.{IsLengthKept, alone-keeps}
-use Rattle.moving_steps.specs.Replies.{IsEndedInReshape, IsReplyInReshape}
-
--- ---- steps are left
-
--- the end of the reshape is
-pub reshape-some : {tells : Type 0} {given : Given} {tape : List Operation} {scope : Scope} {first : ℕ} {entries : List Entry} {m : Members} {carried : ℕ → Bool} {buffer : List ℕ} {left : ℕ} (course : Course) (ahead : PhasesLeft)
-    → IsMoving tells given tape scope first entries m carried course buffer left → left_in m course ahead ≢ 0
-reshape-some {m = m} course ahead was =
-    some (left_in m course ahead) (reshape_left m.newest course.window course.zeroed) (phases_steps (final_shape m.newest) m.newest.size (phases_of ahead))
-    (plans-counted m.newest course (phases_of ahead) was.members_are.active) (some-left m.newest course.window course.zeroed was.course_is.few)
-  where
-    some : (x r p : ℕ) → r + p ≡ x → 0 < r → x ≢ 0
-    some x r p counted more none = absurd (omega (arith, counted, more, none))
+use Rattle.moving_laws.proofs.MendLaws.{left-some}
+use Rattle.moving_steps.specs.Replies.{IsUnmendableNow, IsEndedInReshape, IsReplyInReshape}
 
 -- ---- a reply
+
+-- steps are left, the end of the reshape at least
+reply-left : {tells : Type 0} {given : Given} {tape : List Operation} {scope : Scope} {first : ℕ} {entries : List Entry} {m : Members} {carried : ℕ → Bool} {resync : Option ℕ} {buffer : List ℕ} {left : ℕ} (work : Work) (course : Course) (ahead : PhasesLeft)
+    → IsMoving tells given tape scope first entries m carried resync course buffer left → left_in work m course ahead ≢ 0
+reply-left {m = m} work course ahead was = left-some m work course ahead was.members_are.active was.course_is
 
 quiet-reply : (done left : ℕ) (ended : Option Refusal) → left ≢ 0 → IsQuiet (Stepped done left ended)
 quiet-reply done left ended some = record { adds = refl; gives = refl; ends = not-zero left some; still = λ x values. refl; level = λ n. refl; other = refl }
 
-pub answer-moves : {tells : Type 0} {given : Given} {tape : List Operation} {scope : Scope} {first : ℕ} {entries : List Entry} {m : Members} {carried : ℕ → Bool} {buffer : List ℕ} (course : Course) (ahead : PhasesLeft) (who : Who) (end : ℕ) (event : Event)
-    → IsMoving tells given tape scope first entries m carried course buffer (left_in m course ahead)
-    → IsCallGoing entries who → who.caller ≢ 254 → (tells → end ≡ length tape) → IsReplyInReshape m course ahead event
-    → IsMoving tells given tape scope first (entries ++ entries_of who end (event ∷ [])) m carried course buffer (left_in m course ahead)
-answer-moves {tells = tells} {given = given} {tape = tape} {scope = scope} {first = first} {entries = entries} {m = m} {carried = carried} {buffer = buffer} course ahead who end (Stepped done left ended) was goes caller at_end reply =
-    resting-moves tells given tape scope first entries m carried course buffer (left_in m course ahead) who end (Stepped done left ended) was goes (not_254 who.caller caller) at_end
-    (quiet-reply done left ended (λ none. reshape-some course ahead was (sym reply.0 ∙ none))) (λ told is. reply.0)
-    (λ t right. (keeps-left (left_in m course ahead) entries (entry_of who end (Stepped done left ended)) [] left was.left_told reply.0, ended-right ended reply.1 t right))
-  where
-    by : (t : tells) → IsReliable (world_in given tape scope first) entries → (refusal : Refusal) → IsEndedInReshape m refusal → IsRefusedRight (world_in given tape scope first) entries refusal
-    by t right refusal (inl many) = refused-right (world_in given tape scope first) entries given m was.members_are.placed (was.gone t right) (was.levelled t right) refusal many
-    by t right refusal (inr fault) = subst (λ (r : Refusal). IsRefusedRight (world_in given tape scope first) entries r) (sym fault) tt
+-- what is told of a missing role that has data is right, where the history tells that a resync is pending
+unmended-right : (world : World) (before : List Entry) (given : Given) (m : Members) (work : Work) → IsPlaced given m → AreToldGone world before m → is_unsynced world before ≡ is_some work.resync
+    → (refusal : Refusal) → IsUnmendableNow work m refusal → IsRefusedRight world before refusal
+unmended-right world before given m work placed gone pending refusal (waits, shape, force, lacked) =
+    subst (λ (r : Refusal). IsRefusedRight world before r) (sym lacked.1)
+    (gone lacked.0 (let lt = lacked.4.0 in let disks = force-disks m.newest placed.fit shape force in omega (arith, lt, disks)) lacked.3, pending ∙ waits)
 
-    ended-right : (ended : Option Refusal) → MatchOption ended ⊤ (IsEndedInReshape m) → (t : tells) → IsReliable (world_in given tape scope first) entries
+pub answer-moves : {tells : Type 0} {given : Given} {tape : List Operation} {scope : Scope} {first : ℕ} {entries : List Entry} {m : Members} {buffer : List ℕ} (work : Work) (course : Course) (ahead : PhasesLeft) (who : Who) (end : ℕ) (event : Event)
+    → IsMoving tells given tape scope first entries m (is_carried work) work.resync course buffer (left_in work m course ahead)
+    → IsCallGoing entries who → who.caller ≢ 254 → (tells → end ≡ length tape) → IsReplyInReshape work m course ahead event
+    → IsMoving tells given tape scope first (entries ++ entries_of who end (event ∷ [])) m (is_carried work) work.resync course buffer (left_in work m course ahead)
+answer-moves {tells = tells} {given = given} {tape = tape} {scope = scope} {first = first} {entries = entries} {m = m} {buffer = buffer} work course ahead who end (Stepped done left ended) was goes caller at_end reply =
+    resting-moves tells given tape scope first entries m (is_carried work) work.resync course buffer (left_in work m course ahead) who end (Stepped done left ended) was goes (not_254 who.caller caller) at_end
+    (quiet-reply done left ended (λ none. reply-left work course ahead was (sym reply.0 ∙ none))) (λ told is. reply.0)
+    (λ t right. (keeps-left (left_in work m course ahead) entries (entry_of who end (Stepped done left ended)) [] left was.left_told reply.0, ended-right ended reply.1 t right))
+  where
+    by : (t : tells) → IsReliable (world_in given tape scope first) entries → (refusal : Refusal) → IsEndedInReshape work m refusal → IsRefusedRight (world_in given tape scope first) entries refusal
+    by t right refusal (inl many) = refused-right (world_in given tape scope first) entries given m was.members_are.placed (was.gone t right) (was.levelled t right) refusal many
+    by t right refusal (inr (inl unmended)) = unmended-right (world_in given tape scope first) entries given m work was.members_are.placed (was.gone t right) (was.pending t) refusal unmended
+    by t right refusal (inr (inr fault)) = subst (λ (r : Refusal). IsRefusedRight (world_in given tape scope first) entries r) (sym fault) tt
+
+    ended-right : (ended : Option Refusal) → MatchOption ended ⊤ (IsEndedInReshape work m) → (t : tells) → IsReliable (world_in given tape scope first) entries
         → IfSome ended (IsRefusedRight (world_in given tape scope first) entries)
     ended-right None why t right = tt
     ended-right (Some refusal) why t right = by t right refusal why
-answer-moves course ahead who end event was goes caller at_end reply = absurd reply
+answer-moves work course ahead who end event was goes caller at_end reply = absurd reply
 
-pub reply-keeps : (m : Members) (course : Course) (ahead : PhasesLeft) (who : Who) (end : ℕ) (event : Event) → IsReplyInReshape m course ahead event → IsLengthKept (entries_of who end (event ∷ []))
-reply-keeps m course ahead who end (Stepped done left ended) reply = alone-keeps who end (Stepped done left ended) (λ n. refl) refl
-reply-keeps m course ahead who end event reply = absurd reply
+pub reply-keeps : (work : Work) (m : Members) (course : Course) (ahead : PhasesLeft) (who : Who) (end : ℕ) (event : Event) → IsReplyInReshape work m course ahead event → IsLengthKept (entries_of who end (event ∷ []))
+reply-keeps work m course ahead who end (Stepped done left ended) reply = alone-keeps who end (Stepped done left ended) (λ n. refl) refl
+reply-keeps work m course ahead who end event reply = absurd reply
 
-pub reply-lossless : (m : Members) (course : Course) (ahead : PhasesLeft) (Had : ℕ → ℕ → Type 0) (before after : ℕ → ℕ) (event : Event) → IsReplyInReshape m course ahead event → IsLossBy Had before after event
-reply-lossless m course ahead Had before after (Stepped done left ended) reply = tt
-reply-lossless m course ahead Had before after event reply = absurd reply
+pub reply-lossless : (work : Work) (m : Members) (course : Course) (ahead : PhasesLeft) (Had : ℕ → ℕ → Type 0) (before after : ℕ → ℕ) (event : Event) → IsReplyInReshape work m course ahead event → IsLossBy Had before after event
+reply-lossless work m course ahead Had before after (Stepped done left ended) reply = tt
+reply-lossless work m course ahead Had before after event reply = absurd reply
 
 -- ---- room
 
@@ -88,14 +92,13 @@ with-steps {tells = tells} {given = given} {tape = tape} {scope = scope} {first 
     {rows = rows} {buffer = buffer} {far_rows = far_rows} {far_buffer = far_buffer} {faults = faults} was same more =
     subst (λ (l : List Entry). IsReady tells given tape scope first l members work course ahead window faults steps' room' rows buffer far_rows far_buffer) (sym same) (record {
       kept = was.kept;
-      synced = was.synced;
       sized = was.sized;
       unlimited = was.unlimited;
       full = was.full;
-      settled = was.settled;
       planned = was.planned;
       wide = was.wide;
       failed = was.failed;
+      dead = was.dead;
       room_left = more;
       rows_fit = was.rows_fit;
       buffer_fits = was.buffer_fits;

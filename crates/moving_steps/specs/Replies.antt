@@ -1,20 +1,27 @@
 -- A reply to a request for steps in a reshape.
-use Rattle.std.specs.Prelude.{◌≡◌, ◌⊎◌, MatchOption, ⊤}
+use Rattle.std.specs.Prelude.{◌≡◌, ◌⊎◌, false, IsSome, MatchOption, ⊤}
 use Rattle.md_base.specs.declared.answers.Refusal.{Refusal}
 use Rattle.md_base.specs.declared.answers.Refusal.TheVariants.{BackupFault}
+use Rattle.md_base.specs.declared.places.Shape.{Shape}
 use Rattle.superblocks.specs.declared.members.Members.{Members}
 use Rattle.flat_history.specs.declared.events.Event.{Event}
 use Rattle.flat_history.specs.declared.events.Event.TheVariants.{Stepped}
-use Rattle.views.specs.Lacking.{AreTooMany}
+use Rattle.views.specs.declared.work.Work.{Work}
+use Rattle.views.specs.Placed.{IsInForce}
+use Rattle.views.specs.Lacking.{AreTooMany, IsNotResynced}
 use Rattle.grow_asked.specs.declared.window.PhasesLeft.{PhasesLeft}
 use Rattle.course_kept.specs.declared.course.Course.{Course}
 use Rattle.running_words.specs.Parts.{left_in}
 
--- a step of a reshape that ended the request was refused for what is missing now, or for the backup
-abbrev pub IsEndedInReshape : Members → Refusal → Type 0
-IsEndedInReshape members refusal = AreTooMany members refusal ⊎ (refusal ≡ BackupFault)
+-- a resync is pending, and a role is missing that has data by a shape in force
+abbrev pub IsUnmendableNow : Work → Members → Refusal → Type 0
+IsUnmendableNow work members refusal = IsSome work.resync × (shape : Shape) × IsInForce members.newest shape × IsNotResynced shape false members refusal
+
+-- a step of a reshape that ended the request was refused for what is missing now, in the pending resync also for a role that has data, or for the backup
+abbrev pub IsEndedInReshape : Work → Members → Refusal → Type 0
+IsEndedInReshape work members refusal = AreTooMany members refusal ⊎ (IsUnmendableNow work members refusal ⊎ (refusal ≡ BackupFault))
 
 -- so many steps are left, and a step was refused rightly that ended the request
-abbrev pub IsReplyInReshape : Members → Course → PhasesLeft → Event → Type 0
-IsReplyInReshape members course ahead (Stepped done left ended) = (left ≡ left_in members course ahead) × MatchOption ended ⊤ (IsEndedInReshape members)
-IsReplyInReshape members course ahead event = ⊥
+abbrev pub IsReplyInReshape : Work → Members → Course → PhasesLeft → Event → Type 0
+IsReplyInReshape work members course ahead (Stepped done left ended) = (left ≡ left_in work members course ahead) × MatchOption ended ⊤ (IsEndedInReshape work members)
+IsReplyInReshape work members course ahead event = ⊥

@@ -25,7 +25,7 @@ pub fn answer<B: Bank>(moving: Moving<B>, who: Who, event: Event) -> Moving<B>
     requires open { IsCallGoing moving.parts.entries who }
     requires caller { who.caller ≢ 254 }
     requires room { 1 ≤ moving.parts.steps }
-    requires reply { IsReplyInReshape moving.parts.members moving.course moving.ahead event }
+    requires reply { IsReplyInReshape moving.parts.work moving.parts.members moving.course moving.ahead event }
     ensures entered { IsEntered B.tells (B.tape moving.parts.bank) who moving.parts.entries result.parts.entries (event ∷ []) }
     ensures room { result.parts.steps + 1 ≡ moving.parts.steps }
     ensures bank { result.parts.bank ≡ moving.parts.bank }

@@ -1,5 +1,5 @@
 -- What an opening found runs, with or without a reshape.
-use Rattle.std.proofs.Common.{◌≡◌, inl, inr, ℕ, ◌<◌, ◌≤◌, true, false, List, length, Option, Some, IfSome, Result, Ok, Err, IfOk, IfErr, sym, ◌∙◌, subst, arith}
+use Rattle.std.proofs.Common.{◌≡◌, ◌⊎◌, inl, inr, ℕ, ◌<◌, ◌≤◌, Bool, true, false, MatchBool, List, [], length, Option, Some, IfSome, Result, Ok, Err, IfOk, IfErr, sym, ◌∙◌, ap, subst, arith}
 use Rattle.md_base.specs.declared.answers.Fault.{Fault}
 use Rattle.md_base.specs.declared.answers.Fault.TheVariants.{Refused, NoMemory}
 use Rattle.md_base.specs.declared.answers.Refusal.TheVariants.{BackupAbsent}
@@ -8,21 +8,23 @@ use Rattle.bank.specs.declared.bank.Operation.{Operation}
 use Rattle.bank.specs.Given.{Given, NeverFalls}
 use Rattle.bank.specs.Tape.{Contents, contents}
 use Rattle.bank.proofs.Causes.{faulted_longer}
+use Rattle.superblocks.specs.declared.members.Members.{Members}
 use Rattle.superblocks.specs.Found.{AreInSectors}
 use Rattle.superblocks.specs.Reading.{is_reshaping}
 use Rattle.superblocks.specs.Writing.{AreWritable}
 use Rattle.flat_history.specs.Stands.{verdict}
 use Rattle.shape_views.specs.Regions.{DoWithout}
 use Rattle.views.specs.Flushing.{OnlyItsSlotsFail}
+use Rattle.array_kept.specs.Adopting.{IsAdopted}
+use Rattle.grow_asked.specs.Left.{phases_of}
+use Rattle.running_words.specs.Parts.{RunningParts}
 use Rattle.assemble.specs.declared.opening.Opened.{Opened}
 use Rattle.assemble.specs.Opening.{scope_of, array_of, AreGiven, AreOfGiven, AreCounted, AreFlushed, IsFound, IsAside, IsOpened, IsUnfound, HasFoundNone}
 use Rattle.assemble.proofs.RunningLaws.{assembled}
 use Rattle.moving_opens.specs.Opening.{AreOpenedMoving}
 use Rattle.openings.specs.Adopted.{IsMovingAdopted, IsNotAdopted}
-use Rattle.openings.specs.Found.{IsStillFound, IsArrayFound, bank_of, IsStillRun, IsMovingRun}
-use Rattle.openings.specs.declared.finding.FoundArray.{FoundArray}
-use Rattle.openings.specs.declared.finding.FoundArray.TheVariants.{Still, Moving}
-use Rattle.openings.proofs.FoundMoving.{found-moving, found-does, backup-failed}
+use Rattle.openings.specs.Found.{IsStillFound, IsMovingFound, IsRunningFound}
+use Rattle.openings.proofs.FoundMoving.{found-moving, found-roles, found-does, backup-failed}
 use Rattle.openings.proofs.Same.{adopted-same}
 
 -- ---- results
@@ -39,6 +41,24 @@ pub err-both : {T E : Type 0} (P Q : E → Type 0) (result : Result T E) → IfE
 err-both P Q (Ok x) p q = tt
 err-both P Q (Err e) p q = (p, q)
 
+-- ---- either
+
+-- what was found runs, by what its superblocks tell
+as-told : {B : Type 0} (tells : Type 0) (bank : Given) (tape : List Operation) (backup : Option ℕ) (asked : Option (List ℕ)) (before after : ℕ → ℕ) (run : RunningParts B) (b : Bool) → is_reshaping run.parts.members.newest ≡ b
+    → MatchBool b (IsMovingFound tells bank tape backup asked before after run) (IsStillFound tells bank tape backup asked before after run) → IsRunningFound tells bank tape backup asked before after run
+as-told tells bank tape backup asked before after run b is found =
+    subst (λ (b : Bool). MatchBool b (IsMovingFound tells bank tape backup asked before after run) (IsStillFound tells bank tape backup asked before after run)) (sym is) found
+
+-- it is one of the two
+pub either-found : {B : Type 0} (tells : Type 0) (bank : Given) (tape : List Operation) (backup : Option ℕ) (asked : Option (List ℕ)) (before after : ℕ → ℕ) (run : RunningParts B) → IsRunningFound tells bank tape backup asked before after run
+    → IsStillFound tells bank tape backup asked before after run ⊎ IsMovingFound tells bank tape backup asked before after run
+either-found tells bank tape backup asked before after run = by (is_reshaping run.parts.members.newest)
+  where
+    by : (b : Bool) → MatchBool b (IsMovingFound tells bank tape backup asked before after run) (IsStillFound tells bank tape backup asked before after run)
+        → IsStillFound tells bank tape backup asked before after run ⊎ IsMovingFound tells bank tape backup asked before after run
+    by true found = inr found
+    by false found = inl found
+
 -- ---- without a reshape
 
 pub opened-still : {tells : Type 0} (bank : Given) (c : Contents) (backup : Option ℕ) (asked : Option (List ℕ)) (opened : Opened) → IsFound tells bank c backup asked opened
@@ -47,14 +67,14 @@ opened-still bank c backup asked opened is still = record { elected = is.elected
 
 pub still-found : {B tells : Type 0} (tape_of : B → List Operation) (faults_of : B → ℕ → ℕ) (device : B) (bank : Given) (backup : Option ℕ) (asked : Option (List ℕ)) (before : ℕ → ℕ) (opened : Opened)
     → IsOpened tells bank (contents bank.start (tape_of device) (length (tape_of device))) backup asked opened → AreGiven bank opened.given before (faults_of device)
-    → IfSome asked (λ uuid. opened.members.newest.set_uuid ≡ uuid) → (run : FoundArray B) → IsStillRun tells device (tape_of device) opened.given backup opened.members run
-    → IsArrayFound tells bank (tape_of (bank_of run)) backup asked before (faults_of (bank_of run)) run
-still-found {tells = tells} tape_of faults_of device bank backup asked before opened is given named (Still made) did =
-    subst (λ b. IsStillFound tells bank (tape_of b) backup asked before (faults_of b) made) (sym did.0.bank_is) (record {
-      assembled = assembled device bank (tape_of device) backup opened made.parts did.0 asked before (faults_of device) is given named;
-      planless = did.1;
-    })
-still-found tape_of faults_of device bank backup asked before opened is given named (Moving made) did = absurd did
+    → IfSome asked (λ uuid. opened.members.newest.set_uuid ≡ uuid) → (run : RunningParts B) → IsAdopted tells device (tape_of device) opened.given backup opened.members run.parts → phases_of run.ahead ≡ []
+    → IsRunningFound tells bank (tape_of run.parts.bank) backup asked before (faults_of run.parts.bank) run
+still-found {B = B} {tells = tells} tape_of faults_of device bank backup asked before opened is given named run did planless =
+    as-told tells bank (tape_of run.parts.bank) backup asked before (faults_of run.parts.bank) run false (ap (λ (m : Members). is_reshaping m.newest) did.members_are ∙ is.still)
+    (subst (λ (b : B). IsStillFound tells bank (tape_of b) backup asked before (faults_of b) run) (sym did.bank_is) (record {
+      assembled = assembled device bank (tape_of device) backup opened run.parts did asked before (faults_of device) is given named;
+      planless = planless;
+    }))
 
 -- ---- in a reshape
 
@@ -97,22 +117,23 @@ counts-both bank before mid after one two = record {
 
 pub moving-found : {B tells : Type 0} (tape_of : B → List Operation) (faults_of : B → ℕ → ℕ) (bank : Given) (tape : List Operation) (slot : ℕ) (backup : Option ℕ) (backup_is : backup ≡ Some slot)
     (asked : Option (List ℕ)) (before mid : ℕ → ℕ) (opened : Opened) → IsFound tells bank (contents bank.start tape (length tape)) backup asked opened → AreOpenedMoving tells bank tape opened.given slot opened.members
-    → NeverFalls before mid → AreGiven bank opened.given before mid → IfSome asked (λ uuid. opened.members.newest.set_uuid ≡ uuid) → (run : FoundArray B) → (tells → tape_of (bank_of run) ≡ tape)
-    → NeverFalls mid (faults_of (bank_of run)) → IsMovingRun tells bank tape opened.given slot opened.members run
-    → IsArrayFound tells bank (tape_of (bank_of run)) backup asked before (faults_of (bank_of run)) run
-moving-found tape_of faults_of bank tape slot backup backup_is asked before mid opened is are rose given named (Still made) same falls did = absurd did
-moving-found {tells = tells} tape_of faults_of bank tape slot backup backup_is asked before mid opened is are rose given named (Moving made) same falls did = record {
-  former = opened.members;
-  slot = slot;
-  backup_is = backup_is;
-  opened = subst (λ (n : ℕ). IsFound tells bank (contents bank.start (tape_of made.parts.bank) (length (tape_of made.parts.bank))) backup asked (record { members = opened.members; given = n })) (sym did.given)
-      (found-same bank tape (tape_of made.parts.bank) backup asked opened same is);
-  active = are.active;
-  adopted = subst (λ (n : ℕ). IsMovingAdopted tells bank (tape_of made.parts.bank) n slot opened.members made) (sym did.given) (adopted-same bank tape (tape_of made.parts.bank) opened.given slot opened.members made same did);
-  does = subst DoWithout (sym did.members_are) (found-does are did.recovering did.are);
-  given = subst (λ (n : ℕ). AreGiven bank n before (faults_of made.parts.bank)) (sym did.given) (given-later bank opened.given before mid (faults_of made.parts.bank) rose falls given);
-  named = subst (λ (u : List ℕ). IfSome asked (λ uuid. u ≡ uuid)) (sym did.uuid) named;
-}
+    → NeverFalls before mid → AreGiven bank opened.given before mid → IfSome asked (λ uuid. opened.members.newest.set_uuid ≡ uuid) → (run : RunningParts B) → (tells → tape_of run.parts.bank ≡ tape)
+    → NeverFalls mid (faults_of run.parts.bank) → IsMovingAdopted tells bank tape opened.given slot opened.members run
+    → IsRunningFound tells bank (tape_of run.parts.bank) backup asked before (faults_of run.parts.bank) run
+moving-found {tells = tells} tape_of faults_of bank tape slot backup backup_is asked before mid opened is are rose given named run same falls did =
+    as-told tells bank (tape_of run.parts.bank) backup asked before (faults_of run.parts.bank) run true (ap (λ (m : Members). is_reshaping m.newest) did.members_are ∙ are.active) (record {
+      former = opened.members;
+      slot = slot;
+      backup_is = backup_is;
+      opened = subst (λ (n : ℕ). IsFound tells bank (contents bank.start (tape_of run.parts.bank) (length (tape_of run.parts.bank))) backup asked (record { members = opened.members; given = n })) (sym did.given)
+          (found-same bank tape (tape_of run.parts.bank) backup asked opened same is);
+      active = are.active;
+      adopted = subst (λ (n : ℕ). IsMovingAdopted tells bank (tape_of run.parts.bank) n slot opened.members run) (sym did.given) (adopted-same bank tape (tape_of run.parts.bank) opened.given slot opened.members run same did);
+      roles = ap (λ (m : Members). m.roles) did.members_are ∙ found-roles are did.recovering did.are;
+      does = subst DoWithout (sym did.members_are) (found-does are did.recovering did.are);
+      given = subst (λ (n : ℕ). AreGiven bank n before (faults_of run.parts.bank)) (sym did.given) (given-later bank opened.given before mid (faults_of run.parts.bank) rose falls given);
+      named = subst (λ (u : List ℕ). IfSome asked (λ uuid. u ≡ uuid)) (sym did.uuid) named;
+    })
 
 -- ---- what is refused
 

@@ -1,5 +1,5 @@
 -- What an opening finds of an array in a reshape, before its window is read; and where the backup fails then.
-use Rattle.std.proofs.Common.{◌≡◌, ℕ, ◌<◌, ◌≤◌, ◌==◌, ◌&&◌, nat_lt, Bool, true, false, not, cond, List, [], length, take, Option, Some, refl, sym, ◌∙◌, ap, subst, arith}
+use Rattle.std.proofs.Common.{◌≡◌, ℕ, suc, ◌<◌, ◌≤◌, ◌==◌, ◌&&◌, nat_lt, Bool, true, false, not, cond, List, [], ◌∷◌, length, map, take, get_or, Option, Some, refl, sym, ◌∙◌, ap, ap₂, subst, arith}
 use Rattle.std.proofs.lemmas.Bool.Decides.{nat_tests}
 use Rattle.md_base.specs.declared.answers.Refusal.TheVariants.{BackupAbsent}
 use Rattle.md_base.specs.declared.status.Role.{Role}
@@ -19,6 +19,7 @@ use Rattle.superblocks.specs.Writing.{AreWritable}
 use Rattle.superblocks.proofs.SlotSets.{has-set_of}
 use Rattle.row_io.specs.Rows.{reading_of, is_missing, role_without, members_without}
 use Rattle.row_io.proofs.Losses.{state_after}
+use Rattle.flat_history.specs.Left.{opened_role}
 use Rattle.flat_history.specs.Stands.{verdict}
 use Rattle.shape_views.specs.Regions.{DoWithout}
 use Rattle.views.specs.Placed.{IsPlaced}
@@ -52,6 +53,11 @@ module _ {tells : Type 0} (bank : Given) (tape : List Operation) (asked : Option
 
 -- ---- without the slots that recover a role
 
+-- two changes of roles are the same where they are the same of each
+map-each : (f g : Role → Role) (roles : List Role) → ((role : ℕ) → f (get_or roles role Missing) ≡ g (get_or roles role Missing)) → map f roles ≡ map g roles
+map-each f g [] each = refl
+map-each f g (state ∷ roles) each = ap₂ (λ (x : Role) (xs : List Role). x ∷ xs) (each 0) (map-each f g roles (λ role. each (suc role)))
+
 module _ {tells : Type 0} {bank : Given} {tape : List Operation} {given backup : ℕ} {former : Members} (opened : AreOpenedMoving tells bank tape given backup former) (lost : ℕ) (recovering : AreRecovering former lost) where
   placed : IsPlaced bank former
   placed = placed-here bank given backup former opened.elected opened.aside opened.active opened.backed
@@ -64,6 +70,15 @@ module _ {tells : Type 0} {bank : Given} {tape : List Operation} {given backup :
       let same : role ≡ other.0 = placed.apart role other.0 slot (ap holder is) (ap holder other.1) in
       let clash : Whole slot ≡ Recovering slot = sym is ∙ ap (role_state (reading_of former)) same ∙ other.1 in
       cc)
+
+  -- each role is as an opening counts it
+  role-opened : (role : ℕ) (state : Role) → role_state (reading_of former) role ≡ state → role_without lost state ≡ opened_role true state
+  role-opened role (Whole slot) is = ap (λ (b : Bool). cond b Missing (Whole slot)) (kept role slot (has_slot lost slot) is refl)
+  role-opened role (Recovering slot) is = ap (λ (b : Bool). cond b Missing (Recovering slot)) (recovering.each role slot is)
+  role-opened role Missing is = refl
+
+  pub found-roles : (members_without lost former).roles ≡ map (opened_role true) former.roles
+  found-roles = map-each (role_without lost) (opened_role true) former.roles (λ role. role-opened role (role_state (reading_of former) role) refl)
 
   -- the same roles are missing
   missing-same : (role : ℕ) → is_missing (reading_of (members_without lost former)) role ≡ is_missing (reading_of former) role

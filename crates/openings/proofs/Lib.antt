@@ -1,4 +1,6 @@
 pub mod Ready
 pub mod Same
+pub mod Unplanned
+pub mod Aside
 pub mod FoundMoving
 pub mod FoundArrays

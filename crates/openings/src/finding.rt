@@ -1,44 +1,42 @@
 //! An array that is found in a bank's slots, and runs.
 
-ghost use Rattle.std.specs.Prelude.{◌≡◌, ◌<◌, ◌≤◌, ℕ, false, length, IfOk, IfErr, IfSome};
+ghost use Rattle.std.specs.Prelude.{◌≡◌, ◌<◌, ◌≤◌, ℕ, [], false, length, Some, IfOk, IfErr, IfSome};
 ghost use Rattle.md_base.specs.declared.answers.Fault.TheVariants.{NoMemory as WantsMemory};
 ghost use Rattle.md_base.specs.Shapes.{has_slot};
 ghost use Rattle.bank.specs.Tape.{contents};
+ghost use Rattle.superblocks.specs.Reads.{has_spare};
 ghost use Rattle.row_io.specs.Rows.{present};
 ghost use Rattle.views.specs.Flushing.{OnlyFlushesAdded, OnlyItsSlotsFail};
+ghost use Rattle.views.specs.Rebuilding.{Held};
 ghost use Rattle.array_kept.specs.Kept.{scope_in};
-ghost use Rattle.array_kept.specs.Adopting.{IsAdoptable};
+ghost use Rattle.array_kept.specs.Adopting.{IsAdoptable, IsAdopted};
+ghost use Rattle.grow_asked.specs.Left.{phases_of};
 ghost use Rattle.assemble.specs.Opening.{HasFoundNone};
 ghost use Rattle.moving_opens.specs.Opening.{AreOpenedMoving};
-ghost use Rattle.openings.specs.Adopted.{IsNotAdopted};
-ghost use Rattle.openings.specs.Found.{IsStillRun, IsMovingRun, IsArrayFound, bank_of};
+ghost use Rattle.openings.specs.Adopted.{IsMovingAdopted, IsNotAdopted};
+ghost use Rattle.openings.specs.Found.{IsRunningFound};
 
 use crate::adopting::adopt_moving;
 use assemble::{Opened, find};
 use bank::Bank;
 use md_base::Fault;
-use moving::Moving;
+use running::Running;
 use std::alloc::Global;
 use still::Still;
 use superblocks::says::is_reshaping;
 
-/// An array that runs: without an active reshape, or in one.
-#[derive(Drop)]
-pub enum FoundArray<B: Bank> {
-    Still(Still<B>),
-    Moving(Moving<B>),
-}
-
-// The array runs that has no active reshape.
-fn run_still<B: Bank>(
+// The array runs that has no active reshape, and whose backup holds no role and is no spare.
+pub(crate) fn run_still<B: Bank>(
     alloc: Global,
     bank: B,
     backup: Option<u32>,
     found: Opened,
-) -> Result<FoundArray<B>, (B, Fault)>
+) -> Result<Running<B>, (B, Fault)>
     requires adoptable { IsAdoptable B.tells (B.given bank) (B.tape bank) (scope_in (B.given bank) found.members.newest.set_uuid found.given backup) found.members }
     requires failed { (slot : ℕ) → slot < (B.given bank).slots → has_slot found.given slot ≡ false → 0 < B.faults_of bank slot }
-    ensures run { IfOk result (λ run. IsStillRun B.tells bank (B.tape bank) found.given backup found.members run) }
+    requires aside { (slot : ℕ) → backup ≡ Some slot → (has_spare found.members.spares slot ≡ false) × ((role : ℕ) → Held found.members role slot → ⊥) }
+    ensures run { IfOk result (λ run. IsAdopted B.tells bank (B.tape bank) found.given backup found.members run.parts) }
+    ensures planless { IfOk result (λ run. phases_of run.ahead ≡ []) }
     ensures handed_back { IfErr result (λ e. e.0 ≡ bank) }
     ensures short { IfErr result (λ e. e.1 ≡ WantsMemory) }
 {
@@ -49,7 +47,7 @@ fn run_still<B: Bank>(
         given,
     };
     match Still::adopt(alloc, bank, opened) {
-        Ok(still) => Ok(FoundArray::Still(still)),
+        Ok(still) => Ok(Running::of_still(alloc, still)),
         Err((bank, _)) => Err((bank, Fault::NoMemory)),
     }
 }
@@ -60,50 +58,50 @@ fn run_moving<B: Bank>(
     bank: B,
     backup: u32,
     found: Opened,
-) -> Result<FoundArray<B>, (B, Fault)>
+) -> Result<Running<B>, (B, Fault)>
     requires opened { AreOpenedMoving B.tells (B.given bank) (B.tape bank) found.given backup found.members }
     requires slot { backup < (B.given bank).slots }
     requires failed { (slot : ℕ) → slot < (B.given bank).slots → has_slot found.given slot ≡ false → 0 < B.faults_of bank slot }
-    ensures run { IfOk result (λ run. IsMovingRun B.tells (B.given bank) (B.tape bank) found.given backup found.members run) }
+    ensures run { IfOk result (λ run. IsMovingAdopted B.tells (B.given bank) (B.tape bank) found.given backup found.members run) }
     ensures refused { IfErr result (λ e. IsNotAdopted backup bank e.0 (B.faults_of bank) (B.faults_of e.0) e.1) }
-    ensures tape { IfOk result (λ run. B.tells → B.tape (bank_of run) ≡ B.tape bank) }
+    ensures tape { IfOk result (λ run. B.tells → B.tape run.parts.bank ≡ B.tape bank) }
     ensures left_tape { IfErr result (λ e. B.tells → B.tape e.0 ≡ B.tape bank) }
-    ensures given { IfOk result (λ run. B.given (bank_of run) ≡ B.given bank) }
+    ensures given { IfOk result (λ run. B.given run.parts.bank ≡ B.given bank) }
     ensures left_given { IfErr result (λ e. B.given e.0 ≡ B.given bank) }
-    ensures counts { IfOk result (λ run. OnlyItsSlotsFail (B.given bank) (B.faults_of bank) (B.faults_of (bank_of run))) }
+    ensures counts { IfOk result (λ run. OnlyItsSlotsFail (B.given bank) (B.faults_of bank) (B.faults_of run.parts.bank)) }
     ensures left_counts { IfErr result (λ e. OnlyItsSlotsFail (B.given bank) (B.faults_of bank) (B.faults_of e.0)) }
 {
     let Opened { members, given } = found;
     match adopt_moving(alloc, bank, backup, members, given) {
-        Ok(moving) => Ok(FoundArray::Moving(moving)),
+        Ok(moving) => Ok(Running::of_moving(alloc, moving)),
         Err(refused) => Err(refused),
     }
 }
 
 /// Opens the array with this uuid, or without one that of the first superblock in a member slot, which are all slots but
-/// the backup, and runs it; its first entries tell the roles that aren't whole. The superblocks are read, and all slots are
-/// flushed, so that a stop leaves what they hold; where a reshape is active, the section in the backup is read too. A slot
-/// that fails counts as absent. It writes nothing. It is refused for the first cause that what the slots hold gives, with
-/// the bank handed back.
-pub fn open_array<B: Bank>(
+/// the backup, and runs it, in a reshape or not as its superblocks tell; its first entries tell the roles that aren't whole,
+/// and it has no plan. The superblocks are read, and all slots are flushed, so that a stop leaves what they hold; where a
+/// reshape is active, the section in the backup is read too. A slot that fails counts as absent. It writes nothing. It is
+/// refused for the first cause that what the slots hold gives, with the bank handed back.
+pub fn open_running<B: Bank>(
     alloc: Global,
     bank: B,
     backup: Option<u32>,
     uuid: Option<[u8; 16]>,
-) -> Result<FoundArray<B>, (B, Fault)>
+) -> Result<Running<B>, (B, Fault)>
     requires few { (B.given bank).slots ≤ 32 }
     requires backup { IfSome backup (λ slot. slot < (B.given bank).slots) }
-    ensures found { IfOk result (λ found. IsArrayFound B.tells (B.given bank) (B.tape (bank_of found)) backup uuid (B.faults_of bank) (B.faults_of (bank_of found)) found) }
+    ensures found { IfOk result (λ found. IsRunningFound B.tells (B.given bank) (B.tape found.parts.bank) backup uuid (B.faults_of bank) (B.faults_of found.parts.bank) found) }
     ensures refused { IfErr result (λ e. HasFoundNone B.tells (B.given bank) (present (B.given bank) (B.tape bank)) backup uuid (B.faults_of bank) (B.faults_of e.0) e.1) }
-    ensures tape { IfOk result (λ found. B.tells → OnlyFlushesAdded (B.tape bank) (B.tape (bank_of found))) }
+    ensures tape { IfOk result (λ found. B.tells → OnlyFlushesAdded (B.tape bank) (B.tape found.parts.bank)) }
     ensures left_tape { IfErr result (λ e. B.tells → OnlyFlushesAdded (B.tape bank) (B.tape e.0)) }
     ensures contents { IfOk result (λ found. B.tells → let start = (B.given bank).start in
-        contents start (B.tape (bank_of found)) (length (B.tape (bank_of found))) ≡ contents start (B.tape bank) (length (B.tape bank))) }
+        contents start (B.tape found.parts.bank) (length (B.tape found.parts.bank)) ≡ contents start (B.tape bank) (length (B.tape bank))) }
     ensures left_contents { IfErr result (λ e. B.tells → let start = (B.given bank).start in
         contents start (B.tape e.0) (length (B.tape e.0)) ≡ contents start (B.tape bank) (length (B.tape bank))) }
-    ensures given { IfOk result (λ found. B.given (bank_of found) ≡ B.given bank) }
+    ensures given { IfOk result (λ found. B.given found.parts.bank ≡ B.given bank) }
     ensures left_given { IfErr result (λ e. B.given e.0 ≡ B.given bank) }
-    ensures counts { IfOk result (λ found. OnlyItsSlotsFail (B.given bank) (B.faults_of bank) (B.faults_of (bank_of found))) }
+    ensures counts { IfOk result (λ found. OnlyItsSlotsFail (B.given bank) (B.faults_of bank) (B.faults_of found.parts.bank)) }
     ensures left_counts { IfErr result (λ e. OnlyItsSlotsFail (B.given bank) (B.faults_of bank) (B.faults_of e.0)) }
 {
     let mut bank = bank;

@@ -1,8 +1,10 @@
-//! An array that is found in a bank's slots begins to run, whether a reshape is active in it or not.
+//! An array that is made in a bank's slots, or found there, begins to run, whether a reshape is active in it or not.
 #![tactic(auto)]
 
 mod adopting;
+mod creating;
 mod finding;
 
 pub use adopting::adopt_moving;
-pub use finding::{FoundArray, open_array};
+pub use creating::create_array;
+pub use finding::open_running;

@@ -9,7 +9,7 @@ ghost use Rattle.row_io.specs.Rows.{present};
 ghost use Rattle.flat_history.specs.Stands.{reach_of};
 ghost use Rattle.shape_views.specs.Regions.{AreShapesFit, header_in, open_by};
 ghost use Rattle.grow_asked.specs.declared.window.Window.TheVariants.{Closed, Entered};
-ghost use Rattle.course_kept.specs.Course.{IsWindowOf};
+ghost use Rattle.moving_state.specs.course_kept_Course.{IsWindowOf};
 ghost use Rattle.moving_state.specs.Due.{unsure_in};
 ghost use Rattle.reshape_openings.specs.Finding.{IsLookedFor, window_for, bytes_for, IsFoundIn};
 

@@ -193,8 +193,11 @@ module _ (was now : Setting) (wider : IsWider was now) (old new : History) (late
   held-wider role slot (inr (inl first)) = inr (inl (subst (λ (w : World). SpareAtFirst w slot) (sym world_later) (spare-longer (history_world was old) (wider.grows.more t).0 first)))
   held-wider role slot (inr (inr (inl told))) = inr (inr (inl (subst (λ (l : List Entry). IsTrue (list_any (λ e. is_added slot e.event) l)) (sym later.grown) (added-more slot old.entries later.more told))))
   held-wider role slot (inr (inr (inr (finished, had, held)))) =
-      inr (inr (inr (subst (λ (l : List Entry). IsTrue (list_any (λ e. is_finish e.event) l)) (sym later.grown) (finish-more old.entries later.more finished), had,
-      subst (λ (w : World). HeldAtFirst w had slot) (sym world_later) (held-longer (history_world was old) (wider.grows.more t).0 held))))
+      inr (inr (inr (
+        subst (λ (l : List Entry). IsTrue (list_any (λ e. is_finish e.event) l)) (sym later.grown) (finish-more old.entries later.more finished),
+        had,
+        subst (λ (w : World). HeldAtFirst w had slot) (sym world_later) (held-longer (history_world was old) (wider.grows.more t).0 held),
+      )))
 
   missing-wider : (role : ℕ) → MissingAtFirst (history_world was old) role → MissingAtFirst (history_world now new) role
   missing-wider role missing = subst (λ (w : World). MissingAtFirst w role) (sym world_later) (missing-longer (history_world was old) (wider.grows.more t).0 missing)

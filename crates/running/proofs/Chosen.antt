@@ -1,10 +1,12 @@
 -- What one of the two states says is what the words of both say.
-use Rattle.std.proofs.Common.{◌≡◌, ℕ, ◌+◌, Bool, true, false, List, [], ◌∷◌, ◌++◌, MatchBool, Result, Ok, Err, OnOk, All, refl, sym, ap, subst, length, arith}
+use Rattle.std.proofs.Common.{◌≡◌, ℕ, ◌+◌, inl, inr, Bool, true, false, List, [], ◌∷◌, ◌++◌, MatchBool, Result, Ok, Err, OnOk, OnErr, All, refl, sym, ap, subst, length, arith}
 use Rattle.std.proofs.lemmas.List.Elements.{All-nil, All-cons, All-head, All-tail}
 use Rattle.md_base.specs.Sectors.{Sector}
 use Rattle.md_base.specs.declared.answers.Fault.{Fault}
 use Rattle.md_base.specs.declared.answers.Fault.TheVariants.{Refused as IsRefusedWith, NoMemory}
+use Rattle.md_base.specs.declared.answers.Refusal.TheVariants.{BackupFault}
 use Rattle.md_base.specs.declared.answers.Who.{Who}
+use Rattle.md_base.specs.declared.places.Shape.{Shape}
 use Rattle.bank.specs.declared.bank.Operation.{Operation}
 use Rattle.superblocks.specs.declared.members.Members.{Members}
 use Rattle.superblocks.specs.Reading.{is_reshaping, shape_of, list_length}
@@ -17,17 +19,27 @@ use Rattle.flat_history.specs.Growing.{EndBy}
 use Rattle.flat_history.specs.OneShape.{IsOfCall}
 use Rattle.flat_history.specs.Plain.{entries_of}
 use Rattle.views.specs.Lacking.{IsUnread, IsUnwritten, are_mended, mended_rows}
-use Rattle.array_kept.specs.Calls.{IsCausedBy, IsAnswered, IsEntered, IsReplied, StandsInside}
-use Rattle.region_rows.specs.Stretches.{IsListUnread}
+use Rattle.array_kept.specs.Calls.{IsRefusedFor, IsCausedBy, IsAnswered, IsEntered, IsReplied, StandsInside}
+use Rattle.region_mends.specs.Mends.{relied_sector}
 use Rattle.kept_history.specs.Recorded.{entry_of}
 use Rattle.kept_history.proofs.Marks.{ends-call}
 use Rattle.running_words.specs.Parts.{RunningParts}
-use Rattle.moving_laws.specs.Writing.{IsWriteLacked, IsRepliedBehind, IsWriteAnswered}
+use Rattle.course_kept.specs.Course.{hidden_in}
+use Rattle.moving_state.specs.First.{IsUnreadAround}
+use Rattle.moving_laws.specs.Writing.{IsWriteBarred, IsRepliedBehind, IsWriteReplied}
 use Rattle.running.specs.Calls.{IsReadLacked, IsWriteLackedIn}
 
 pub on-ok : {T E : Type 0} (r : Result T E) {F : Type 0} → F → OnOk r F
 on-ok (Ok x) fact = fact
 on-ok (Err e) fact = tt
+
+pub on-err : {T E : Type 0} (r : Result T E) {F : Type 0} → F → OnErr r F
+on-err (Ok x) fact = tt
+on-err (Err e) fact = fact
+
+pub err-so : {T E : Type 0} (r : Result T E) {F G : Type 0} → (F → G) → OnErr r F → OnErr r G
+err-so (Ok x) so fact = tt
+err-so (Err e) so fact = so fact
 
 pub ok-so : {T E : Type 0} (r : Result T E) {F G : Type 0} → (F → G) → OnOk r F → OnOk r G
 ok-so (Ok x) so fact = so fact
@@ -39,26 +51,26 @@ module _ {B : Type 0} (array : RunningParts B) (at count : ℕ) (old new : Membe
   pub read-still : is_reshaping array.parts.members.newest ≡ false
       → IsCausedBy (list_length array.parts.members.newest) (at + count) (IsUnread (shape_of array.parts.members.newest) (mended_rows array.parts.work.resync array.parts.members) at count) old new result
       → IsCausedBy (list_length array.parts.members.newest) (at + count) (IsReadLacked array at count) old new result
-  read-still still caused = subst (λ (b : Bool). IsCausedBy (list_length array.parts.members.newest) (at + count) (λ m refusal. MatchBool b (IsListUnread (list_length array.parts.members.newest) at (at + count) m refusal)
+  read-still still caused = subst (λ (b : Bool). IsCausedBy (list_length array.parts.members.newest) (at + count) (λ m refusal. MatchBool b (IsUnreadAround (hidden_in array.course.window) (relied_sector array.parts.members.newest array.parts.work.resync) at (at + count) m refusal)
       (IsUnread (shape_of array.parts.members.newest) (mended_rows array.parts.work.resync array.parts.members) at count m refusal)) old new result) (sym still) caused
 
   pub read-moving : is_reshaping array.parts.members.newest ≡ true
-      → IsCausedBy (list_length array.parts.members.newest) (at + count) (IsListUnread (list_length array.parts.members.newest) at (at + count)) old new result
+      → IsCausedBy (list_length array.parts.members.newest) (at + count) (IsUnreadAround (hidden_in array.course.window) (relied_sector array.parts.members.newest array.parts.work.resync) at (at + count)) old new result
       → IsCausedBy (list_length array.parts.members.newest) (at + count) (IsReadLacked array at count) old new result
-  read-moving active caused = subst (λ (b : Bool). IsCausedBy (list_length array.parts.members.newest) (at + count) (λ m refusal. MatchBool b (IsListUnread (list_length array.parts.members.newest) at (at + count) m refusal)
+  read-moving active caused = subst (λ (b : Bool). IsCausedBy (list_length array.parts.members.newest) (at + count) (λ m refusal. MatchBool b (IsUnreadAround (hidden_in array.course.window) (relied_sector array.parts.members.newest array.parts.work.resync) at (at + count) m refusal)
       (IsUnread (shape_of array.parts.members.newest) (mended_rows array.parts.work.resync array.parts.members) at count m refusal)) old new result) (sym active) caused
 
   pub write-still : is_reshaping array.parts.members.newest ≡ false
       → IsCausedBy (list_length array.parts.members.newest) (at + count) (IsUnwritten (shape_of array.parts.members.newest)
       (are_mended (shape_of array.parts.members.newest) (mended_rows array.parts.work.resync array.parts.members) (at + count))) old new result
       → IsCausedBy (list_length array.parts.members.newest) (at + count) (IsWriteLackedIn array at count) old new result
-  write-still still caused = subst (λ (b : Bool). IsCausedBy (list_length array.parts.members.newest) (at + count) (λ m refusal. MatchBool b (IsWriteLacked array.course.window (list_length array.parts.members.newest) at (at + count) m refusal)
+  write-still still caused = subst (λ (b : Bool). IsCausedBy (list_length array.parts.members.newest) (at + count) (λ m refusal. MatchBool b (IsWriteBarred array.course.window (relied_sector array.parts.members.newest array.parts.work.resync) at (at + count) m refusal)
       (IsUnwritten (shape_of array.parts.members.newest) (are_mended (shape_of array.parts.members.newest) (mended_rows array.parts.work.resync array.parts.members) (at + count)) m refusal)) old new result) (sym still) caused
 
   pub write-moving : is_reshaping array.parts.members.newest ≡ true
-      → IsCausedBy (list_length array.parts.members.newest) (at + count) (IsWriteLacked array.course.window (list_length array.parts.members.newest) at (at + count)) old new result
+      → IsCausedBy (list_length array.parts.members.newest) (at + count) (IsWriteBarred array.course.window (relied_sector array.parts.members.newest array.parts.work.resync) at (at + count)) old new result
       → IsCausedBy (list_length array.parts.members.newest) (at + count) (IsWriteLackedIn array at count) old new result
-  write-moving active caused = subst (λ (b : Bool). IsCausedBy (list_length array.parts.members.newest) (at + count) (λ m refusal. MatchBool b (IsWriteLacked array.course.window (list_length array.parts.members.newest) at (at + count) m refusal)
+  write-moving active caused = subst (λ (b : Bool). IsCausedBy (list_length array.parts.members.newest) (at + count) (λ m refusal. MatchBool b (IsWriteBarred array.course.window (relied_sector array.parts.members.newest array.parts.work.resync) at (at + count) m refusal)
       (IsUnwritten (shape_of array.parts.members.newest) (are_mended (shape_of array.parts.members.newest) (mended_rows array.parts.work.resync array.parts.members) (at + count)) m refusal)) old new result) (sym active) caused
 
 -- ---- the reply of a write
@@ -83,10 +95,21 @@ replied-behind size request who old new event replied = record {
   fits = replied.fits;
 }
 
-pub write-answered : {T : Type 0} (size at : ℕ) (body : List Sector) (who : Who) (old new : List Entry) (result : Result T Fault) → IsAnswered size (AsksWrite at body) who old new (Wrote at body) result → IsWriteAnswered size at body who old new result
-write-answered size at body who old new (Ok x) replied = replied-behind size (AsksWrite at body) who old new (Wrote at body) replied
-write-answered size at body who old new (Err (IsRefusedWith refusal)) replied = replied-behind size (AsksWrite at body) who old new (Refused refusal) replied
-write-answered size at body who old new (Err NoMemory) replied = replied
+-- without a reshape none is refused for the backup
+never-for : (visible to : ℕ) (shape : Shape) (synced : Bool) (old new : Members) → IsRefusedFor visible to (IsUnwritten shape synced) old new BackupFault → ⊥
+never-for visible to shape synced old new (within, inl lacks) = absurd (let told = lacks.told in cc)
+never-for visible to shape synced old new (within, inr lacked) = absurd (let told = lacked.1 in cc)
+
+pub no-backup_fault : {P T : Type 0} (visible to : ℕ) (shape : Shape) (synced : Bool) (old new : Members) (result : Result T Fault) → result ≡ Err (IsRefusedWith BackupFault) → IsCausedBy visible to (IsUnwritten shape synced) old new result → P
+no-backup_fault visible to shape synced old new result is caused =
+    absurd (never-for visible to shape synced old new (subst (λ r. IsCausedBy visible to (IsUnwritten shape synced) old new r) is caused))
+
+pub write-replied : {T : Type 0} (visible to : ℕ) (shape : Shape) (synced : Bool) (before after : Members) (size at : ℕ) (body : List Sector) (who : Who) (old new : List Entry) (result : Result T Fault)
+    → IsAnswered size (AsksWrite at body) who old new (Wrote at body) result → IsCausedBy visible to (IsUnwritten shape synced) before after result → IsWriteReplied size at body who old new result
+write-replied visible to shape synced before after size at body who old new (Ok x) replied caused = replied-behind size (AsksWrite at body) who old new (Wrote at body) replied
+write-replied visible to shape synced before after size at body who old new (Err (IsRefusedWith BackupFault)) replied caused = absurd (never-for visible to shape synced before after caused)
+write-replied visible to shape synced before after size at body who old new (Err (IsRefusedWith refusal)) replied caused = replied-behind size (AsksWrite at body) who old new (Refused refusal) replied
+write-replied visible to shape synced before after size at body who old new (Err NoMemory) replied caused = replied
 
 -- ---- the end
 

@@ -1,9 +1,10 @@
 -- What a running array keeps over a call.
-use Rattle.std.proofs.Common.{◌≡◌, ◌⊎◌, inl, inr, ℕ, ◌+◌, ◌*◌, ◌<◌, ◌≤◌, ◌==◌, Bool, true, false, List, [], ◌∷◌, Option, Some, refl, sym, ◌∙◌, ap, subst, arith}
+use Rattle.std.proofs.Common.{◌≡◌, ◌⊎◌, inl, inr, ℕ, ◌+◌, ◌*◌, ◌<◌, ◌≤◌, ◌==◌, Bool, true, false, List, [], ◌∷◌, ◌++◌, Option, Some, refl, sym, ◌∙◌, ap, subst, arith}
 use Rattle.std.proofs.lemmas.Bool.{cases_lt}
 use Rattle.std.proofs.lemmas.Bool.Decides.{nat_tests}
-use Rattle.std.specs.Prelude.{Result, Ok, Err, OnOk, OnErr, IsTrue}
-use Rattle.md_base.specs.Shapes.{has_slot}
+use Rattle.std.proofs.lemmas.List.Folds.{list_any-append}
+use Rattle.std.specs.List.{list_any}
+use Rattle.std.specs.Prelude.{if◌then◌else◌, Result, Ok, Err, OnOk, OnErr, IsTrue, MatchOption, ⊤}
 use Rattle.md_base.specs.declared.answers.Fault.{Fault}
 use Rattle.md_base.specs.declared.answers.Fault.TheVariants.{Refused as IsRefusedWith, NoMemory}
 use Rattle.md_base.specs.declared.answers.Refusal.{Refusal}
@@ -13,27 +14,108 @@ use Rattle.md_base.specs.declared.wishes.Phase.TheVariants.{Reshape}
 use Rattle.md_base.specs.declared.answers.Who.{Who}
 use Rattle.bank.specs.Given.{Given}
 use Rattle.bank.specs.declared.bank.Operation.{Operation}
-use Rattle.grow_plan.specs.Plans.{phase_window}
+use Rattle.grow_plan.specs.Plans.{phase_window, last_shape}
 use Rattle.superblocks.specs.declared.members.Members.{Members}
-use Rattle.superblocks.specs.Reading.{is_backup, is_reshaping, shape_of}
+use Rattle.superblocks.specs.Reading.{Reading, is_backup, is_reshaping, shape_of, final_shape}
 use Rattle.superblocks.specs.Reads.{has_spare}
+use Rattle.flat_history.specs.declared.events.Entry.{Entry}
+use Rattle.flat_history.specs.declared.events.Epoch.{Epoch}
+use Rattle.flat_history.specs.declared.events.Event.TheVariants.{Refused}
+use Rattle.flat_history.specs.Epochs.{world_of}
+use Rattle.flat_history.specs.Growing.{grown}
+use Rattle.flat_history.specs.Plain.{entries_of}
+use Rattle.flat_history.specs.Reshaped.{open_plans}
 use Rattle.flat_history.specs.World.{World}
+use Rattle.views.specs.Moving.{Grows}
+use Rattle.views.proofs.MovedLaws.{grows-none}
 use Rattle.views.specs.Rebuilding.{Held, MayHold}
-use Rattle.views.specs.Placed.{AreStillHeld}
-use Rattle.array_kept.specs.Calls.{AreHeldOrSpare, AreSparesFewer, IsAddedFor, IsUnaddable}
+use Rattle.views.specs.Placed.{AreWhole}
+use Rattle.views.specs.declared.work.Work.{Work}
+use Rattle.array_kept.specs.Kept.{scope_in}
+use Rattle.array_kept.specs.Calls.{AreHeldOrSpare, IsAddedFor, IsUnaddable}
+use Rattle.kept_history.proofs.Growing.{reading-grown}
+use Rattle.kept_history.proofs.Tests.{neither}
 use Rattle.grow_asked.specs.declared.window.PhasesLeft.{PhasesLeft}
 use Rattle.grow_asked.specs.Left.{phases_of}
+use Rattle.running_words.specs.Adding.{IsAddCalled}
 use Rattle.running_words.specs.Parts.{RunningParts}
-use Rattle.running_words.specs.Calls.{IsSameReshape}
-use Rattle.turning.specs.Begun.{IsGivenBack}
-use Rattle.running.specs.State.{IsStillNow, IsOneReshape, CanBeNext, IsAtRest, IsInReshape}
+use Rattle.running_words.specs.Calls.{moving_world, IsCalled, IsSameReshape}
+use Rattle.running_words.specs.Plans.{aim_of, ArePlansKept, turns_shape, KeepsShape}
+use Rattle.still_laws.specs.Steps.{IsStepped}
+use Rattle.moving_laws.specs.Mending.{IsMendCalled}
+use Rattle.turning.specs.Begun.{IsReshapeBegun, IsGivenBack}
+use Rattle.turning.specs.Ended.{IsReshapeEnded}
+use Rattle.still_laws.proofs.PlansKept.{AddNoPlan, add-nothing, plans-kept, plans-closed, aim-begun, aim-ended}
+use Rattle.running.specs.State.{IsStillNow, IsOneReshape, CanBeNext, IsWithin, IsBackupAside, AreClosedIdle, IsAtRest, IsInReshape}
+use Rattle.running.proofs.Closed.{closed-kept, closed-ended}
+use Rattle.running.proofs.Entered.{add-begun, begun-turns, add-ended}
 
--- What a call leaves as it was, as far as what is ahead asks for it.
-pub record LeavesAhead {B : Type 0} (given given' : Given) (old new : RunningParts B) : Type 0 where
-  pub given_is : given' ≡ given
-  pub backup : new.parts.backup ≡ old.parts.backup
+-- ---- the history
+
+-- its world over its bank
+abbrev pub world_over : {B : Type 0} → (B → Given) → (B → List Operation) → RunningParts B → World
+world_over given tape array = moving_world (given array.parts.bank) (tape array.parts.bank) array
+
+-- What each call leaves: the same array over a bank on which more was done, and more entries, none of which is a plan.
+pub record GoesOn {B : Type 0} (tells : Type 0) (given : B → Given) (tape : B → List Operation) (old new : RunningParts B) : Type 0 where
+  pub given_is : given new.parts.bank ≡ given old.parts.bank
+  pub grows : Grows tells (tape old.parts.bank) (tape new.parts.bank)
+  pub uuid : new.parts.uuid ≡ old.parts.uuid
   pub slots : new.parts.given ≡ old.parts.given
+  pub first : new.parts.first ≡ old.parts.first
+  pub backup : new.parts.backup ≡ old.parts.backup
+  pub added : AddNoPlan old.parts.entries new.parts.entries
+
+module _ {B : Type 0} {tells : Type 0} (given : B → Given) (tape : B → List Operation) (old new : RunningParts B) (on : GoesOn tells given tape old new) (within : IsWithin tells (tape old.parts.bank) old) where
+  world-on : (t : tells) → world_over given tape new ≡ grown (world_over given tape old) (on.grows.more t).0
+  world-on t = λ i. record {
+    start = (on.given_is i).start;
+    tape = (on.grows.more t).1 i;
+    scope = scope_in (on.given_is i) (on.uuid i) (on.slots i) (on.backup i);
+    first = on.first i;
+  }
+
+  -- the plans that are open go where they went
+  pub plans-on : aim_of new ≡ aim_of old → ArePlansKept tells (world_over given tape old) old → ArePlansKept tells (world_over given tape new) new
+  plans-on aim was =
+      subst (λ (g : Given). ArePlansKept tells (moving_world g (tape new.parts.bank) new) new) (sym on.given_is)
+      (plans-kept {B = B} (given old.parts.bank) {old = old} {new = new} on.grows (record { uuid = on.uuid; given = on.slots; first = on.first; backup = on.backup; aim = aim }) on.added within.begun within.ends was)
+
+  -- where it hadn't kept its shape, it hasn't
+  pub turned-on : (tells → KeepsShape (world_over given tape old) old.parts.entries → ⊥) → tells → KeepsShape (world_over given tape new) new.parts.entries → ⊥
+  turned-on was t keeps =
+      let ops = (on.grows.more t).0 in
+      let world = world_over given tape old in
+      let later : KeepsShape (grown world ops) (old.parts.entries ++ on.added.more) =
+      subst (λ (w : World). KeepsShape w (old.parts.entries ++ on.added.more)) (world-on t) (subst (λ (l : List Entry). KeepsShape (world_over given tape new) l) on.added.grown keeps) in
+      was t (record {
+        found = subst (λ (o : Option Reading). MatchOption o ⊤ (λ r. is_reshaping r.newest ≡ false)) (reading-grown world ops old.parts.first (within.begun t)) later.found;
+        none = (neither (list_any (λ e. turns_shape e.event) old.parts.entries) (list_any (λ e. turns_shape e.event) on.added.more)
+            (sym (list_any-append (λ e. turns_shape e.event) old.parts.entries on.added.more) ∙ later.none)).0;
+      })
+
+-- the parts of an array whose bank and history are handed out
+abbrev pub handed : {B : Type 0} → RunningParts B → B → Epoch → RunningParts B
+handed old bank epoch = record old { parts = record old.parts { bank = bank; uuid = epoch.uuid; given = epoch.given; first = epoch.first; entries = epoch.entries.items } }
+
+-- in a reshape they don't keep its shape
+pub turned-out : {B tells : Type 0} {P : Type 0} (given : B → Given) (tape : B → List Operation) (old : RunningParts B) (bank : B) (epoch : Epoch) → given bank ≡ given old.parts.bank → Grows tells (tape old.parts.bank) (tape bank)
+    → epoch.uuid ≡ old.parts.uuid → epoch.given ≡ old.parts.given → epoch.first ≡ old.parts.first → AddNoPlan old.parts.entries epoch.entries.items → IsInReshape tells (given old.parts.bank) (tape old.parts.bank) old
+    → tells → KeepsShape (world_of (given bank) (tape bank) old.parts.backup epoch) epoch.entries.items → P
+turned-out given tape old bank epoch given_is grows uuid slots first added was t keeps =
+    absurd (turned-on given tape old (handed old bank epoch) (record { given_is = given_is; grows = grows; uuid = uuid; slots = slots; first = first; backup = refl; added = added }) was.within was.turned t keeps)
+
+-- the aim of an array that is in the same shapes
+aim-same : {B : Type 0} (old new : RunningParts B) → is_reshaping new.parts.members.newest ≡ is_reshaping old.parts.members.newest → final_shape new.parts.members.newest ≡ final_shape old.parts.members.newest
+    → shape_of new.parts.members.newest ≡ shape_of old.parts.members.newest → new.ahead ≡ old.ahead → aim_of new ≡ aim_of old
+aim-same old new active final shape ahead = λ i. last_shape (if active i then final i else shape i) (phases_of (ahead i))
+
+-- ---- without a reshape
+
+-- What a call leaves as it was besides, as far as what is ahead asks for it.
+pub record LeavesAhead {B : Type 0} (old new : RunningParts B) : Type 0 where
   pub shape : shape_of new.parts.members.newest ≡ shape_of old.parts.members.newest
+  pub final : final_shape new.parts.members.newest ≡ final_shape old.parts.members.newest
   pub size : new.parts.members.newest.size ≡ old.parts.members.newest.size
   pub ahead : new.ahead ≡ old.ahead
   pub held : (role slot : ℕ) → Held new.parts.members role slot → MayHold old.parts.members role slot
@@ -43,18 +125,20 @@ not-true : (b : Bool) → (b ≡ true → ⊥) → b ≡ false
 not-true true none = absurd (none refl)
 not-true false none = refl
 
-module _ {B : Type 0} (given given' : Given) (window : ℕ) (old new : RunningParts B) (leaves : LeavesAhead given given' old new) where
-  next-kept : (to : Shape) → CanBeNext given window old to → CanBeNext given' window new to
+clash : {P : Type 0} {b : Bool} → b ≡ false → b ≡ true → P
+clash off on = absurd (let both : true ≡ false = sym on ∙ off in cc)
+
+module _ {B : Type 0} {tells : Type 0} (given : B → Given) (tape : B → List Operation) (window : ℕ) (old new : RunningParts B) (on : GoesOn tells given tape old new) (leaves : LeavesAhead old new) where
+  next-kept : (to : Shape) → CanBeNext (given old.parts.bank) window old to → CanBeNext (given new.parts.bank) window new to
   next-kept to can = record {
     slot = can.slot;
-    backup = leaves.backup ∙ can.backup;
+    backup = on.backup ∙ can.backup;
     serves = record {
-      known = subst (λ (g : Given). can.slot < g.slots) (sym leaves.given_is) can.serves.known;
-      sound = ap (λ (n : ℕ). has_slot n can.slot) leaves.slots ∙ can.serves.sound;
-      apart = not-true (has_spare new.parts.members.spares can.slot) (λ is. absurd (let was = leaves.spares can.slot can.backup is in let apart = can.serves.apart in let e : true ≡ false = sym was ∙ apart in cc));
+      known = subst (λ (g : Given). can.slot < g.slots) (sym on.given_is) can.serves.known;
+      apart = not-true (has_spare new.parts.members.spares can.slot) (λ is. clash can.serves.apart (leaves.spares can.slot can.backup is));
       own = λ role held. none role (leaves.held role can.slot held);
-      room = subst (λ (g : Given). 8 + phase_window (shape_of new.parts.members.newest) new.parts.members.newest.size (Reshape to) ≤ g.sectors can.slot) (sym leaves.given_is)
-          (subst (λ (n : ℕ). 8 + n ≤ given.sectors can.slot) (sym window-same) can.serves.room);
+      room = subst (λ (g : Given). 8 + phase_window (shape_of new.parts.members.newest) new.parts.members.newest.size (Reshape to) ≤ g.sectors can.slot) (sym on.given_is)
+          (subst (λ (n : ℕ). 8 + n ≤ (given old.parts.bank).sectors can.slot) (sym window-same) can.serves.room);
     };
     wide = subst (λ (n : ℕ). 512 * n ≤ window) (sym window-same) can.wide;
   }
@@ -64,44 +148,101 @@ module _ {B : Type 0} (given given' : Given) (window : ℕ) (old new : RunningPa
 
       none : (role : ℕ) → MayHold old.parts.members role can.slot → ⊥
       none role (inl held) = can.serves.own role held
-      none role (inr spare) = let apart = can.serves.apart in let e : true ≡ false = sym spare ∙ apart in absurd (cc)
+      none role (inr spare) = clash can.serves.apart spare
 
-  pub rest-kept : IsStillNow new → IsAtRest given window old → IsAtRest given' window new
-  rest-kept now was = record {
+  aside-kept : IsBackupAside old → IsBackupAside new
+  aside-kept was slot is =
+      let before : old.parts.backup ≡ Some slot = sym on.backup ∙ is in
+      let apart = was slot before in
+      (not-true (has_spare new.parts.members.spares slot) (λ spare. clash apart.0 (leaves.spares slot before spare)), λ role held. none role apart (leaves.held role slot held))
+    where
+      none : (role : ℕ) → (has_spare old.parts.members.spares slot ≡ false) × ((role : ℕ) → Held old.parts.members role slot → ⊥) → MayHold old.parts.members role slot → ⊥
+      none role apart (inl held) = apart.1 role held
+      none role apart (inr spare) = clash apart.0 spare
+
+  pub rest-kept : IsStillNow new → IsWithin tells (tape new.parts.bank) new → AreClosedIdle new → IsAtRest tells (given old.parts.bank) (tape old.parts.bank) window old → IsAtRest tells (given new.parts.bank) (tape new.parts.bank) window new
+  rest-kept now within closed was = record {
     now = now;
+    within = within;
     one = subst (λ (a : PhasesLeft). IsOneReshape (phases_of a)) (sym leaves.ahead) was.one;
     next = λ to is. next-kept to (was.next to (sym (ap phases_of leaves.ahead) ∙ is));
+    aside = aside-kept was.aside;
+    closed = closed;
+    plans = plans-on given tape old new on was.within
+        (aim-same old new (now.still ∙ sym was.now.still) leaves.final leaves.shape leaves.ahead) was.plans;
   }
 
--- what each call leaves
-pub called-leaves : {B tells : Type 0} {before after : World} (given given' : Given) (old new : RunningParts B) → given' ≡ given → IsSameReshape tells old new before after
-    → AreStillHeld old.parts.members new.parts.members → AreSparesFewer old.parts.members new.parts.members → LeavesAhead given given' old new
-called-leaves given given' old new given_is same held fewer = record {
-  given_is = given_is;
-  backup = same.array.backup;
-  slots = same.array.given;
-  shape = same.array.shape;
-  size = same.array.size;
-  ahead = same.ahead;
-  held = λ role slot has. inl (held role slot has);
-  spares = λ slot backup is. fewer slot is;
-}
+-- ---- in one
 
-pub reshape-kept : {B : Type 0} (old new : RunningParts B) → is_reshaping new.parts.members.newest ≡ true → new.ahead ≡ old.ahead → IsInReshape old → IsInReshape new
-reshape-kept old new active ahead was = record { active = active; last = ap phases_of ahead ∙ was.last }
+module _ {B : Type 0} {tells : Type 0} (given : B → Given) (tape : B → List Operation) (old new : RunningParts B) (on : GoesOn tells given tape old new)
+    (shape : shape_of new.parts.members.newest ≡ shape_of old.parts.members.newest) (final : final_shape new.parts.members.newest ≡ final_shape old.parts.members.newest) (ahead : new.ahead ≡ old.ahead) where
+  pub reshape-kept : is_reshaping new.parts.members.newest ≡ true → IsWithin tells (tape new.parts.bank) new → IsInReshape tells (given old.parts.bank) (tape old.parts.bank) old → IsInReshape tells (given new.parts.bank) (tape new.parts.bank) new
+  reshape-kept active within was = record {
+    active = active;
+    within = within;
+    last = ap phases_of ahead ∙ was.last;
+    turned = turned-on given tape old new on was.within was.turned;
+    plans = plans-on given tape old new on was.within (aim-same old new (active ∙ sym was.active) final shape ahead) was.plans;
+  }
 
--- what one leaves that has the same members
-pub alone-leaves : {B tells : Type 0} {before after : World} (given given' : Given) (old new : RunningParts B) → given' ≡ given → IsSameReshape tells old new before after → new.parts.members ≡ old.parts.members → LeavesAhead given given' old new
-alone-leaves given given' old new given_is same members = record {
-  given_is = given_is;
-  backup = same.array.backup;
-  slots = same.array.given;
-  shape = same.array.shape;
-  size = same.array.size;
-  ahead = same.ahead;
-  held = λ role slot has. inl (subst (λ (m : Members). Held m role slot) members has);
-  spares = λ slot backup is. subst (λ (m : Members). has_spare m.spares slot ≡ true) members is;
-}
+-- ---- what each call leaves
+
+module _ {B : Type 0} {tells : Type 0} (given : B → Given) (tape : B → List Operation) (window : ℕ) (old new : RunningParts B) (given_is : given new.parts.bank ≡ given old.parts.bank)
+    (added : AddNoPlan old.parts.entries new.parts.entries) where
+  goes-same : {before after : World} → Grows tells (tape old.parts.bank) (tape new.parts.bank) → IsSameReshape tells old new before after → GoesOn tells given tape old new
+  goes-same grows same = record {
+    given_is = given_is;
+    grows = grows;
+    uuid = same.array.uuid;
+    slots = same.array.given;
+    first = same.array.first;
+    backup = same.array.backup;
+    added = added;
+  }
+
+  leaves-same : {before after : World} → IsSameReshape tells old new before after → ((role slot : ℕ) → Held new.parts.members role slot → MayHold old.parts.members role slot)
+      → ((slot : ℕ) → old.parts.backup ≡ Some slot → has_spare new.parts.members.spares slot ≡ true → has_spare old.parts.members.spares slot ≡ true) → LeavesAhead old new
+  leaves-same same held spares = record { shape = same.array.shape; final = same.final; size = same.array.size; ahead = same.ahead; held = held; spares = spares }
+
+  -- by which slots may be lost
+  pub rest-called : {f g : ℕ → ℕ} → IsCalled tells (given old.parts.bank) (tape old.parts.bank) (tape new.parts.bank) f g old new → (AreWhole new.parts.members → AreWhole old.parts.members) → IsStillNow new → IsWithin tells (tape new.parts.bank) new
+      → IsAtRest tells (given old.parts.bank) (tape old.parts.bank) window old → IsAtRest tells (given new.parts.bank) (tape new.parts.bank) window new
+  rest-called did whole now within was =
+      rest-kept given tape window old new (goes-same did.grows did.same) (leaves-same did.same (λ role slot has. inl (did.held role slot has)) (λ slot backup is. did.spares slot is)) now within
+      (closed-kept old new (ap (λ (w : Work). w.resync) did.work) did.same.ahead whole added was.closed) was
+
+  pub reshape-called : {f g : ℕ → ℕ} → IsCalled tells (given old.parts.bank) (tape old.parts.bank) (tape new.parts.bank) f g old new → is_reshaping new.parts.members.newest ≡ true → IsWithin tells (tape new.parts.bank) new
+      → IsInReshape tells (given old.parts.bank) (tape old.parts.bank) old → IsInReshape tells (given new.parts.bank) (tape new.parts.bank) new
+  reshape-called did = reshape-kept given tape old new (goes-same did.grows did.same) did.same.array.shape did.same.final did.same.ahead
+
+  -- by which roles may be given to spares
+  pub rest-stepped : {Had : ℕ → ℕ → Type 0} {f g : ℕ → ℕ} → IsStepped tells (given old.parts.bank) (tape old.parts.bank) (tape new.parts.bank) Had f g old new → AreHeldOrSpare old.parts.members new.parts.members
+      → IsStillNow new → IsWithin tells (tape new.parts.bank) new → AreClosedIdle new → IsAtRest tells (given old.parts.bank) (tape old.parts.bank) window old → IsAtRest tells (given new.parts.bank) (tape new.parts.bank) window new
+  rest-stepped did held = rest-kept given tape window old new (goes-same did.grows did.same) (leaves-same did.same held.roles (λ slot backup is. held.spares slot is))
+
+  -- by which the work may be another
+  pub reshape-stepped : {f g : ℕ → ℕ} → IsMendCalled tells (given old.parts.bank) (tape old.parts.bank) (tape new.parts.bank) f g old new → is_reshaping new.parts.members.newest ≡ true → IsWithin tells (tape new.parts.bank) new
+      → IsInReshape tells (given old.parts.bank) (tape old.parts.bank) old → IsInReshape tells (given new.parts.bank) (tape new.parts.bank) new
+  reshape-stepped did = reshape-kept given tape old new (record {
+    given_is = given_is;
+    grows = did.grows;
+    uuid = did.same.array.uuid;
+    slots = did.same.array.given;
+    first = did.same.array.first;
+    backup = did.same.array.backup;
+    added = added;
+  }) did.same.array.shape did.same.final did.same.ahead
+
+  -- by which nothing is done on the bank, and the members are the same
+  pub rest-alone : {before after : World} → new.parts.bank ≡ old.parts.bank → IsSameReshape tells old new before after → new.parts.members ≡ old.parts.members → new.parts.work ≡ old.parts.work → IsStillNow new → IsWithin tells (tape new.parts.bank) new
+      → IsAtRest tells (given old.parts.bank) (tape old.parts.bank) window old → IsAtRest tells (given new.parts.bank) (tape new.parts.bank) window new
+  rest-alone bank same members work now within was = rest-kept given tape window old new (goes-same (grows-none (λ t. ap tape bank)) same)
+      (leaves-same same (λ role slot has. inl (subst (λ (m : Members). Held m role slot) members has)) (λ slot backup is. subst (λ (m : Members). has_spare m.spares slot ≡ true) members is)) now within
+      (closed-kept old new (ap (λ (w : Work). w.resync) work) same.ahead (λ whole. subst AreWhole members whole) added was.closed) was
+
+  pub reshape-alone : {before after : World} → new.parts.bank ≡ old.parts.bank → IsSameReshape tells old new before after → is_reshaping new.parts.members.newest ≡ true → IsWithin tells (tape new.parts.bank) new
+      → IsInReshape tells (given old.parts.bank) (tape old.parts.bank) old → IsInReshape tells (given new.parts.bank) (tape new.parts.bank) new
+  reshape-alone bank same = reshape-kept given tape old new (goes-same (grows-none (λ t. ap tape bank)) same) same.array.shape same.final same.ahead
 
 -- ---- a slot that is made a spare isn't the backup
 
@@ -121,98 +262,184 @@ module _ (given : Given) (backup : Option ℕ) (slot : ℕ) (old new : Members) 
   no-backup (Err (IsRefusedWith refusal)) caused is has = subst (λ (m : Members). has_spare m.spares slot ≡ true) caused.1 has
   no-backup (Err NoMemory) caused is has = subst (λ (m : Members). has_spare m.spares slot ≡ true) caused has
 
-pub add-leaves : {B tells T : Type 0} {before after : World} (given given' : Given) (old new : RunningParts B) (slot : ℕ) (f g : ℕ → ℕ) (result : Result T Fault) → given' ≡ given → IsSameReshape tells old new before after
-    → AreStillHeld old.parts.members new.parts.members → ((s : ℕ) → has_spare new.parts.members.spares s ≡ true → (has_spare old.parts.members.spares s ≡ true) ⊎ (s ≡ slot))
-    → IsAddedFor given old.parts.backup slot old.parts.members new.parts.members f g result → LeavesAhead given given' old new
-add-leaves given given' old new slot f g result given_is same held spares caused = record {
-  given_is = given_is;
-  backup = same.array.backup;
-  slots = same.array.given;
-  shape = same.array.shape;
-  size = same.array.size;
-  ahead = same.ahead;
-  held = λ role slot has. inl (held role slot has);
-  spares = λ s backup has. by s backup has (spares s has);
-}
-  where
-    by : (s : ℕ) → old.parts.backup ≡ Some s → has_spare new.parts.members.spares s ≡ true → (has_spare old.parts.members.spares s ≡ true) ⊎ (s ≡ slot) → has_spare old.parts.members.spares s ≡ true
-    by s backup has (inl was) = was
-    by s backup has (inr is) =
-        subst (λ (n : ℕ). has_spare old.parts.members.spares n ≡ true) (sym is)
-        (no-backup given old.parts.backup slot old.parts.members new.parts.members f g result caused (backup ∙ ap (λ (n : ℕ). Some n) is) (subst (λ (n : ℕ). has_spare new.parts.members.spares n ≡ true) is has))
+module _ {B : Type 0} {tells : Type 0} (given : B → Given) (tape : B → List Operation) (window : ℕ) (old new : RunningParts B) (given_is : given new.parts.bank ≡ given old.parts.bank)
+    (added : AddNoPlan old.parts.entries new.parts.entries) {slot : ℕ} {f g : ℕ → ℕ} (did : IsAddCalled tells (given old.parts.bank) (tape old.parts.bank) (tape new.parts.bank) f g slot old new) where
+  pub rest-added : {T : Type 0} (result : Result T Fault) → IsAddedFor (given old.parts.bank) old.parts.backup slot old.parts.members new.parts.members f g result → (AreWhole new.parts.members → AreWhole old.parts.members)
+      → IsStillNow new → IsWithin tells (tape new.parts.bank) new
+      → IsAtRest tells (given old.parts.bank) (tape old.parts.bank) window old → IsAtRest tells (given new.parts.bank) (tape new.parts.bank) window new
+  rest-added result caused whole now within was = rest-kept given tape window old new (goes-same given tape window old new given_is added did.grows did.same)
+      (leaves-same given tape window old new given_is added did.same (λ role s has. inl (did.held role s has)) (λ s backup has. by s backup has (did.spares s has))) now within
+      (closed-kept old new did.work.resync did.same.ahead whole added was.closed) was
+    where
+      by : (s : ℕ) → old.parts.backup ≡ Some s → has_spare new.parts.members.spares s ≡ true → (has_spare old.parts.members.spares s ≡ true) ⊎ (s ≡ slot) → has_spare old.parts.members.spares s ≡ true
+      by s backup has (inl was) = was
+      by s backup has (inr is) =
+          subst (λ (n : ℕ). has_spare old.parts.members.spares n ≡ true) (sym is)
+          (no-backup (given old.parts.bank) old.parts.backup slot old.parts.members new.parts.members f g result caused (backup ∙ ap (λ (n : ℕ). Some n) is)
+          (subst (λ (n : ℕ). has_spare new.parts.members.spares n ≡ true) is has))
 
--- what one leaves that changes the bank alone
-pub bank-leaves : {B : Type 0} (given given' : Given) (old new : RunningParts B) → given' ≡ given → new ≡ record old { parts = record old.parts { bank = new.parts.bank } } → LeavesAhead given given' old new
-bank-leaves given given' old new given_is same = record {
-  given_is = given_is;
-  backup = ap (λ p. p.parts.backup) same;
-  slots = ap (λ p. p.parts.given) same;
-  shape = ap (λ p. shape_of p.parts.members.newest) same;
-  size = ap (λ p. p.parts.members.newest.size) same;
-  ahead = ap (λ p. p.ahead) same;
-  held = λ role slot has. inl (subst (λ p. Held p.parts.members role slot) same has);
-  spares = λ slot backup is. subst (λ p. has_spare p.parts.members.spares slot ≡ true) same is;
-}
+  pub reshape-added : is_reshaping new.parts.members.newest ≡ true → IsWithin tells (tape new.parts.bank) new → IsInReshape tells (given old.parts.bank) (tape old.parts.bank) old
+      → IsInReshape tells (given new.parts.bank) (tape new.parts.bank) new
+  reshape-added = reshape-kept given tape old new (goes-same given tape window old new given_is added did.grows did.same) did.same.array.shape did.same.final did.same.ahead
 
--- ---- a reshape begins and ends
+-- ---- the bank alone
 
--- what one leaves that couldn't begin
-pub back-leaves : {B tells : Type 0} {tape tape' : List Operation} {who : Who} {refusal : Refusal} (given given' : Given) (old new : RunningParts B) → given' ≡ given → IsGivenBack tells given tape tape' who refusal old new → LeavesAhead given given' old new
-back-leaves given given' old new given_is back = record {
-  given_is = given_is;
-  backup = back.same.backup;
-  slots = back.same.given;
-  shape = ap (λ (m : Members). shape_of m.newest) back.members;
-  size = ap (λ (m : Members). m.newest.size) back.members;
-  ahead = back.ahead;
-  held = λ role slot has. inl (subst (λ (m : Members). Held m role slot) back.members has);
-  spares = λ slot backup is. subst (λ (m : Members). has_spare m.spares slot ≡ true) back.members is;
-}
+module _ {B : Type 0} {tells : Type 0} (given : B → Given) (tape : B → List Operation) (window : ℕ) (old new : RunningParts B) (given_is : given new.parts.bank ≡ given old.parts.bank)
+    (tape_is : tells → tape new.parts.bank ≡ tape old.parts.bank) (same : new ≡ record old { parts = record old.parts { bank = new.parts.bank } }) where
+  looks-on : GoesOn tells given tape old new
+  looks-on = record {
+    given_is = given_is;
+    grows = grows-none tape_is;
+    uuid = ap (λ p. p.parts.uuid) same;
+    slots = ap (λ p. p.parts.given) same;
+    first = ap (λ p. p.parts.first) same;
+    backup = ap (λ p. p.parts.backup) same;
+    added = add-nothing (ap (λ p. p.parts.entries) same);
+  }
 
-pub rest-none : {B : Type 0} (given : Given) (window : ℕ) (new : RunningParts B) → IsStillNow new → phases_of new.ahead ≡ [] → IsAtRest given window new
-rest-none given window new now none = record {
-  now = now;
-  one = subst IsOneReshape (sym none) tt;
-  next = λ to is. absurd (let e : [] ≡ Reshape to ∷ [] = sym none ∙ is in cc);
-}
+  pub rest-looked : IsStillNow new → IsWithin tells (tape new.parts.bank) new → IsAtRest tells (given old.parts.bank) (tape old.parts.bank) window old → IsAtRest tells (given new.parts.bank) (tape new.parts.bank) window new
+  rest-looked now within was = rest-kept given tape window old new looks-on (record {
+    shape = ap (λ p. shape_of p.parts.members.newest) same;
+    final = ap (λ p. final_shape p.parts.members.newest) same;
+    size = ap (λ p. p.parts.members.newest.size) same;
+    ahead = ap (λ p. p.ahead) same;
+    held = λ role slot has. inl (subst (λ p. Held p.parts.members role slot) same has);
+    spares = λ slot backup is. subst (λ p. has_spare p.parts.members.spares slot ≡ true) same is;
+  }) now within
+      (closed-kept old new (ap (λ p. p.parts.work.resync) same) (ap (λ p. p.ahead) same) (λ whole. subst (λ p. AreWhole p.parts.members) same whole) (add-nothing (ap (λ p. p.parts.entries) same)) was.closed) was
+
+  pub reshape-looked : is_reshaping new.parts.members.newest ≡ true → IsWithin tells (tape new.parts.bank) new → IsInReshape tells (given old.parts.bank) (tape old.parts.bank) old
+      → IsInReshape tells (given new.parts.bank) (tape new.parts.bank) new
+  reshape-looked = reshape-kept given tape old new looks-on (ap (λ p. shape_of p.parts.members.newest) same) (ap (λ p. final_shape p.parts.members.newest) same) (ap (λ p. p.ahead) same)
 
 -- ---- room for steps
 
--- what is left where room is made, and where memory is short for it
-pub room-leaves : {B T E : Type 0} (given : B → Given) (n : ℕ) (old new : RunningParts B) (result : Result T E) → OnOk result (new ≡ record old { parts = record old.parts { steps = n } }) → OnErr result (new ≡ old)
-    → LeavesAhead (given old.parts.bank) (given new.parts.bank) old new
-room-leaves given n old new (Ok x) same none = record {
-  given_is = ap (λ p. given p.parts.bank) same;
-  backup = ap (λ p. p.parts.backup) same;
-  slots = ap (λ p. p.parts.given) same;
-  shape = ap (λ p. shape_of p.parts.members.newest) same;
-  size = ap (λ p. p.parts.members.newest.size) same;
-  ahead = ap (λ p. p.ahead) same;
-  held = λ role slot has. inl (subst (λ p. Held p.parts.members role slot) same has);
-  spares = λ slot backup is. subst (λ p. has_spare p.parts.members.spares slot ≡ true) same is;
-}
-room-leaves given n old new (Err x) none same = record {
-  given_is = ap (λ p. given p.parts.bank) same;
-  backup = ap (λ p. p.parts.backup) same;
-  slots = ap (λ p. p.parts.given) same;
-  shape = ap (λ p. shape_of p.parts.members.newest) same;
-  size = ap (λ p. p.parts.members.newest.size) same;
-  ahead = ap (λ p. p.ahead) same;
-  held = λ role slot has. inl (subst (λ p. Held p.parts.members role slot) same has);
-  spares = λ slot backup is. subst (λ p. has_spare p.parts.members.spares slot ≡ true) same is;
+module _ {B : Type 0} {tells : Type 0} (given : B → Given) (tape : B → List Operation) (window n : ℕ) (old new : RunningParts B) where
+  -- where room is made, and where memory is short for it
+  pub roomy-rest : {T E : Type 0} (result : Result T E) → OnOk result (new ≡ record old { parts = record old.parts { steps = n } }) → OnErr result (new ≡ old)
+      → IsAtRest tells (given old.parts.bank) (tape old.parts.bank) window old → IsAtRest tells (given new.parts.bank) (tape new.parts.bank) window new
+  roomy-rest (Ok x) same none was = subst (λ p. IsAtRest tells (given p.parts.bank) (tape p.parts.bank) window p) (sym same) (record {
+    now = record { still = was.now.still; course = was.now.course };
+    within = record { begun = was.within.begun; ends = was.within.ends };
+    one = was.one;
+    next = λ to is. let can = was.next to is in record { slot = can.slot; backup = can.backup; serves = can.serves; wide = can.wide };
+    aside = was.aside;
+    plans = was.plans;
+    closed = was.closed;
+  })
+  roomy-rest (Err x) none same was = subst (λ p. IsAtRest tells (given p.parts.bank) (tape p.parts.bank) window p) (sym same) was
+
+  pub roomy-reshape : {T E : Type 0} (result : Result T E) → OnOk result (new ≡ record old { parts = record old.parts { steps = n } }) → OnErr result (new ≡ old)
+      → IsInReshape tells (given old.parts.bank) (tape old.parts.bank) old → IsInReshape tells (given new.parts.bank) (tape new.parts.bank) new
+  roomy-reshape (Ok x) same none was = subst (λ p. IsInReshape tells (given p.parts.bank) (tape p.parts.bank) p) (sym same) (record {
+    active = was.active;
+    within = record { begun = was.within.begun; ends = was.within.ends };
+    last = was.last;
+    turned = was.turned;
+    plans = was.plans;
+  })
+  roomy-reshape (Err x) none same was = subst (λ p. IsInReshape tells (given p.parts.bank) (tape p.parts.bank) p) (sym same) was
+
+-- ---- a reshape begins and ends
+
+-- it begins: the plans that are open go to its shape
+pub reshape-begun : {B tells : Type 0} {f g : ℕ → ℕ} {who : Who} {behind : PhasesLeft} (given : B → Given) (tape : B → List Operation) (window : ℕ) (to : Shape) (old new : RunningParts B) → given new.parts.bank ≡ given old.parts.bank
+    → phases_of old.ahead ≡ Reshape to ∷ [] → phases_of behind ≡ [] → IsReshapeBegun tells (given old.parts.bank) (tape old.parts.bank) (tape new.parts.bank) f g who to behind old new
+    → IsWithin tells (tape new.parts.bank) new → IsAtRest tells (given old.parts.bank) (tape old.parts.bank) window old → IsInReshape tells (given new.parts.bank) (tape new.parts.bank) new
+reshape-begun {behind = behind} given tape window to old new given_is next none did within was = record {
+  active = did.start.active;
+  within = within;
+  last = ap phases_of did.ahead ∙ none;
+  turned = λ t. begun-turns (world_over given tape new) did.entered;
+  plans = plans-on given tape old new (record {
+    given_is = given_is;
+    grows = did.grows;
+    uuid = did.same.uuid;
+    slots = did.same.given;
+    first = did.same.first;
+    backup = did.same.backup;
+    added = add-begun did.entered;
+  }) was.within (aim-begun old new to [] was.now.still did.start.active did.start.final next (ap phases_of did.ahead ∙ none)) was.plans;
 }
 
--- ---- a step without a reshape
+-- it couldn't
+pub rest-back : {B tells : Type 0} {who : Who} {refusal : Refusal} (given : B → Given) (tape : B → List Operation) (window : ℕ) (to : Shape) (old new : RunningParts B) → given new.parts.bank ≡ given old.parts.bank
+    → phases_of old.ahead ≡ Reshape to ∷ [] → Grows tells (tape old.parts.bank) (tape new.parts.bank) → IsGivenBack tells (given old.parts.bank) (tape old.parts.bank) (tape new.parts.bank) who refusal old new → IsStillNow new → IsWithin tells (tape new.parts.bank) new
+    → IsAtRest tells (given old.parts.bank) (tape old.parts.bank) window old → IsAtRest tells (given new.parts.bank) (tape new.parts.bank) window new
+rest-back {who = who} {refusal = refusal} given tape window to old new given_is next grows back now within = rest-kept given tape window old new
+    (record {
+      given_is = given_is;
+      grows = grows;
+      uuid = back.same.uuid;
+      slots = back.same.given;
+      first = back.same.first;
+      backup = back.same.backup;
+      added = record { more = entries_of who back.end (Refused refusal ∷ []); grown = back.entered; none = refl };
+    })
+    (record {
+      shape = ap (λ (m : Members). shape_of m.newest) back.members;
+      final = ap (λ (m : Members). final_shape m.newest) back.members;
+      size = ap (λ (m : Members). m.newest.size) back.members;
+      ahead = back.ahead;
+      held = λ role slot has. inl (subst (λ (m : Members). Held m role slot) back.members has);
+      spares = λ slot backup is. subst (λ (m : Members). has_spare m.spares slot ≡ true) back.members is;
+    })
+    now within (λ synced none whole. absurd (let e : [] ≡ Reshape to ∷ [] = sym none ∙ (ap phases_of back.ahead ∙ next) in cc))
 
--- what one leaves
-pub stepped-leaves : {B tells : Type 0} {before after : World} (given given' : Given) (old new : RunningParts B) → given' ≡ given → IsSameReshape tells old new before after → AreHeldOrSpare old.parts.members new.parts.members → LeavesAhead given given' old new
-stepped-leaves given given' old new given_is same held = record {
-  given_is = given_is;
-  backup = same.array.backup;
-  slots = same.array.given;
-  shape = same.array.shape;
-  size = same.array.size;
-  ahead = same.ahead;
-  held = held.roles;
-  spares = λ slot backup is. held.spares slot is;
+-- it ends: the array has its shape
+pub rest-ended : {B tells : Type 0} {f g : ℕ → ℕ} {who : Who} (given : B → Given) (tape : B → List Operation) (window : ℕ) (old new : RunningParts B) → given new.parts.bank ≡ given old.parts.bank
+    → IsReshapeEnded tells (given old.parts.bank) (tape old.parts.bank) (tape new.parts.bank) f g who old new → IsBackupAside old → IsStillNow new → IsWithin tells (tape new.parts.bank) new
+    → IsInReshape tells (given old.parts.bank) (tape old.parts.bank) old → IsAtRest tells (given new.parts.bank) (tape new.parts.bank) window new
+rest-ended given tape window old new given_is did apart now within was = record {
+  now = now;
+  within = within;
+  one = subst IsOneReshape (sym none) tt;
+  next = λ to is. absurd (let e : [] ≡ Reshape to ∷ [] = sym none ∙ is in cc);
+  aside = λ slot is. (not-true (has_spare new.parts.members.spares slot) (λ spare. spared slot (apart slot (before slot is)) (did.spares slot spare)), λ role held. (apart slot (before slot is)).1 role (did.held role slot held));
+  closed = closed-ended new did.entered;
+  plans = plans-on given tape old new (record {
+    given_is = given_is;
+    grows = did.grows;
+    uuid = did.same.uuid;
+    slots = did.same.given;
+    first = did.same.first;
+    backup = did.same.backup;
+    added = add-ended did.entered;
+  }) was.within (aim-ended old new was.active now.still did.over.shape did.ahead) was.plans;
+}
+  where
+    none : phases_of new.ahead ≡ []
+    none = ap phases_of did.ahead ∙ was.last
+
+    before : (slot : ℕ) → new.parts.backup ≡ Some slot → old.parts.backup ≡ Some slot
+    before slot is = sym did.same.backup ∙ is
+
+    spared : (slot : ℕ) → (has_spare old.parts.members.spares slot ≡ false) × ((role : ℕ) → Held old.parts.members role slot → ⊥)
+        → (has_spare old.parts.members.spares slot ≡ true) ⊎ ((role : ℕ) × ((final_shape old.parts.members.newest).disks ≤ role) × Held old.parts.members role slot) → ⊥
+    spared slot alone (inl was) = clash alone.0 was
+    spared slot alone (inr dropped) = alone.1 dropped.0 dropped.2
+
+-- ---- at first
+
+-- an array that has no plan
+pub rest-first : {B tells : Type 0} (given : Given) (tape : List Operation) (window : ℕ) (array : RunningParts B) → IsStillNow array → IsWithin tells tape array → phases_of array.ahead ≡ [] → open_plans array.parts.entries ≡ []
+    → IsBackupAside array → IsAtRest tells given tape window array
+rest-first given tape window array now within none unplanned aside = record {
+  now = now;
+  within = within;
+  one = subst IsOneReshape (sym none) tt;
+  next = λ to is. absurd (let e : [] ≡ Reshape to ∷ [] = sym none ∙ is in cc);
+  aside = aside;
+  plans = plans-closed _ (moving_world given tape array) array unplanned;
+  closed = λ synced ahead whole. unplanned;
+}
+
+pub reshape-first : {B tells : Type 0} (given : Given) (tape : List Operation) (array : RunningParts B) → is_reshaping array.parts.members.newest ≡ true → IsWithin tells tape array → phases_of array.ahead ≡ []
+    → open_plans array.parts.entries ≡ [] → (tells → KeepsShape (moving_world given tape array) array.parts.entries → ⊥) → IsInReshape tells given tape array
+reshape-first given tape array active within none unplanned turned = record {
+  active = active;
+  within = within;
+  last = none;
+  turned = turned;
+  plans = plans-closed _ (moving_world given tape array) array unplanned;
 }

@@ -1,24 +1,40 @@
 -- What the calls of a running array tell of it, by whether a reshape is active in it.
-use Rattle.std.specs.Prelude.{ℕ, ◌+◌, if◌then◌else◌, List, MatchBool}
+use Rattle.std.specs.Prelude.{◌≡◌, ◌≢◌, ℕ, ◌+◌, ◌<◌, true, false, List, [], ◌∷◌, if◌then◌else◌, MatchBool, MatchOption, Result, Ok, Err, ⊤}
+use Rattle.md_base.specs.declared.answers.Fault.{Fault}
+use Rattle.md_base.specs.declared.answers.Fault.TheVariants.{Refused as IsRefusedWith, NoMemory}
 use Rattle.md_base.specs.declared.answers.Refusal.{Refusal}
+use Rattle.md_base.specs.declared.answers.Refusal.TheVariants.{Nothing as IsDone}
+use Rattle.md_base.specs.declared.wishes.Phase.TheVariants.{Reshape}
 use Rattle.md_base.specs.declared.status.Status.{Status}
 use Rattle.superblocks.specs.declared.members.Members.{Members}
-use Rattle.superblocks.specs.Reading.{is_reshaping, shape_of, list_length}
+use Rattle.superblocks.specs.Reading.{is_reshaping, shape_of}
 use Rattle.flat_history.specs.World.{World}
 use Rattle.flat_history.specs.declared.events.Entry.{Entry}
+use Rattle.flat_history.specs.declared.events.Event.{Event}
+use Rattle.flat_history.specs.declared.events.Event.TheVariants.{Refused, Stepped}
 use Rattle.views.specs.Lacking.{IsUnread, IsUnwritten, are_mended, mended_rows}
-use Rattle.region_rows.specs.Stretches.{IsListUnread}
+use Rattle.region_mends.specs.Mends.{relied_sector}
+use Rattle.views.specs.Status.{left_of}
+use Rattle.grow_asked.specs.Left.{phases_of}
 use Rattle.kept_history.specs.Safe.{IsFilledRight}
 use Rattle.history_calls.specs.Reliable.{IsReliable}
 use Rattle.running_words.specs.Parts.{RunningParts, left_in, still_left}
 use Rattle.running_words.specs.Calls.{IsStatusFor}
 use Rattle.running_words.specs.Still.{IsStillStatus}
-use Rattle.moving_laws.specs.Writing.{IsWriteLacked}
+use Rattle.course_kept.specs.Course.{hidden_in}
+use Rattle.moving_state.specs.Due.{due_of}
+use Rattle.moving_state.specs.declared.stepping.Due.TheVariants.{Finish as EndsReshape}
+use Rattle.moving_state.specs.First.{IsUnreadAround}
+use Rattle.moving_laws.specs.Writing.{IsWriteBarred}
+use Rattle.still_laws.specs.Steps.{MayEndNow}
+use Rattle.moving_steps.specs.Replies.{IsEndedInReshape}
+use Rattle.running.specs.declared.state.choosing.Next.{Next}
+use Rattle.running.specs.declared.state.choosing.Next.TheVariants.{Nothing, Own, Begin, Move, Finish}
 
--- the steps that are left: of the reshape that is active, or else of what is under way on members that have one shape; and of the phases ahead
+-- the steps that are left: of the reshape that is active, or else of what is under way on members that have one shape; of a pending resync, and of the phases ahead
 abbrev pub running_left : {B : Type 0} → RunningParts B → ℕ
 running_left array =
-    if is_reshaping array.parts.members.newest then left_in array.parts.members array.course array.ahead
+    if is_reshaping array.parts.members.newest then left_in array.parts.work array.parts.members array.course array.ahead
     else still_left array.parts.work array.parts.members array.ahead
 
 -- this status tells the array as it is
@@ -29,15 +45,42 @@ IsShownAs array status = MatchBool (is_reshaping array.parts.members.newest) (Is
 abbrev pub IsReadRight : {B : Type 0} → RunningParts B → World → World → List Entry → Type 0
 IsReadRight array before after entries = MatchBool (is_reshaping array.parts.members.newest) (IsReliable after entries) (IsFilledRight before entries)
 
--- why a read of so many sectors isn't done: in a reshape by the shapes of the regions that they lie in, or else by the one shape
+-- why a read of so many sectors isn't done: in a reshape by the shapes of the regions that they lie in, beside the window whose sectors are in memory, or else by the one shape
 abbrev pub IsReadLacked : {B : Type 0} → RunningParts B → ℕ → ℕ → Members → Refusal → Type 0
 IsReadLacked array at count m refusal =
-    MatchBool (is_reshaping array.parts.members.newest) (IsListUnread (list_length array.parts.members.newest) at (at + count) m refusal)
+    MatchBool (is_reshaping array.parts.members.newest) (IsUnreadAround (hidden_in array.course.window) (relied_sector array.parts.members.newest array.parts.work.resync) at (at + count) m refusal)
     (IsUnread (shape_of array.parts.members.newest) (mended_rows array.parts.work.resync array.parts.members) at count m refusal)
 
--- why a write of them isn't done; in a reshape also because the open window can't be finished
+-- why a write of them isn't done; in a reshape also because the open window can't be finished, or for a window whose entering failed
 abbrev pub IsWriteLackedIn : {B : Type 0} → RunningParts B → ℕ → ℕ → Members → Refusal → Type 0
 IsWriteLackedIn array at count m refusal =
-    MatchBool (is_reshaping array.parts.members.newest) (IsWriteLacked array.course.window (list_length array.parts.members.newest) at (at + count) m refusal)
+    MatchBool (is_reshaping array.parts.members.newest) (IsWriteBarred array.course.window (relied_sector array.parts.members.newest array.parts.work.resync) at (at + count) m refusal)
     (IsUnwritten (shape_of array.parts.members.newest)
     (are_mended (shape_of array.parts.members.newest) (mended_rows array.parts.work.resync array.parts.members) (at + count)) m refusal)
+
+-- ---- steps
+
+-- What is next to do: nothing is left; a step without a reshape, of a resync or a rebuild; the reshape that is ahead begins, where none of these is left; a step of the active one, or its end.
+abbrev pub IsNext : {B : Type 0} → RunningParts B → Next → Type 0
+IsNext array Nothing = running_left array ≡ 0
+IsNext array Own = (is_reshaping array.parts.members.newest ≡ false) × (0 < left_of array.parts.work array.parts.members)
+IsNext array (Begin to) = (is_reshaping array.parts.members.newest ≡ false) × (left_of array.parts.work array.parts.members ≡ 0) × (phases_of array.ahead ≡ Reshape to ∷ [])
+IsNext array Move = (is_reshaping array.parts.members.newest ≡ true) × (due_of array.parts.members.newest array.course array.parts.work.resync ≢ EndsReshape)
+IsNext array Finish = (is_reshaping array.parts.members.newest ≡ true) × (due_of array.parts.members.newest array.course array.parts.work.resync ≡ EndsReshape)
+
+-- Such a step may have been refused so: in a reshape for what is missing now, or for the backup; or else for what is missing, or because the reshape that is ahead can't begin.
+abbrev pub MayEndSteps : {B : Type 0} → RunningParts B → Refusal → Type 0
+MayEndSteps array refusal = MatchBool (is_reshaping array.parts.members.newest) (IsEndedInReshape array.parts.work array.parts.members refusal)
+    (MayEndNow array.parts.work array.parts.members array.ahead refusal)
+
+-- a step that was refused was so for that
+abbrev pub IsRefusedInStep : {B T : Type 0} → RunningParts B → Result T Fault → Type 0
+IsRefusedInStep array (Ok x) = ⊤
+IsRefusedInStep array (Err (IsRefusedWith refusal)) = MayEndSteps array refusal
+IsRefusedInStep array (Err NoMemory) = ⊥
+
+-- a reply to a request for steps: nothing was left to do; or so many steps are left, and a step may have been refused so that ended it
+abbrev pub IsReplyNow : {B : Type 0} → RunningParts B → Event → Type 0
+IsReplyNow array (Refused IsDone) = running_left array ≡ 0
+IsReplyNow array (Stepped done left ended) = (left ≡ running_left array) × MatchOption ended ⊤ (MayEndSteps array)
+IsReplyNow array event = ⊥

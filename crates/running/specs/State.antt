@@ -1,14 +1,22 @@
 -- What a running array keeps, by whether a reshape is active in it.
-use Rattle.std.specs.Prelude.{◌≡◌, ℕ, ◌*◌, ◌≤◌, true, false, List, [], ◌∷◌, Some, ⊤}
+use Rattle.std.specs.Prelude.{◌≡◌, ℕ, ◌*◌, ◌≤◌, true, false, List, [], ◌∷◌, length, Some, None, ⊤}
 use Rattle.md_base.specs.declared.places.Shape.{Shape}
 use Rattle.md_base.specs.declared.wishes.Phase.{Phase}
 use Rattle.md_base.specs.declared.wishes.Phase.TheVariants.{Reshape}
 use Rattle.bank.specs.Given.{Given}
+use Rattle.bank.specs.declared.bank.Operation.{Operation}
 use Rattle.grow_plan.specs.Plans.{phase_window}
 use Rattle.superblocks.specs.Reading.{is_reshaping, shape_of}
+use Rattle.superblocks.specs.Reads.{has_spare}
+use Rattle.flat_history.specs.Growing.{EndBy}
+use Rattle.flat_history.specs.Reshaped.{open_plans}
+use Rattle.views.specs.Placed.{AreWhole}
+use Rattle.views.specs.Rebuilding.{Held}
 use Rattle.grow_asked.specs.Left.{phases_of}
 use Rattle.course_kept.specs.Laws.{closed}
 use Rattle.running_words.specs.Parts.{RunningParts}
+use Rattle.running_words.specs.Calls.{moving_world}
+use Rattle.running_words.specs.Plans.{ArePlansKept, KeepsShape}
 use Rattle.turning.specs.Begun.{IsBackupAt}
 use Rattle.running.specs.declared.state.State.{State}
 use Rattle.running.specs.declared.state.State.TheVariants.{Still, Moving}
@@ -33,21 +41,42 @@ IsOneReshape phases = ⊥
 pub record CanBeNext {B : Type 0} (given : Given) (window : ℕ) (array : RunningParts B) (to : Shape) : Type 0 where
   pub slot : ℕ
   pub backup : array.parts.backup ≡ Some slot
-  pub serves : IsBackupAt given array.parts.given array.parts.members to slot
+  pub serves : IsBackupAt given array.parts.members to slot
   pub wide : 512 * phase_window (shape_of array.parts.members.newest) array.parts.members.newest.size (Reshape to) ≤ window
 
--- without a reshape one may be ahead, which can be next
-pub record IsAtRest {B : Type 0} (given : Given) (window : ℕ) (array : RunningParts B) : Type 0 where
+-- its epoch began within the tape, where its entries end too
+pub record IsWithin {B : Type 0} (tells : Type 0) (tape : List Operation) (array : RunningParts B) : Type 0 where
+  pub begun : tells → array.parts.first ≤ length tape
+  pub ends : tells → EndBy (length tape) array.parts.entries
+
+-- the backup, if there is one, holds no role and is no spare
+abbrev pub IsBackupAside : {B : Type 0} → RunningParts B → Type 0
+IsBackupAside array = (slot : ℕ) → array.parts.backup ≡ Some slot
+    → (has_spare array.parts.members.spares slot ≡ false) × ((role : ℕ) → Held array.parts.members role slot → ⊥)
+
+-- where no resync is pending, no phase is ahead and every role is whole, no plan is open: the step or the reply that left none has closed it
+abbrev pub AreClosedIdle : {B : Type 0} → RunningParts B → Type 0
+AreClosedIdle array = array.parts.work.resync ≡ None → phases_of array.ahead ≡ [] → AreWhole array.parts.members → open_plans array.parts.entries ≡ []
+
+-- Without a reshape one may be ahead, which can be next; each plan that is open goes where that leads, and none is where all is done.
+pub record IsAtRest {B : Type 0} (tells : Type 0) (given : Given) (tape : List Operation) (window : ℕ) (array : RunningParts B) : Type 0 where
   pub now : IsStillNow array
+  pub within : IsWithin tells tape array
   pub one : IsOneReshape (phases_of array.ahead)
   pub next : (to : Shape) → phases_of array.ahead ≡ Reshape to ∷ [] → CanBeNext given window array to
+  pub aside : IsBackupAside array
+  pub plans : ArePlansKept tells (moving_world given tape array) array
+  pub closed : AreClosedIdle array
 
--- in a reshape none is
-pub record IsInReshape {B : Type 0} (array : RunningParts B) : Type 0 where
+-- In a reshape none is ahead; each plan that is open goes where the reshape does, which the opening found or the history tells.
+pub record IsInReshape {B : Type 0} (tells : Type 0) (given : Given) (tape : List Operation) (array : RunningParts B) : Type 0 where
   pub active : is_reshaping array.parts.members.newest ≡ true
+  pub within : IsWithin tells tape array
   pub last : phases_of array.ahead ≡ []
+  pub turned : tells → KeepsShape (moving_world given tape array) array.parts.entries → ⊥
+  pub plans : ArePlansKept tells (moving_world given tape array) array
 
 -- it is in the state that its superblocks tell
-abbrev pub IsAsTold : {B : Type 0} → (B → Given) → ℕ → State B → Type 0
-IsAsTold given window (Still array) = IsAtRest (given array.parts.bank) window array
-IsAsTold given window (Moving array) = IsInReshape array
+abbrev pub IsAsTold : {B : Type 0} → Type 0 → (B → Given) → (B → List Operation) → ℕ → State B → Type 0
+IsAsTold tells given tape window (Still array) = IsAtRest tells (given array.parts.bank) (tape array.parts.bank) window array
+IsAsTold tells given tape window (Moving array) = IsInReshape tells (given array.parts.bank) (tape array.parts.bank) array

@@ -3,4 +3,4 @@
 
 mod state;
 
-pub use state::Running;
+pub use state::{Next, Running};

@@ -30,7 +30,7 @@ module _ {first before now last : ℕ → ℕ} (early : NeverFalls first before)
   faulted : (slot : ℕ) → IsFaulted slot before now → IsFaulted slot first last
   faulted slot is = faulted_longer slot first before now last (early slot) (late slot) (between slot) is
 
-  refusal-wider : (backup : Option ℕ) (refusal : Refusal) → IsRefusalBy backup before now refusal → IsRefusalBy backup first last refusal
+  pub refusal-wider : (backup : Option ℕ) (refusal : Refusal) → IsRefusalBy backup before now refusal → IsRefusalBy backup first last refusal
   refusal-wider backup (SlotFault slot) is = faulted slot is
   refusal-wider backup BackupFault is = of backup is
     where
@@ -64,7 +64,7 @@ module _ {first before now last : ℕ → ℕ} (early : NeverFalls first before)
     loss-wider (SpareLost slot) failed = faulted slot failed
     loss-wider event loss = tt
 
-told-then : {backup : Option ℕ} {before now : ℕ → ℕ} {old mid new : List Entry} → HasToldBy backup before now old mid → HasToldBy backup before now mid new → HasToldBy backup before now old new
+pub told-then : {backup : Option ℕ} {before now : ℕ → ℕ} {old mid new : List Entry} → HasToldBy backup before now old mid → HasToldBy backup before now mid new → HasToldBy backup before now old new
 told-then {backup = backup} {before = before} {now = now} {old = old} one two = record {
   more = one.more ++ two.more;
   grown = two.grown ∙ ap (λ (l : List Entry). l ++ two.more) one.grown ∙ append_assoc old one.more two.more;
@@ -131,7 +131,7 @@ module _ (old mid : Members) (first before now : ℕ → ℕ) (one : List Entry)
     subst (λ (l : List Entry). AreLossesAlong old first now l more) (sym (append_assoc one done (e ∷ []))) (losses-later (done ++ e ∷ []) more was),
   )
 
-along-append : (members : Members) (before now : ℕ → ℕ) (done xs ys : List Entry) → AreLossesAlong members before now done xs → AreLossesAlong members before now (done ++ xs) ys → AreLossesAlong members before now done (xs ++ ys)
+pub along-append : (members : Members) (before now : ℕ → ℕ) (done xs ys : List Entry) → AreLossesAlong members before now done xs → AreLossesAlong members before now (done ++ xs) ys → AreLossesAlong members before now done (xs ++ ys)
 along-append members before now done [] ys one two = subst (λ (l : List Entry). AreLossesAlong members before now l ys) (append-nil done) two
 along-append members before now done (x ∷ xs) ys (loss, one) two = (
   loss,

@@ -1,6 +1,11 @@
+pub use Rattle.still_laws.proofs.AddLaws as still_laws_AddLaws
+pub use Rattle.still_laws.proofs.Closing as still_laws_Closing
 pub use Rattle.still_laws.proofs.Going as still_laws_Going
 pub use Rattle.still_laws.proofs.Kept as still_laws_Kept
 pub use Rattle.still_laws.proofs.Left as still_laws_Left
+pub use Rattle.still_laws.proofs.Plain as still_laws_Plain
+pub use Rattle.still_laws.proofs.PlainBehind as still_laws_PlainBehind
+pub use Rattle.still_laws.proofs.PlansKept as still_laws_PlansKept
 pub use Rattle.still_laws.proofs.StepLaws as still_laws_StepLaws
 pub use Rattle.still_laws.proofs.course_mends_Mended
 pub use Rattle.still_laws.proofs.moving_kept_BegunCall

@@ -1,6 +1,7 @@
 //! An array without an active reshape, whether some were before or not: it is read and written, and keeps its history.
 #![tactic(auto)]
 
+mod naming;
 mod state;
 
 pub use state::{Opened, Still};

@@ -33,9 +33,10 @@ use Rattle.flat_history.specs.World.{World, opening_list}
 use Rattle.shape_views.specs.Regions.{DoWithout}
 use Rattle.shape_views.specs.Views.{Ledger}
 use Rattle.shape_changes.specs.Marking.{AreOthersPresent}
-use Rattle.shape_changes.specs.Safety.{HasRoomLeft, IsRisen}
+use Rattle.shape_changes.specs.Safety.{HasLiveSlot, HasRoomLeft, IsRisen}
 use Rattle.shape_changes.specs.Steady.{IsSafeOver, KeepsSafe, AreGoneTold, IsUncleanTold}
 use Rattle.views.specs.declared.work.Work.{Work}
+use Rattle.safe_updates.specs.Named.{AreNamedMissing}
 use Rattle.views.specs.Lacking.{AreLostSince, RowsStandBelow, mended_rows}
 use Rattle.views.specs.Moving.{Grows, IsMoved}
 use Rattle.views.specs.Numbers.{is_carried}
@@ -67,18 +68,17 @@ use Rattle.views.specs.Lacking.{RowsStand}
 use Rattle.views.specs.Rebuilding.{with_whole, AreRowsFull}
 use Rattle.calls_kept.proofs.RebuildGiven.{receiver-recovering, whole-here}
 use Rattle.calls_kept.proofs.RebuildEnded.{rows-full, moved-vacant}
-use Rattle.kept_history.specs.Recorded.{IsReshapedCall, IsOpenBehind, entry_of}
+use Rattle.kept_history.specs.Recorded.{IsOpenBehind}
 use Rattle.kept_history.specs.Told.{told_now}
 use Rattle.kept_history.proofs.Lists.{newest-in}
-use Rattle.kept_history.proofs.Reshapes.{call-ends_none, ends-none, reshaped-losses}
+use Rattle.kept_history.proofs.Reshapes.{call-ends_none}
 use Rattle.kept_history.proofs.Ledgers.{unsynced-still}
-use Rattle.call_entries.proofs.StepLaws.{faults-are}
 use Rattle.history_calls.specs.Reliable.{IsReliable}
 use Rattle.history_calls.proofs.Behind.{telling-of, first-of}
-use Rattle.history_calls.proofs.Quiet.{IsLeftBehind, quiet-none}
+use Rattle.history_calls.proofs.Quiet.{IsLeftBehind, EndsRight, quiet-none}
 use Rattle.history_calls.proofs.Giving.{GivesRole, giving-leaves, telling-then}
 use Rattle.still_kept.proofs.Leaving.{safe-over, safe-now, leaves-stands}
-use Rattle.still_kept.proofs.Ends.{EndsNothing, ends-behind, ends-right}
+use Rattle.still_kept.proofs.Ends.{EndsPlans, ends-right}
 use Rattle.still_kept.proofs.Resync.{step-between}
 use Rattle.still_kept.proofs.Stood.{stood-moved}
 use Rattle.still_kept.proofs.Quiet.{tail-stands}
@@ -106,6 +106,7 @@ pub record IsMadeWhole (tells : Type 0) (given : Given) (tape tape' : List Opera
   pub clean : is_clean new.newest ≡ is_clean old.newest
   pub rise : tells → IsRisen ⊤ old new tape tape'
   pub others : tells → AreOthersPresent (present given tape) (present given tape')
+  pub missing : HasLiveSlot new → AreNamedMissing new
   pub safe : tells → (world : World) → (told : Ledger) → HasRoomLeft old tape tape' → AreGoneTold told new → told.gone role ≡ true → IsUncleanTold told old → OpensFit world → DoWithout old → (list : ℕ → Sector)
       → RowsStand old (present given tape) list → AreWritesAllowed old told.values list → AreRowsFull old role slot list (present given tape)
       → IsSafeOver world given told old tape → KeepsSafe world given told new tape tape'
@@ -182,7 +183,7 @@ module _ (tells : Type 0) (given : Given) (tape tape' : List Operation) (scope :
 
   -- ---- where the role is whole
 
-  module _ (whole_is : role_state (reading_of new) role ≡ Whole slot) (less : losses_of roles spares ≡ [] → left' + 1 ≡ left) (free : EndsNothing entries (Step RebuildEnded left'))
+  module _ (whole_is : role_state (reading_of new) role ≡ Whole slot) (less : losses_of roles spares ≡ [] → left' + 1 ≡ left) (free : EndsPlans tells (world_in given tape scope first) entries new work (Step RebuildEnded left'))
       (open_behind : tells → IsReliable (world_in given tape' scope first) (entries ++ entries_of who end ((losses_of roles spares ++ Step RebuildEnded left' ∷ []) ++ Rebuilt role ∷ []))
       → IsOpenBehind (world_in given tape' scope first) goes.call) where
     abbrev early : List Event
@@ -220,13 +221,10 @@ module _ (tells : Type 0) (given : Given) (tape tape' : List Operation) (scope :
         (legal-losses (world_in given tape' scope first) entries who end (losses_of roles spares) (Step RebuildEnded left' ∷ Rebuilt role ∷ []) (losses-are roles spares)
         (step-between (world_in given tape' scope first) entries who end roles spares (entries_of who end (Rebuilt role ∷ [])) RebuildEnded left left' was.left_told less, tt, (tt, tt, tt)))
 
-    reshaped : tells → IsReshapedCall (world_in given tape' scope first) entries who end ((losses_of roles spares ++ Step RebuildEnded left' ∷ []) ++ Rebuilt role ∷ [])
-    reshaped t = subst (λ (l : List Event). IsReshapedCall (world_in given tape' scope first) entries who end l) (sym split)
-        (reshaped-losses (world_in given tape' scope first) entries who end (losses_of roles spares) (Step RebuildEnded left' ∷ Rebuilt role ∷ []) (faults-are (losses_of roles spares) (losses-are roles spares)) (
-          ends-right (world_in given tape' scope first) (entries ++ entries_of who end (losses_of roles spares)) (entry_of who end (Step RebuildEnded left')) (entries_of who end (Rebuilt role ∷ []))
-              (ends-behind entries who end roles spares (Step RebuildEnded left') free),
-          (ends-none (world_in given tape' scope first) ((entries ++ entries_of who end (losses_of roles spares)) ++ entry_of who end (Step RebuildEnded left') ∷ []) (entry_of who end (Rebuilt role)) [] refl, tt),
-        ))
+    reshaped : tells → EndsRight given tape' scope first entries new (is_carried work) false who end ((losses_of roles spares ++ Step RebuildEnded left' ∷ []) ++ Rebuilt role ∷ [])
+    reshaped t = subst (λ (l : List Event). EndsRight given tape' scope first entries new (is_carried work) false who end l) (sym split)
+        (ends-right tells given tape scope first entries new work (is_carried work) false who (losses_of roles spares) (Step RebuildEnded left') (Rebuilt role ∷ []) (losses-are roles spares) refl refl free rest
+        (λ u. (was.recorded u).begun) (λ u. (was.recorded u).ends) current end did.grows at_end (λ u can right so. (listed u can right.fills).rows so) t)
 
     call : tells → GivesRole given tape scope first entries old new (is_carried work) false who (losses_of roles spares ++ Step RebuildEnded left' ∷ []) role tape' end
     call t = record {
@@ -311,7 +309,7 @@ module _ (tells : Type 0) (given : Given) (tape tape' : List Operation) (scope :
         (without-left given old placed was.members_are.unlost does) goes caller at_end did.grows (quiet-none who end) rest did.moved.shape did.moved.size (λ can. does) (early-losses roles spares) missing did.clean
         (λ number is. is) refl (subst (λ (o : Option ℕ). IfSome o (λ mended. mended ≤ stripes_of new)) (sym synced) tt)
         (subst (λ (l : List Event). last_end_from first (entries ++ entries_of who end l) ≡ end) (sym (append-nil (losses_of roles spares))) (losses-end first entries who end (losses_of roles spares) (Lost role Fault) among))
-        (λ t. call-ends_none (world_in given tape' scope first) entries who end (losses_of roles spares ++ []) ((early-losses roles spares).ends [] refl))
+        (λ t right told safe fits. call-ends_none (world_in given tape' scope first) entries who end (losses_of roles spares ++ []) ((early-losses roles spares).ends [] refl))
         (left-lost left left' entries who end (losses_of roles spares) [] (losses-are roles spares) (λ none. absurd (some-lost (losses_of roles spares) (Lost role Fault) among none)) was.left_told (λ told is. is))
         (λ t can fills. stood-moved (OpensFit (world_in given tape scope first)) work given old new (present given tape) (present given tape') current moved-lost placed (did.others t) (was.listed t does fills))
         (λ t. numbers-kept given tape scope first entries old new (is_carried work) false who (losses_of roles spares) [] tape' end (did.rise t) (keeps t)

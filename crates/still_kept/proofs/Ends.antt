@@ -1,54 +1,138 @@
--- An event that ends no reshape, and leaves steps or ends no plan, owes nothing of what reshapes leave.
-use Rattle.std.proofs.Common.{◌≡◌, ◌⊎◌, inl, inr, ℕ, Bool, true, false, List, [], ◌∷◌, ◌++◌, fold, refl, ◌∙◌}
-use Rattle.std.proofs.lemmas.List.Sums.{fold-append}
+-- An event that ends no reshape, and leaves steps or closes the plans that are open, ends right what it ends.
+use Rattle.std.proofs.Common.{◌≡◌, ◌⊎◌, inl, inr, ℕ, ◌≤◌, Bool, true, false, Option, None, List, [], ◌∷◌, ◌++◌, length, sym, ◌∙◌, ap, subst, append_assoc}
+use Rattle.std.specs.Prelude.{⊤}
+use Rattle.std.specs.Bool.{OnTrue}
+use Rattle.std.specs.List.{list_any, list_all}
+use Rattle.md_base.specs.Sectors.{Sector}
 use Rattle.md_base.specs.declared.answers.Who.{Who}
+use Rattle.bank.specs.declared.bank.Operation.{Operation}
+use Rattle.bank.specs.Given.{Given}
+use Rattle.superblocks.specs.declared.members.Members.{Members}
+use Rattle.superblocks.specs.Reading.{Scope, shape_of}
+use Rattle.row_io.specs.Rows.{present}
 use Rattle.flat_history.specs.declared.events.Entry.{Entry}
 use Rattle.flat_history.specs.declared.events.Event.{Event}
-use Rattle.flat_history.specs.declared.events.Event.TheVariants.{Lost, SpareLost, Step}
-use Rattle.flat_history.specs.declared.events.LostCause.TheVariants.{Fault}
+use Rattle.flat_history.specs.declared.events.Event.TheVariants.{Step}
 use Rattle.flat_history.specs.declared.events.StepKind.TheVariants.{Finished}
+use Rattle.flat_history.specs.Growing.{EndBy}
 use Rattle.flat_history.specs.Plain.{entries_of}
-use Rattle.flat_history.specs.Reshaped.{behind, comes_with_finish, comes_with_step, IsFinishedRight, is_done, plans_after, open_plans, IsReshapedBy}
+use Rattle.flat_history.specs.Reshaped.{behind, comes_with_finish, comes_with_step, IsConsistentAt, IsFinishedRight, is_done, open_plans, ArePlansDone, IsReshapedBy}
+use Rattle.flat_history.specs.Sound.{OpensFit}
 use Rattle.flat_history.specs.World.{World}
-use Rattle.call_entries.specs.Losing.{losses_of}
-use Rattle.call_entries.proofs.CallLaws.{AreLossEvents, losses-are}
+use Rattle.flat_history.proofs.SoundLaws.{fit-before}
+use Rattle.shape_views.specs.Regions.{DoWithout}
+use Rattle.views.specs.declared.work.Work.{Work}
+use Rattle.views.specs.Lacking.{RowsStandBelow, mended_rows}
+use Rattle.views.specs.Moving.{Grows}
+use Rattle.call_entries.proofs.CallLaws.{AreLossEvents}
+use Rattle.call_entries.proofs.LosingLaws.{entries-both}
 use Rattle.call_entries.proofs.StepLaws.{faults-are}
 use Rattle.kept_history.specs.Recorded.{IsReshapedCall, entry_of, ends_reshape}
-use Rattle.kept_history.proofs.Reshapes.{ends-none, reshaped-losses, unplanned}
+use Rattle.kept_history.specs.Safe.{world_in, IsSafeHistory}
+use Rattle.kept_history.proofs.Growing.{alike-before, room-before}
+use Rattle.kept_history.proofs.Reshapes.{call-ends_none, ends-none, reshaped-losses, unplanned}
+use Rattle.kept_history.proofs.Turned.{filled-before}
+use Rattle.history_calls.specs.Reliable.{IsReliable, AreToldGone}
+use Rattle.history_calls.proofs.Quiet.{EndsRight}
+use Rattle.history_calls.proofs.Plans.{ArePlannedTo, behind-all, plans-behind, plans-done}
+use Rattle.still_kept.specs.Still.{AreAtRest, IsNamedOrClean}
+use Rattle.still_kept.proofs.Closing.{closing-consistent}
 
 abbrev pub is_finish : Event → Bool
 is_finish (Step Finished left) = true
 is_finish event = false
 
--- it ends no reshape, and leaves steps; or it is no finish, and no plan is open
-abbrev pub EndsNothing : List Entry → Event → Type 0
-EndsNothing entries event = (ends_reshape event ≡ false) ⊎ ((open_plans entries ≡ []) × (is_finish event ≡ false))
+-- It is no finish; each plan that is open goes to the shape of the members behind it, none of whose rows waits for a resync, and what is missing of them can be told.
+pub record ClosesPlans (tells : Type 0) (world : World) (entries : List Entry) (new : Members) (work : Work) (event : Event) : Type 0 where
+  pub other : is_finish event ≡ false
+  pub plans : tells → IsReliable world entries → ArePlannedTo world (shape_of new.newest) (open_plans entries)
+  pub synced : work.resync ≡ None
+  pub named : DoWithout new → IsNamedOrClean new
+
+-- it ends no reshape, and leaves steps; or it is no finish, and no plan is open; or it closes those that are
+abbrev pub EndsPlans : Type 0 → World → List Entry → Members → Work → Event → Type 0
+EndsPlans tells world entries new work event = (ends_reshape event ≡ false) ⊎ (((open_plans entries ≡ []) × (is_finish event ≡ false)) ⊎ ClosesPlans tells world entries new work event)
 
 free-finish : (world : World) (before : List Entry) (e : Entry) (rest : List Entry) (event : Event) → is_finish event ≡ false → IsFinishedRight world before e rest event
 free-finish world before e rest (Step Finished left) none = absurd (cc)
 free-finish world before e rest event none = tt
 
-pub ends-right : (world : World) (before : List Entry) (e : Entry) (rest : List Entry) → EndsNothing before e.event → IsReshapedBy world before e rest
-ends-right world before e rest (inl none) = ends-none world before e rest none
-ends-right world before e rest (inr free) = record { finished = free-finish world before e (behind comes_with_finish e rest) e.event free.1; plans = unplanned world before e (behind comes_with_step e rest) (is_done e.event) free.0 }
+-- So it is of a call that enters losses before it, and behind it what comes with a step.
+module _ (tells : Type 0) (given : Given) (tape : List Operation) (scope : Scope) (first : ℕ) (entries : List Entry) (new : Members) (work : Work) (carried : ℕ → Bool) (reshaping : Bool)
+    (who : Who) (xs : List Event) (event : Event) (tail : List Event) (are : AreLossEvents xs) (comes : list_all comes_with_step tail ≡ true) (last : list_any ends_reshape tail ≡ false)
+    (ends : EndsPlans tells (world_in given tape scope first) entries new work event) (rest : AreAtRest given new) (begun : tells → first ≤ length tape) (made : tells → EndBy (length tape) entries) (list : ℕ → Sector) where
+  abbrev world : World
+  world = world_in given tape scope first
 
--- losses leave the plans that are open
-plans-kept : (who : Who) (end : ℕ) (xs : List Event) (plans : List Entry) → AreLossEvents xs → fold plans_after plans (entries_of who end xs) ≡ plans
-plans-kept who end [] plans are = refl
-plans-kept who end (Lost role Fault ∷ xs) plans are = plans-kept who end xs plans are
-plans-kept who end (SpareLost slot ∷ xs) plans are = plans-kept who end xs plans are
-plans-kept who end (event ∷ xs) plans are = absurd are
+  module _ (ops : List Operation) (t : tells)
+      (stand : DoWithout new → IsReliable (world_in given tape scope first) entries → OpensFit (world_in given tape scope first) → RowsStandBelow (mended_rows work.resync new) new (present given (tape ++ ops)) list)
+      (right : IsReliable (world_in given (tape ++ ops) scope first) (entries ++ entries_of who (length (tape ++ ops)) (xs ++ event ∷ tail)))
+      (told : AreToldGone (world_in given (tape ++ ops) scope first) (entries ++ entries_of who (length (tape ++ ops)) (xs ++ event ∷ tail)) new)
+      (safe : IsSafeHistory ⊤ (world_in given (tape ++ ops) scope first) given new carried reshaping (entries ++ entries_of who (length (tape ++ ops)) (xs ++ event ∷ tail)))
+      (fit : OpensFit (world_in given (tape ++ ops) scope first)) where
+    abbrev later : World
+    later = world_in given (tape ++ ops) scope first
 
-plans-behind : (entries : List Entry) (who : Who) (end : ℕ) (xs : List Event) → AreLossEvents xs → open_plans (entries ++ entries_of who end xs) ≡ open_plans entries
-plans-behind entries who end xs are = fold-append plans_after [] entries (entries_of who end xs) ∙ plans-kept who end xs (open_plans entries) are
+    abbrev end : ℕ
+    end = length (tape ++ ops)
 
--- so it does behind losses
-pub ends-behind : (entries : List Entry) (who : Who) (end roles spares : ℕ) (event : Event) → EndsNothing entries event → EndsNothing (entries ++ entries_of who end (losses_of roles spares)) event
-ends-behind entries who end roles spares event (inl none) = inl none
-ends-behind entries who end roles spares event (inr none) = inr (plans-behind entries who end (losses_of roles spares) (losses-are roles spares) ∙ none.0, none.1)
+    abbrev before : List Entry
+    before = entries ++ entries_of who (length (tape ++ ops)) xs
 
--- so it is of a call that enters losses before it
-pub reshaped-behind : (world : World) (entries : List Entry) (who : Who) (end roles spares : ℕ) (event : Event) → EndsNothing entries event → IsReshapedCall world entries who end (losses_of roles spares ++ event ∷ [])
-reshaped-behind world entries who end roles spares event free =
-    reshaped-losses world entries who end (losses_of roles spares) (event ∷ []) (faults-are (losses_of roles spares) (losses-are roles spares))
-    (ends-right world (entries ++ entries_of who end (losses_of roles spares)) (entry_of who end event) [] (ends-behind entries who end roles spares event free), tt)
+    abbrev e : Entry
+    e = entry_of who (length (tape ++ ops)) event
+
+    abbrev behind_it : List Entry
+    behind_it = entries_of who (length (tape ++ ops)) tail
+
+    path : entries ++ entries_of who (length (tape ++ ops)) (xs ++ event ∷ tail) ≡ (entries ++ entries_of who (length (tape ++ ops)) xs) ++ entry_of who (length (tape ++ ops)) event ∷ entries_of who (length (tape ++ ops)) tail
+    path = ap (λ (l : List Entry). entries ++ l) (entries-both who end xs (event ∷ tail)) ∙ sym (append_assoc entries (entries_of who end xs) (e ∷ behind_it))
+
+    reliable : IsReliable (world_in given tape scope first) entries
+    reliable = record {
+      fills = filled-before world ops entries (entries_of who end (xs ++ event ∷ tail)) (begun t) (made t) right.fills;
+      room = room-before world ops (begun t) right.room;
+      alike = alike-before world ops (begun t) right.alike;
+    }
+
+    module _ (closes : ClosesPlans tells (world_in given tape scope first) entries new work event) where
+      consistent : IsConsistentAt later ((entries ++ entries_of who (length (tape ++ ops)) xs) ++ entry_of who (length (tape ++ ops)) event ∷ entries_of who (length (tape ++ ops)) tail) (length (tape ++ ops)) (shape_of new.newest)
+      consistent = subst (λ (l : List Entry). IsConsistentAt later l end (shape_of new.newest)) path
+          (closing-consistent given (tape ++ ops) scope first (entries ++ entries_of who end (xs ++ event ∷ tail)) new carried reshaping list rest told safe closes.named fit
+          (λ does. subst (λ (o : Option ℕ). RowsStandBelow (mended_rows o new) new (present given (tape ++ ops)) list) closes.synced (stand does reliable (fit-before world ops (begun t) fit))))
+
+      done : (b : Bool) → OnTrue b (ArePlansDone later before e (behind comes_with_step e behind_it) (open_plans before))
+      done false = tt
+      done true =
+          subst (λ (l : List Entry). ArePlansDone later before e l (open_plans before)) (sym (behind-all comes_with_step who end event tail comes))
+          (subst (λ (plans : List Entry). ArePlansDone later before e behind_it plans) (sym (plans-behind entries who end xs are))
+          (plans-done world ops before e behind_it (shape_of new.newest) consistent entries (made t) (closes.plans t reliable)))
+
+    step-right : IsReshapedBy later before e behind_it
+    step-right = elim ends [
+      | inl none ↦ ends-none later before e behind_it none
+      | inr (inl free) ↦ record {
+        finished = free-finish later before e (behind comes_with_finish e behind_it) event free.1;
+        plans = unplanned later before e (behind comes_with_step e behind_it) (is_done event) (plans-behind entries who end xs are ∙ free.0);
+      }
+      | inr (inr closes) ↦ record { finished = free-finish later before e (behind comes_with_finish e behind_it) event closes.other; plans = done closes (is_done event) }
+    ]
+
+    call-right : IsReshapedCall later entries who end (xs ++ event ∷ tail)
+    call-right = reshaped-losses later entries who end xs (event ∷ tail) (faults-are xs are) (step-right, call-ends_none later (before ++ e ∷ []) who end tail last)
+
+  -- over the tape that the call leaves, and at its end
+  Then : List Operation → ℕ → Type 0
+  Then l n = (DoWithout new → IsReliable (world_in given tape scope first) entries → OpensFit (world_in given tape scope first) → RowsStandBelow (mended_rows work.resync new) new (present given l) list)
+      → EndsRight given l scope first entries new carried reshaping who n (xs ++ event ∷ tail)
+
+  pub ends-right : {tape' : List Operation} (end : ℕ) → Grows tells tape tape' → (tells → end ≡ length tape')
+      → (tells → DoWithout new → IsReliable (world_in given tape scope first) entries → OpensFit (world_in given tape scope first) → RowsStandBelow (mended_rows work.resync new) new (present given tape') list)
+      → tells → EndsRight given tape' scope first entries new carried reshaping who end (xs ++ event ∷ tail)
+  unfolding Then
+  ends-right end grows at_end stand t =
+      let g = grows.more t in
+      subst (λ (l : List Operation). Then l end) (sym g.1)
+      (subst (Then (tape ++ g.0)) (sym (at_end t ∙ ap (λ (l : List Operation). length l) g.1))
+      (λ stands. call-right g.0 t stands))
+      (stand t)

@@ -54,7 +54,7 @@ use Rattle.history_calls.proofs.Adding.{unsettled-last}
 use Rattle.history_calls.proofs.Settling.{IsSettlement, SettlesList, takes-newest, settling-leaves, settled-same}
 use Rattle.still_kept.specs.Still.{HasListStood, IsStill}
 use Rattle.still_kept.proofs.Adding.{changing-stands}
-use Rattle.still_kept.proofs.Ends.{EndsNothing, reshaped-behind}
+use Rattle.still_kept.proofs.Ends.{EndsPlans, ends-right}
 use Rattle.still_kept.proofs.Leaving.{safe-over, safe-now, rest-moved, none-taken, leaves-stands}
 use Rattle.still_kept.proofs.Refusals.{too-many-refused, refused-right, unsynced-behind}
 use Rattle.still_kept.proofs.Staying.{missing-since, progress-same}
@@ -137,7 +137,7 @@ module _ (tells : Type 0) (given : Given) (tape tape' : List Operation) (scope :
   -- ---- one that is done
 
   -- it may end a resync: then another work is under way behind it, by which the list stands too
-  pub settled-stands : (work' : Work) (left' : ℕ) (event : Event) → IsSettledStill tells given tape tape' old new unsynced → IsSettlement event → EndsNothing entries event
+  pub settled-stands : (work' : Work) (left' : ℕ) (event : Event) → IsSettledStill tells given tape tape' old new unsynced → IsSettlement event → EndsPlans tells (world_in given tape scope first) entries new work' event
       → is_carried work' ≡ is_carried work → unsynced ≡ is_some work'.resync → (unsynced ≡ true → IsSome work.resync) → IfSome work'.resync (λ mended. mended ≤ stripes_of new)
       → (tells → (is_unsynced (world_in given tape scope first) entries && not (is_resync_end event)) ≡ unsynced)
       → IfSome (told_left (entries ++ entries_of who end (losses_of roles spares ++ event ∷ []))) (λ n. n ≡ left')
@@ -175,7 +175,9 @@ module _ (tells : Type 0) (given : Given) (tape tape' : List Operation) (scope :
           safe = done.settled t (world_in given tape scope first) told_so room gone unclean (λ does is. was.dirty does (waits is)) current (under t fills) (rows-under t fills) allowed safe;
         };
         legal = λ fills gone level. legal t;
-        reshaped = reshaped-behind (world_in given tape' scope first) entries who end roles spares event free;
+        reshaped = ends-right tells given tape scope first entries new work' (is_carried work) false who (losses_of roles spares) event [] (losses-are roles spares) refl refl free (rest-moved given old new did.moved was.members_are)
+            (λ u. (was.recorded u).begun) (λ u. (was.recorded u).ends) current end did.grows at_end
+            (λ u does right fit. (again (OpensFit (world_in given tape scope first)) (present given tape') current (still-listed u does right.fills)).rows fit) t;
       }
 
       leaves : tells → IsLeftBehind given tape scope first entries (entries ++ entries_of who end (losses_of roles spares ++ event ∷ [])) new (is_carried work) false tape'

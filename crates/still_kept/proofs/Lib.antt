@@ -1,5 +1,7 @@
 pub mod KeptStands
 pub mod Leaving
+pub mod Named
+pub mod Closing
 pub mod Ends
 pub mod Whole
 pub mod Stood

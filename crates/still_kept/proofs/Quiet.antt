@@ -31,12 +31,12 @@ use Rattle.views.specs.Status.{stripes_of}
 use Rattle.views.proofs.HeldRows.{without-before}
 use Rattle.call_entries.proofs.CallLaws.{last_end-behind}
 use Rattle.kept_history.proofs.Reshapes.{call-ends_none}
-use Rattle.kept_history.specs.Recorded.{IsCallGoing, IsReshapedCall, ends_reshape}
+use Rattle.kept_history.specs.Recorded.{IsCallGoing, ends_reshape}
 use Rattle.kept_history.specs.Safe.{world_in, IsFilledRight}
 use Rattle.kept_history.proofs.Entered.{settle-none}
 use Rattle.kept_history.proofs.Ledgers.{unsynced-still, none-ends}
 use Rattle.history_calls.proofs.Behind.{or-false, AreEarly, AreLostOrMissing}
-use Rattle.history_calls.proofs.Quiet.{IsQuiet, AreQuietLast, quiet-last, LeavesNumbers, LeavesList, IsLeftBehind, numbers-leaves, numbers-of, last-now}
+use Rattle.history_calls.proofs.Quiet.{IsQuiet, AreQuietLast, quiet-last, LeavesNumbers, LeavesList, IsLeftBehind, EndsRight, numbers-leaves, numbers-of, last-now}
 use Rattle.still_kept.specs.Still.{AreAtRest, HasListStood, IsStill}
 use Rattle.still_kept.proofs.Leaving.{safe-over, safe-now, rest-moved, none-taken, leaves-stands}
 
@@ -48,7 +48,7 @@ pub tail-stands : (tells : Type 0) (given : Given) (tape tape' : List Operation)
     → AreAtRest given new → shape_of new.newest ≡ shape_of old.newest → new.newest.size ≡ old.newest.size → (DoWithout new → DoWithout old)
     → AreEarly early IsTaken → AreLostOrMissing old new IsTaken → is_clean new.newest ≡ is_clean old.newest
     → ((number : ℕ) → is_carried work number ≡ true → is_carried work' number ≡ true) → is_some work'.resync ≡ is_some work.resync → IfSome work'.resync (λ mended. mended ≤ stripes_of new)
-    → last_end_from first (entries ++ entries_of who end (early ++ tail)) ≡ end → (tells → IsReshapedCall (world_in given tape' scope first) entries who end (early ++ tail))
+    → last_end_from first (entries ++ entries_of who end (early ++ tail)) ≡ end → (tells → EndsRight given tape' scope first entries new (is_carried work') false who end (early ++ tail))
     → IfSome (told_left (entries ++ entries_of who end (early ++ tail))) (λ n. n ≡ left')
     → (tells → DoWithout new → IsFilledRight (world_in given tape scope first) entries
     → HasListStood (OpensFit (world_in given tape scope first)) work' new (present given tape') (now (opening_list (world_in given tape scope first)) entries))
@@ -75,7 +75,7 @@ tail-stands tells given tape tape' scope first entries old new work work' left l
     sized = list-still new.newest rest.still ∙ (λ i. data_disks (shape i) * size i) ∙ sym (list-still old.newest was.members_are.still)
 
     Then : List Operation → ℕ → Type 0
-    Then l e = AreQuietLast who e tail → last_end_from first (entries ++ entries_of who e (early ++ tail)) ≡ e → IsReshapedCall (world_in given l scope first) entries who e (early ++ tail)
+    Then l e = AreQuietLast who e tail → last_end_from first (entries ++ entries_of who e (early ++ tail)) ≡ e → EndsRight given l scope first entries new (is_carried work') false who e (early ++ tail)
         → LeavesNumbers given tape scope first entries old new (is_carried work) (is_carried work') false who early tail l e
         → IsLeftBehind given tape scope first entries (entries ++ entries_of who e (early ++ tail)) new (is_carried work') false l
 
@@ -103,7 +103,7 @@ pub placed-stands : (tells : Type 0) (given : Given) (tape tape' : List Operatio
 placed-stands tells given tape tape' scope first entries old new work work' left left' who end early IsTaken event was live goes caller at_end grows quiet rest shape size before are missing clean carries pends progress =
     tail-stands tells given tape tape' scope first entries old new work work' left left' who end early IsTaken (event ∷ []) was live goes caller at_end grows (quiet-last who end event quiet)
     rest shape size before are missing clean carries pends progress (last_end-behind first entries who end early event)
-    (λ t. call-ends_none (world_in given tape' scope first) entries who end (early ++ event ∷ []) (are.ends (event ∷ []) (or-false (ends_reshape event) false quiet.ends refl)))
+    (λ t right told safe fit. call-ends_none (world_in given tape' scope first) entries who end (early ++ event ∷ []) (are.ends (event ∷ []) (or-false (ends_reshape event) false quiet.ends refl)))
 
 -- So it is where slots were lost, and no more numbers are known.
 pub early-stands : (tells : Type 0) (given : Given) (tape tape' : List Operation) (scope : Scope) (first : ℕ) (entries : List Entry) (old new : Members) (work work' : Work) (left left' : ℕ)

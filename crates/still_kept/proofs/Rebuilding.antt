@@ -28,9 +28,10 @@ use Rattle.calls_kept.proofs.RebuildFilled.{not-vacant}
 use Rattle.kept_history.specs.Recorded.{IsLegalCall}
 use Rattle.history_calls.proofs.Quiet.{AreQuietLast, quiet-none, numbers-kept, numbers-of}
 use Rattle.flat_history.specs.Transfers.{last_end_from}
-use Rattle.kept_history.specs.Recorded.{IsReshapedCall}
+use Rattle.kept_history.specs.Recorded.{ends_reshape}
+use Rattle.std.specs.List.{list_any}
 use Rattle.kept_history.proofs.Reshapes.{call-ends_none}
-use Rattle.still_kept.proofs.Ends.{EndsNothing, reshaped-behind}
+use Rattle.still_kept.proofs.Ends.{EndsPlans, ends-right}
 use Rattle.flat_history.specs.Legal.{told_left}
 use Rattle.still_kept.proofs.Quiet.{tail-stands}
 use Rattle.still_kept.proofs.Leaving.{rest-moved}
@@ -45,9 +46,10 @@ use Rattle.flat_history.specs.World.{World, opening_list}
 use Rattle.shape_views.specs.Regions.{DoWithout}
 use Rattle.shape_views.specs.Views.{Ledger}
 use Rattle.shape_changes.specs.Marking.{AreOthersPresent}
-use Rattle.shape_changes.specs.Safety.{HasRoomLeft, IsRisen}
+use Rattle.shape_changes.specs.Safety.{HasLiveSlot, HasRoomLeft, IsRisen}
 use Rattle.shape_changes.specs.Steady.{IsSafeOver, KeepsSafe, AreGoneTold, IsUncleanTold}
 use Rattle.views.specs.declared.work.Work.{Work}
+use Rattle.safe_updates.specs.Named.{AreNamedMissing}
 use Rattle.views.specs.Lacking.{AreLostSince, LacksTooMany, AreTooMany, RowsStandBelow, RowsStandAmong, DataStandsAmong, IsOfStripe, mended_rows}
 use Rattle.views.specs.Moving.{Grows, IsMoved}
 use Rattle.views.specs.Numbers.{is_carried}
@@ -70,7 +72,7 @@ use Rattle.calls_kept.proofs.RebuildGiven.{receiver-spare, few-given, free-then,
 use Rattle.calls_kept.proofs.TouchedLaws.{full-filled}
 use Rattle.kept_history.specs.Recorded.{IsCallGoing}
 use Rattle.kept_history.specs.Safe.{world_in, IsFilledRight}
-use Rattle.history_calls.proofs.Behind.{AreLostOrMissing, IsAmong, early-losses, legal-losses}
+use Rattle.history_calls.proofs.Behind.{or-false, AreLostOrMissing, IsAmong, early-losses, legal-losses}
 use Rattle.still_kept.specs.Still.{AreAtRest, HasListStood, IsStill}
 use Rattle.still_kept.proofs.Quiet.{early-stands}
 use Rattle.still_kept.proofs.Refusals.{quiet-refusal, too-many-refused, refused-right, unsynced-behind}
@@ -91,12 +93,13 @@ pub record IsTaken (tells : Type 0) (given : Given) (tape tape' : List Operation
   pub clean : is_clean new.newest ≡ is_clean old.newest
   pub rise : tells → IsRisen ⊤ old new tape tape'
   pub others : tells → AreOthersPresent (present given tape) (present given tape')
+  pub missing : HasLiveSlot new → AreNamedMissing new
   pub safe : tells → (world : World) → (told : Ledger) → HasRoomLeft old tape tape' → AreGoneTold told new → told.gone role ≡ true → IsUncleanTold told old → IsSafeOver world given told old tape → KeepsSafe world given told new tape tape'
 
 module _ (tells : Type 0) (given : Given) (tape tape' : List Operation) (scope : Scope) (first : ℕ) (entries : List Entry) (old new : Members) (work : Work) (left left' : ℕ)
     (who : Who) (end role slot roles spares : ℕ) (before after : ℕ → ℕ)
     (was : IsStill tells given tape scope first entries old work left) (does : DoWithout old) (goes : IsCallGoing entries who) (caller : IsFalse (who.caller == 254)) (at_end : tells → end ≡ length tape')
-    (known : role < length work.rebuilt) (less : losses_of roles spares ≡ [] → left' + 1 ≡ left) (free : EndsNothing entries (Step RebuildTaken left'))
+    (known : role < length work.rebuilt) (less : losses_of roles spares ≡ [] → left' + 1 ≡ left) (free : EndsPlans tells (world_in given tape scope first) entries new (with_rebuilt role 0 work) (Step RebuildTaken left'))
     (did : IsTaken tells given tape tape' old new role slot roles spares before after) where
   abbrev V : Members
   V = with_recovering role slot old
@@ -173,7 +176,8 @@ module _ (tells : Type 0) (given : Given) (tape tape' : List Operation) (scope :
       (without-left given old placed was.members_are.unlost does) goes caller at_end did.grows
       (record { adds = refl; gives = refl; still = λ x values. refl; level = λ n. refl }) rest did.moved.shape did.moved.size (λ can. does)
       (early-losses roles spares) missing did.clean (λ number is. is) refl (progress work.resync was.progress)
-      (last_end-behind first entries who end (losses_of roles spares) (Step RebuildTaken left')) (λ t. reshaped-behind (world_in given tape' scope first) entries who end roles spares (Step RebuildTaken left') free)
+      (last_end-behind first entries who end (losses_of roles spares) (Step RebuildTaken left')) (ends-right tells given tape scope first entries new (with_rebuilt role 0 work) (is_carried (with_rebuilt role 0 work)) false who (losses_of roles spares) (Step RebuildTaken left') [] (losses-are roles spares) refl refl free rest
+      (λ u. (was.recorded u).begun) (λ u. (was.recorded u).ends) current end did.grows at_end (λ u can right fit. (listed u can right.fills).rows fit))
       (told-step entries who end roles spares RebuildTaken left') listed
       (λ t. numbers-of given tape scope first entries old new (is_carried work) false who (losses_of roles spares) (Step RebuildTaken left') tape' end
       (record {
@@ -228,27 +232,28 @@ module _ (tells : Type 0) (given : Given) (tape tape' : List Operation) (scope :
 
   -- the call enters its losses, and a step or nothing
   filled-tail : (tail : List Event) → AreQuietLast who end tail → last_end_from first (entries ++ entries_of who end (losses_of roles spares ++ tail)) ≡ end
-      → (tells → IsReshapedCall (world_in given tape' scope first) entries who end (losses_of roles spares ++ tail))
+      → list_any ends_reshape tail ≡ false
       → IfSome (told_left (entries ++ entries_of who end (losses_of roles spares ++ tail))) (λ n. n ≡ left')
       → (tells → IsLegalCall (world_in given tape' scope first) (entries ++ entries_of who end (losses_of roles spares)) who end tail)
       → role < length work.rebuilt → work.resync ≡ None → IsFullAs
       → IsStill tells given tape' scope first (entries ++ entries_of who end (losses_of roles spares ++ tail)) new (with_rebuilt role (rebuilt_of work role + 1) work) left'
-  filled-tail tail quiet ended reshaped told legal few synced filled =
+  filled-tail tail quiet ended going told legal few synced filled =
       tail-stands tells given tape tape' scope first entries old new work (with_rebuilt role (rebuilt_of work role + 1) work) left left' who end (losses_of roles spares) (IsAmong roles) tail was
       (without-left given old was.members_are.placed was.members_are.unlost does) goes caller at_end did.grows quiet (rest-moved given old new did.moved was.members_are) did.moved.shape did.moved.size
       (without-before given old new did.moved) (early-losses roles spares) (missing-since did.moved did.since) did.clean
-      (λ number is. is) refl (progress-same did.moved work.resync was.progress) ended reshaped told
+      (λ number is. is) refl (progress-same did.moved work.resync was.progress) ended
+      (λ t right gone safe fit. call-ends_none (world_in given tape' scope first) entries who end (losses_of roles spares ++ tail) ((early-losses roles spares).ends tail going)) told
       (λ t can fills. filled-list few synced filled t (was.listed t does fills))
       (λ t. numbers-kept given tape scope first entries old new (is_carried work) false who (losses_of roles spares) tail tape' end (did.rise t)
       (λ told right more room gone unclean began. did.safe t (world_in given tape scope first) told room gone unclean began)
       (λ all right gone level. legal-losses (world_in given tape' scope first) entries who end (losses_of roles spares) tail (losses-are roles spares) (legal t)))
 
   -- where it was, no resync is pending, so that all rows stand
-  pub filled-stands : work.resync ≡ None → role < length work.rebuilt → (losses_of roles spares ≡ [] → left' + 1 ≡ left) → EndsNothing entries (Step RebuildStripe left') → IsFullAs
+  pub filled-stands : work.resync ≡ None → role < length work.rebuilt → (losses_of roles spares ≡ [] → left' + 1 ≡ left) → ends_reshape (Step RebuildStripe left') ≡ false → IsFullAs
       → IsStill tells given tape' scope first (entries ++ entries_of who end (losses_of roles spares ++ Step RebuildStripe left' ∷ [])) new (with_rebuilt role (rebuilt_of work role + 1) work) left'
-  filled-stands synced few less free =
+  filled-stands synced few less going =
       filled-tail (Step RebuildStripe left' ∷ []) (record { adds = refl; gives = refl; still = λ x values. refl; level = λ n. refl })
-      (last_end-behind first entries who end (losses_of roles spares) (Step RebuildStripe left')) (λ t. reshaped-behind (world_in given tape' scope first) entries who end roles spares (Step RebuildStripe left') free)
+      (last_end-behind first entries who end (losses_of roles spares) (Step RebuildStripe left')) (or-false (ends_reshape (Step RebuildStripe left')) false going refl)
       (told-step entries who end roles spares RebuildStripe left')
       (λ t. (step-behind (world_in given tape' scope first) entries who end roles spares RebuildStripe left left' was.left_told less, tt, tt)) few synced
 
@@ -259,7 +264,7 @@ module _ (tells : Type 0) (given : Given) (tape tape' : List Operation) (scope :
       subst (λ (l : List Event). IsStill tells given tape' scope first (entries ++ entries_of who end l) new (with_rebuilt role (rebuilt_of work role + 1) work) left') (append-nil (losses_of roles spares))
       (filled-tail [] (quiet-none who end) (subst (λ (l : List Event). last_end_from first (entries ++ entries_of who end l) ≡ end) (sym (append-nil (losses_of roles spares)))
       (losses-end first entries who end (losses_of roles spares) (Lost role Fault) among))
-      (λ t. call-ends_none (world_in given tape' scope first) entries who end (losses_of roles spares ++ []) ((early-losses roles spares).ends [] refl))
+      refl
       (left-lost left left' entries who end (losses_of roles spares) [] (losses-are roles spares) (λ none. absurd (some-lost (losses_of roles spares) (Lost role Fault) among none)) was.left_told (λ told is. is))
       (λ t. tt) few synced not-held)
     where

@@ -32,9 +32,10 @@ use Rattle.kept_history.proofs.Idle.{now-adding, idle-call}
 use Rattle.kept_history.proofs.KeptCalls.{kept-call}
 use Rattle.kept_history.proofs.Ledgers.{unsynced-still, none-ends}
 use Rattle.history_calls.specs.Reliable.{IsReliable, AreToldGone}
+use Rattle.history_calls.proofs.Quiet.{EndsRight}
 use Rattle.history_calls.proofs.Behind.{first-of, IsBehind, is-behind, and-true, or-false, early-none, telling-of}
 use Rattle.still_kept.specs.Still.{HasListStood, IsStill}
-use Rattle.still_kept.proofs.Ends.{EndsNothing, ends-right}
+use Rattle.still_kept.proofs.Ends.{EndsPlans, ends-right}
 
 -- An event that leaves the list and the level, settles nothing and gives no role.
 pub record IsResting (event : Event) : Type 0 where
@@ -53,7 +54,7 @@ record IsRested (given : Given) (tape : List Operation) (scope : Scope) (first :
 
 module _ (tells : Type 0) (given : Given) (tape : List Operation) (scope : Scope) (first : ℕ) (entries : List Entry) (m : Members) (work : Work) (left left' : ℕ) (who : Who) (end : ℕ) (event : Event)
     (was : IsStill tells given tape scope first entries m work left) (goes : IsCallGoing entries who) (caller : IsFalse (who.caller == 254)) (at_end : tells → end ≡ length tape)
-    (rests : IsResting event) (free : EndsNothing entries event) (told : IfSome (told_left (entries ++ entries_of who end (event ∷ []))) (λ n. n ≡ left'))
+    (rests : IsResting event) (free : EndsPlans tells (world_in given tape scope first) entries m work event) (told : IfSome (told_left (entries ++ entries_of who end (event ∷ []))) (λ n. n ≡ left'))
     (legal : tells → IsReliable (world_in given tape scope first) entries → IsLegalEvent (world_in given tape scope first) entries (entry_of who end event) [] event) where
   abbrev world : World
   world = world_in given tape scope first
@@ -71,11 +72,14 @@ module _ (tells : Type 0) (given : Given) (tape : List Operation) (scope : Scope
 
   Then : List Operation → ℕ → Type 0
   Then l e = (IsReliable (world_in given tape scope first) entries → IsLegalEvent (world_in given l scope first) entries (entry_of who e event) [] event)
+      → EndsRight given l scope first entries m (is_carried work) was.reshaping who e (event ∷ [])
+      → (IsFilledRight (world_in given l scope first) (entries ++ entries_of who e (event ∷ [])) → HasRoomForEvents (world_in given l scope first) → OpensAlike (world_in given l scope first)
+      → IsSafeHistory ⊤ (world_in given l scope first) given m (is_carried work) was.reshaping (entries ++ entries_of who e (event ∷ [])))
       → IsRested given tape scope first entries (entries ++ entries_of who e (event ∷ [])) m l
 
   rested-here : tells → Then (tape ++ []) (length (tape ++ []))
   unfolding Then
-  rested-here t right =
+  rested-here t right ends safe =
       let behind : IsBehind (world_in given tape scope first) (world_in given (tape ++ []) scope first) entries m who (length (tape ++ [])) [] (event ∷ []) =
       is-behind given tape scope first entries m m who [] (λ role. ⊥) (event ∷ []) [] (telling-of (first-of early-none)) (none (length (tape ++ []))) rests.level (few-roles m.newest was.members_are.placed.fit.valid) (λ role lt miss. inl (lt, miss))
       (was.gone t) (was.recorded t) in
@@ -90,14 +94,8 @@ module _ (tells : Type 0) (given : Given) (tape : List Operation) (scope : Scope
             (λ all. inr behind.gives_all)
             (length-adding (length (opening_list (world_in given tape scope first))) entries (entries_of who (length (tape ++ [])) (event ∷ [])) (adds (length (tape ++ []))) ∙ (was.recorded t).sized)
             (last_end-behind first entries who (length (tape ++ [])) [] event) (λ all. (right (behind.right all), tt, tt))
-            (λ all fit. (ends-right (world_in given (tape ++ []) scope first) entries (entry_of who (length (tape ++ [])) event) [] free, tt));
+            (λ all fit. ends all (behind.gone_all all) (safe all.fills all.room all.alike) fit);
       }
-
-  rested : tells → IsRested given tape scope first entries (entries ++ entries_of who end (event ∷ [])) m tape
-  unfolding Then
-  rested t =
-      subst (λ (l : List Operation). Then l end) (append-nil tape)
-      (subst (Then (tape ++ [])) (ap (λ (l : List Operation). length l) (append-nil tape) ∙ sym (at_end t)) (rested-here t)) (legal t)
 
   -- ---- what is told, and what a stop may leave
 
@@ -105,12 +103,27 @@ module _ (tells : Type 0) (given : Given) (tape : List Operation) (scope : Scope
       → (told_now (world_in given tape scope first) (is_carried work) false (entries ++ entries_of who end (event ∷ []))).unclean ≡ true
   unclean t is_told = (now-adding (world_in given tape scope first) (is_carried work) false entries (entries_of who end (event ∷ [])) (adds end) (none end)).unclean is_told
 
+  -- what is filled in was right before it, too
+  before : (n : ℕ) → IsFilledRight (world_in given tape scope first) (entries ++ entries_of who n (event ∷ [])) → IsFilledRight (world_in given tape scope first) entries
+  before n (inl none) = inl (λ role. none-before (loses (world_in given tape scope first) role) entries (entries_of who n (event ∷ [])) (none.0 role), none.1)
+  before n (inr fit) = inr fit
+
   safe : tells → IsFilledRight world (entries ++ added) → HasRoomForEvents world → OpensAlike world → IsSafeHistory ⊤ world given m (is_carried work) was.reshaping (entries ++ added)
   safe t fills room alike =
       subst (λ (n : ℕ). IsFilledRight (world_in given tape scope first) (entries ++ entries_of who n (event ∷ [])) → IsSafeHistory ⊤ (world_in given tape scope first) given m (is_carried work) was.reshaping (entries ++ entries_of who n (event ∷ []))) (sym (at_end t))
       (λ right. idle-call ⊤ given tape scope first entries m (is_carried work) was.reshaping who (event ∷ []) was.sizes_are (was.recorded t).begun (was.recorded t).ends right
-      (was.safe t ((rested t).fills fills) room alike) (adds (length tape)) (none (length tape)))
+      (was.safe t (before (length tape) right) room alike) (adds (length tape)) (none (length tape)))
       fills
+
+  ends : tells → EndsRight given tape scope first entries m (is_carried work) was.reshaping who end (event ∷ [])
+  ends = ends-right tells given tape scope first entries m work (is_carried work) was.reshaping who [] event [] tt refl refl free was.members_are (λ u. (was.recorded u).begun) (λ u. (was.recorded u).ends)
+      (now (opening_list (world_in given tape scope first)) entries) end (record { more = λ u. ([], sym (append-nil tape)) }) at_end (λ u does right fit. (was.listed u does right.fills).rows fit)
+
+  rested : tells → IsRested given tape scope first entries (entries ++ entries_of who end (event ∷ [])) m tape
+  unfolding Then
+  rested t =
+      subst (λ (l : List Operation). Then l end) (append-nil tape)
+      (subst (Then (tape ++ [])) (ap (λ (l : List Operation). length l) (append-nil tape) ∙ sym (at_end t)) (rested-here t)) (legal t) (ends t) (safe t)
 
   -- ---- the record
 

@@ -1,5 +1,5 @@
 -- Steps of a resync: a stripe is mended, from what `mend` leaves, or isn't; and the resync ends, from what `settle` leaves.
-use Rattle.std.proofs.Common.{◌≡◌, ◌≢◌, ◌⊎◌, inl, inr, ℕ, ◌+◌, ◌*◌, ◌<◌, ◌≤◌, ◌==◌, ◌&&◌, Bool, true, false, cond, Option, Some, None, List, [], ◌∷◌, ◌++◌, length, refl, sym, ◌∙◌, ap, subst, arith, append-nil}
+use Rattle.std.proofs.Common.{◌≡◌, ◌≢◌, inl, inr, ℕ, ◌+◌, ◌*◌, ◌<◌, ◌≤◌, ◌==◌, ◌&&◌, Bool, true, false, cond, Option, Some, None, List, [], ◌∷◌, ◌++◌, length, refl, sym, ◌∙◌, ap, subst, arith, append-nil}
 use Rattle.std.specs.Prelude.{IsFalse, IfSome, IsSome, is_some, MatchBool, ⊤}
 use Rattle.std.specs.List.{list_any}
 use Rattle.std.proofs.lemmas.Bool.{cases_lt}
@@ -27,7 +27,6 @@ use Rattle.flat_history.specs.Flat.{now}
 use Rattle.flat_history.specs.Legal.{told_left, known_left, call_before, disturbs, is_free_step, IsStep}
 use Rattle.flat_history.specs.Losses.{is_unsynced}
 use Rattle.flat_history.specs.Plain.{entries_of}
-use Rattle.flat_history.specs.Reshaped.{open_plans}
 use Rattle.flat_history.specs.Sound.{OpensFit}
 use Rattle.flat_history.specs.World.{World, opening_list}
 use Rattle.shape_views.specs.Regions.{DoWithout}
@@ -57,7 +56,7 @@ use Rattle.kept_history.specs.Told.{told_now}
 use Rattle.kept_history.proofs.Lists.{newest-in}
 use Rattle.history_calls.proofs.Behind.{IsAmong, early-losses, legal-losses}
 use Rattle.still_kept.specs.Still.{AreAtRest, HasListStood, IsStill}
-use Rattle.still_kept.proofs.Ends.{EndsNothing}
+use Rattle.still_kept.proofs.Ends.{EndsPlans}
 use Rattle.still_kept.proofs.Flushing.{IsFlushedStill, IsSettledStill, settled-stands}
 use Rattle.still_kept.proofs.Quiet.{early-stands}
 use Rattle.still_kept.proofs.Refusals.{quiet-refusal, IsRefusedStill, too-many-refused, refused-right, unsynced-behind}
@@ -262,7 +261,7 @@ all-rows given m rest resync all = ap (λ (o : Option ℕ). mended_rows o m) all
 pub resynced-stands : (tells : Type 0) (given : Given) (tape tape' : List Operation) (scope : Scope) (first : ℕ) (entries : List Entry) (old new : Members) (work : Work) (left left' : ℕ)
     (who : Who) (end roles spares : ℕ) (before after : ℕ → ℕ)
     → IsStill tells given tape scope first entries old work left → DoWithout old → IsCallGoing entries who → IsFalse (who.caller == 254) → (tells → end ≡ length tape')
-    → work.resync ≡ Some (stripes_of old) → (losses_of roles spares ≡ [] → left' + 1 ≡ left) → (left' ≢ 0) ⊎ (open_plans entries ≡ [])
+    → work.resync ≡ Some (stripes_of old) → (losses_of roles spares ≡ [] → left' + 1 ≡ left) → EndsPlans tells (world_in given tape scope first) entries new (record work { resync = None }) (Step ResyncEnded left')
     → IsFlushedStill tells given tape tape' old new roles spares before after false → IsSettledStill tells given tape tape' old new false
     → IsStill tells given tape' scope first (entries ++ entries_of who end (losses_of roles spares ++ Step ResyncEnded left' ∷ [])) new (record work { resync = None }) left'
 resynced-stands tells given tape tape' scope first entries old new work left left' who end roles spares before after was does goes caller at_end all less free did done =
@@ -270,7 +269,7 @@ resynced-stands tells given tape tape' scope first entries old new work left lef
     (λ synced. (let same = all-rows given old was.members_are work.resync all in omega (arith, same))) did
     (record work { resync = None }) left' (Step ResyncEnded left') done
     (record { gives = refl; level = λ n. refl; length = λ n. refl; newest = λ x values has. has; same = λ x values. refl; none = λ x. refl })
-    (ends free) refl refl (λ is. absurd (cc)) tt (λ t. ended (is_unsynced (world_in given tape scope first) entries)) (told-step entries who end roles spares ResyncEnded left')
+    free refl refl (λ is. absurd (cc)) tt (λ t. ended (is_unsynced (world_in given tape scope first) entries)) (told-step entries who end roles spares ResyncEnded left')
     (λ sound c list l. record {
       stands = l.stands;
       whole = l.whole;
@@ -283,7 +282,3 @@ resynced-stands tells given tape tape' scope first entries old new work left lef
     ended : (b : Bool) → (b && false) ≡ false
     ended true = refl
     ended false = refl
-
-    ends : (left' ≢ 0) ⊎ (open_plans entries ≡ []) → EndsNothing entries (Step ResyncEnded left')
-    ends (inl some) = inl (not-zero left' some)
-    ends (inr none) = inr (none, refl)

@@ -1,5 +1,5 @@
 -- What an array keeps without an active reshape, also behind one that ended, over plain data.
-use Rattle.std.specs.Prelude.{◌≡◌, ℕ, ◌*◌, ◌<◌, ◌≤◌, ◌||◌, Bool, true, false, List, length, Option, IfSome, IsSome, is_some, ⊤}
+use Rattle.std.specs.Prelude.{◌≡◌, ◌⊎◌, ℕ, ◌*◌, ◌<◌, ◌≤◌, ◌||◌, Bool, true, false, List, length, Option, IfSome, IsSome, is_some, ⊤}
 use Rattle.md_base.specs.Sectors.{Sector}
 use Rattle.md_base.specs.Shapes.{data_disks, tolerance, tolerance_of}
 use Rattle.bank.specs.declared.bank.Operation.{Operation}
@@ -25,6 +25,7 @@ use Rattle.views.specs.Numbers.{is_carried}
 use Rattle.views.specs.Placed.{IsPlaced}
 use Rattle.views.specs.Rebuilding.{AreSparesFree, AreRebuilt}
 use Rattle.views.specs.Status.{stripes_of}
+use Rattle.safe_updates.specs.Named.{AreNamedMissing}
 use Rattle.array_kept.specs.Kept.{AreSectorsWhole}
 use Rattle.kept_history.specs.Recorded.{IsHistoryKept}
 use Rattle.kept_history.specs.Safe.{world_in, TakesNone, IsFilledRight, IsSafeHistory}
@@ -53,6 +54,10 @@ relied_list resync members = data_disks (shape_of members.newest) * mended_rows 
 -- no role is missing
 abbrev pub AreNoneMissing : Members → Type 0
 AreNoneMissing members = (role : ℕ) → role < role_count members.newest → is_missing (reading_of members) role ≡ false
+
+-- What is missing can be told from the superblocks: as long as a slot is left, each role that no slot holds is named missing; or they say clean, so that all that they name fits.
+abbrev pub IsNamedOrClean : Members → Type 0
+IsNamedOrClean members = (HasLiveSlot members → AreNamedMissing members) ⊎ (is_clean members.newest ≡ true)
 
 -- No reshape is active in the array, whether some were before or not; this is under way in it, and so many steps are left. What is missing was told so, and a
 -- dirty mark, and a pending resync; where no role was told lost, each is whole; over a bank that tells its contents the history is legal, reaches to the tape's end and tells nothing past the list's, the list stands where what is filled

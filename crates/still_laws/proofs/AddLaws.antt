@@ -44,7 +44,9 @@ use Rattle.still_kept.proofs.Refusals.{IsRefusedStill}
 use Rattle.still_kept.proofs.Sparing.{added-stands, lost-stands}
 use Rattle.still_kept.proofs.Staying.{IsNamedStill, refused-stands}
 use Rattle.running_words.specs.Parts.{still_left}
+use Rattle.running_words.specs.Plans.{KeepsShape}
 use Rattle.running_words.proofs.Called.{not_254}
+use Rattle.still_laws.specs.Plain.{IsPlainKept}
 use Rattle.still_laws.specs.Ready.{IsReady}
 use Rattle.still_laws.proofs.StepLaws.{shapes-moved, planned-same}
 
@@ -155,4 +157,8 @@ ready-same {tells = tells} {given = given} {tape' = tape'} {uuid = uuid} {slots 
       buffer_fits = was.buffer_fits;
       far_rows_fit = was.far_rows_fit;
       far_buffer_fits = was.far_buffer_fits;
+      plain = λ t keeps. subst (λ (l : List Operation). IsPlainKept (world_in given l (scope_in given uuid slots backup) first) members entries) (sym (same t))
+          (was.plain t (subst (λ (l : List Operation). KeepsShape (world_in given l (scope_in given uuid slots backup) first) entries) (same t) keeps));
+      plainly = was.plainly;
+      ahead_told = was.ahead_told;
     })

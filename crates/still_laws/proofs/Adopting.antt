@@ -1,29 +1,51 @@
 -- What an array of one shape keeps is what one without an active reshape keeps that has no plan.
-use Rattle.std.proofs.Common.{◌≡◌, ℕ, ◌≤◌, None, List, sym, subst, arith}
+use Rattle.std.proofs.Common.{◌≡◌, inl, ℕ, ◌≤◌, None, List, [], ◌∷◌, refl, sym, subst, arith}
+use Rattle.std.proofs.lemmas.List.Elements.{All-nil, All-cons}
+use Rattle.md_base.specs.declared.answers.Who.{Who}
 use Rattle.bank.specs.declared.bank.Operation.{Operation}
 use Rattle.bank.specs.Given.{Given}
 use Rattle.superblocks.specs.declared.members.Members.{Members}
-use Rattle.superblocks.specs.Reading.{Scope}
+use Rattle.superblocks.specs.Reading.{Scope, shape_of}
+use Rattle.row_io.specs.Rows.{reading_of}
 use Rattle.flat_history.specs.declared.events.Entry.{Entry}
+use Rattle.flat_history.specs.declared.events.Event.{Event}
+use Rattle.flat_history.specs.declared.events.Event.TheVariants.{Lost}
+use Rattle.flat_history.specs.declared.events.LostCause.TheVariants.{Absent, Recovering}
 use Rattle.flat_history.specs.Flat.{length_of}
+use Rattle.flat_history.specs.Plain.{entries_of}
 use Rattle.views.specs.declared.work.Work.{Work}
 use Rattle.views.specs.Status.{left_of}
 use Rattle.views.proofs.Still.{length-still}
+use Rattle.call_entries.proofs.PlainLaws.{one}
+use Rattle.array_kept.specs.Adopting.{opener, found_losses}
 use Rattle.array_kept.specs.Kept as kept
+use Rattle.array_kept.proofs.ReadyLaws.{kept-legal}
+use Rattle.calls_kept.proofs.AbsentLaws.{AreAbsent, absents-are}
 use Rattle.grow_asked.specs.declared.window.PhasesLeft.{PhasesLeft}
 use Rattle.still_kept.specs.Still.{IsStill}
 use Rattle.still_kept.proofs.KeptStands.{kept-stands}
 use Rattle.running_words.specs.Parts.{still_left}
+use Rattle.still_laws.specs.Plain.{MayTellPlainly, AreToldPlainly}
 use Rattle.still_laws.specs.Ready.{IsReady}
 
 abbrev pub planless : PhasesLeft
 planless = record { next = None; last = None }
 
+-- the losses that an opening finds tell no refusal
+absents-plainly : (who : Who) (end : ℕ) (xs : List Event) → AreAbsent xs → AreToldPlainly (entries_of who end xs)
+absents-plainly who end [] are = All-nil (λ e. MayTellPlainly e.event)
+absents-plainly who end (Lost role Absent ∷ xs) are = All-cons (λ e. MayTellPlainly e.event) (one who end (Lost role Absent)) (entries_of who end xs) tt (absents-plainly who end xs are)
+absents-plainly who end (Lost role Recovering ∷ xs) are = All-cons (λ e. MayTellPlainly e.event) (one who end (Lost role Recovering)) (entries_of who end xs) tt (absents-plainly who end xs are)
+absents-plainly who end (event ∷ xs) are = absurd are
+
+pub found-plainly : (m : Members) (first : ℕ) → AreToldPlainly (entries_of opener first (found_losses (reading_of m)))
+found-plainly m first = absents-plainly opener first (found_losses (reading_of m)) (absents-are (reading_of m) (shape_of m.newest).disks)
+
 pub begins-ready : {tells : Type 0} {given : Given} {tape : List Operation} {scope : Scope} {first : ℕ} {entries : List Entry} {members : Members} {work : Work}
     {faults : ℕ → ℕ} {steps room rows buffer far_rows far_buffer : ℕ} → kept.IsReady tells given tape scope first entries members work faults steps room rows buffer
-    → 128 ≤ far_rows → 1048576 ≤ far_buffer
+    → 128 ≤ far_rows → 1048576 ≤ far_buffer → AreToldPlainly entries
     → IsReady tells given tape scope first entries members work planless faults steps room rows buffer far_rows far_buffer
-begins-ready {tells = tells} {given = given} {tape = tape} {scope = scope} {first = first} {entries = entries} {members = members} {work = work} was far_rows_fit far_buffer_fits = record {
+begins-ready {tells = tells} {given = given} {tape = tape} {scope = scope} {first = first} {entries = entries} {members = members} {work = work} was far_rows_fit far_buffer_fits plainly = record {
   kept = subst (λ (n : ℕ). IsStill tells given tape scope first entries members work n) none (kept-stands was.kept);
   sized = subst (λ (n : ℕ). length_of n entries ≡ n) (sym (length-still members was.kept.still)) was.kept.sized;
   unlimited = was.kept.unlimited;
@@ -34,6 +56,18 @@ begins-ready {tells = tells} {given = given} {tape = tape} {scope = scope} {firs
   buffer_fits = was.buffer_fits;
   far_rows_fit = far_rows_fit;
   far_buffer_fits = far_buffer_fits;
+  plain = λ t keeps.
+      let recorded = was.kept.recorded t in
+      record {
+        told = was.kept.told;
+        only = was.kept.only;
+        used = recorded.used;
+        disks = recorded.disks;
+        tolerated = recorded.tolerated;
+        legal = kept-legal was.kept t;
+      };
+  plainly = λ none. plainly;
+  ahead_told = inl refl;
 }
   where
     none : left_of work members ≡ still_left work members planless

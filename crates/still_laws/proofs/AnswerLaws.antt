@@ -1,12 +1,12 @@
 -- A reply to a request for steps: what is kept behind it.
-use Rattle.std.proofs.Common.{◌≡◌, ◌≢◌, ◌⊎◌, inl, inr, ℕ, ◌<◌, Option, Some, None, List, [], ◌∷◌, ◌++◌, length, refl}
+use Rattle.std.proofs.Common.{◌≡◌, ◌≢◌, inl, inr, ℕ, ◌==◌, Bool, true, false, Option, Some, None, List, [], ◌∷◌, ◌++◌, length, refl, sym, ◌∙◌, arith}
+use Rattle.std.proofs.lemmas.Bool.Decides.{nat_tests}
 use Rattle.std.specs.Prelude.{IfSome, MatchOption, ⊤}
 use Rattle.md_base.specs.declared.answers.Refusal.{Refusal}
-use Rattle.md_base.specs.declared.answers.Refusal.TheVariants.{Nothing}
+use Rattle.md_base.specs.declared.answers.Refusal.TheVariants.{Degraded, NeedSpares, BackupFault, Nothing}
 use Rattle.md_base.specs.declared.answers.Who.{Who}
 use Rattle.bank.specs.declared.bank.Operation.{Operation}
 use Rattle.bank.specs.Given.{Given}
-use Rattle.grow_plan.specs.Plans.{phases_steps}
 use Rattle.superblocks.specs.declared.members.Members.{Members}
 use Rattle.superblocks.specs.Reading.{Scope, shape_of}
 use Rattle.flat_history.specs.declared.events.Entry.{Entry}
@@ -14,52 +14,72 @@ use Rattle.flat_history.specs.declared.events.Event.{Event}
 use Rattle.flat_history.specs.declared.events.Event.TheVariants.{Refused, Stepped}
 use Rattle.flat_history.specs.Legal.{IsRefusedRight}
 use Rattle.flat_history.specs.Plain.{entries_of}
-use Rattle.flat_history.specs.Reshaped.{open_plans}
+use Rattle.flat_history.specs.World.{World}
 use Rattle.views.specs.declared.work.Work.{Work}
 use Rattle.views.specs.Status.{left_of}
+use Rattle.grow_asked.specs.Left.{phases_of}
+use Rattle.views.proofs.LackingLaws.{never-both}
 use Rattle.call_entries.proofs.LeftLaws.{left-more, keeps-left}
 use Rattle.array_kept.specs.Calls.{IsLossBy}
 use Rattle.grow_asked.specs.declared.window.PhasesLeft.{PhasesLeft}
-use Rattle.grow_asked.specs.Left.{phases_of}
 use Rattle.kept_history.specs.Recorded.{IsCallGoing, entry_of}
 use Rattle.kept_history.specs.Safe.{world_in}
 use Rattle.history_calls.specs.Reliable.{IsReliable}
 use Rattle.still_kept.specs.Still.{IsStill}
-use Rattle.still_kept.proofs.Ends.{EndsNothing}
+use Rattle.still_kept.proofs.Ends.{EndsPlans}
 use Rattle.still_kept.proofs.Refusals.{refused-right}
 use Rattle.still_kept.proofs.Resting.{resting-stands}
-use Rattle.still_kept.proofs.Resync.{not-zero}
 use Rattle.running_words.specs.Parts.{still_left}
 use Rattle.running_words.proofs.Called.{not_254}
 use Rattle.running_words.proofs.Lengths.{IsLengthKept, alone-keeps}
-use Rattle.still_laws.specs.Steps.{IsEndedRight, IsStepsReplyNow}
-use Rattle.still_laws.proofs.MendLaws.{leaves-none}
+use Rattle.still_laws.specs.Steps.{RefusesBegin, MayEndNow, IsStepsReplyNow, MayAnswer}
+use Rattle.still_laws.proofs.Closing.{LeadTo, ahead-none, leaves-or-closes, resync-over}
 use Rattle.still_laws.proofs.StepLaws.{step-refused, refused-going}
-
-ends-reply : (entries : List Entry) (done left : ℕ) (ended : Option Refusal) → (left ≢ 0) ⊎ (open_plans entries ≡ []) → EndsNothing entries (Stepped done left ended)
-ends-reply entries done left ended (inl some) = inl (not-zero left some)
-ends-reply entries done left ended (inr none) = inr (none, refl)
 
 pub answer-stands : {tells : Type 0} {given : Given} {tape : List Operation} {scope : Scope} {first : ℕ} {entries : List Entry} (work : Work) (m : Members) (ahead : PhasesLeft) (who : Who) (end : ℕ) (event : Event)
     → IsStill tells given tape scope first entries m work (still_left work m ahead)
-    → IsCallGoing entries who → who.caller ≢ 254 → (tells → end ≡ length tape) → (open_plans entries ≡ []) ⊎ (0 < phases_steps (shape_of m.newest) m.newest.size (phases_of ahead)) → IsStepsReplyNow work m ahead event
+    → IsCallGoing entries who → who.caller ≢ 254 → (tells → end ≡ length tape) → LeadTo tells (world_in given tape scope first) entries m ahead → MayAnswer entries work m ahead event → IsStepsReplyNow work m ahead event
     → IsStill tells given tape scope first (entries ++ entries_of who end (event ∷ [])) m work (still_left work m ahead)
-answer-stands work m ahead who end (Refused Nothing) was goes caller at_end plans reply = refused-going who end Nothing was goes caller at_end tt
-answer-stands {tells = tells} {given = given} {tape = tape} {scope = scope} {first = first} {entries = entries} work m ahead who end (Stepped done left ended) was goes caller at_end plans reply =
+answer-stands work m ahead who end (Refused Nothing) was goes caller at_end plans may reply = refused-going who end Nothing was goes caller at_end tt
+answer-stands {tells = tells} {given = given} {tape = tape} {scope = scope} {first = first} {entries = entries} work m ahead who end (Stepped done left ended) was goes caller at_end plans may reply =
     resting-stands tells given tape scope first entries m work (still_left work m ahead) (still_left work m ahead)
     who end (Stepped done left ended) was goes (not_254 who.caller caller) at_end (record { adds = refl; gives = refl; still = λ x values. refl; level = λ n. refl })
-    (ends-reply entries done left ended (leaves-none entries (left_of work m) left (phases_steps (shape_of m.newest) m.newest.size (phases_of ahead))
-    (phases_steps (shape_of m.newest) m.newest.size (phases_of ahead)) refl plans reply.0))
+    (closes ended reply.1 may)
     (left-more (still_left work m ahead) entries who end (Stepped done left ended ∷ []) was.left_told (λ told is. reply.0))
     (λ t right. (keeps-left (still_left work m ahead) entries (entry_of who end (Stepped done left ended)) [] left was.left_told reply.0, ended-right ended reply.1 t right))
   where
-    ended-right : (ended : Option Refusal) → MatchOption ended ⊤ (IsEndedRight work m) → (t : tells) → IsReliable (world_in given tape scope first) entries
+    begin-right : (world : World) (before : List Entry) (refusal : Refusal) → RefusesBegin refusal → IsRefusedRight world before refusal
+    begin-right world before (Degraded role) why = tt
+    begin-right world before (NeedSpares have want) why = tt
+    begin-right world before BackupFault why = tt
+    begin-right world before refusal why = absurd why
+
+    -- where no step is left, no plan is open, or what is missing can be told; or too many are missing, so that a step was refused
+    closes : (ended : Option Refusal) → MatchOption ended ⊤ (MayEndNow work m ahead) → MayAnswer entries work m ahead (Stepped done left ended) → EndsPlans tells (world_in given tape scope first) entries m work (Stepped done left ended)
+    closes (Some refusal) (inr begins) may = leaves-or-closes m m ahead (Stepped done left (Some refusal)) left plans was.members_are.still refl reply.0 refl refl
+        (λ zero can. absurd (begins.1 (ahead-none (shape_of m.newest) m.newest.size (left_of work m) (phases_of ahead) (sym reply.0 ∙ zero))))
+    closes (Some refusal) (inl why) may = leaves-or-closes m m ahead (Stepped done left (Some refusal)) left plans was.members_are.still refl reply.0 refl refl
+        (λ zero can. absurd (never-both m refusal can (why.1 (resync-over work m ahead (sym reply.0 ∙ zero)))))
+    closes None why may = of (left == 0) refl
+      where
+        zero-is : (n : ℕ) → (n == 0) ≡ true → n ≡ 0
+        zero-is n is = grind (arith, nat_tests, is)
+
+        of : (b : Bool) → (left == 0) ≡ b → EndsPlans tells (world_in given tape scope first) entries m work (Stepped done left None)
+        of false is = inl is
+        of true is = elim (may (sym reply.0 ∙ zero-is left is)) [
+          | inl none ↦ inr (inl (none, refl))
+          | inr named ↦ leaves-or-closes m m ahead (Stepped done left None) left plans was.members_are.still refl reply.0 refl refl (λ zero can. named)
+        ]
+
+    ended-right : (ended : Option Refusal) → MatchOption ended ⊤ (MayEndNow work m ahead) → (t : tells) → IsReliable (world_in given tape scope first) entries
         → IfSome ended (IsRefusedRight (world_in given tape scope first) entries)
     ended-right None why t right = tt
-    ended-right (Some refusal) why t right =
+    ended-right (Some refusal) (inr begins) t right = begin-right (world_in given tape scope first) entries refusal begins.0
+    ended-right (Some refusal) (inl why) t right =
         refused-right (world_in given tape scope first) entries given m was.members_are.placed work.resync (was.gone t right) (was.levelled t right) (was.pending t) refusal
         (step-refused given m was.members_are.placed refusal work.resync why.0 why.1)
-answer-stands work m ahead who end event was goes caller at_end plans reply = absurd reply
+answer-stands work m ahead who end event was goes caller at_end plans may reply = absurd reply
 
 pub reply-keeps : (work : Work) (m : Members) (ahead : PhasesLeft) (who : Who) (end : ℕ) (event : Event) → IsStepsReplyNow work m ahead event → IsLengthKept (entries_of who end (event ∷ []))
 reply-keeps work m ahead who end (Refused Nothing) reply = alone-keeps who end (Refused Nothing) (λ n. refl) refl

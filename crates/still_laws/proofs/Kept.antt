@@ -1,5 +1,7 @@
 -- What an array without an active reshape keeps, after a call.
-use Rattle.std.proofs.Common.{◌≡◌, ℕ, ◌*◌, ◌<◌, ◌≤◌, List, ◌++◌, refl, sym, ◌∙◌, ap, subst, arith}
+use Rattle.std.proofs.Common.{◌≡◌, ◌⊎◌, inl, inr, ℕ, ◌*◌, ◌<◌, ◌≤◌, true, false, List, [], ◌++◌, refl, sym, ◌∙◌, ap, subst, arith}
+use Rattle.std.specs.List.{list_any}
+use Rattle.std.proofs.lemmas.List.Elements.{All-append}
 use Rattle.md_base.specs.declared.places.Shape.{Shape}
 use Rattle.bank.specs.declared.bank.Operation.{Operation}
 use Rattle.bank.specs.Given.{Given, NeverFalls}
@@ -15,10 +17,14 @@ use Rattle.views.proofs.Fit.{list-alike}
 use Rattle.array_kept.proofs.NowLaws.{length-more, limit-more}
 use Rattle.grow_asked.specs.declared.window.PhasesLeft.{PhasesLeft}
 use Rattle.grow_asked.specs.Left.{phases_of}
+use Rattle.kept_history.proofs.Tests.{none-before}
 use Rattle.still_kept.specs.Still.{IsStill}
 use Rattle.running_words.specs.Parts.{still_left}
+use Rattle.running_words.specs.Plans.{turns_shape}
 use Rattle.running_words.proofs.Lengths.{IsLengthKept}
+use Rattle.still_laws.specs.Plain.{MayTellPlainly, AreToldPlainly}
 use Rattle.still_laws.specs.Ready.{IsReady}
+use Rattle.still_laws.proofs.Plain.{IsLeftPlain, turns-first}
 
 -- as many rows of the same shape, and as long a list
 pub record AreRowsSame (old new : Sb) : Type 0 where
@@ -32,18 +38,31 @@ rows-same sb = record { shape = refl; size = refl; long = refl }
 pub rows-moved : (given : Given) (old new : Members) → IsMoved given old new → AreRowsSame old.newest new.newest
 rows-moved given old new moved = record { shape = moved.shape; size = moved.size; long = list-alike old.newest new.newest moved.reshape moved.shape moved.size }
 
+-- phases are ahead only where a plan was told, also behind more entries
+pub told-still : (ahead : PhasesLeft) (entries added : List Entry) → (phases_of ahead ≡ []) ⊎ (list_any (λ e. turns_shape e.event) entries ≡ true)
+    → (phases_of ahead ≡ []) ⊎ (list_any (λ e. turns_shape e.event) (entries ++ added) ≡ true)
+told-still ahead entries added (inl none) = inl none
+told-still ahead entries added (inr told) = inr (turns-first entries added told)
+
+-- as long as none of them turns the shape, they tell no refusal of a reshape
+pub plainly-more : (entries added all : List Entry) → all ≡ entries ++ added → (list_any (λ e. turns_shape e.event) entries ≡ false → AreToldPlainly entries) → (list_any (λ e. turns_shape e.event) (entries ++ added) ≡ false → AreToldPlainly added)
+    → list_any (λ e. turns_shape e.event) all ≡ false → AreToldPlainly all
+plainly-more entries added all is was left none =
+    let here : list_any (λ e. turns_shape e.event) (entries ++ added) ≡ false = ap (λ (l : List Entry). list_any (λ e. turns_shape e.event) l) (sym is) ∙ none in
+    subst AreToldPlainly (sym is) (All-append (λ e. MayTellPlainly e.event) entries added (was (none-before (λ e. turns_shape e.event) entries added here)) (left here))
+
 -- The array is ready after a call's last step in memory.
 pub ready : {tells : Type 0} {given given' : Given} {tape tape' : List Operation} {scope scope' : Scope} {first first' : ℕ} {entries mid entries' : List Entry} {members members' : Members}
     {work work' : Work} {ahead : PhasesLeft} {steps steps' room room' rows buffer far_rows far_buffer : ℕ} {before after : ℕ → ℕ} (added : List Entry)
     → IsReady tells given tape scope first entries members work ahead before steps room rows buffer far_rows far_buffer
     → AreRowsSame members.newest members'.newest
-    → IsStill tells given tape' scope first (entries ++ added) members' work' (still_left work' members' ahead)
+    → IsStill tells given tape' scope first (entries ++ added) members' work' (still_left work' members' ahead) → IsLeftPlain tells given tape' scope first entries added members'
     → NeverFalls before after → IsLengthKept added
     → given' ≡ given → scope' ≡ scope → first' ≡ first → mid ≡ entries → entries' ≡ mid ++ added → 50 * steps' < room'
     → IsReady tells given' tape' scope' first' entries' members' work' ahead after steps' room' rows buffer far_rows far_buffer
 ready {tells = tells} {given = given} {given' = given'} {tape' = tape'} {scope = scope} {scope' = scope'} {first = first} {first' = first'} {entries = entries} {mid = mid} {members = members} {members' = members'}
     {work' = work'} {ahead = ahead} {steps' = steps'} {room' = room'} {rows = rows} {buffer = buffer} {far_rows = far_rows} {far_buffer = far_buffer} {after = after}
-    added was same kept rises quiet same_given scope_is first_is mid_is is room_left =
+    added was same kept left rises quiet same_given scope_is first_is mid_is is room_left =
     subst (λ (l : List Entry). IsReady tells given' tape' scope' first' l members' work' ahead after steps' room' rows buffer far_rows far_buffer) (sym (is ∙ ap (λ (l : List Entry). l ++ added) mid_is))
     (subst (λ (n : ℕ). IsReady tells given' tape' scope' n (entries ++ added) members' work' ahead after steps' room' rows buffer far_rows far_buffer) (sym first_is)
     (subst (λ (s : Scope). IsReady tells given' tape' s first (entries ++ added) members' work' ahead after steps' room' rows buffer far_rows far_buffer) (sym scope_is)
@@ -61,6 +80,9 @@ ready {tells = tells} {given = given} {given' = given'} {tape' = tape'} {scope =
       buffer_fits = was.buffer_fits;
       far_rows_fit = was.far_rows_fit;
       far_buffer_fits = was.far_buffer_fits;
+      plain = left.plain;
+      plainly = plainly-more entries added (entries ++ added) refl was.plainly left.plainly;
+      ahead_told = told-still ahead entries added was.ahead_told;
     }))))
 
 -- with other buffers for its rows, that have room as before
@@ -79,4 +101,30 @@ with-buffers rows_fit buffer_fits was = record {
   buffer_fits = buffer_fits;
   far_rows_fit = was.far_rows_fit;
   far_buffer_fits = was.far_buffer_fits;
+  plain = was.plain;
+  plainly = was.plainly;
+  ahead_told = was.ahead_told;
 }
+
+-- with room for more entries
+pub roomier : {tells : Type 0} {given : Given} {tape : List Operation} {scope : Scope} {first : ℕ} {entries entries' : List Entry} {members : Members}
+    {work : Work} {ahead : PhasesLeft} {steps room room' rows buffer far_rows far_buffer : ℕ} {faults : ℕ → ℕ}
+    → IsReady tells given tape scope first entries members work ahead faults steps room rows buffer far_rows far_buffer → entries' ≡ entries → room ≤ room'
+    → IsReady tells given tape scope first entries' members work ahead faults steps room' rows buffer far_rows far_buffer
+roomier {tells = tells} {given = given} {tape = tape} {scope = scope} {first = first} {members = members} {work = work} {ahead = ahead} {steps = steps} {room' = room'}
+    {rows = rows} {buffer = buffer} {far_rows = far_rows} {far_buffer = far_buffer} {faults = faults} was same more =
+    subst (λ (l : List Entry). IsReady tells given tape scope first l members work ahead faults steps room' rows buffer far_rows far_buffer) (sym same) (record {
+      kept = was.kept;
+      sized = was.sized;
+      unlimited = was.unlimited;
+      planned = was.planned;
+      failed = was.failed;
+      room_left = (let had = was.room_left in omega (arith, had, more));
+      rows_fit = was.rows_fit;
+      buffer_fits = was.buffer_fits;
+      far_rows_fit = was.far_rows_fit;
+      far_buffer_fits = was.far_buffer_fits;
+      plain = was.plain;
+      plainly = was.plainly;
+      ahead_told = was.ahead_told;
+    })

@@ -1,5 +1,6 @@
 pub mod Adopting
 pub mod Asking
+pub mod Plain
 pub mod Kept
 pub mod Left
 pub mod Settled
@@ -7,10 +8,15 @@ pub mod Reading
 pub mod Writing
 pub mod Going
 pub mod StepLaws
+pub mod Closing
 pub mod MendLaws
 pub mod RebuildLaws
 pub mod AddLaws
 pub mod AnswerLaws
+pub mod PlansKept
+pub mod PlainBehind
+pub mod PlainSteps
+pub mod PlainAdds
 pub use Rattle.running_words.proofs.Called as running_words_Called
 pub use Rattle.running_words.proofs.Lengths as running_words_Lengths
 pub use Rattle.running_words.proofs.TakenOut as running_words_TakenOut

@@ -1,5 +1,5 @@
 -- The steps of a pending resync, from what `mend` of `safe_rows` and `settle` of `safe_updates` leave: what is kept, done or refused.
-use Rattle.std.proofs.Common.{◌≡◌, ◌≢◌, ◌⊎◌, inl, inr, ℕ, ◌+◌, ◌-◌, ◌*◌, ◌<◌, min, false, Some, None, List, [], ◌∷◌, ◌++◌, length, subst, arith}
+use Rattle.std.proofs.Common.{◌≡◌, ◌≢◌, inr, ℕ, ◌+◌, ◌-◌, ◌*◌, ◌<◌, min, false, Some, None, List, [], ◌∷◌, ◌++◌, length, refl, subst, arith}
 use Rattle.md_base.specs.Sectors.{Sector}
 use Rattle.md_base.specs.declared.answers.Refusal.{Refusal}
 use Rattle.md_base.specs.declared.answers.Who.{Who}
@@ -15,7 +15,6 @@ use Rattle.flat_history.specs.declared.events.Entry.{Entry}
 use Rattle.flat_history.specs.declared.events.Event.TheVariants.{Step, Refused}
 use Rattle.flat_history.specs.declared.events.StepKind.TheVariants.{ResyncStripe, ResyncEnded}
 use Rattle.flat_history.specs.Plain.{entries_of}
-use Rattle.flat_history.specs.Reshaped.{open_plans}
 use Rattle.shape_views.specs.Regions.{DoWithout}
 use Rattle.views.specs.declared.work.Work.{Work}
 use Rattle.views.specs.Lacking.{AreTooMany, IsUnwritten, IsOfStripe, DataStandsAmong}
@@ -27,22 +26,19 @@ use Rattle.calls_kept.proofs.EndLaws.{enough-mended}
 use Rattle.grow_asked.specs.declared.window.PhasesLeft.{PhasesLeft}
 use Rattle.grow_asked.specs.Left.{phases_of}
 use Rattle.kept_history.specs.Recorded.{IsCallGoing}
+use Rattle.kept_history.specs.Safe.{world_in}
 use Rattle.still_kept.specs.Still.{IsStill}
 use Rattle.still_kept.proofs.Flushing.{IsFlushedStill, IsSettledStill, unflushed-stands}
 use Rattle.still_kept.proofs.Resync.{IsMendingStill, mended-stands, unmended-stands, resynced-stands}
 use Rattle.running_words.specs.Parts.{still_left}
 use Rattle.running_words.proofs.Called.{not_254}
+use Rattle.still_laws.proofs.Closing.{LeadTo, leaves-or-closes}
 use Rattle.still_laws.proofs.Left.{left-alike}
-use Rattle.still_laws.proofs.StepLaws.{shapes-moved, planned-same, left-falls}
+use Rattle.still_laws.proofs.StepLaws.{left-falls}
 
 -- a pending resync has a step left
 some-left : (n recovery waiting more left : ℕ) → left ≡ (n + 1 + recovery + waiting) + more → left ≢ 0
 some-left n recovery waiting more left told none = omega (arith, told, none)
-
--- a step that may leave none has steps of the phases ahead behind it, or no plan is open
-pub leaves-none : (entries : List Entry) (count left then was : ℕ) → then ≡ was → (open_plans entries ≡ []) ⊎ (0 < was) → left ≡ count + then → (left ≢ 0) ⊎ (open_plans entries ≡ [])
-leaves-none entries count left then was same (inl none) told = inr none
-leaves-none entries count left then was same (inr some) told = inl (λ zero. omega (arith, same, some, told, zero))
 
 -- ---- a stripe
 
@@ -82,14 +78,13 @@ module _ {tells : Type 0} {given : Given} {tape tape' : List Operation} {scope :
     (did : IsFlushedStill tells given tape tape' old new roles spares before after false) where
   -- it has ended
   pub resync-done : (left : ℕ) → left ≡ still_left (record work { resync = None }) new ahead
-      → (open_plans entries ≡ []) ⊎ (0 < phases_steps (shape_of old.newest) old.newest.size (phases_of ahead)) → IsSettledStill tells given tape tape' old new false
+      → LeadTo tells (world_in given tape scope first) entries old ahead → IsSettledStill tells given tape tape' old new false
       → IsStill tells given tape' scope first (entries ++ entries_of who end (losses_of roles spares ++ Step ResyncEnded left ∷ [])) new (record work { resync = None }) (still_left (record work { resync = None }) new ahead)
   resync-done left told plans done =
       subst (λ (n : ℕ). IsStill tells given tape' scope first (entries ++ entries_of who end (losses_of roles spares ++ Step ResyncEnded left ∷ [])) new (record work { resync = None }) n) told
       (resynced-stands tells given tape tape' scope first entries old new work (still_left work old ahead) left who end roles spares before after was does goes (not_254 who.caller caller) at_end all
       (left-falls (record work { resync = None }) ahead (left_of work old) left did.moved did.since (left-ended work old all) told)
-      (leaves-none entries (left_of (record work { resync = None }) new) left (phases_steps (shape_of new.newest) new.newest.size (phases_of ahead)) (phases_steps (shape_of old.newest) old.newest.size (phases_of ahead))
-      (planned-same ahead (shapes-moved did.moved)) plans told) did done)
+      (leaves-or-closes old new ahead (Step ResyncEnded left) left plans was.members_are.still did.moved.shape told refl refl (λ zero can. inr (done.clean refl))) did done)
 
   -- it is refused
   pub resync-refused : (refusal : Refusal) → AreTooMany new refusal

@@ -1,5 +1,5 @@
 -- The steps of a rebuild, from what `give_role`, `fill` and `flush_and_record` leave: what is kept, done or refused.
-use Rattle.std.proofs.Common.{◌≡◌, ◌≢◌, ◌⊎◌, inl, inr, ℕ, zero, suc, ◌+◌, ◌-◌, ◌*◌, ◌<◌, ◌≤◌, min, true, false, not, is_some, Option, Some, None, List, [], ◌∷◌, ◌++◌, length, refl, sym, ◌∙◌, ap, subst, arith, append-nil, append_assoc}
+use Rattle.std.proofs.Common.{◌≡◌, ◌≢◌, inl, inr, ℕ, zero, suc, ◌+◌, ◌-◌, ◌*◌, ◌<◌, ◌≤◌, min, true, false, not, is_some, Option, Some, None, List, [], ◌∷◌, ◌++◌, length, refl, sym, ◌∙◌, ap, subst, arith, append-nil, append_assoc}
 use Rattle.std.specs.List.{Contains}
 use Rattle.std.proofs.lemmas.Bool.{cases_lt}
 use Rattle.std.proofs.lemmas.List.Elements.{All-nil}
@@ -24,7 +24,6 @@ use Rattle.flat_history.specs.declared.events.LostCause.TheVariants.{Fault}
 use Rattle.flat_history.specs.declared.events.StepKind.TheVariants.{RebuildTaken, RebuildStripe, RebuildEnded}
 use Rattle.flat_history.specs.Growing.{EndBy}
 use Rattle.flat_history.specs.Plain.{entries_of}
-use Rattle.flat_history.specs.Reshaped.{open_plans}
 use Rattle.shape_views.specs.Regions.{DoWithout}
 use Rattle.views.specs.declared.work.Work.{Work}
 use Rattle.views.specs.Lacking.{AreLostSince, LacksTooMany, IsOfStripe, DataStandsAmong, RowsStandAmong}
@@ -53,24 +52,15 @@ use Rattle.kept_history.proofs.Turned.{filled-before}
 use Rattle.history_calls.specs.Reliable.{IsReliable}
 use Rattle.still_kept.specs.Still.{IsStill}
 use Rattle.still_kept.proofs.Ending.{IsMadeWhole, whole-stands, ended-stands}
-use Rattle.still_kept.proofs.Ends.{EndsNothing}
 use Rattle.still_kept.proofs.Rebuilding.{IsTaken, IsFillingStill, taken-stands, filled-stands, gone-stands, unfilled-stands}
 use Rattle.still_kept.proofs.Resync.{not-zero}
 use Rattle.running_words.specs.Parts.{still_left}
 use Rattle.running_words.proofs.Called.{not_254}
+use Rattle.still_laws.proofs.Closing.{LeadTo, leaves-or-closes}
 use Rattle.still_laws.proofs.Left.{left-alike}
-use Rattle.still_laws.proofs.MendLaws.{leaves-none}
-use Rattle.still_laws.proofs.StepLaws.{shapes-moved, planned-same, left-falls}
+use Rattle.still_laws.proofs.StepLaws.{left-falls}
 
--- ---- steps are left, or no plan is open
-
-ends-taken : (entries : List Entry) (left : ℕ) → (left ≢ 0) ⊎ (open_plans entries ≡ []) → EndsNothing entries (Step RebuildTaken left)
-ends-taken entries left (inl some) = inl (not-zero left some)
-ends-taken entries left (inr none) = inr (none, refl)
-
-ends-whole : (entries : List Entry) (left : ℕ) → (left ≢ 0) ⊎ (open_plans entries ≡ []) → EndsNothing entries (Step RebuildEnded left)
-ends-whole entries left (inl some) = inl (not-zero left some)
-ends-whole entries left (inr none) = inr (none, refl)
+-- ---- steps are left
 
 -- a role that a slot recovers has a step left
 recovery-some : (work : Work) (m : Members) (role slot : ℕ) → role_state (reading_of m) role ≡ Recovering slot → (n : ℕ) → role < n → 0 < recovery_left work m n
@@ -103,6 +93,12 @@ still-recovers {old = old} {new = new} moved role slot recovers held = by (holde
 
 pub recovering-held : (m : Members) (role slot : ℕ) → role_state (reading_of m) role ≡ Recovering slot → is_vacant (reading_of m) role ≡ false
 recovering-held m role slot recovers = ap (λ (s : Role). not (is_some (holder s))) recovers
+
+-- so a step is left of it
+pub held-some : {given : Given} {old new : Members} → IsMoved given old new → (next : Work) (ahead : PhasesLeft) (role slot : ℕ) → role < (shape_of old.newest).disks → role_state (reading_of old) role ≡ Recovering slot
+    → is_vacant (reading_of new) role ≡ false → still_left next new ahead ≢ 0
+held-some {new = new} moved next ahead role slot below recovers held =
+    recovers-some next new ahead role slot (still_left next new ahead) (subst (λ (s : Shape). role < s.disks) (sym moved.shape) below) (still-recovers moved role slot recovers held) refl
 
 -- nor is one that is made whole
 pub whole-held : (given : Given) (m : Members) (placed : IsPlaced given m) (role slot : ℕ) → IsReceiver given m role slot → is_vacant (reading_of (with_whole role slot m)) role ≡ false
@@ -140,13 +136,13 @@ module _ {tells : Type 0} {given : Given} {tape tape' : List Operation} {scope :
       known did.vacant did.spare to.room.small
 
   pub take-done : (left : ℕ) → left ≡ still_left (with_rebuilt role 0 work) new ahead
-      → (open_plans entries ≡ []) ⊎ (0 < phases_steps (shape_of old.newest) old.newest.size (phases_of ahead))
+      → LeadTo tells (world_in given tape scope first) entries old ahead
       → IsStill tells given tape' scope first (entries ++ entries_of who end (losses_of roles spares ++ Step RebuildTaken left ∷ [])) new (with_rebuilt role 0 work) (still_left (with_rebuilt role 0 work) new ahead)
   take-done left told plans =
       subst (λ (n : ℕ). IsStill tells given tape' scope first (entries ++ entries_of who end (losses_of roles spares ++ Step RebuildTaken left ∷ [])) new (with_rebuilt role 0 work) n) told
       (taken-stands tells given tape tape' scope first entries old new work (still_left work old ahead) left who end role slot roles spares before after was does goes (not_254 who.caller caller) at_end known
       (left-falls (with_rebuilt role 0 work) ahead (left_of work old) left did.moved did.since taken-less told)
-      (ends-taken entries left (leaves-none entries (left_of (with_rebuilt role 0 work) new) left (phases_steps (shape_of new.newest) new.newest.size (phases_of ahead)) (phases_steps (shape_of old.newest) old.newest.size (phases_of ahead)) (planned-same ahead (shapes-moved did.moved)) plans told)) did)
+      (leaves-or-closes old new ahead (Step RebuildTaken left) left plans was.members_are.still did.moved.shape told refl refl (λ zero can. inl did.missing)) did)
 
 -- ---- a stripe is rebuilt
 
@@ -165,7 +161,7 @@ module _ {tells : Type 0} {given : Given} {tape tape' : List Operation} {scope :
       subst (λ (n : ℕ). IsStill tells given tape' scope first (entries ++ entries_of who end (losses_of roles spares ++ Step RebuildStripe left ∷ [])) new (with_rebuilt role (rebuilt_of work role + 1) work) n) told
       (filled-stands tells given tape tape' scope first entries old new work (still_left work old ahead) left who end role slot roles spares before after shape was does goes (not_254 who.caller caller) at_end same_shape did
       synced few (left-falls (with_rebuilt role (rebuilt_of work role + 1) work) ahead (left_of work old) left did.moved did.since (left-filled work old role slot below few did.recovers unbuilt) told)
-      (inl (not-zero left some)) full)
+      (not-zero left some) full)
     where
       some : left ≢ 0
       some = recovers-some (with_rebuilt role (rebuilt_of work role + 1) work) new ahead role slot left (subst (λ (s : Shape). role < s.disks) (sym did.moved.shape) below) (still-recovers did.moved role slot did.recovers held) told
@@ -218,14 +214,14 @@ module _ {tells : Type 0} {given : Given} {tape tape' : List Operation} {scope :
       left-whole work old role slot did.below (let n = was.members_are.placed.roles in let count = count-still old.newest was.members_are.still in let at = did.below in omega (arith, at, n, count))
       did.recovers all (whole-spare given old was.members_are.free role slot did.recovers)
 
-  pub whole-done : (left : ℕ) → left ≡ still_left work new ahead → (open_plans entries ≡ []) ⊎ (0 < phases_steps (shape_of old.newest) old.newest.size (phases_of ahead)) → role_state (reading_of new) role ≡ Whole slot
+  pub whole-done : (left : ℕ) → left ≡ still_left work new ahead → LeadTo tells (world_in given tape scope first) entries old ahead → role_state (reading_of new) role ≡ Whole slot
       → (tells → IsReliable (world_in given tape scope first) entries → IsOpenBehind (world_in given tape scope first) goes.call)
       → IsStill tells given tape' scope first (entries ++ entries_of who end (losses_of roles spares ++ Step RebuildEnded left ∷ Rebuilt role ∷ [])) new work (still_left work new ahead)
   whole-done left told plans whole_is kept =
       subst (λ (n : ℕ). IsStill tells given tape' scope first (entries ++ entries_of who end (losses_of roles spares ++ Step RebuildEnded left ∷ Rebuilt role ∷ [])) new work n) told
       (whole-stands tells given tape tape' scope first entries old new work (still_left work old ahead) left who end role slot roles spares before after was does goes (not_254 who.caller caller) at_end all synced did
       whole_is (left-falls work ahead (left_of work old) left did.moved did.since whole-less told)
-      (ends-whole entries left (leaves-none entries (left_of work new) left (phases_steps (shape_of new.newest) new.newest.size (phases_of ahead)) (phases_steps (shape_of old.newest) old.newest.size (phases_of ahead)) (planned-same ahead (shapes-moved did.moved)) plans told))
+      (leaves-or-closes old new ahead (Step RebuildEnded left) left plans was.members_are.still did.moved.shape told refl refl (λ zero can. inl did.missing))
       (open-later tells given tape tape' scope first entries who (entries_of who end ((losses_of roles spares ++ Step RebuildEnded left ∷ []) ++ Rebuilt role ∷ [])) did.grows (λ t. (was.recorded t).begun) (λ t. (was.recorded t).ends) goes kept))
 
   pub end-lost : is_vacant (reading_of new) role ≡ true → IsStill tells given tape' scope first (entries ++ entries_of who end (losses_of roles spares)) new work (still_left work new ahead)

@@ -1,5 +1,6 @@
 -- What an array without an active reshape keeps between its calls.
-use Rattle.std.specs.Prelude.{◌≡◌, ℕ, ◌*◌, ◌<◌, ◌≤◌, false, List, None}
+use Rattle.std.specs.Prelude.{◌≡◌, ◌⊎◌, ℕ, ◌*◌, ◌<◌, ◌≤◌, true, false, List, [], None}
+use Rattle.std.specs.List.{list_any}
 use Rattle.md_base.specs.Shapes.{has_slot}
 use Rattle.bank.specs.declared.bank.Operation.{Operation}
 use Rattle.bank.specs.Given.{Given}
@@ -11,11 +12,15 @@ use Rattle.flat_history.specs.Flat.{length_of, limit_of}
 use Rattle.views.specs.declared.work.Work.{Work}
 use Rattle.grow_asked.specs.declared.window.PhasesLeft.{PhasesLeft}
 use Rattle.grow_asked.specs.Left.{phases_of}
+use Rattle.kept_history.specs.Safe.{world_in}
 use Rattle.still_kept.specs.Still.{IsStill}
 use Rattle.running_words.specs.Parts.{still_left}
+use Rattle.running_words.specs.Plans.{turns_shape, KeepsShape}
+use Rattle.still_laws.specs.Plain.{AreToldPlainly, IsPlainKept}
 
 -- The array keeps its record, with the steps that are left. The entries tell the length of its list, and limit it nowhere; the phases ahead can follow. Each slot that wasn't
--- found sound has failed, and there is room for the entries of so many steps and of its end, and for the rows of one call in two regions.
+-- found sound has failed, and there is room for the entries of so many steps and of its end, and for the rows of one call in two regions. As long as its history keeps its shape, it says what one of
+-- one shape says; and a plan has phases ahead only where that was told.
 pub record IsReady (tells : Type 0) (given : Given) (tape : List Operation) (scope : Scope) (first : ℕ) (entries : List Entry)
     (members : Members) (work : Work) (ahead : PhasesLeft) (faults : ℕ → ℕ) (steps room rows buffer far_rows far_buffer : ℕ) : Type 0 where
   pub kept : IsStill tells given tape scope first entries members work (still_left work members ahead)
@@ -28,3 +33,6 @@ pub record IsReady (tells : Type 0) (given : Given) (tape : List Operation) (sco
   pub buffer_fits : 1048576 ≤ buffer
   pub far_rows_fit : 128 ≤ far_rows
   pub far_buffer_fits : 1048576 ≤ far_buffer
+  pub plain : tells → KeepsShape (world_in given tape scope first) entries → IsPlainKept (world_in given tape scope first) members entries
+  pub plainly : list_any (λ e. turns_shape e.event) entries ≡ false → AreToldPlainly entries
+  pub ahead_told : (phases_of ahead ≡ []) ⊎ (list_any (λ e. turns_shape e.event) entries ≡ true)

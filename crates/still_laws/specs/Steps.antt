@@ -1,13 +1,11 @@
 -- What the steps of an array without an active reshape leave, besides their answers.
-use Rattle.std.specs.Prelude.{◌≡◌, ◌⊎◌, ℕ, ◌<◌, List, [], None, MatchOption, ⊤}
+use Rattle.std.specs.Prelude.{◌≡◌, ◌≢◌, ◌⊎◌, ℕ, List, [], None, MatchOption, ⊤}
 use Rattle.md_base.specs.declared.answers.Refusal.{Refusal}
-use Rattle.md_base.specs.declared.answers.Refusal.TheVariants.{Nothing}
+use Rattle.md_base.specs.declared.answers.Refusal.TheVariants.{Degraded, NeedSpares, BackupFault, Nothing}
 use Rattle.md_base.specs.declared.answers.Who.{Who}
 use Rattle.bank.specs.Given.{Given, NeverFalls}
 use Rattle.bank.specs.declared.bank.Operation.{Operation}
-use Rattle.grow_plan.specs.Plans.{phases_steps}
 use Rattle.superblocks.specs.declared.members.Members.{Members}
-use Rattle.superblocks.specs.Reading.{shape_of}
 use Rattle.flat_history.specs.declared.events.Entry.{Entry}
 use Rattle.flat_history.specs.declared.events.Event.{Event}
 use Rattle.flat_history.specs.declared.events.Event.TheVariants.{Refused, Stepped}
@@ -21,6 +19,7 @@ use Rattle.grow_asked.specs.Left.{phases_of}
 use Rattle.array_kept.specs.Calls.{AreLossesBy, IsEndOf, IsUnmendable}
 use Rattle.kept_history.specs.Recorded.{IsCallGoing, IsOpenBehind}
 use Rattle.history_calls.specs.Reliable.{IsReliable}
+use Rattle.still_kept.specs.Still.{IsNamedOrClean}
 use Rattle.running_words.specs.Parts.{RunningParts, still_left}
 use Rattle.running_words.specs.Calls.{moving_world, IsSameReshape}
 
@@ -34,18 +33,34 @@ pub record IsStepped {B : Type 0} (tells : Type 0) (given : Given) (tape tape' :
   pub never_falls : NeverFalls before after
   pub same : IsSameReshape tells old new (moving_world given tape old) (moving_world given tape' new)
 
--- a step may leave none behind it: no plan is open, or its phases are ahead
-abbrev pub MayLeaveNone : {B : Type 0} → RunningParts B → Type 0
-MayLeaveNone array = (open_plans array.parts.entries ≡ []) ⊎ (0 < phases_steps (shape_of array.parts.members.newest) array.parts.members.newest.size (phases_of array.ahead))
+-- Where no step is left, the reply that tells so may close the plans that are open: there is none, or what is missing can be told from the superblocks.
+abbrev pub IsClosable : {B : Type 0} → RunningParts B → Type 0
+IsClosable array = still_left array.parts.work array.parts.members array.ahead ≡ 0 → (open_plans array.parts.entries ≡ []) ⊎ IsNamedOrClean array.parts.members
+
+-- so it is asked of a reply that tells no refusal
+abbrev pub MayAnswer : List Entry → Work → Members → PhasesLeft → Event → Type 0
+MayAnswer entries work members ahead (Stepped done left None) = still_left work members ahead ≡ 0 → (open_plans entries ≡ []) ⊎ IsNamedOrClean members
+MayAnswer entries work members ahead event = ⊤
 
 -- a step that ended the request with this refusal was refused rightly, by the members that are left
 abbrev pub IsEndedRight : Work → Members → Refusal → Type 0
 IsEndedRight work members refusal = IsUnmendable members refusal × (work.resync ≡ None → AreTooMany members refusal)
 
+-- a reshape isn't begun for a role that is missing, for want of spares, or for its backup
+abbrev pub RefusesBegin : Refusal → Type 0
+RefusesBegin (Degraded role) = ⊤
+RefusesBegin (NeedSpares have want) = ⊤
+RefusesBegin BackupFault = ⊤
+RefusesBegin refusal = ⊥
+
+-- the refusal of a step that ended a request: it was right so, or it is that of the begin of what is ahead
+abbrev pub MayEndNow : Work → Members → PhasesLeft → Refusal → Type 0
+MayEndNow work members ahead refusal = IsEndedRight work members refusal ⊎ (RefusesBegin refusal × (phases_of ahead ≢ []))
+
 -- a reply to a request for steps: nothing was left to do; or so many steps are left, and a step was refused rightly that ended it
 abbrev pub IsStepsReplyNow : Work → Members → PhasesLeft → Event → Type 0
 IsStepsReplyNow work members ahead (Refused Nothing) = still_left work members ahead ≡ 0
-IsStepsReplyNow work members ahead (Stepped done left ended) = (left ≡ still_left work members ahead) × MatchOption ended ⊤ (IsEndedRight work members)
+IsStepsReplyNow work members ahead (Stepped done left ended) = (left ≡ still_left work members ahead) × MatchOption ended ⊤ (MayEndNow work members ahead)
 IsStepsReplyNow work members ahead event = ⊥
 
 -- The call goes on, and nothing was left open by what it entered: each length was kept by some slot, and steps are left.

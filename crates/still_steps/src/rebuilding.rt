@@ -14,7 +14,8 @@ ghost use Rattle.array_kept.specs.Calls.{AreHeldOrSpare, IsWholeOrLost, by_answe
 ghost use Rattle.kept_history.specs.Recorded.{IsCallGoing};
 ghost use Rattle.still.specs.running_words_Parts.{still_left};
 ghost use Rattle.still.specs.running_words_Calls.{moving_world};
-ghost use Rattle.still.specs.still_laws_Steps.{IsStepped, MayLeaveNone, IsCallUnbroken};
+ghost use Rattle.still.specs.running_words_Plans.{ArePlansKept};
+ghost use Rattle.still.specs.still_laws_Steps.{IsStepped, IsClosable, IsCallUnbroken};
 ghost use Rattle.still_steps.specs.Rebuilding.{rebuilt_role, rebuild_kind, rebuild_events, after_rebuild, IsRebuildNext, IsGivenToSpare, IsHeldOrNext};
 
 use crate::choosing::{first_recovering, first_spare, first_vacant};
@@ -30,7 +31,7 @@ pub(crate) fn rebuild_step<B: Bank>(still: &mut Still<B>, who: Who) -> Result<()
     requires caller { who.caller ≢ 254 }
     requires synced { still.old.parts.work.resync ≡ None }
     requires pending { IsRebuildNext still.old.parts.members }
-    requires plans { MayLeaveNone still.old }
+    requires plans { ArePlansKept B.tells (moving_world (B.given still.old.parts.bank) (B.tape still.old.parts.bank) still.old) still.old }
     requires room { 1 ≤ still.old.parts.steps }
     ensures entered { let role = rebuilt_role still.old.parts.members in IsRebuildStepped who still.old.parts.entries still.new.parts.entries still.new.parts.members role
         (rebuild_events (rebuild_kind still.old.parts.work still.old.parts.members) role (still_left still.new.parts.work still.new.parts.members still.new.ahead)) result }
@@ -40,6 +41,7 @@ pub(crate) fn rebuild_step<B: Bank>(still: &mut Still<B>, who: Who) -> Result<()
     ensures work { still.new.parts.work ≡ by_answer result (after_rebuild (rebuild_kind still.old.parts.work still.old.parts.members) (rebuilt_role still.old.parts.members) still.old.parts.work) still.old.parts.work }
     ensures left { OnOk result (AreStepsFewer still.old.parts.entries still.new.parts.entries (still_left still.old.parts.work still.old.parts.members still.old.ahead) (still_left still.new.parts.work still.new.parts.members still.new.ahead)) }
     ensures stays { OnErr result (AreStepsKept still.old.parts.entries still.new.parts.entries (still_left still.old.parts.work still.old.parts.members still.old.ahead) (still_left still.new.parts.work still.new.parts.members still.new.ahead)) }
+    ensures closable { OnOk result (IsClosable still.new) }
     ensures list { AreValuesKept still.old.parts.entries still.new.parts.entries }
     ensures caused { IsCausedBy (list_length still.old.parts.members.newest) 0 AreTooMany still.old.parts.members still.new.parts.members result }
     ensures clean { is_clean still.new.parts.members.newest ≡ is_clean still.old.parts.members.newest }

@@ -14,7 +14,8 @@ ghost use Rattle.array_kept.specs.Calls.{AreSparesFewer, by_answer, AreStepsFewe
 ghost use Rattle.kept_history.specs.Recorded.{IsCallGoing};
 ghost use Rattle.still.specs.running_words_Parts.{still_left};
 ghost use Rattle.still.specs.running_words_Calls.{moving_world, IsStepTaken};
-ghost use Rattle.still.specs.still_laws_Steps.{IsStepped, MayLeaveNone};
+ghost use Rattle.still.specs.running_words_Plans.{ArePlansKept};
+ghost use Rattle.still.specs.still_laws_Steps.{IsStepped, IsClosable};
 ghost use Rattle.still_steps.specs.Resyncing.{is_at_end, next_kind, after_step, IsUnmended};
 
 use bank::Bank;
@@ -27,7 +28,7 @@ pub(crate) fn resync_step<B: Bank>(still: &mut Still<B>, who: Who) -> Result<(),
     requires open { IsCallGoing still.old.parts.entries who }
     requires caller { who.caller ≢ 254 }
     requires pending { IsSome still.old.parts.work.resync }
-    requires plans { MayLeaveNone still.old }
+    requires plans { ArePlansKept B.tells (moving_world (B.given still.old.parts.bank) (B.tape still.old.parts.bank) still.old) still.old }
     requires room { 1 ≤ still.old.parts.steps }
     ensures entered { IsStepTaken who still.old.parts.entries still.new.parts.entries (next_kind still.old.parts.work.resync still.old.parts.members) (still_left still.new.parts.work still.new.parts.members still.new.ahead) result }
     ensures open { IsCallGoing still.new.parts.entries who }
@@ -35,6 +36,7 @@ pub(crate) fn resync_step<B: Bank>(still: &mut Still<B>, who: Who) -> Result<(),
     ensures work { still.new.parts.work ≡ record still.old.parts.work { resync = by_answer result (after_step still.old.parts.work.resync still.old.parts.members) still.old.parts.work.resync } }
     ensures left { OnOk result (AreStepsFewer still.old.parts.entries still.new.parts.entries (still_left still.old.parts.work still.old.parts.members still.old.ahead) (still_left still.new.parts.work still.new.parts.members still.new.ahead)) }
     ensures stays { OnErr result (AreStepsKept still.old.parts.entries still.new.parts.entries (still_left still.old.parts.work still.old.parts.members still.old.ahead) (still_left still.new.parts.work still.new.parts.members still.new.ahead)) }
+    ensures closable { OnOk result (IsClosable still.new) }
     ensures list { AreValuesKept still.old.parts.entries still.new.parts.entries }
     ensures caused { IsCausedBy (list_length still.old.parts.members.newest) 0 (IsUnmended (is_at_end still.old.parts.work.resync still.old.parts.members)) still.old.parts.members still.new.parts.members result }
     ensures clean { OnOk result (is_clean still.new.parts.members.newest ≡ is_at_end still.old.parts.work.resync still.old.parts.members) }

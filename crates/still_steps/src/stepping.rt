@@ -15,7 +15,8 @@ ghost use Rattle.array_kept.specs.Calls.{AreHeldOrSpare, IsWholeOrLost, by_answe
 ghost use Rattle.kept_history.specs.Recorded.{IsCallGoing};
 ghost use Rattle.still.specs.running_words_Parts.{still_left};
 ghost use Rattle.still.specs.running_words_Calls.{moving_world};
-ghost use Rattle.still.specs.still_laws_Steps.{IsStepped, MayLeaveNone, IsCallUnbroken};
+ghost use Rattle.still.specs.running_words_Plans.{ArePlansKept};
+ghost use Rattle.still.specs.still_laws_Steps.{IsStepped, IsClosable, IsCallUnbroken};
 ghost use Rattle.still_steps.specs.Resyncing.{is_at_end};
 ghost use Rattle.still_steps.specs.Rebuilding.{rebuilt_role, IsGivenToSpare};
 ghost use Rattle.still_steps.specs.Stepping.{IsUndone, IsEnd, IsStepEntered, next_kind, after_step, IsHeldOrDue};
@@ -33,7 +34,7 @@ pub fn still_step<B: Bank>(still: &mut Still<B>, who: Who) -> Result<(), Fault>
     requires open { IsCallUnbroken B.tells (moving_world (B.given still.old.parts.bank) (B.tape still.old.parts.bank) still.old) still.old.parts.entries who }
     requires caller { who.caller ≢ 254 }
     requires pending { 0 < left_of still.old.parts.work still.old.parts.members }
-    requires plans { MayLeaveNone still.old }
+    requires plans { ArePlansKept B.tells (moving_world (B.given still.old.parts.bank) (B.tape still.old.parts.bank) still.old) still.old }
     requires room { 1 ≤ still.old.parts.steps }
     ensures entered { IsStepEntered who still.old.parts.entries still.new.parts.entries still.old.parts.work still.old.parts.members still.new.parts.members (still_left still.new.parts.work still.new.parts.members still.new.ahead) result }
     ensures memory { result ≢ Err WantsMemory }
@@ -42,6 +43,7 @@ pub fn still_step<B: Bank>(still: &mut Still<B>, who: Who) -> Result<(), Fault>
     ensures work { still.new.parts.work ≡ by_answer result (after_step still.old.parts.work still.old.parts.members) still.old.parts.work }
     ensures left { OnOk result (AreStepsFewer still.old.parts.entries still.new.parts.entries (still_left still.old.parts.work still.old.parts.members still.old.ahead) (still_left still.new.parts.work still.new.parts.members still.new.ahead)) }
     ensures stays { OnErr result (AreStepsKept still.old.parts.entries still.new.parts.entries (still_left still.old.parts.work still.old.parts.members still.old.ahead) (still_left still.new.parts.work still.new.parts.members still.new.ahead)) }
+    ensures closable { OnOk result (IsClosable still.new) }
     ensures list { AreValuesKept still.old.parts.entries still.new.parts.entries }
     ensures caused { IsCausedBy (list_length still.old.parts.members.newest) 0 (IsUndone still.old.parts.work still.old.parts.members) still.old.parts.members still.new.parts.members result }
     ensures clean { OnOk result (is_clean still.new.parts.members.newest ≡ (if is_some still.old.parts.work.resync then is_at_end still.old.parts.work.resync still.old.parts.members else is_clean still.old.parts.members.newest)) }

@@ -96,12 +96,12 @@ pub next-sound : (now : Shape) (size : ℕ) (all behind : List Phase) (to : Shap
 next-sound now size all behind to sound is = subst (λ (l : List Phase). AreSound now size l) is sound
 
 -- the slot that is asked for is the array's backup
-pub backup-here : (given : Given) (slots : ℕ) (members : Members) (to : Shape) (found : Option ℕ) (backup : ℕ) → (slot : ℕ) × (found ≡ Some slot) × IsBackupAt given slots members to slot → found ≡ Some backup
-    → IsBackupAt given slots members to backup
-backup-here given slots members to found backup asked is =
+pub backup-here : (given : Given) (members : Members) (to : Shape) (found : Option ℕ) (backup : ℕ) → (slot : ℕ) × (found ≡ Some slot) × IsBackupAt given members to slot → found ≡ Some backup
+    → IsBackupAt given members to backup
+backup-here given members to found backup asked is =
     let both : ◌≡◌ {A = Option ℕ} (Some asked.0) (Some backup) = sym asked.1 ∙ is in
     let one : asked.0 ≡ backup = cc in
-    subst (λ (s : ℕ). IsBackupAt given slots members to s) one asked.2
+    subst (λ (s : ℕ). IsBackupAt given members to s) one asked.2
 
 -- another slot than the backup, or another sector than its header's
 pub others-of : (found : Option ℕ) (backup slot k : ℕ) → found ≡ Some backup → (found ≢ Some slot) ⊎ (k ≢ 0) → (slot ≢ backup) ⊎ (k ≢ 0)
@@ -270,7 +270,7 @@ module _ {tells : Type 0} {given : Given} {tape tape' : List Operation} {first :
     (uuid : List ℕ) (slots backup : ℕ) (ahead behind : PhasesLeft) (to : Shape) (who : Who) (end roles spares : ℕ)
     (was : IsReadyStill tells given tape (scope_in given uuid slots (Some backup)) first entries old work ahead before steps room rows buffer far_rows far_buffer)
     (turned : HasKeptLength entries who) (caller : who.caller ≢ 254) (idle : left_of work old ≡ 0) (next : phases_of ahead ≡ Reshape to ∷ phases_of behind) (back : Bool) (way : goes_back (shape_of old.newest) to ≡ back)
-    (at : IsBackupAt given slots old to backup) (can : CanBegin old to) (did : IsUpdated tells given tape tape' backup uuid to old new spares before after) (at_end : tells → end ≡ length tape')
+    (at : IsBackupAt given old to backup) (found : has_slot slots backup ≡ true) (can : CanBegin old to) (did : IsUpdated tells given tape tape' backup uuid to old new spares before after) (at_end : tells → end ≡ length tape')
     (long : length old.own ≡ 32) (sixteen : length uuid ≡ 16) (lost : (role : ℕ) → has_slot roles role ≡ (nat_lt role (length new.roles) && is_vacant (reading_of new) role)) where
   abbrev scope : Scope
   scope = scope_in given uuid slots (Some backup)
@@ -299,7 +299,7 @@ module _ {tells : Type 0} {given : Given} {tape tape' : List Operation} {first :
     array = refl;
     apart = at.apart;
     room = room-there (not (is_reshaping (with_reshape to old.newest))) (has_slot slots backup) (nat_le (8 + reach_of (with_reshape to old.newest)) (if nat_lt backup given.slots then given.sectors backup else 0))
-        at.sound
+        found
         (fits-there (8 + reach_of (with_reshape to old.newest)) (given.sectors backup) (nat_lt backup given.slots) (is-below backup given.slots at.known)
         (let reach = begun-reach old.newest (with_reshape to old.newest) to (has-begun old.newest to still sound.0 sound.1) in let enough = at.room in omega (arith, reach, enough)));
   }

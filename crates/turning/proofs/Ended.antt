@@ -1,7 +1,7 @@
 -- What the end of a reshape leaves is ready as an array without one; and refused, it is ready in its reshape.
 use Rattle.std.proofs.Common.{◌≡◌, ◌≢◌, inl, inr, ℕ, ◌*◌, ◌<◌, ◌≤◌, ◌&&◌, ◌||◌, nat_lt, Bool, true, false, not, Option, Some, None, List, [], ◌∷◌, ◌++◌, length, refl, sym, ◌∙◌, ap, subst, arith, append-nil}
 use Rattle.std.specs.Prelude.{if◌then◌else◌, is_some}
-use Rattle.std.specs.List.{All}
+use Rattle.std.specs.List.{list_any, All}
 use Rattle.std.proofs.lemmas.Bool.{and_parts}
 use Rattle.std.proofs.lemmas.Bool.Decides.{nat_tests}
 use Rattle.std.proofs.lemmas.List.Elements.{All-nil, All-cons}
@@ -10,9 +10,9 @@ use Rattle.md_base.specs.declared.answers.Who.{Who}
 use Rattle.md_base.specs.declared.places.Shape.{Shape}
 use Rattle.bank.specs.declared.bank.Operation.{Operation}
 use Rattle.bank.specs.Given.{Given, IsFaulted}
-use Rattle.grow_plan.specs.Plans.{AreSound}
+use Rattle.grow_plan.specs.Plans.{AreSound, last_shape}
 use Rattle.superblocks.specs.declared.members.Members.{Members}
-use Rattle.superblocks.specs.Reading.{Scope, shape_of, final_shape, list_length, role_state, holder}
+use Rattle.superblocks.specs.Reading.{Scope, is_reshaping, shape_of, final_shape, list_length, role_state, holder}
 use Rattle.row_io.specs.Rows.{reading_of}
 use Rattle.flat_history.specs.declared.events.Entry.{Entry}
 use Rattle.flat_history.specs.declared.events.Event.{Event}
@@ -20,6 +20,7 @@ use Rattle.flat_history.specs.declared.events.Event.TheVariants.{Step, Resized}
 use Rattle.flat_history.specs.declared.events.StepKind.TheVariants.{Finished}
 use Rattle.flat_history.specs.Losses.{is_unsynced}
 use Rattle.flat_history.specs.Plain.{entries_of}
+use Rattle.flat_history.specs.Reshaped.{open_plans}
 use Rattle.shape_changes.specs.Updates.{IsAtEnd}
 use Rattle.reshape_ends.specs.Finished.{AreLostInEnd}
 use Rattle.views.specs.declared.work.Work.{Work}
@@ -28,6 +29,7 @@ use Rattle.views.specs.Placed.{is_vacant}
 use Rattle.views.specs.Rebuilding.{Held}
 use Rattle.call_entries.specs.Losing.{losses_of}
 use Rattle.call_entries.proofs.CallLaws.{all-losses}
+use Rattle.call_entries.proofs.LosingLaws.{entries-both}
 use Rattle.call_entries.proofs.PlainLaws.{one}
 use Rattle.array_kept.specs.Calls.{AreLossesOf, IsLossBy}
 use Rattle.array_kept.proofs.NowLaws.{limit-more}
@@ -41,12 +43,15 @@ use Rattle.still.specs.moving_kept_Moving.{IsMoving}
 use Rattle.moving_ends.proofs.Ended.{IsPlannedTo, IsStepped}
 use Rattle.moving_ends.proofs.Ending.{length_by, grown_to, ending_events}
 use Rattle.still.specs.running_words_Parts.{left_in, still_left}
+use Rattle.still.specs.running_words_Plans.{GoTo, turns_shape}
+use Rattle.still.proofs.still_laws_Closing.{LeadTo, plans-of, ahead-none}
 use Rattle.still.proofs.running_words_Called.{not_254}
 use Rattle.still.specs.still_laws_Ready.{IsReady as IsReadyStill}
+use Rattle.still.proofs.still_laws_Plain.{IsLeftPlain, turned-plain, turns-behind}
 use Rattle.moving.specs.moving_laws_Ready.{IsReady as IsReadyMoving, bytes_in}
 use Rattle.moving.proofs.moving_laws_Kept.{left_by, takes-before}
-use Rattle.turning.specs.Ended.{AreKeptOrFailed, ArePlansTo}
-use Rattle.turning.proofs.EndedStill.{IsFinished, plans-of, ahead-none, ended-still, ended-sized, ended-free}
+use Rattle.turning.specs.Ended.{AreKeptOrFailed}
+use Rattle.turning.proofs.EndedStill.{IsFinished, ended-still, ended-sized, ended-free}
 
 -- the new length is entered in the words of the law
 pub length-same : (longer : Bool) (n : ℕ) → (if longer then Resized n ∷ [] else []) ≡ length_by longer n
@@ -65,9 +70,12 @@ closed-moving {tells = tells} {given = given} {tape = tape} {scope = scope} {fir
 -- ---- the plans
 
 pub planned-to : (tells : Type 0) (given : Given) (tape : List Operation) (scope : Scope) (first : ℕ) (entries : List Entry) (old new : Members) (work : Work) (ahead : PhasesLeft)
-    → (tells → phases_of ahead ≡ [] → ArePlansTo (world_in given tape scope first) (final_shape old.newest) entries) → tells → IsPlannedTo (world_in given tape scope first) entries old (still_left work new ahead)
-planned-to tells given tape scope first entries old new work ahead planned t none =
-    plans-of (world_in given tape scope first) (final_shape old.newest) _ (planned t (ahead-none (shape_of new.newest) new.newest.size _ (phases_of ahead) none))
+    → is_reshaping old.newest ≡ true → LeadTo tells (world_in given tape scope first) entries old ahead → tells → IsPlannedTo (world_in given tape scope first) entries old (still_left work new ahead)
+planned-to tells given tape scope first entries old new work ahead active lead t right none =
+    plans-of (world_in given tape scope first) (final_shape old.newest) (open_plans entries) (subst (λ (s : Shape). GoTo (world_in given tape scope first) s entries) there (lead t right))
+  where
+    there : last_shape (if is_reshaping old.newest then final_shape old.newest else shape_of old.newest) (phases_of ahead) ≡ final_shape old.newest
+    there = λ i. last_shape (if active i then final_shape old.newest else shape_of old.newest) (ahead-none (shape_of new.newest) new.newest.size _ (phases_of ahead) none i)
 
 -- ---- what was lost
 
@@ -131,7 +139,7 @@ module _ {tells : Type 0} {given : Given} {tape tape' : List Operation} {scope :
     (first-is : (role : ℕ) → has_slot first_roles role ≡ (nat_lt role (length old.roles) && is_vacant (reading_of old) role))
     (late-is : (role : ℕ) → has_slot late role ≡ ((nat_lt role (shape_of new.newest).disks && is_vacant (reading_of new) role) && not (has_slot first_roles role || has_slot roles role)))
     (stepped : IsStepped old (left_by None old (closed (zeroed_by old.newest)) ahead) (still_left work new ahead) (losses_of roles spares ++ losses_of late late_spares))
-    (planned : tells → phases_of ahead ≡ [] → ArePlansTo (world_in given tape scope first) (final_shape old.newest) entries) where
+    (lead : LeadTo tells (world_in given tape scope first) entries old ahead) where
   abbrev added : List Entry
   added = entries_of who end (ending_events roles spares (still_left work new ahead) (grown_to (list_length old.newest) (list_length new.newest)) late late_spares)
 
@@ -145,10 +153,10 @@ module _ {tells : Type 0} {given : Given} {tape tape' : List Operation} {scope :
       (subst (λ (g : Given). IsReadyStill tells g tape' scope first (entries ++ added) new work ahead after steps' room' rows buffer far_rows far_buffer) (sym same_given)
       (record {
         kept = ended-still work ahead who end first_roles roles spares lost late late_spares moving goes (not_254 who.caller caller) last did at_end first-is late-is synced settled stepped
-            (planned-to tells given tape scope first entries old new work ahead planned)
+            (planned-to tells given tape scope first entries old new work ahead was.kept.members_are.active lead)
             (λ t none. was.full t (takes-before given scope first entries added did.grows (λ u. (was.kept.recorded u).ends) t none));
         sized = ended-sized work ahead who end first_roles roles spares lost late late_spares moving goes (not_254 who.caller caller) last did at_end first-is late-is synced settled stepped
-            (planned-to tells given tape scope first entries old new work ahead planned) was.sized;
+            (planned-to tells given tape scope first entries old new work ahead was.kept.members_are.active lead) was.sized;
         unlimited = limit-more entries added was.unlimited (ended-free who end roles spares (still_left work new ahead) late late_spares (list_length new.newest) (nat_lt (list_length old.newest) (list_length new.newest)));
         planned = subst (λ (n : ℕ). AreSound (shape_of new.newest) n (phases_of ahead)) (sym did.over.size)
             (subst (λ (s : Shape). AreSound s old.newest.size (phases_of ahead)) (sym did.over.shape) was.planned);
@@ -158,8 +166,22 @@ module _ {tells : Type 0} {given : Given} {tape tape' : List Operation} {scope :
         buffer_fits = was.buffer_fits;
         far_rows_fit = was.far_rows_fit;
         far_buffer_fits = was.far_buffer_fits;
+        plain = turned.plain;
+        plainly = λ none. absurd (let clash : true ≡ false = sym told ∙ none in cc);
+        ahead_told = inr told;
       }))))
     where
+      -- the end of a reshape turns the shape
+      told : list_any (λ e. turns_shape e.event) (entries ++ added) ≡ true
+      told = turns-behind entries added
+          (ap (λ (l : List Entry). list_any (λ e. turns_shape e.event) l)
+          (entries-both who end (losses_of roles spares) (Step Finished (still_left work new ahead) ∷ (grown_to (list_length old.newest) (list_length new.newest) ++ losses_of late late_spares)))
+          ∙ turns-behind (entries_of who end (losses_of roles spares))
+          (entries_of who end (Step Finished (still_left work new ahead) ∷ (grown_to (list_length old.newest) (list_length new.newest) ++ losses_of late late_spares))) refl)
+
+      turned : IsLeftPlain tells given tape' scope first entries (entries_of who end (ending_events roles spares (still_left work new ahead) (grown_to (list_length old.newest) (list_length new.newest)) late late_spares)) new
+      turned = turned-plain told
+
       settled : tells → is_unsynced (world_in given tape scope first) entries ≡ false
       settled t = was.kept.pending t ∙ ap (λ (o : Option ℕ). is_some o) synced
 

@@ -1,22 +1,18 @@
 -- What the end of a reshape leaves, from what `finish` of `reshape_ends` says of it: the array keeps its record without a reshape.
-use Rattle.std.proofs.Common.{◌≡◌, ◌⊎◌, inl, inr, ℕ, ◌+◌, ◌*◌, ◌<◌, ◌≤◌, ◌&&◌, ◌||◌, nat_lt, ◌==◌, min, max, Bool, true, false, not, cond, Option, Some, None, List, [], ◌∷◌, ◌++◌, length, fold, refl, sym, ◌∙◌, ap, subst, arith, append-nil}
+use Rattle.std.proofs.Common.{◌≡◌, ◌⊎◌, inl, inr, ℕ, ◌*◌, ◌<◌, ◌≤◌, ◌&&◌, ◌||◌, nat_lt, ◌==◌, min, max, Bool, true, false, not, cond, Option, Some, None, List, [], ◌∷◌, ◌++◌, length, fold, refl, sym, ◌∙◌, ap, subst, arith, append-nil}
 use Rattle.std.proofs.Math.Nat.{mul-le-mul_right}
 use Rattle.std.specs.Prelude.{IfSome, IsFalse}
-use Rattle.std.specs.List.{list_any, All}
+use Rattle.std.specs.List.{list_any}
 use Rattle.std.proofs.lemmas.Bool.{and_parts}
 use Rattle.std.proofs.lemmas.Bool.Decides.{nat_tests}
-use Rattle.std.proofs.lemmas.List.Elements.{All-head, All-tail}
 use Rattle.std.proofs.lemmas.List.Folds.{list_any-append}
 use Rattle.std.proofs.lemmas.List.Sums.{fold-append}
 use Rattle.md_base.specs.Sectors.{Sector}
 use Rattle.md_base.specs.Shapes.{has_slot, data_disks}
 use Rattle.md_base.specs.declared.answers.Who.{Who}
 use Rattle.md_base.specs.declared.places.Shape.{Shape}
-use Rattle.md_base.specs.declared.wishes.Phase.{Phase}
-use Rattle.md_base.specs.declared.wishes.Phase.TheVariants.{Reshape, UpTo6, DownTo5}
 use Rattle.bank.specs.declared.bank.Operation.{Operation}
 use Rattle.bank.specs.Given.{Given, NeverFalls}
-use Rattle.grow_plan.specs.Plans.{phases_steps, phase_steps}
 use Rattle.superblocks.specs.declared.members.Members.{Members}
 use Rattle.superblocks.specs.Reading.{Scope, shape_of, final_shape, list_length, role_count, role_state, holder, data_offset_of}
 use Rattle.superblocks.proofs.ValidFields.{few-roles}
@@ -30,7 +26,6 @@ use Rattle.flat_history.specs.Flat.{length_of, length_after, limit_after}
 use Rattle.flat_history.specs.Legal.{left_after, told_left}
 use Rattle.flat_history.specs.Losses.{is_resync_end, is_unsynced, loses}
 use Rattle.flat_history.specs.Plain.{entries_of}
-use Rattle.flat_history.specs.Reshaped.{planned_shape}
 use Rattle.flat_history.specs.Sound.{OpensFit}
 use Rattle.flat_history.specs.World.{World}
 use Rattle.shape_views.specs.Regions.{ArePlaced}
@@ -66,7 +61,7 @@ use Rattle.still.specs.moving_kept_Moving.{IsMoving, IsStillKept}
 use Rattle.moving_ends.proofs.Ended.{IsPlannedTo, IsStepped}
 use Rattle.moving_ends.proofs.EndedCall.{IsEndedBy, ended-since}
 use Rattle.moving_ends.proofs.EndedMembers.{array-ends}
-use Rattle.moving_ends.proofs.Ending.{length_by, grown_to, ending_events, ending-length, ending-lost, ending-late, ArePlannedTo}
+use Rattle.moving_ends.proofs.Ending.{length_by, grown_to, ending_events, ending-length, ending-lost, ending-late}
 use Rattle.still.specs.still_kept_Still.{IsStill, AreNoneMissing}
 use Rattle.still.proofs.still_kept_Bridges.{kept-again}
 use Rattle.still.proofs.still_kept_Leaving.{unsynced-later}
@@ -115,25 +110,6 @@ ended-free who end roles spares left late late_spares size longer =
     of : (b : Bool) → fold (λ (limit : Option ℕ) e. limit_after limit e.event) None (entries_of who end (length_by b size ++ losses_of late late_spares)) ≡ None
     of true = alone
     of false = alone
-
--- ---- the plans
-
-pub plans-of : (world : World) (shape : Shape) (plans : List Entry) → All (λ plan. planned_shape world plan.end plan.event ≡ Some shape) plans → ArePlannedTo world shape plans
-plans-of world shape [] to = tt
-plans-of world shape (plan ∷ plans) to = (All-head (λ plan. planned_shape world plan.end plan.event ≡ Some shape) plan plans to, plans-of world shape plans (All-tail (λ plan. planned_shape world plan.end plan.event ≡ Some shape) plan plans to))
-
--- each phase has a step
-phase-some : (now : Shape) (size : ℕ) (phase : Phase) → 1 ≤ phase_steps now size phase
-phase-some now size (Reshape to) = omega arith
-phase-some now size (UpTo6 to) = omega arith
-phase-some now size (DownTo5 to) = omega arith
-
-phases-none : (now : Shape) (size : ℕ) (ahead : List Phase) → phases_steps now size ahead ≡ 0 → ahead ≡ []
-phases-none now size [] none = refl
-phases-none now size (phase ∷ ahead) none = absurd (let some = phase-some now size phase in omega (arith, some, none))
-
-pub ahead-none : (now : Shape) (size left : ℕ) (ahead : List Phase) → left + phases_steps now size ahead ≡ 0 → ahead ≡ []
-ahead-none now size left ahead none = phases-none now size ahead (omega (arith, none))
 
 -- ---- the length of the list
 

@@ -1,10 +1,12 @@
 -- An array without a reshape whose backup failed as one was to begin goes on as it was: nothing but the backup's header was tried.
-use Rattle.std.proofs.Common.{◌≡◌, ◌≢◌, ◌⊎◌, inl, inr, ℕ, ◌+◌, Option, Some, List, [], ◌∷◌, ◌++◌, length, refl, sym, ◌∙◌, subst, arith}
+use Rattle.std.proofs.Common.{◌≡◌, ◌≢◌, ◌⊎◌, inl, inr, ℕ, ◌+◌, true, false, Option, Some, Result, Ok, Err, List, [], ◌∷◌, ◌++◌, length, refl, sym, ◌∙◌, subst, arith}
+use Rattle.std.specs.Prelude.{IsErr, OnErr}
 use Rattle.md_base.specs.Sectors.{Sector}
 use Rattle.md_base.specs.declared.answers.Refusal.{Refusal}
 use Rattle.md_base.specs.declared.answers.Refusal.TheVariants.{BackupFault, PastEnd, TooManyMissing, NotResynced}
 use Rattle.md_base.specs.declared.answers.Who.{Who}
 use Rattle.md_base.specs.declared.places.Shape.{Shape}
+use Rattle.md_base.specs.declared.wishes.Phase.{Phase}
 use Rattle.bank.specs.declared.bank.Operation.{Operation}
 use Rattle.bank.specs.Given.{Given}
 use Rattle.bank.specs.Tape.{Contents}
@@ -48,6 +50,11 @@ plain-refused resync m refusal plain = tt
 pub unbegun-plain : (m : Members) (to : Shape) (refusal : Refusal) → IsUnbegun m to refusal → IsPlain refusal
 unbegun-plain m to refusal (inl (role, first, is)) = subst IsPlain (sym is) tt
 unbegun-plain m to refusal (inr (whole, few, is)) = subst IsPlain (sym is) tt
+
+-- phases are ahead only where a plan was told
+pub ahead-told : {Told : Type 0} (ahead : List Phase) (next : Phase) (behind : List Phase) → (ahead ≡ []) ⊎ Told → ahead ≡ next ∷ behind → Told
+ahead-told ahead next behind (inl none) is = absurd (let clash : ◌≡◌ {A = List Phase} [] (next ∷ behind) = sym none ∙ is in cc)
+ahead-told ahead next behind (inr told) is = told
 
 -- ---- nothing was done
 
@@ -112,3 +119,8 @@ fault-stands {tells = tells} {given = given} {tape = tape} {tape' = tape'} {scop
     rows t role slot row held =
         let far = was.members_are.placed.behind role slot held in
         others t slot (data_offset_of (reading_of m) slot + row) (λ is. absurd (omega (arith, far, is))) (inr (λ is. absurd (omega (arith, far, is))))
+
+-- what is said of an Err holds where there is one
+pub err-tape : {T E : Type 0} {P : Type 0} (result : Result T E) → IsErr result → OnErr result P → P
+err-tape (Ok x) fails said = absurd (let clash : false ≡ true = fails in cc)
+err-tape (Err e) fails said = said

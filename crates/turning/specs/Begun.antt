@@ -51,10 +51,9 @@ pub record HasKeptLength (entries : List Entry) (who : Who) : Type 0 where
   pub lengths : list_any (λ e. is_resize e.event) goes.call ≡ false
   pub steps : list_any (λ e. is_done e.event) goes.call ≡ false
 
--- The slot can be the backup of a reshape to this shape: it was found sound, holds no role and is no spare, and has room for the header and the sectors of each window.
-pub record IsBackupAt (given : Given) (slots : ℕ) (members : Members) (to : Shape) (slot : ℕ) : Type 0 where
+-- The slot can be the backup of a reshape to this shape: it holds no role and is no spare, and has room for the header and the sectors of each window.
+pub record IsBackupAt (given : Given) (members : Members) (to : Shape) (slot : ℕ) : Type 0 where
   pub known : slot < given.slots
-  pub sound : has_slot slots slot ≡ true
   pub apart : has_spare members.spares slot ≡ false
   pub own : (role : ℕ) → holder (role_state (reading_of members) role) ≡ Some slot → ⊥
   pub room : 8 + phase_window (shape_of members.newest) members.newest.size (Reshape to) ≤ given.sectors slot

@@ -1,10 +1,8 @@
--- A reshape ends: what is asked of the history, and what it leaves.
+-- A reshape ends: what it leaves.
 use Rattle.std.specs.Prelude.{◌≡◌, ◌⊎◌, ℕ, ◌+◌, ◌*◌, ◌<◌, ◌≤◌, ◌++◌, nat_lt, true, List, [], ◌∷◌, Some, if◌then◌else◌}
-use Rattle.std.specs.List.{All}
 use Rattle.md_base.specs.Shapes.{has_slot, data_disks}
 use Rattle.md_base.specs.declared.answers.Refusal.{Refusal}
 use Rattle.md_base.specs.declared.answers.Who.{Who}
-use Rattle.md_base.specs.declared.places.Shape.{Shape}
 use Rattle.bank.specs.declared.bank.Operation.{Operation}
 use Rattle.bank.specs.Given.{Given, IsFaulted, NeverFalls}
 use Rattle.superblocks.specs.declared.members.Members.{Members}
@@ -16,8 +14,6 @@ use Rattle.flat_history.specs.declared.events.Event.{Event}
 use Rattle.flat_history.specs.declared.events.Event.TheVariants.{Step, Resized}
 use Rattle.flat_history.specs.declared.events.StepKind.TheVariants.{Finished}
 use Rattle.flat_history.specs.Plain.{entries_of}
-use Rattle.flat_history.specs.Reshaped.{open_plans, planned_shape}
-use Rattle.flat_history.specs.World.{World}
 use Rattle.call_entries.specs.Losing.{losses_of}
 use Rattle.shape_changes.specs.Marking.{AreOthersPresent}
 use Rattle.reshape_ends.specs.Finished.{IsOver}
@@ -25,22 +21,9 @@ use Rattle.views.specs.Lacking.{AreTooMany}
 use Rattle.views.specs.Moving.{Grows}
 use Rattle.views.specs.Placed.{is_vacant, AreStillHeld, AreWhole}
 use Rattle.array_kept.specs.Calls.{AreLossesOf, IsEndOf, TellNoLoss}
-use Rattle.grow_asked.specs.Left.{phases_of}
 use Rattle.course_kept.specs.Laws.{closed}
 use Rattle.still.specs.running_words_Parts.{RunningParts, left_in, still_left}
 use Rattle.turning.specs.Begun.{StaysItself, AreSparesKeptOrFailed}
-
--- ---- what is asked
-
--- each plan that is open goes to this shape
-abbrev pub ArePlansTo : World → Shape → List Entry → Type 0
-ArePlansTo world shape entries = All (λ plan. planned_shape world plan.end plan.event ≡ Some shape) (open_plans entries)
-
--- Where no phase is ahead, each plan that is open goes to the shape of the active reshape, whose end is the last of its steps.
-abbrev pub ArePlansEnding : {B : Type 0} → World → RunningParts B → Type 0
-ArePlansEnding world array = phases_of array.ahead ≡ [] → ArePlansTo world (final_shape array.parts.members.newest) array.parts.entries
-
--- ---- what it leaves
 
 -- a reshape to more data disks makes the list longer as it ends
 abbrev pub ended_length : ℕ → ℕ → List Event

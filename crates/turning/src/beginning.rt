@@ -1,9 +1,11 @@
 //! A reshape begins in an array that had none.
 
-ghost use Rattle.std.specs.Prelude.{◌≡◌, ◌≢◌, ◌⊎◌, ◌+◌, ◌*◌, ◌<◌, ◌≤◌, ◌&&◌, ◌++◌, ◌∷◌, [], ℕ, nat_lt, false, length, vec_capacity, Some, IfOk, IfErr};
+ghost use Rattle.std.specs.Prelude.{◌≡◌, ◌≢◌, ◌⊎◌, ◌+◌, ◌*◌, ◌<◌, ◌≤◌, ◌&&◌, ◌++◌, ◌∷◌, [], ℕ, nat_lt, true, false, length, vec_capacity, Some, IfOk, IfErr};
+ghost use Rattle.std.specs.List.{list_any};
 ghost use Rattle.md_base.specs.Shapes.{has_slot};
 ghost use Rattle.md_base.specs.declared.wishes.Phase.TheVariants.{Reshape};
-ghost use Rattle.bank.specs.Given.{NeverFalls};
+ghost use Rattle.md_base.specs.declared.answers.Refusal.TheVariants.{BackupFault};
+ghost use Rattle.bank.specs.Given.{IsFaulted, NeverFalls};
 ghost use Rattle.grow_plan.specs.Plans.{phase_window, AreSound};
 ghost use Rattle.superblocks.specs.Reading.{is_backward, shape_of, final_shape, list_length, role_count};
 ghost use Rattle.row_io.specs.Rows.{reading_of};
@@ -21,6 +23,7 @@ ghost use Rattle.grow_asked.specs.Left.{phases_of, grow_left, IsReshapeUnderWay}
 ghost use Rattle.kept_history.specs.Recorded.{IsCallGoing};
 ghost use Rattle.course_kept.specs.Laws.{closed};
 ghost use Rattle.still.specs.running_words_Parts.{RunningParts};
+ghost use Rattle.still.specs.running_words_Plans.{turns_shape};
 ghost use Rattle.still.specs.still_laws_Ready.{IsReady};
 ghost use Rattle.turning.specs.Begun.{begun_length, HasKeptLength, IsBackupAt, IsPlain, IsReshapeBegun, IsGivenBack, IsBeginRefused};
 
@@ -39,6 +42,7 @@ use reshape_ends::begin;
 use safe_updates::roles::vacant_roles;
 use still::Still;
 use superblocks::Members;
+use superblocks::sets::contains;
 
 // The number of a call that goes on is at most the number of entries.
 pub(crate) fn check_going(entries: &Entries, who: Who)
@@ -136,7 +140,7 @@ fn enter_begun(epoch: &mut Epoch, who: Who, end: u64, told: &BeginTold)
     enter_lost(epoch, who, end, told.roles, told.spares);
 }
 
-// The array goes on as it was, and the step is refused.
+// The array, in whose history a plan was told, goes on as it was, and the step is refused.
 fn give_back<B: Bank>(pieces: Pieces<B>, who: Who, refusal: Refusal) -> Still<B>
     requires ready { IsReady B.tells (B.given pieces.bank) (B.tape pieces.bank) (scope_in (B.given pieces.bank) pieces.epoch.uuid pieces.epoch.given pieces.backup)
         pieces.epoch.first pieces.epoch.entries.items pieces.members pieces.work pieces.ahead (B.faults_of pieces.bank) pieces.steps pieces.epoch.entries.room
@@ -144,6 +148,7 @@ fn give_back<B: Bank>(pieces: Pieces<B>, who: Who, refusal: Refusal) -> Still<B>
     requires open { IsCallGoing pieces.epoch.entries.items who }
     requires caller { who.caller ≢ 254 }
     requires room { 1 ≤ pieces.steps }
+    requires told { list_any (λ e. turns_shape e.event) pieces.epoch.entries.items ≡ true }
     requires why { IsPlain refusal }
     ensures back { let old : RunningParts B = record {
       parts = record {
@@ -171,6 +176,43 @@ fn give_back<B: Bank>(pieces: Pieces<B>, who: Who, refusal: Refusal) -> Still<B>
     Still::of_pieces(pieces)
 }
 
+// The array goes on as it was, and the step is refused: its backup, which the opening found failing, fails again.
+fn fail_backup<B: Bank>(pieces: Pieces<B>, who: Who, backup: u32) -> Still<B>
+    requires ready { IsReady B.tells (B.given pieces.bank) (B.tape pieces.bank) (scope_in (B.given pieces.bank) pieces.epoch.uuid pieces.epoch.given pieces.backup)
+        pieces.epoch.first pieces.epoch.entries.items pieces.members pieces.work pieces.ahead (B.faults_of pieces.bank) pieces.steps pieces.epoch.entries.room
+        (vec_capacity pieces.rows) (length pieces.buffer.items) (vec_capacity pieces.far_rows) (length pieces.far_buffer.items) }
+    requires open { IsCallGoing pieces.epoch.entries.items who }
+    requires caller { who.caller ≢ 254 }
+    requires room { 1 ≤ pieces.steps }
+    requires told { list_any (λ e. turns_shape e.event) pieces.epoch.entries.items ≡ true }
+    requires slot { backup < (B.given pieces.bank).slots }
+    requires failing { has_slot pieces.epoch.given backup ≡ false }
+    ensures back { let old : RunningParts B = record {
+      parts = record {
+        bank = pieces.bank;
+        uuid = pieces.epoch.uuid;
+        given = pieces.epoch.given;
+        first = pieces.epoch.first;
+        last = pieces.epoch.last;
+        entries = pieces.epoch.entries.items;
+        backup = pieces.backup;
+        members = pieces.members;
+        work = pieces.work;
+        steps = pieces.steps;
+      };
+      course = closed 0;
+      ahead = pieces.ahead;
+    } in IsGivenBack B.tells (B.given pieces.bank) (B.tape pieces.bank) (B.tape result.parts.bank) who BackupFault old result }
+    ensures failed { IsFaulted backup (B.faults_of pieces.bank) (B.faults_of result.parts.bank) }
+    ensures never_falls { NeverFalls (B.faults_of pieces.bank) (B.faults_of result.parts.bank) }
+    ensures tape { B.tells → B.tape result.parts.bank ≡ B.tape pieces.bank }
+    ensures given { B.given result.parts.bank ≡ B.given pieces.bank }
+{
+    let mut pieces = pieces;
+    let _ = pieces.bank.flush(backup);
+    give_back(pieces, who, Refusal::BackupFault)
+}
+
 /// The next phase of a plan begins, a reshape to this shape, where nothing else is left to do: the backup's header is cleared, and
 /// the superblocks record the reshape, by which the lowest spares get the new roles. To fewer data disks the list gets shorter then. The
 /// phases behind it are ahead, and the buffer is that of its windows. It takes no memory.
@@ -189,7 +231,7 @@ pub fn begin_reshape<B: Bank>(
     requires room { 1 ≤ still.parts.steps }
     requires done { left_of still.parts.work still.parts.members ≡ 0 }
     requires next { phases_of still.ahead ≡ Reshape to ∷ phases_of behind }
-    requires backed { (slot : ℕ) × (still.parts.backup ≡ Some slot) × IsBackupAt (B.given still.parts.bank) still.parts.given still.parts.members to slot }
+    requires backed { (slot : ℕ) × (still.parts.backup ≡ Some slot) × IsBackupAt (B.given still.parts.bank) still.parts.members to slot }
     requires wide { 512 * phase_window (shape_of still.parts.members.newest) still.parts.members.newest.size (Reshape to) ≤ length window.items }
     ensures begun { IfOk result (λ r. IsReshapeBegun B.tells (B.given still.parts.bank) (B.tape still.parts.bank) (B.tape r.parts.bank) (B.faults_of still.parts.bank) (B.faults_of r.parts.bank) who to behind still r) }
     ensures given { IfOk result (λ r. B.given r.parts.bank ≡ B.given still.parts.bank) }
@@ -204,12 +246,16 @@ pub fn begin_reshape<B: Bank>(
     if let Some(refusal) = unbegun(&pieces.members, &to) {
         return Err((give_back(pieces, who, refusal), window, refusal));
     }
-    pieces.steps -= 1;
-    check_going(&pieces.epoch.entries, who);
-    check_sizes(&pieces.members, &pieces.epoch.uuid);
     let Some(backup) = pieces.backup else {
         unreachable!()
     };
+    if !contains(pieces.epoch.given, backup) {
+        let still = fail_backup(pieces, who, backup);
+        return Err((still, window, Refusal::BackupFault));
+    }
+    pieces.steps -= 1;
+    check_going(&pieces.epoch.entries, who);
+    check_sizes(&pieces.members, &pieces.epoch.uuid);
     let begun = begin(
         &mut pieces.members,
         &mut pieces.bank,

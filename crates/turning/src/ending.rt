@@ -20,7 +20,8 @@ ghost use Rattle.moving_state.specs.declared.stepping.Due.TheVariants.{Finish};
 ghost use Rattle.kept_history.specs.Recorded.{IsCallGoing};
 ghost use Rattle.still.specs.running_words_Calls.{IsCalled, moving_world};
 ghost use Rattle.still.specs.running_words_Parts.{still_left};
-ghost use Rattle.turning.specs.Ended.{ended_length, ArePlansEnding, IsReshapeEnded};
+ghost use Rattle.still.specs.running_words_Plans.{ArePlansKept};
+ghost use Rattle.turning.specs.Ended.{ended_length, IsReshapeEnded};
 
 use crate::beginning::check_going;
 use array_state::asking::steps_left;
@@ -193,7 +194,7 @@ pub fn finish_reshape<B: Bank>(
     requires caller { who.caller ≢ 254 }
     requires room { 2 ≤ moving.parts.steps }
     requires due { due_of moving.parts.members.newest moving.course moving.parts.work.resync ≡ Finish }
-    requires planned { B.tells → ArePlansEnding (moving_world (B.given moving.parts.bank) (B.tape moving.parts.bank) moving) moving }
+    requires plans { ArePlansKept B.tells (moving_world (B.given moving.parts.bank) (B.tape moving.parts.bank) moving) moving }
     ensures ended { IfOk result (λ r. IsReshapeEnded B.tells (B.given moving.parts.bank) (B.tape moving.parts.bank) (B.tape r.parts.bank) (B.faults_of moving.parts.bank) (B.faults_of r.parts.bank) who moving r) }
     ensures given { IfOk result (λ r. B.given r.parts.bank ≡ B.given moving.parts.bank) }
     ensures refused { IfErr result (λ e. IsBehind who moving.parts.entries e.0.parts.entries (Refused e.1)) }

@@ -1,6 +1,6 @@
 //! A reshape that is ahead begins.
 
-ghost use Rattle.std.specs.Prelude.{◌≡◌, ◌≢◌, ◌≤◌, ◌∷◌, [], false, IfOk, IfErr};
+ghost use Rattle.std.specs.Prelude.{◌≡◌, ◌≢◌, ◌≤◌, ◌∷◌, [], false, IfOk, IfErr, IsSome};
 ghost use Rattle.md_base.specs.declared.wishes.Phase.TheVariants.{Reshape};
 ghost use Rattle.bank.specs.Given.{NeverFalls};
 ghost use Rattle.superblocks.specs.Reading.{is_reshaping};
@@ -9,12 +9,12 @@ ghost use Rattle.views.specs.Status.{left_of};
 ghost use Rattle.grow_asked.specs.declared.window.PhasesLeft.{PhasesLeft};
 ghost use Rattle.grow_asked.specs.Left.{phases_of};
 ghost use Rattle.turning.specs.Begun.{HasKeptLength, IsReshapeBegun, IsGivenBack, IsBeginRefused};
+ghost use Rattle.running.specs.Calls.{MayEndSteps};
 
 use crate::state::{Running, State, check_moving, check_still};
 use bank::Bank;
 use grow_asked::PhasesLeft;
 use md_base::{Refusal, Shape, Who};
-use std::alloc::Global;
 use turning::begin_reshape;
 
 impl<B: Bank> Running<B> {
@@ -22,12 +22,7 @@ impl<B: Bank> Running<B> {
     /// and the superblocks record the reshape, by which the lowest spares get the new roles. To fewer data disks the list gets shorter
     /// then. It takes no memory. Refused, the array goes on as it was: `Degraded` where a role is missing, and `NeedSpares` where there
     /// are fewer spares than new roles, with nothing done; and `BackupFault` where the backup failed.
-    pub fn begin(
-        self,
-        alloc: Global,
-        who: Who,
-        to: Shape,
-    ) -> Result<Running<B>, (Running<B>, Refusal)>
+    pub fn begin(self, who: Who, to: Shape) -> Result<Running<B>, (Running<B>, Refusal)>
         requires open { HasKeptLength self.parts.entries who }
         requires caller { who.caller ≢ 254 }
         requires room { 1 ≤ self.parts.steps }
@@ -38,12 +33,19 @@ impl<B: Bank> Running<B> {
             × IsReshapeBegun B.tells (B.given self.parts.bank) (B.tape self.parts.bank) (B.tape r.parts.bank) (B.faults_of self.parts.bank) (B.faults_of r.parts.bank) who to behind self r) }
         ensures given { IfOk result (λ r. B.given r.parts.bank ≡ B.given self.parts.bank) }
         ensures refused { IfErr result (λ e. IsGivenBack B.tells (B.given self.parts.bank) (B.tape self.parts.bank) (B.tape e.0.parts.bank) who e.1 self e.0) }
+        ensures ends { IfErr result (λ e. MayEndSteps e.0 e.1) }
         ensures caused { IfErr result (λ e. IsBeginRefused (B.faults_of self.parts.bank) (B.faults_of e.0.parts.bank) to e.1 self e.0) }
         ensures grows { IfErr result (λ e. Grows B.tells (B.tape self.parts.bank) (B.tape e.0.parts.bank)) }
         ensures never_falls { IfErr result (λ e. NeverFalls (B.faults_of self.parts.bank) (B.faults_of e.0.parts.bank)) }
+        ensures left_still { IfErr result (λ e. is_reshaping e.0.parts.members.newest ≡ false) }
+        ensures backed { IfErr result (λ e. IsSome self.parts.backup) }
         ensures left_given { IfErr result (λ e. B.given e.0.parts.bank ≡ B.given self.parts.bank) }
     {
-        let Running { state, window } = self;
+        let Running {
+            alloc,
+            state,
+            window,
+        } = self;
         let State::Still(still) = state else {
             unreachable!()
         };
@@ -57,13 +59,22 @@ impl<B: Bank> Running<B> {
                 check_moving(&mut moving);
                 let state = State::Moving(moving);
                 let window = Vec::new(alloc);
-                Ok(Running { state, window })
+                Ok(Running {
+                    alloc,
+                    state,
+                    window,
+                })
             }
             Err((still, window, refusal)) => {
                 let mut still = still;
                 check_still(&mut still);
                 let state = State::Still(still);
-                Err((Running { state, window }, refusal))
+                let running = Running {
+                    alloc,
+                    state,
+                    window,
+                };
+                Err((running, refusal))
             }
         }
     }

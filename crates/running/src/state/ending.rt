@@ -1,6 +1,7 @@
 //! The end of an epoch.
 
 ghost use Rattle.std.specs.Prelude.{◌≡◌, ◌≢◌, [], ◌∷◌, false, length, IfOk, IfErr};
+ghost use Rattle.std.specs.List.{list_any};
 ghost use Rattle.md_base.specs.declared.answers.Refusal.{Refusal};
 ghost use Rattle.bank.specs.Given.{NeverFalls};
 ghost use Rattle.superblocks.specs.Reading.{is_reshaping, list_length};
@@ -19,7 +20,9 @@ ghost use Rattle.kept_history.specs.Safe.{IsFilledRight};
 ghost use Rattle.history_calls.specs.Reliable.{IsReliable};
 ghost use Rattle.still_kept.specs.Still.{HasListStood};
 ghost use Rattle.running_words.specs.Calls.{moving_world, IsCalled, IsEpochKept};
+ghost use Rattle.running_words.specs.Plans.{turns_shape, KeepsShape};
 ghost use Rattle.running_words.specs.Still.{AreLeftSettled};
+ghost use Rattle.still_laws.specs.Plain.{AreToldPlainly, IsPlainEpoch};
 
 use crate::state::{Running, State, check_moving, check_still};
 use bank::Bank;
@@ -40,19 +43,22 @@ impl<B: Bank> Running<B> {
         ensures ends { B.tells → EndBy (length (B.tape self.parts.bank)) result.1.entries.items }
         ensures right { B.tells → IsReliable (world_of (B.given result.0) (B.tape result.0) self.parts.backup result.1) result.1.entries.items
             → IsEpochKept (B.given result.0) (B.tape result.0) self.parts.backup result.1 }
+        ensures plain { B.tells → KeepsShape (world_of (B.given result.0) (B.tape result.0) self.parts.backup result.1) result.1.entries.items
+            → IsPlainEpoch (B.given result.0) (B.tape result.0) self.parts.backup result.1 }
+        ensures plainly { is_reshaping self.parts.members.newest ≡ false → list_any (λ e. turns_shape e.event) result.1.entries.items ≡ false → AreToldPlainly result.1.entries.items }
         ensures uuid { result.1.uuid ≡ self.parts.uuid }
         ensures given { result.1.given ≡ self.parts.given }
         ensures first { result.1.first ≡ self.parts.first }
         ensures last { B.tells → result.1.last ≡ length (B.tape self.parts.bank) }
     {
-        let Running { state, window: _ } = self;
+        let Running {
+            alloc: _,
+            state,
+            window: _,
+        } = self;
         match state {
             State::Still(still) => still.halt(who),
-            State::Moving(moving) => {
-                let mut moving = moving;
-                check_moving(&mut moving);
-                moving.halt(who)
-            }
+            State::Moving(moving) => moving.halt(who),
         }
     }
 
@@ -67,9 +73,11 @@ impl<B: Bank> Running<B> {
         ensures flushed { IfOk result (λ r. is_reshaping self.parts.members.newest ≡ false → B.tells → AreLeftSettled self.parts.members self.parts.entries r.1.entries.items (B.given self.parts.bank) (B.tape r.0)) }
         ensures grows { IfOk result (λ r. Grows B.tells (B.tape self.parts.bank) (B.tape r.0)) }
         ensures losses { IfOk result (λ r. AreLossesOf self.parts.members (B.faults_of self.parts.bank) (B.faults_of r.0) self.parts.entries r.1.entries.items) }
-        ensures ends { IfOk result (λ r. is_reshaping self.parts.members.newest ≡ false → B.tells → EndBy (length (B.tape r.0)) r.1.entries.items) }
-        ensures ended { IfOk result (λ r. is_reshaping self.parts.members.newest ≡ false → IsEndOf B.tells r.1.first r.1.entries.items (B.tape r.0)) }
+        ensures ends { IfOk result (λ r. B.tells → EndBy (length (B.tape r.0)) r.1.entries.items) }
+        ensures ended { IfOk result (λ r. IsEndOf B.tells r.1.first r.1.entries.items (B.tape r.0)) }
         ensures right { IfOk result (λ r. B.tells → IsReliable (world_of (B.given r.0) (B.tape r.0) self.parts.backup r.1) r.1.entries.items → IsEpochKept (B.given r.0) (B.tape r.0) self.parts.backup r.1) }
+        ensures plain { IfOk result (λ r. B.tells → KeepsShape (world_of (B.given r.0) (B.tape r.0) self.parts.backup r.1) r.1.entries.items → IsPlainEpoch (B.given r.0) (B.tape r.0) self.parts.backup r.1) }
+        ensures plainly { IfOk result (λ r. is_reshaping self.parts.members.newest ≡ false → list_any (λ e. turns_shape e.event) r.1.entries.items ≡ false → AreToldPlainly r.1.entries.items) }
         ensures uuid { IfOk result (λ r. r.1.uuid ≡ self.parts.uuid) }
         ensures slots { IfOk result (λ r. r.1.given ≡ self.parts.given) }
         ensures first { IfOk result (λ r. r.1.first ≡ self.parts.first) }
@@ -79,11 +87,15 @@ impl<B: Bank> Running<B> {
         ensures refused { IfErr result (λ e. IsUnsettled who self.parts.entries e.0.parts.entries e.1) }
         ensures caused { IfErr result (λ e. IsFaultFor (list_length self.parts.members.newest) 0 AreTooMany self.parts.members e.0.parts.members e.1) }
         ensures called { IfErr result (λ e. IsCalled B.tells (B.given self.parts.bank) (B.tape self.parts.bank) (B.tape e.0.parts.bank) (B.faults_of self.parts.bank) (B.faults_of e.0.parts.bank) self e.0) }
-        ensures left_failed { IfErr result (λ e. is_reshaping self.parts.members.newest ≡ false → HaveRolesFailed self.parts.members e.0.parts.members (B.faults_of self.parts.bank) (B.faults_of e.0.parts.bank)) }
+        ensures left_failed { IfErr result (λ e. HaveRolesFailed self.parts.members e.0.parts.members (B.faults_of self.parts.bank) (B.faults_of e.0.parts.bank)) }
         ensures left_given { IfErr result (λ e. B.given e.0.parts.bank ≡ B.given self.parts.bank) }
         ensures course { IfErr result (λ e. e.0.course ≡ self.course) }
     {
-        let Running { state, window } = self;
+        let Running {
+            alloc,
+            state,
+            window,
+        } = self;
         match state {
             State::Still(still) => match still.stop(who) {
                 Ok(ended) => Ok(ended),
@@ -91,7 +103,12 @@ impl<B: Bank> Running<B> {
                     let mut still = still;
                     check_still(&mut still);
                     let state = State::Still(still);
-                    Err((Running { state, window }, fault))
+                    let running = Running {
+                        alloc,
+                        state,
+                        window,
+                    };
+                    Err((running, fault))
                 }
             },
             State::Moving(moving) => match moving.stop(who) {
@@ -100,7 +117,12 @@ impl<B: Bank> Running<B> {
                     let mut moving = moving;
                     check_moving(&mut moving);
                     let state = State::Moving(moving);
-                    Err((Running { state, window }, fault))
+                    let running = Running {
+                        alloc,
+                        state,
+                        window,
+                    };
+                    Err((running, fault))
                 }
             },
         }

@@ -8,8 +8,10 @@ ghost use Rattle.array_kept.specs.Calls.{IsBehind};
 ghost use Rattle.kept_history.specs.Recorded.{IsCallGoing};
 ghost use Rattle.moving_state.specs.Due.{due_of};
 ghost use Rattle.moving_state.specs.declared.stepping.Due.TheVariants.{Finish};
-ghost use Rattle.running_words.specs.Calls.{moving_world, IsCalled};
-ghost use Rattle.turning.specs.Ended.{ArePlansEnding, IsReshapeEnded};
+ghost use Rattle.running_words.specs.Calls.{IsCalled};
+ghost use Rattle.still_laws.specs.Steps.{IsClosable};
+ghost use Rattle.turning.specs.Ended.{IsReshapeEnded};
+ghost use Rattle.running.specs.Calls.{MayEndSteps};
 
 use crate::state::{Running, State, check_moving, check_still};
 use bank::Bank;
@@ -25,33 +27,50 @@ impl<B: Bank> Running<B> {
         requires caller { who.caller ≢ 254 }
         requires room { 2 ≤ self.parts.steps }
         requires active { is_reshaping self.parts.members.newest ≡ true }
-        requires due { due_of self.parts.members.newest self.course ≡ Finish }
-        requires planned { B.tells → ArePlansEnding (moving_world (B.given self.parts.bank) (B.tape self.parts.bank) self) self }
+        requires due { due_of self.parts.members.newest self.course self.parts.work.resync ≡ Finish }
         ensures ended { IfOk result (λ r. IsReshapeEnded B.tells (B.given self.parts.bank) (B.tape self.parts.bank) (B.tape r.parts.bank) (B.faults_of self.parts.bank) (B.faults_of r.parts.bank) who self r) }
+        ensures closable { IfOk result (λ r. IsClosable r) }
         ensures given { IfOk result (λ r. B.given r.parts.bank ≡ B.given self.parts.bank) }
         ensures refused { IfErr result (λ e. IsBehind who self.parts.entries e.0.parts.entries (Refused e.1)) }
+        ensures ends { IfErr result (λ e. MayEndSteps e.0 e.1) }
         ensures caused { IfErr result (λ e. AreTooMany e.0.parts.members e.1) }
         ensures called { IfErr result (λ e. IsCalled B.tells (B.given self.parts.bank) (B.tape self.parts.bank) (B.tape e.0.parts.bank) (B.faults_of self.parts.bank) (B.faults_of e.0.parts.bank) self e.0) }
         ensures course { IfErr result (λ e. e.0.course ≡ self.course) }
         ensures steps { IfErr result (λ e. e.0.parts.steps + 2 ≡ self.parts.steps) }
+        ensures left_active { IfErr result (λ e. is_reshaping e.0.parts.members.newest ≡ true) }
         ensures left_given { IfErr result (λ e. B.given e.0.parts.bank ≡ B.given self.parts.bank) }
     {
-        let Running { state, window } = self;
+        let Running {
+            alloc,
+            state,
+            window,
+        } = self;
         let State::Moving(moving) = state else {
             unreachable!()
         };
+        let mut moving = moving;
+        check_moving(&mut moving);
         match finish_reshape(moving, who) {
             Ok(still) => {
                 let mut still = still;
                 check_still(&mut still);
                 let state = State::Still(still);
-                Ok(Running { state, window })
+                Ok(Running {
+                    alloc,
+                    state,
+                    window,
+                })
             }
             Err((moving, refusal)) => {
                 let mut moving = moving;
                 check_moving(&mut moving);
                 let state = State::Moving(moving);
-                Err((Running { state, window }, refusal))
+                let running = Running {
+                    alloc,
+                    state,
+                    window,
+                };
+                Err((running, refusal))
             }
         }
     }

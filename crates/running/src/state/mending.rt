@@ -15,10 +15,11 @@ ghost use Rattle.array_kept.specs.Calls.{AreHeldOrSpare, IsWholeOrLost, by_answe
 ghost use Rattle.kept_history.specs.Recorded.{IsCallGoing};
 ghost use Rattle.running_words.specs.Parts.{still_left};
 ghost use Rattle.running_words.specs.Calls.{moving_world};
-ghost use Rattle.still_laws.specs.Steps.{IsStepped, MayLeaveNone, IsCallUnbroken};
+ghost use Rattle.still_laws.specs.Steps.{IsStepped, IsClosable, IsCallUnbroken};
 ghost use Rattle.still_steps.specs.Resyncing.{is_at_end};
 ghost use Rattle.still_steps.specs.Rebuilding.{rebuilt_role, IsGivenToSpare};
 ghost use Rattle.still_steps.specs.Stepping.{IsUndone, IsEnd, IsStepEntered, next_kind, after_step, IsHeldOrDue};
+ghost use Rattle.running.specs.Calls.{IsRefusedInStep};
 
 use crate::state::{Running, State, check_still};
 use bank::Bank;
@@ -34,7 +35,6 @@ impl<B: Bank> Running<B> {
         requires caller { who.caller ≢ 254 }
         requires still { is_reshaping self.old.parts.members.newest ≡ false }
         requires pending { 0 < left_of self.old.parts.work self.old.parts.members }
-        requires plans { MayLeaveNone self.old }
         requires room { 1 ≤ self.old.parts.steps }
         ensures entered { IsStepEntered who self.old.parts.entries self.new.parts.entries self.old.parts.work self.old.parts.members self.new.parts.members (still_left self.new.parts.work self.new.parts.members self.new.ahead) result }
         ensures memory { result ≢ Err WantsMemory }
@@ -53,6 +53,9 @@ impl<B: Bank> Running<B> {
         ensures whole { OnOk result (next_kind self.old.parts.work self.old.parts.members ≡ EndsRebuild → IsWholeOrLost self.old.parts.members self.new.parts.members (rebuilt_role self.old.parts.members)) }
         ensures stepped { IsStepped B.tells (B.given self.old.parts.bank) (B.tape self.old.parts.bank) (B.tape self.new.parts.bank) (IsHeldOrDue self.old.parts.work self.old.parts.members) (B.faults_of self.old.parts.bank) (B.faults_of self.new.parts.bank) self.old self.new }
         ensures held { AreHeldOrSpare self.old.parts.members self.new.parts.members }
+        ensures left_still { is_reshaping self.new.parts.members.newest ≡ false }
+        ensures ends { IsRefusedInStep self.new result }
+        ensures closable { OnOk result (IsClosable self.new) }
         ensures course { self.new.course ≡ self.old.course }
         ensures given { B.given self.new.parts.bank ≡ B.given self.old.parts.bank }
     {

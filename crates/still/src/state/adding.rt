@@ -12,7 +12,7 @@ ghost use Rattle.flat_history.specs.declared.events.Request.TheVariants.{Add as 
 ghost use Rattle.shape_changes.specs.Marking.{AreOthersPresent};
 ghost use Rattle.views.specs.Lacking.{AreUnnamed};
 ghost use Rattle.views.specs.Numbers.{free_number};
-ghost use Rattle.views.specs.Placed.{AreStillHeld};
+ghost use Rattle.views.specs.Placed.{AreWhole, AreStillHeld};
 ghost use Rattle.views.specs.Rebuilding.{Held};
 ghost use Rattle.array_kept.specs.Calls.{IsUnaddable, IsAddedFor, IsAddedAs, IsWorkAdded, IsAnswered, OnNoMemory};
 ghost use Rattle.still_laws.specs.Steps.{IsStepped};
@@ -56,6 +56,7 @@ impl<B: Bank> Still<B> {
         ensures others { B.tells → AreOthersPresent (present (B.given self.old.parts.bank) (B.tape self.old.parts.bank)) (present (B.given self.old.parts.bank) (B.tape self.new.parts.bank)) }
         ensures clean { is_clean self.new.parts.members.newest ≡ is_clean self.old.parts.members.newest }
         ensures held { AreStillHeld self.old.parts.members self.new.parts.members }
+        ensures whole { AreWhole self.new.parts.members → AreWhole self.old.parts.members }
         ensures work { IsWorkAdded self.old.parts.members.newest self.old.parts.work self.new.parts.work }
         ensures given { B.given self.new.parts.bank ≡ B.given self.old.parts.bank }
     {
@@ -107,6 +108,7 @@ impl<B: Bank> Still<B> {
         ensures others { B.tells → AreOthersPresent (present (B.given self.old.parts.bank) (B.tape self.old.parts.bank)) (present (B.given self.old.parts.bank) (B.tape self.new.parts.bank)) }
         ensures clean { is_clean self.new.parts.members.newest ≡ is_clean self.old.parts.members.newest }
         ensures held { AreStillHeld self.old.parts.members self.new.parts.members }
+        ensures whole { AreWhole self.new.parts.members → AreWhole self.old.parts.members }
         ensures work { IsWorkAdded self.old.parts.members.newest self.old.parts.work self.new.parts.work }
         ensures given { B.given self.new.parts.bank ≡ B.given self.old.parts.bank }
     {

@@ -1,6 +1,7 @@
 //! The end of an epoch without an active reshape.
 
-ghost use Rattle.std.specs.Prelude.{◌≡◌, ◌≢◌, [], ◌∷◌, length, IfOk, IfErr};
+ghost use Rattle.std.specs.Prelude.{◌≡◌, ◌≢◌, false, [], ◌∷◌, length, IfOk, IfErr};
+ghost use Rattle.std.specs.List.{list_any};
 ghost use Rattle.md_base.specs.declared.answers.Refusal.{Refusal};
 ghost use Rattle.bank.specs.Given.{NeverFalls};
 ghost use Rattle.superblocks.specs.Reading.{list_length};
@@ -19,7 +20,9 @@ ghost use Rattle.kept_history.specs.Safe.{IsFilledRight};
 ghost use Rattle.history_calls.specs.Reliable.{IsReliable};
 ghost use Rattle.still_laws.specs.still_kept_Still.{HasListStood};
 ghost use Rattle.still_laws.specs.running_words_Calls.{moving_world, IsCalled, IsEpochKept};
+ghost use Rattle.still_laws.specs.running_words_Plans.{turns_shape, KeepsShape};
 ghost use Rattle.still_laws.specs.running_words_Still.{AreLeftSettled};
+ghost use Rattle.still_laws.specs.Plain.{AreToldPlainly, IsPlainEpoch};
 
 use crate::state::Still;
 use bank::Bank;
@@ -39,6 +42,9 @@ impl<B: Bank> Still<B> {
         ensures ends { B.tells → EndBy (length (B.tape self.parts.bank)) result.1.entries.items }
         ensures right { B.tells → self.parts.last ≡ length (B.tape self.parts.bank) → IsReliable (world_of (B.given result.0) (B.tape result.0) self.parts.backup result.1) result.1.entries.items
             → IsEpochKept (B.given result.0) (B.tape result.0) self.parts.backup result.1 }
+        ensures plain { B.tells → KeepsShape (world_of (B.given result.0) (B.tape result.0) self.parts.backup result.1) result.1.entries.items
+            → IsPlainEpoch (B.given result.0) (B.tape result.0) self.parts.backup result.1 }
+        ensures plainly { list_any (λ e. turns_shape e.event) result.1.entries.items ≡ false → AreToldPlainly result.1.entries.items }
     {
         let Still {
             alloc: _,
@@ -70,6 +76,9 @@ impl<B: Bank> Still<B> {
         ensures ends { B.tells → EndBy (length (B.tape self.parts.bank)) result.1.entries.items }
         ensures right { B.tells → IsReliable (world_of (B.given result.0) (B.tape result.0) self.parts.backup result.1) result.1.entries.items
             → IsEpochKept (B.given result.0) (B.tape result.0) self.parts.backup result.1 }
+        ensures plain { B.tells → KeepsShape (world_of (B.given result.0) (B.tape result.0) self.parts.backup result.1) result.1.entries.items
+            → IsPlainEpoch (B.given result.0) (B.tape result.0) self.parts.backup result.1 }
+        ensures plainly { list_any (λ e. turns_shape e.event) result.1.entries.items ≡ false → AreToldPlainly result.1.entries.items }
         ensures uuid { result.1.uuid ≡ self.parts.uuid }
         ensures given { result.1.given ≡ self.parts.given }
         ensures first { result.1.first ≡ self.parts.first }
@@ -108,6 +117,8 @@ impl<B: Bank> Still<B> {
         ensures ends { IfOk result (λ r. B.tells → EndBy (length (B.tape r.0)) r.1.entries.items) }
         ensures ended { IfOk result (λ r. IsEndOf B.tells r.1.first r.1.entries.items (B.tape r.0)) }
         ensures right { IfOk result (λ r. B.tells → IsReliable (world_of (B.given r.0) (B.tape r.0) self.parts.backup r.1) r.1.entries.items → IsEpochKept (B.given r.0) (B.tape r.0) self.parts.backup r.1) }
+        ensures plain { IfOk result (λ r. B.tells → KeepsShape (world_of (B.given r.0) (B.tape r.0) self.parts.backup r.1) r.1.entries.items → IsPlainEpoch (B.given r.0) (B.tape r.0) self.parts.backup r.1) }
+        ensures plainly { IfOk result (λ r. list_any (λ e. turns_shape e.event) r.1.entries.items ≡ false → AreToldPlainly r.1.entries.items) }
         ensures uuid { IfOk result (λ r. r.1.uuid ≡ self.parts.uuid) }
         ensures slots { IfOk result (λ r. r.1.given ≡ self.parts.given) }
         ensures first { IfOk result (λ r. r.1.first ≡ self.parts.first) }

@@ -16,7 +16,8 @@ ghost use Rattle.array_kept.specs.Calls.{AreSparesFewer, HasStripeLeft, IsAllMen
 ghost use Rattle.kept_history.specs.Recorded.{IsCallGoing};
 ghost use Rattle.still_laws.specs.running_words_Parts.{still_left};
 ghost use Rattle.still_laws.specs.running_words_Calls.{moving_world, IsStepTaken};
-ghost use Rattle.still_laws.specs.Steps.{IsStepped, MayLeaveNone};
+ghost use Rattle.still_laws.specs.running_words_Plans.{ArePlansKept};
+ghost use Rattle.still_laws.specs.Steps.{IsStepped, IsClosable};
 
 use crate::state::steps::check_going;
 use crate::state::{Still, all_left};
@@ -46,6 +47,7 @@ impl<B: Bank> Still<B> {
         ensures work { self.new.parts.work ≡ record self.old.parts.work { resync = by_answer result (one_more self.old.parts.work.resync) self.old.parts.work.resync } }
         ensures left { OnOk result (AreStepsFewer self.old.parts.entries self.new.parts.entries (still_left self.old.parts.work self.old.parts.members self.old.ahead) (still_left self.new.parts.work self.new.parts.members self.new.ahead)) }
         ensures stays { OnErr result (AreStepsKept self.old.parts.entries self.new.parts.entries (still_left self.old.parts.work self.old.parts.members self.old.ahead) (still_left self.new.parts.work self.new.parts.members self.new.ahead)) }
+        ensures closable { OnOk result (IsClosable self.new) }
         ensures caused { IsCausedBy (list_length self.old.parts.members.newest) 0 IsUnmendable self.old.parts.members self.new.parts.members result }
         ensures first { IsFirstRefused (write_refusal (shape_of self.old.parts.members.newest) false) self.old.parts.members self.new.parts.members result }
         ensures dirty { OnOk result (is_clean self.new.parts.members.newest ≡ false) }
@@ -91,7 +93,7 @@ impl<B: Bank> Still<B> {
         requires open { IsCallGoing self.old.parts.entries who }
         requires caller { who.caller ≢ 254 }
         requires pending { IsAllMended self.old.parts.work.resync self.old.parts.members }
-        requires plans { MayLeaveNone self.old }
+        requires plans { ArePlansKept B.tells (moving_world (B.given self.old.parts.bank) (B.tape self.old.parts.bank) self.old) self.old }
         requires room { 1 ≤ self.old.parts.steps }
         ensures entered { IsStepTaken who self.old.parts.entries self.new.parts.entries EndsResync (still_left self.new.parts.work self.new.parts.members self.new.ahead) result }
         ensures stepped { IsStepped B.tells (B.given self.old.parts.bank) (B.tape self.old.parts.bank) (B.tape self.new.parts.bank) (Held self.old.parts.members) (B.faults_of self.old.parts.bank) (B.faults_of self.new.parts.bank) self.old self.new }
@@ -100,6 +102,7 @@ impl<B: Bank> Still<B> {
         ensures work { self.new.parts.work ≡ record self.old.parts.work { resync = by_answer result None self.old.parts.work.resync } }
         ensures left { OnOk result (AreStepsFewer self.old.parts.entries self.new.parts.entries (still_left self.old.parts.work self.old.parts.members self.old.ahead) (still_left self.new.parts.work self.new.parts.members self.new.ahead)) }
         ensures stays { OnErr result (AreStepsKept self.old.parts.entries self.new.parts.entries (still_left self.old.parts.work self.old.parts.members self.old.ahead) (still_left self.new.parts.work self.new.parts.members self.new.ahead)) }
+        ensures closable { OnOk result (IsClosable self.new) }
         ensures caused { IsCausedBy (list_length self.old.parts.members.newest) 0 AreTooMany self.old.parts.members self.new.parts.members result }
         ensures clean { OnOk result (is_clean self.new.parts.members.newest ≡ true) }
         ensures good { OnOk result (B.tells → DoWithout self.new.parts.members → OpensFit (moving_world (B.given self.new.parts.bank) (B.tape self.new.parts.bank) self.new)

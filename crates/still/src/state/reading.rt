@@ -61,6 +61,7 @@ impl<B: Bank> Still<B> {
         ensures unread { OnErr result (into.new ≡ into.old) }
         ensures unchanged { OnNoMemory result (self.new ≡ self.old) }
         ensures called { IsCalled B.tells (B.given self.old.parts.bank) (B.tape self.old.parts.bank) (B.tape self.new.parts.bank) (B.faults_of self.old.parts.bank) (B.faults_of self.new.parts.bank) self.old self.new }
+        ensures whole { AreWhole self.new.parts.members → AreWhole self.old.parts.members }
         ensures tape { AreWhole self.new.parts.members → B.tells → B.tape self.new.parts.bank ≡ B.tape self.old.parts.bank }
         ensures others { B.tells → AreOthersPresent (present (B.given self.old.parts.bank) (B.tape self.old.parts.bank)) (present (B.given self.old.parts.bank) (B.tape self.new.parts.bank)) }
         ensures clean { is_clean self.new.parts.members.newest ≡ is_clean self.old.parts.members.newest }

@@ -19,8 +19,10 @@ ghost use Rattle.array_kept.specs.Calls.{AreSparesFewer, IsHeldOrGiven, AreHeldO
 ghost use Rattle.kept_history.specs.Recorded.{IsCallGoing};
 ghost use Rattle.still_laws.specs.running_words_Parts.{still_left};
 ghost use Rattle.still_laws.specs.running_words_Calls.{moving_world};
-ghost use Rattle.still_laws.specs.Steps.{IsStepped, MayLeaveNone, IsCallUnbroken};
+ghost use Rattle.still_laws.specs.running_words_Plans.{ArePlansKept};
+ghost use Rattle.still_laws.specs.Steps.{IsStepped, IsClosable, IsCallUnbroken};
 
+use crate::naming::{fill_and_name, give_and_name, record_and_name};
 use crate::state::steps::check_going;
 use crate::state::{Still, all_left};
 use array_state::work::set_rebuilt;
@@ -28,8 +30,7 @@ use bank::Bank;
 use call_entries::calls::{enter, enter_behind, enter_lost};
 use flat_history::{Event, StepKind};
 use md_base::{Fault, Who};
-use safe_rows::filling::{fill, recovering_slot};
-use safe_updates::giving::{flush_and_record, give_role};
+use safe_rows::filling::recovering_slot;
 use safe_updates::naming::newly_vacant;
 use safe_updates::refusing::too_many;
 use safe_updates::roles::{is_vacant, shape_in, vacant_roles};
@@ -44,7 +45,7 @@ impl<B: Bank> Still<B> {
         requires role { role < (shape_of self.old.parts.members.newest).disks }
         requires vacant { is_vacant (reading_of self.old.parts.members) role ≡ true }
         requires spare { has_spare self.old.parts.members.spares slot ≡ true }
-        requires plans { MayLeaveNone self.old }
+        requires plans { ArePlansKept B.tells (moving_world (B.given self.old.parts.bank) (B.tape self.old.parts.bank) self.old) self.old }
         requires room { 1 ≤ self.old.parts.steps }
         ensures entered { IsRebuildStepped who self.old.parts.entries self.new.parts.entries self.new.parts.members role (Step TakesRole (still_left self.new.parts.work self.new.parts.members self.new.ahead) ∷ []) result }
         ensures memory { result ≢ Err WantsMemory }
@@ -54,6 +55,7 @@ impl<B: Bank> Still<B> {
         ensures work { self.new.parts.work ≡ by_answer result (with_rebuilt role 0 self.old.parts.work) self.old.parts.work }
         ensures left { OnOk result (AreStepsFewer self.old.parts.entries self.new.parts.entries (still_left self.old.parts.work self.old.parts.members self.old.ahead) (still_left self.new.parts.work self.new.parts.members self.new.ahead)) }
         ensures stays { OnErr result (AreStepsKept self.old.parts.entries self.new.parts.entries (still_left self.old.parts.work self.old.parts.members self.old.ahead) (still_left self.new.parts.work self.new.parts.members self.new.ahead)) }
+        ensures closable { OnOk result (IsClosable self.new) }
         ensures caused { IsCausedBy (list_length self.old.parts.members.newest) 0 AreTooMany self.old.parts.members self.new.parts.members result }
         ensures clean { is_clean self.new.parts.members.newest ≡ is_clean self.old.parts.members.newest }
         ensures open { IsCallGoing self.new.parts.entries who }
@@ -68,7 +70,7 @@ impl<B: Bank> Still<B> {
         check_going(&self.epoch.entries, who);
         let disks = shape_in(&self.members).disks;
         let before = without(vacant_roles(&self.members, disks), with(0, role));
-        let spares = give_role(&mut self.members, &mut self.bank, role, slot);
+        let spares = give_and_name(&mut self.members, &mut self.bank, role, slot);
         let roles = newly_vacant(&self.members, disks, before);
         set_rebuilt(&mut self.work, role, 0);
         let end = self.bank.ops();
@@ -95,6 +97,7 @@ impl<B: Bank> Still<B> {
         ensures work { self.new.parts.work ≡ by_answer result (with_rebuilt role (rebuilt_of self.old.parts.work role + 1) self.old.parts.work) self.old.parts.work }
         ensures left { OnOk result (AreStepsFewer self.old.parts.entries self.new.parts.entries (still_left self.old.parts.work self.old.parts.members self.old.ahead) (still_left self.new.parts.work self.new.parts.members self.new.ahead)) }
         ensures stays { OnErr result (AreStepsKept self.old.parts.entries self.new.parts.entries (still_left self.old.parts.work self.old.parts.members self.old.ahead) (still_left self.new.parts.work self.new.parts.members self.new.ahead)) }
+        ensures closable { OnOk result (IsClosable self.new) }
         ensures caused { IsCausedBy (list_length self.old.parts.members.newest) 0 AreTooMany self.old.parts.members self.new.parts.members result }
         ensures clean { is_clean self.new.parts.members.newest ≡ is_clean self.old.parts.members.newest }
         ensures open { IsCallGoing self.new.parts.entries who }
@@ -113,7 +116,7 @@ impl<B: Bank> Still<B> {
         let Some(slot) = recovering_slot(&self.members, role) else {
             unreachable!()
         };
-        let filled = fill(
+        let filled = fill_and_name(
             &mut self.members,
             &mut self.bank,
             &shape,
@@ -150,7 +153,7 @@ impl<B: Bank> Still<B> {
         requires caller { who.caller ≢ 254 }
         requires pending { AreStripesRebuilt self.old.parts.work self.old.parts.members role }
         requires synced { self.old.parts.work.resync ≡ None }
-        requires plans { MayLeaveNone self.old }
+        requires plans { ArePlansKept B.tells (moving_world (B.given self.old.parts.bank) (B.tape self.old.parts.bank) self.old) self.old }
         requires room { 1 ≤ self.old.parts.steps }
         ensures entered { IsRebuildStepped who self.old.parts.entries self.new.parts.entries self.new.parts.members role (Step EndsRebuild (still_left self.new.parts.work self.new.parts.members self.new.ahead) ∷ IsRebuilt role ∷ []) result }
         ensures memory { result ≢ Err WantsMemory }
@@ -164,6 +167,7 @@ impl<B: Bank> Still<B> {
         ensures work { self.new.parts.work ≡ self.old.parts.work }
         ensures left { OnOk result (AreStepsFewer self.old.parts.entries self.new.parts.entries (still_left self.old.parts.work self.old.parts.members self.old.ahead) (still_left self.new.parts.work self.new.parts.members self.new.ahead)) }
         ensures stays { OnErr result (AreStepsKept self.old.parts.entries self.new.parts.entries (still_left self.old.parts.work self.old.parts.members self.old.ahead) (still_left self.new.parts.work self.new.parts.members self.new.ahead)) }
+        ensures closable { OnOk result (IsClosable self.new) }
         ensures caused { IsCausedBy (list_length self.old.parts.members.newest) 0 AreTooMany self.old.parts.members self.new.parts.members result }
         ensures clean { is_clean self.new.parts.members.newest ≡ is_clean self.old.parts.members.newest }
         ensures open { IsCallGoing self.new.parts.entries who }
@@ -181,7 +185,7 @@ impl<B: Bank> Still<B> {
         let Some(slot) = recovering_slot(&self.members, role) else {
             unreachable!()
         };
-        let spares = flush_and_record(&mut self.members, &mut self.bank, role, slot);
+        let spares = record_and_name(&mut self.members, &mut self.bank, role, slot);
         let roles = newly_vacant(&self.members, disks, before);
         let end = self.bank.ops();
         if is_vacant(&self.members, role) {

@@ -8,6 +8,7 @@ ghost use Rattle.flat_history.specs.declared.events.Event.TheVariants.{Flushed};
 ghost use Rattle.flat_history.specs.declared.events.Request.TheVariants.{Flush as AsksFlush};
 ghost use Rattle.shape_changes.specs.Marking.{AreOthersPresent};
 ghost use Rattle.views.specs.Lacking.{HaveRolesFailed, AreHoldersFlushed, AreTooMany};
+ghost use Rattle.views.specs.Placed.{AreWhole};
 ghost use Rattle.array_kept.specs.Calls.{IsSettled, IsSettling, IsAnswered, IsCausedBy, OnNoMemory};
 ghost use Rattle.still_laws.specs.running_words_Calls.{IsCalled};
 ghost use Rattle.still_laws.specs.running_words_Still.{AreLeftSettled};
@@ -33,6 +34,7 @@ impl<B: Bank> Still<B> {
         ensures flushed { OnOk result (B.tells → AreHoldersFlushed (reading_of self.new.parts.members) (B.given self.old.parts.bank) (B.tape self.new.parts.bank)) }
         ensures left { OnOk result (B.tells → AreLeftSettled self.old.parts.members self.old.parts.entries self.new.parts.entries (B.given self.old.parts.bank) (B.tape self.new.parts.bank)) }
         ensures called { IsCalled B.tells (B.given self.old.parts.bank) (B.tape self.old.parts.bank) (B.tape self.new.parts.bank) (B.faults_of self.old.parts.bank) (B.faults_of self.new.parts.bank) self.old self.new }
+        ensures whole { AreWhole self.new.parts.members → AreWhole self.old.parts.members }
         ensures others { B.tells → AreOthersPresent (present (B.given self.old.parts.bank) (B.tape self.old.parts.bank)) (present (B.given self.old.parts.bank) (B.tape self.new.parts.bank)) }
         ensures clean { OnOk result (self.old.parts.work.resync ≡ None → is_clean self.new.parts.members.newest ≡ true) }
         ensures caused { IsCausedBy (list_length self.old.parts.members.newest) 0 AreTooMany self.old.parts.members self.new.parts.members result }
@@ -78,6 +80,7 @@ impl<B: Bank> Still<B> {
         ensures unchanged { OnNoMemory result (self.new ≡ self.old) }
         ensures flushed { OnOk result (B.tells → AreHoldersFlushed (reading_of self.new.parts.members) (B.given self.old.parts.bank) (B.tape self.new.parts.bank)) }
         ensures called { IsCalled B.tells (B.given self.old.parts.bank) (B.tape self.old.parts.bank) (B.tape self.new.parts.bank) (B.faults_of self.old.parts.bank) (B.faults_of self.new.parts.bank) self.old self.new }
+        ensures whole { AreWhole self.new.parts.members → AreWhole self.old.parts.members }
         ensures others { B.tells → AreOthersPresent (present (B.given self.old.parts.bank) (B.tape self.old.parts.bank)) (present (B.given self.old.parts.bank) (B.tape self.new.parts.bank)) }
         ensures clean { OnOk result (self.old.parts.work.resync ≡ None → is_clean self.new.parts.members.newest ≡ true) }
         ensures caused { IsCausedBy (list_length self.old.parts.members.newest) 0 AreTooMany self.old.parts.members self.new.parts.members result }

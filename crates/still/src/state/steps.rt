@@ -8,7 +8,9 @@ ghost use Rattle.views.specs.Lacking.{AreTooMany};
 ghost use Rattle.array_kept.specs.Calls.{IsBehind, IsEntered, IsUnmendable, AreSparesFewer, AreStepsKept};
 ghost use Rattle.kept_history.specs.Recorded.{IsCallGoing};
 ghost use Rattle.still_laws.specs.running_words_Parts.{still_left};
-ghost use Rattle.still_laws.specs.Steps.{IsStepped, MayLeaveNone, IsStepsReplyNow};
+ghost use Rattle.still_laws.specs.running_words_Calls.{moving_world};
+ghost use Rattle.still_laws.specs.running_words_Plans.{ArePlansKept};
+ghost use Rattle.still_laws.specs.Steps.{IsStepped, MayAnswer, IsStepsReplyNow};
 
 use crate::state::Still;
 use bank::Bank;
@@ -74,7 +76,8 @@ impl<B: Bank> Still<B> {
         requires open { IsCallGoing self.old.parts.entries who }
         requires caller { who.caller ≢ 254 }
         requires room { 1 ≤ self.old.parts.steps }
-        requires plans { MayLeaveNone self.old }
+        requires plans { ArePlansKept B.tells (moving_world (B.given self.old.parts.bank) (B.tape self.old.parts.bank) self.old) self.old }
+        requires closable { MayAnswer self.old.parts.entries self.old.parts.work self.old.parts.members self.old.ahead event }
         requires reply { IsStepsReplyNow self.old.parts.work self.old.parts.members self.old.ahead event }
         ensures entered { IsEntered B.tells (B.tape self.old.parts.bank) who self.old.parts.entries self.new.parts.entries (event ∷ []) }
         ensures room { self.new.parts.steps + 1 ≡ self.old.parts.steps }

@@ -10,6 +10,7 @@ ghost use Rattle.flat_history.specs.declared.events.Event.TheVariants.{Wrote};
 ghost use Rattle.flat_history.specs.declared.events.Request.TheVariants.{Write as AsksWrite};
 ghost use Rattle.shape_changes.specs.Marking.{AreOthersPresent};
 ghost use Rattle.views.specs.Lacking.{HaveRolesFailed, IsUnwritten, are_mended, mended_rows};
+ghost use Rattle.views.specs.Placed.{AreWhole};
 ghost use Rattle.views.specs.Status.{stripes_of};
 ghost use Rattle.safe_updates.specs.First.{write_refusal, call_refusal, IsFirstRefused};
 ghost use Rattle.array_kept.specs.Calls.{IsAnswered, IsCausedBy, IsRefusalOf, OnNoMemory, has_torn};
@@ -53,6 +54,7 @@ impl<B: Bank> Still<B> {
         ensures answered { IsAnswered (list_length self.old.parts.members.newest) (AsksWrite at (sectors_of from.now)) who self.old.parts.entries self.new.parts.entries (Wrote at (sectors_of from.now)) result }
         ensures unchanged { OnNoMemory result (self.new ≡ self.old) }
         ensures called { IsCalled B.tells (B.given self.old.parts.bank) (B.tape self.old.parts.bank) (B.tape self.new.parts.bank) (B.faults_of self.old.parts.bank) (B.faults_of self.new.parts.bank) self.old self.new }
+        ensures whole { AreWhole self.new.parts.members → AreWhole self.old.parts.members }
         ensures dirty { OnOk result (is_clean self.new.parts.members.newest ≡ false) }
         ensures untouched { OnErr result (IsFalse (has_torn self.old.parts.entries self.new.parts.entries) → B.tells
             → AreOthersPresent (present (B.given self.old.parts.bank) (B.tape self.old.parts.bank)) (present (B.given self.old.parts.bank) (B.tape self.new.parts.bank))) }

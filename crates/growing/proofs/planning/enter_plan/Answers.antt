@@ -1,9 +1,10 @@
 use Rattle.std.proofs.Common.{◌≡◌, ◌≤◌, List, None, [], ◌∷◌, ◌++◌, length, refl, sym, ◌∙◌, ap, subst, arith}
-use Rattle.std.specs.Prelude.{option_map}
+use Rattle.std.specs.Prelude.{option_map, if◌then◌else◌}
 use Rattle.bank.specs.Given.{sizes}
+use Rattle.md_base.specs.declared.places.Shape.{Shape}
 use Rattle.md_base.specs.declared.wishes.Phase.{Phase}
 use Rattle.grow_plan.specs.Plans.{AreSound, phases, phases_steps, largest_window, last_shape}
-use Rattle.superblocks.specs.Reading.{shape_of, list_length}
+use Rattle.superblocks.specs.Reading.{is_reshaping, shape_of, final_shape, list_length}
 use Rattle.flat_history.specs.declared.events.Entry.{Entry}
 use Rattle.flat_history.specs.declared.events.Event.TheVariants.{Planned}
 use Rattle.flat_history.specs.Fits.{phases_left}
@@ -17,9 +18,9 @@ use Rattle.grow_asked.specs.Asked.{asked_of, grow_refusal}
 use Rattle.grow_asked.specs.Left.{phases_of}
 use Rattle.grow_asked.proofs.FirstLaws.{unrefused-plan}
 use Rattle.history_calls.specs.Reliable.{IsReliable}
+use Rattle.still.specs.running_words_Plans.{GoTo}
 use Rattle.still.proofs.still_kept_Stood.{within-count}
 use Rattle.growing.specs.Planned.{asked_in, HasWideBackup}
-use Rattle.growing.specs.Plans.{GoTo}
 use Rattle.growing.proofs.Idle.{planned-whole, planned-idle, some-steps}
 use Rattle.growing.proofs.Fitting.{told-by, plan-fits, phases-told}
 use Rattle.growing.proofs.Kept.{planned-ready, wide-backup}
@@ -123,6 +124,7 @@ returns-clause-planned g c =
       some = let more = some-steps shape p.members.newest.size (phases shape wish) _ plan.result.first plan.ensures.phases in let is = plan.ensures.steps in omega (arith, more, is);
       idle = planned-idle a wish p.work refl (λ role. within-count given p.members was.kept.members_are.placed role) taken;
       whole = planned-whole a wish taken;
+      sound = subst (AreSound shape p.members.newest.size) (sym ahead) plan.ensures.sound;
       backed = subst (λ (l : List Phase). HasWideBackup given p.backup (largest_window shape p.members.newest.size l)) (sym ahead) (wide-backup given p.backup a wish refl taken);
       told = λ t right. (λ i. phases_left (world_is i) (items i))
           ∙ phases-told who end wish plan.result.steps was.kept (planned-whole a wish taken) c.ops-end.ensures.count t (subst (λ (w : World). IsReliable w (p.epoch.entries.items ++ entries_of who end (Planned plan.result.steps wish ∷ []))) world_is
@@ -147,9 +149,12 @@ returns-clause-goes g c =
     let scope_is = scope-same given p.backup refl c.enter.ensures.uuid c.enter.ensures.given in
     let world_is : ◌≡◌ {A = World} (world_in given tape (scope_in given c.enter.new.epoch.uuid c.enter.new.epoch.given p.backup) c.enter.new.epoch.first) (world_in given tape (scope_in given p.epoch.uuid p.epoch.given p.backup) p.epoch.first) =
     λ i. world_in given tape (scope_is i) (c.enter.ensures.first i) in
+    let aim_is : last_shape (if is_reshaping p.members.newest then final_shape p.members.newest else shape) (phases_of c.all_left-pieces.result) ≡ last_shape shape (phases_of c.all_left-pieces.result) =
+    λ i. last_shape (if was.kept.members_are.still i then final_shape p.members.newest else shape) (phases_of c.all_left-pieces.result) in
     rw (c.of_pieces.ensures.same) (rw (c.take_apart-pieces.ensures.same) (λ none t right.
-    subst (λ (w : World). GoTo w (last_shape shape (phases_of c.all_left-pieces.result)) c.enter.new.epoch.entries.items) (sym world_is)
+    subst (λ (s : Shape). GoTo (world_in given tape (scope_in given c.enter.new.epoch.uuid c.enter.new.epoch.given p.backup) c.enter.new.epoch.first) s c.enter.new.epoch.entries.items) (sym aim_is)
+    (subst (λ (w : World). GoTo w (last_shape shape (phases_of c.all_left-pieces.result)) c.enter.new.epoch.entries.items) (sym world_is)
     (subst (λ (l : List Entry). GoTo (world_in given tape (scope_in given p.epoch.uuid p.epoch.given p.backup) p.epoch.first) (last_shape shape (phases_of c.all_left-pieces.result)) l) (sym c.enter.ensures.items)
     (planned-goes who end wish plan.result.steps (phases_of c.all_left-pieces.result) was.kept (planned-whole a wish taken) c.ops-end.ensures.count ahead none t
     (subst (λ (w : World). IsReliable w (p.epoch.entries.items ++ entries_of who end (Planned plan.result.steps wish ∷ []))) world_is
-    (subst (λ (l : List Entry). IsReliable (world_in given tape (scope_in given c.enter.new.epoch.uuid c.enter.new.epoch.given p.backup) c.enter.new.epoch.first) l) c.enter.ensures.items right))))))
+    (subst (λ (l : List Entry). IsReliable (world_in given tape (scope_in given c.enter.new.epoch.uuid c.enter.new.epoch.given p.backup) c.enter.new.epoch.first) l) c.enter.ensures.items right)))))))

@@ -4,7 +4,9 @@ use Rattle.bank.specs.Given.{sizes}
 use Rattle.superblocks.specs.Reading.{list_length}
 use Rattle.flat_history.specs.declared.events.Event.TheVariants.{Refused}
 use Rattle.flat_history.specs.Flat.{next_number}
+use Rattle.flat_history.specs.OneShape.{opening_in}
 use Rattle.flat_history.specs.Plain.{entries_of}
+use Rattle.views.proofs.MovedLaws.{grows-none}
 use Rattle.array_kept.specs.Kept.{scope_in, world_in}
 use Rattle.array_kept.proofs.ReadyLaws.{scope-same}
 use Rattle.grow_asked.specs.Asked.{asked_of, grow_refusal}
@@ -12,9 +14,10 @@ use Rattle.grow_asked.specs.Left.{phases_of}
 use Rattle.kept_history.proofs.Records.{begins-going}
 use Rattle.still.proofs.running_words_Lengths.{alone-keeps}
 use Rattle.still.proofs.still_laws_Kept.{ready, rows-same}
+use Rattle.still.proofs.still_laws_PlainBehind.{refused-plain}
 use Rattle.still.proofs.still_laws_StepLaws.{refused-going}
 use Rattle.growing.specs.Planned.{asked_in}
-use Rattle.growing.proofs.Idle.{grow-plain}
+use Rattle.growing.proofs.Idle.{grow-plain, grow-shaped, grow-plainly}
 use Rattle.growing.proofs.Fitting.{told-by, first-of, refusal-fits}
 use Rattle.growing.proofs.planning.enter_refusal.Goals as goal
 
@@ -36,6 +39,9 @@ of_pieces-requires g c =
       ready = ready {scope' = scope_in given c.enter.new.epoch.uuid c.enter.new.epoch.given p.backup} (entries_of who end (Refused refusal ∷ [])) was (rows-same p.members.newest)
           (refused-going who end refusal was.kept (begins-going p.epoch.entries.items who number) c.requires.caller c.ops-end.ensures.count
           (grow-plain a wish p.work.resync p.members refusal (first-of a wish refusal why).holds))
+          (refused-plain was who end (begins-going p.epoch.entries.items who number) c.requires.caller c.ops-end.ensures.count (grows-none (λ t. refl)) refusal
+          (λ t kept. grow-shaped (opening_in (world_in given (g.B.Bank.tape p.bank) (scope_in given p.epoch.uuid p.epoch.given p.backup) p.epoch.first)) p.epoch.entries.items a wish refusal (first-of a wish refusal why).holds)
+          (grow-plainly a wish refusal (first-of a wish refusal why).holds))
           (λ slot. omega arith) (alone-keeps who end (Refused refusal) (λ n. refl) refl) refl (scope-same given p.backup refl c.enter.ensures.uuid c.enter.ensures.given) c.enter.ensures.first refl c.enter.ensures.items
           (let had = was.room_left in let room = c.enter.ensures.room in omega (arith, had, room, some));
     }

@@ -21,10 +21,10 @@ of_pieces-requires-clause-ready g c =
     let same = c.take_apart-pieces.ensures.same in
     let goes : IsCallGoing p.epoch.entries.items who = subst (λ s. IsCallGoing s.parts.entries who) same c.requires.open in
     let some : 1 ≤ p.steps = subst (λ s. 1 ≤ s.parts.steps) same c.requires.room in
-    let reply : IsReplyInReshape p.members course p.ahead c.args.event = subst (λ s. IsReplyInReshape s.parts.members s.course s.ahead c.args.event) same c.requires.reply in
+    let reply : IsReplyInReshape p.work p.members course p.ahead c.args.event = subst (λ s. IsReplyInReshape s.parts.work s.parts.members s.course s.ahead c.args.event) same c.requires.reply in
     ready (entries_of who end (c.args.event ∷ [])) was (grows-none (λ t. refl)) (shapes-same p.members.newest)
-    (answer-moves course p.ahead who end c.args.event was.kept goes c.requires.caller c.ops-end.ensures.count reply)
-    refl (λ slot. omega arith) (reply-keeps p.members course p.ahead who end c.args.event reply) (λ none whole. whole) refl
+    (answer-moves p.work course p.ahead who end c.args.event was.kept goes c.requires.caller c.ops-end.ensures.count reply)
+    refl (λ slot. omega arith) (reply-keeps p.work p.members course p.ahead who end c.args.event reply) (λ none whole. whole) refl
     (scope-same (g.B.Bank.given p.bank) p.backup refl c.enter.ensures.uuid c.enter.ensures.given) c.enter.ensures.first refl c.enter.ensures.items
     (omega (arith, c.enter.ensures.room, was.room_left, some))
 
@@ -39,10 +39,10 @@ returns-clause-called g c =
     let given = g.B.Bank.given p.bank in
     let faults = g.B.Bank.faults_of p.bank in
     let end = c.ops-end.result in
-    let reply : IsReplyInReshape p.members course p.ahead c.args.event = subst (λ s. IsReplyInReshape s.parts.members s.course s.ahead c.args.event) c.take_apart-pieces.ensures.same c.requires.reply in
+    let reply : IsReplyInReshape p.work p.members course p.ahead c.args.event = subst (λ s. IsReplyInReshape s.parts.work s.parts.members s.course s.ahead c.args.event) c.take_apart-pieces.ensures.same c.requires.reply in
     rw (c.of_pieces.ensures.same, c.take_apart-pieces.ensures.same) (called (grows-none (λ t. refl)) (moved-same given given p.members p.members refl refl was.kept.members_are.placed was.kept.members_are.unlost)
     (ended-behind (g.B.Bank.tape p.bank) c.enter.new.epoch.first p.epoch.entries.items c.args.who end [] c.args.event c.enter.ensures.items c.ops-end.ensures.count)
-    (alone-lossless p.members faults faults p.epoch.entries.items p.epoch.entries.items c.enter.new.epoch.entries.items c.args.who end c.args.event (reply-lossless p.members course p.ahead (Held p.members) faults faults c.args.event reply) refl c.enter.ensures.items)
+    (alone-lossless p.members faults faults p.epoch.entries.items p.epoch.entries.items c.enter.new.epoch.entries.items c.args.who end c.args.event (reply-lossless p.work p.members course p.ahead (Held p.members) faults faults c.args.event reply) refl c.enter.ensures.items)
     (λ slot. omega arith)
     (record { uuid = c.enter.ensures.uuid; given = c.enter.ensures.given; first = c.enter.ensures.first; backup = refl; work = refl; ahead = refl })
     (λ t. (was.kept.recorded t).begun))

@@ -33,14 +33,28 @@ use Rattle.still.specs.running_words_Parts.{left_in}
 use Rattle.still.proofs.running_words_Lengths.{alone-keeps}
 use Rattle.still.specs.still_laws_Ready.{IsReady}
 use Rattle.still.proofs.still_laws_Kept.{ready, rows-same}
+use Rattle.still.proofs.still_laws_Plain.{turned-plain, turns-first}
 use Rattle.moving.proofs.moving_laws_Kept.{left_by}
 use Rattle.turning.specs.Begun.{begun_length, HasKeptLength, IsBackupAt}
 use Rattle.turning.proofs.Begun.{none-pending, plus-none, others-of, since-told, IsUpdated, next-sound, backup-here, begun-under, begun-left, begun-start, begun-losses, begun-ready}
-use Rattle.turning.proofs.GivenBack.{fault-stands}
+use Rattle.turning.proofs.GivenBack.{ahead-told, fault-stands}
 use Rattle.turning.proofs.Planned.{none-recovering, begin-live, lost-since}
 use Rattle.turning.proofs.beginning.begin_reshape.Goals as goal
 
 -- ---- why it doesn't begin
+
+-- a plan was told
+pub give_back-requires-clause-told : goal.give_back-requires-clause-told
+give_back-requires-clause-told g c =
+    let p = c.take_apart-pieces.result in
+    let next = subst (λ s. phases_of s.ahead ≡ Reshape c.args.to ∷ phases_of c.args.behind) c.take_apart-pieces.ensures.same c.requires.next in
+    ahead-told (phases_of p.ahead) (Reshape c.args.to) (phases_of c.args.behind) c.take_apart-pieces.ensures.ready.ahead_told next
+
+pub fail_backup-still-requires-clause-told : goal.fail_backup-still-requires-clause-told
+fail_backup-still-requires-clause-told g c =
+    let p = c.take_apart-pieces.result in
+    let next = subst (λ s. phases_of s.ahead ≡ Reshape c.args.to ∷ phases_of c.args.behind) c.take_apart-pieces.ensures.same c.requires.next in
+    ahead-told (phases_of p.ahead) (Reshape c.args.to) (phases_of c.args.behind) c.take_apart-pieces.ensures.ready.ahead_told next
 
 pub unbegun-requires-clause-few : goal.unbegun-requires-clause-few
 unbegun-requires-clause-few g c =
@@ -61,6 +75,23 @@ returns-in-Some-clause-caused g c = rw (c.take_apart-pieces.ensures.same) (inl (
 
 pub returns-in-Some-clause-grows : goal.returns-in-Some-clause-grows
 returns-in-Some-clause-grows g c = rw (c.take_apart-pieces.ensures.same) (rw (c.give_back.ensures.bank) (grows-none (λ t. refl)))
+
+-- ---- the backup was found failing
+
+pub returns-then-not-contains-clause-caused : goal.returns-then-not-contains-clause-caused
+returns-then-not-contains-clause-caused g c =
+    let p = c.take_apart-pieces.result in
+    rw (c.take_apart-pieces.ensures.same) (inr (
+      c.in_default.ensures,
+      refl,
+      subst (λ (o : Option ℕ). IfSome o (λ slot. IsFaulted slot (g.B.Bank.faults_of p.bank) (g.B.Bank.faults_of c.fail_backup-still.result.parts.bank))) (sym c.in-Some-backup.is) c.fail_backup-still.ensures.failed,
+    ))
+
+pub returns-then-not-contains-clause-grows : goal.returns-then-not-contains-clause-grows
+returns-then-not-contains-clause-grows g c = rw (c.take_apart-pieces.ensures.same) (grows-none c.fail_backup-still.ensures.tape)
+
+pub returns-then-not-contains-clause-never_falls : goal.returns-then-not-contains-clause-never_falls
+returns-then-not-contains-clause-never_falls g c = rw (c.take_apart-pieces.ensures.same) c.fail_backup-still.ensures.never_falls
 
 -- ---- the backup failed
 
@@ -94,7 +125,8 @@ of_pieces-requires g c =
       ready = subst
           (λ (k : Members). IsReady g.B.Bank.tells (g.B.Bank.given bank) (g.B.Bank.tape bank) (scope_in (g.B.Bank.given bank) epoch.uuid epoch.given p.backup) epoch.first epoch.entries.items k p.work p.ahead
           (g.B.Bank.faults_of bank) (p.steps - 1) epoch.entries.room (vec_capacity p.rows) (length p.buffer.items) (vec_capacity p.far_rows) (length p.far_buffer.items)) (sym none.members)
-          (ready (entries_of c.args.who end (Refused BackupFault ∷ [])) was (rows-same p.members.newest) kept did.counts (alone-keeps c.args.who end (Refused BackupFault) (λ n. refl) refl)
+          (ready (entries_of c.args.who end (Refused BackupFault ∷ [])) was (rows-same p.members.newest) kept
+          (turned-plain (turns-first p.epoch.entries.items (entries_of c.args.who end (Refused BackupFault ∷ [])) (ahead-told (phases_of p.ahead) (Reshape c.args.to) (phases_of c.args.behind) was.ahead_told next))) did.counts (alone-keeps c.args.who end (Refused BackupFault) (λ n. refl) refl)
           did.given (scope-same given p.backup did.given c.enter.ensures.uuid c.enter.ensures.given) c.enter.ensures.first refl
           (c.enter.ensures.items ∙ ap (λ (r : Refusal). p.epoch.entries.items ++ entries_of c.args.who end (Refused r ∷ [])) fault)
           (let had = was.room_left in let room = c.enter.ensures.room in omega (arith, had, room, some)));
@@ -183,7 +215,7 @@ of_pieces-requires-2-clause-ready g c =
     let some : 1 ≤ p.steps = subst (λ s. 1 ≤ s.parts.steps) same c.requires.room in
     let idle = subst (λ s. left_of s.parts.work s.parts.members ≡ 0) same c.requires.done in
     let next = subst (λ s. phases_of s.ahead ≡ Reshape to ∷ phases_of behind) same c.requires.next in
-    let backed = subst (λ s. (slot : ℕ) × (s.parts.backup ≡ Some slot) × IsBackupAt (g.B.Bank.given s.parts.bank) s.parts.given s.parts.members to slot) same c.requires.backed in
+    let backed = subst (λ s. (slot : ℕ) × (s.parts.backup ≡ Some slot) × IsBackupAt (g.B.Bank.given s.parts.bank) s.parts.members to slot) same c.requires.backed in
     let wide = subst (λ s. 512 * phase_window (shape_of s.parts.members.newest) s.parts.members.newest.size (Reshape to) ≤ length c.args.window.items) same c.requires.wide in
     let update : IsUpdated g.B.Bank.tells given (g.B.Bank.tape p.bank) (g.B.Bank.tape c.begin-begun.new.bank) backup p.epoch.uuid to p.members new spares (g.B.Bank.faults_of p.bank) (g.B.Bank.faults_of c.begin-begun.new.bank) = record {
       begun = did.begun none;
@@ -203,7 +235,7 @@ of_pieces-requires-2-clause-ready g c =
     let size_is : c.told_of-told.result.size ≡ list_length new.newest = c.told_of-told.ensures.size in
     let spares_is : c.told_of-told.result.spares ≡ spares = c.told_of-told.ensures.spares in
     begun-ready p.epoch.uuid p.epoch.given backup p.ahead behind to who end roles spares was turned c.requires.caller idle next (goes_back (shape_of p.members.newest) to) refl
-    (backup-here given p.epoch.given p.members to p.backup backup backed c.in-Some-backup.is) c.in_default.ensures update c.ops-end.ensures.count c.check_sizes.ensures.own c.check_sizes.ensures.uuid
+    (backup-here given p.members to p.backup backup backed c.in-Some-backup.is) (sym c.contains.ensures ∙ c.if-not-contains.false) c.in_default.ensures update c.ops-end.ensures.count c.check_sizes.ensures.own c.check_sizes.ensures.uuid
     c.told_of-told.ensures.roles
     c.args.window.items wide did.given
     (scope-same given p.backup did.given c.enter_begun.ensures.uuid c.enter_begun.ensures.given ∙ ap (λ (o : Option ℕ). scope_in given p.epoch.uuid p.epoch.given o) c.in-Some-backup.is) c.enter_begun.ensures.first refl

@@ -37,7 +37,8 @@ use Rattle.still.specs.running_words_Parts.{left_in, still_left}
 use Rattle.still.proofs.running_words_Called.{not_254, called, alone-lossless}
 use Rattle.moving.specs.moving_laws_Ready.{bytes_in}
 use Rattle.moving.proofs.moving_laws_Kept.{ready, shapes-same, shapes-moved, alone-keeps, behind-keeps, behind-whole}
-use Rattle.turning.specs.Ended.{ended_length, ArePlansEnding}
+use Rattle.still.specs.running_words_Plans.{ArePlansKept}
+use Rattle.turning.specs.Ended.{ended_length}
 use Rattle.turning.proofs.Ended.{kept-or-failed, late-held, length-same, ended-ready, ended-losses}
 use Rattle.turning.proofs.EndedStill.{IsFinished, ended-long}
 use Rattle.turning.proofs.Finishing.{end-due, flush-failed, refused-behind, final-few, dropped-or-failed, spare-or-dropped, spares-kept, spares-told, dropped-told, none-lost, roles-told, finish-stepped, finish-left}
@@ -220,7 +221,7 @@ of_pieces-requires-2 g c =
     let goes : IsCallGoing p.epoch.entries.items who = subst (λ s. IsCallGoing s.parts.entries who) same c.requires.open in
     let some : 2 ≤ p.steps = subst (λ s. 2 ≤ s.parts.steps) same c.requires.room in
     let due = subst (λ s. due_of s.parts.members.newest s.course s.parts.work.resync ≡ Finish) same c.requires.due in
-    let planned = subst (λ s. g.B.Bank.tells → ArePlansEnding (moving_world (g.B.Bank.given s.parts.bank) (g.B.Bank.tape s.parts.bank) s) s) same c.requires.planned in
+    let plans = subst (λ s. ArePlansKept g.B.Bank.tells (moving_world (g.B.Bank.given s.parts.bank) (g.B.Bank.tape s.parts.bank) s) s) same c.requires.plans in
     let at = end-due p.members.newest c.take_apart-pieces.result.1 p.work.resync here.placed.fit here.active was.kept.course_is was.kept.progress due in
     let m = c.finish-done.new.members in
     let did = c.finish-done.ensures in
@@ -258,7 +259,7 @@ of_pieces-requires-2 g c =
           c.before_end-was.ensures.vacant tell.late
           (finish-stepped given p.members m p.work p.ahead c.take_apart-pieces.result.1 who end c.before_end-was.result.vacant roles spares told.late told.late_spares here.placed here.whole at.0 at.1 did.placed over at.2
           did.states c.before_end-was.ensures.vacant tell.late)
-          planned did.given (scope-same given p.backup did.given c.enter_ended.ensures.uuid c.enter_ended.ensures.given) c.enter_ended.ensures.first refl items
+          plans did.given (scope-same given p.backup did.given c.enter_ended.ensures.uuid c.enter_ended.ensures.given) c.enter_ended.ensures.first refl items
           (let had = was.room_left in let room = c.enter_ended.ensures.room in omega (arith, had, room, some));
     }
 

@@ -1,7 +1,29 @@
-use Rattle.std.proofs.Common.{length}
-use Rattle.running.proofs.Kept.{rest-kept, reshape-kept, add-leaves}
+use Rattle.std.proofs.Common.{length, refl}
+use Rattle.superblocks.specs.Reading.{list_length}
+use Rattle.flat_history.specs.declared.events.Event.TheVariants.{Added}
+use Rattle.flat_history.specs.declared.events.Request.TheVariants.{Add as AsksAdd}
+use Rattle.still_laws.proofs.PlansKept.{add-answered}
+use Rattle.running_words.specs.Adding.{IsAddCalled}
+use Rattle.running.proofs.Kept.{rest-added, reshape-added}
 use Rattle.running.proofs.state.Running.add.Goals as goal
 use Rattle.running.proofs.state.Running.add.Goals.{in-Still, in-Moving}
+
+pub returns-clause-called : goal.returns-clause-called
+returns-clause-called g c = elim c.match-self.branch [
+  | in-Still w ↦
+      let did = w.add-done.ensures in
+      rw (← c.self.view_is, w.in-Still.is, w.self-inside-is, w.check_still.ensures.same) (record {
+        grows = did.stepped.grows;
+        ended = did.stepped.ended;
+        held = did.held;
+        spares = did.spares;
+        losses = did.stepped.losses;
+        never_falls = did.stepped.never_falls;
+        work = did.work;
+        same = did.stepped.same;
+      })
+  | in-Moving w ↦ rw (← c.self.view_is, w.in-Moving.is, w.self-inside-is, w.check_moving.ensures.same) w.add-done-in-Moving.ensures.called
+]
 
 pub invariant_of-self : goal.invariant_of-self
 invariant_of-self g c = elim c.match-self.branch [
@@ -10,9 +32,23 @@ invariant_of-self g c = elim c.match-self.branch [
       let old = w.in-Still.still in
       let new = w.add-done.new.self in
       let did = w.add-done.ensures in
-      let leaves = add-leaves (g.B.Bank.given old.parts.bank) (g.B.Bank.given new.parts.bank) old new c.args.slot (g.B.Bank.faults_of old.parts.bank) (g.B.Bank.faults_of new.parts.bank) w.add-done.result did.given did.stepped.same did.held did.spares did.caused in
-      rw (w.self-inside-is, w.check_still.ensures.same) (rest-kept (g.B.Bank.given old.parts.bank) (g.B.Bank.given new.parts.bank) (length c.self.inside.window.items) old new leaves w.check_still.ensures.rest was)
+      let added = add-answered c.args.who (list_length old.parts.members.newest) (AsksAdd c.args.slot) (Added c.args.slot) w.add-done.result did.answered refl in
+      let called : IsAddCalled g.B.Bank.tells (g.B.Bank.given old.parts.bank) (g.B.Bank.tape old.parts.bank) (g.B.Bank.tape new.parts.bank) (g.B.Bank.faults_of old.parts.bank) (g.B.Bank.faults_of new.parts.bank) c.args.slot old new = record {
+        grows = did.stepped.grows;
+        ended = did.stepped.ended;
+        held = did.held;
+        spares = did.spares;
+        losses = did.stepped.losses;
+        never_falls = did.stepped.never_falls;
+        work = did.work;
+        same = did.stepped.same;
+      } in
+      rw (w.self-inside-is, w.check_still.ensures.same) (rest-added g.B.Bank.given g.B.Bank.tape (length c.self.inside.window.items) old new did.given added called w.add-done.result did.caused did.whole w.check_still.ensures.rest w.check_still.ensures.within was)
   | in-Moving w ↦
       let was = rw w.in-Moving.is at c.self.invariant in
-      rw (w.self-inside-is, w.check_moving.ensures.same) (reshape-kept w.in-Moving.moving w.add-done-in-Moving.new.self w.check_moving.ensures.active w.add-done-in-Moving.ensures.called.same.ahead was)
+      let old = w.in-Moving.moving in
+      let new = w.add-done-in-Moving.new.self in
+      let did = w.add-done-in-Moving.ensures in
+      let added = add-answered c.args.who (list_length old.parts.members.newest) (AsksAdd c.args.slot) (Added c.args.slot) w.add-done-in-Moving.result did.answered refl in
+      rw (w.self-inside-is, w.check_moving.ensures.same) (reshape-added g.B.Bank.given g.B.Bank.tape (length c.self.inside.window.items) old new did.given added did.called w.check_moving.ensures.active w.check_moving.ensures.within was)
 ]

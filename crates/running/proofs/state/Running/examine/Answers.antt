@@ -1,5 +1,5 @@
-use Rattle.std.proofs.Common.{ap, length}
-use Rattle.running.proofs.Kept.{rest-kept, reshape-kept, bank-leaves}
+use Rattle.std.proofs.Common.{length}
+use Rattle.running.proofs.Kept.{rest-looked, reshape-looked}
 use Rattle.running.proofs.state.Running.examine.Goals as goal
 use Rattle.running.proofs.state.Running.examine.Goals.{in-Still, in-Moving}
 
@@ -13,13 +13,12 @@ pub invariant_of-self : goal.invariant_of-self
 invariant_of-self g c = elim c.match-self.branch [
   | in-Still w ↦
       let was = rw w.in-Still.is at c.self.invariant in
-      let old = w.in-Still.still in
-      let new = w.examine-found.new.self in
       let did = w.examine-found.ensures in
-      let leaves = bank-leaves (g.B.Bank.given old.parts.bank) (g.B.Bank.given new.parts.bank) old new did.given did.else_same in
-      rw (w.self-inside-is, w.check_still.ensures.same) (rest-kept (g.B.Bank.given old.parts.bank) (g.B.Bank.given new.parts.bank) (length c.self.inside.window.items) old new leaves w.check_still.ensures.rest was)
+      rw (w.self-inside-is, w.check_still.ensures.same)
+      (rest-looked g.B.Bank.given g.B.Bank.tape (length c.self.inside.window.items) w.in-Still.still w.examine-found.new.self did.given did.tape did.else_same w.check_still.ensures.rest w.check_still.ensures.within was)
   | in-Moving w ↦
       let was = rw w.in-Moving.is at c.self.invariant in
-      let ahead = ap (λ p. p.ahead) w.examine-found-in-Moving.ensures.else_same in
-      rw (w.self-inside-is, w.check_moving.ensures.same) (reshape-kept w.in-Moving.moving w.examine-found-in-Moving.new.self w.check_moving.ensures.active ahead was)
+      let did = w.examine-found-in-Moving.ensures in
+      rw (w.self-inside-is, w.check_moving.ensures.same)
+      (reshape-looked g.B.Bank.given g.B.Bank.tape (length c.self.inside.window.items) w.in-Moving.moving w.examine-found-in-Moving.new.self did.given did.tape did.else_same w.check_moving.ensures.active w.check_moving.ensures.within was)
 ]

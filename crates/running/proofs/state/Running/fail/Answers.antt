@@ -1,7 +1,18 @@
-use Rattle.std.proofs.Common.{length}
-use Rattle.running.proofs.Kept.{rest-kept, reshape-kept, called-leaves}
+use Rattle.std.proofs.Common.{length, refl}
+use Rattle.superblocks.specs.Reading.{list_length}
+use Rattle.flat_history.specs.declared.events.Event.TheVariants.{Failed}
+use Rattle.flat_history.specs.declared.events.Request.TheVariants.{Fail as AsksFail}
+use Rattle.still_laws.proofs.PlansKept.{add-answered}
+use Rattle.running.proofs.Closed.{failed-whole}
+use Rattle.running.proofs.Kept.{rest-called, reshape-called}
 use Rattle.running.proofs.state.Running.fail.Goals as goal
 use Rattle.running.proofs.state.Running.fail.Goals.{in-Still, in-Moving}
+
+pub returns-clause-called : goal.returns-clause-called
+returns-clause-called g c = elim c.match-self.branch [
+  | in-Still w ↦ rw (← c.self.view_is, w.in-Still.is, w.self-inside-is, w.check_still.ensures.same) w.fail-done.ensures.called
+  | in-Moving w ↦ rw (← c.self.view_is, w.in-Moving.is, w.self-inside-is, w.check_moving.ensures.same) w.fail-done-in-Moving.ensures.called
+]
 
 pub invariant_of-self : goal.invariant_of-self
 invariant_of-self g c = elim c.match-self.branch [
@@ -10,9 +21,13 @@ invariant_of-self g c = elim c.match-self.branch [
       let old = w.in-Still.still in
       let new = w.fail-done.new.self in
       let did = w.fail-done.ensures in
-      let leaves = called-leaves (g.B.Bank.given old.parts.bank) (g.B.Bank.given new.parts.bank) old new did.given did.called.same did.called.held did.called.spares in
-      rw (w.self-inside-is, w.check_still.ensures.same) (rest-kept (g.B.Bank.given old.parts.bank) (g.B.Bank.given new.parts.bank) (length c.self.inside.window.items) old new leaves w.check_still.ensures.rest was)
+      let added = add-answered c.args.who (list_length old.parts.members.newest) (AsksFail c.args.role) (Failed c.args.role) w.fail-done.result did.answered refl in
+      rw (w.self-inside-is, w.check_still.ensures.same) (rest-called g.B.Bank.given g.B.Bank.tape (length c.self.inside.window.items) old new did.given added did.called (failed-whole c.args.role old.parts.members new.parts.members w.fail-done.result did.called.same.array.shape did.called.same.final did.caused) w.check_still.ensures.rest w.check_still.ensures.within was)
   | in-Moving w ↦
       let was = rw w.in-Moving.is at c.self.invariant in
-      rw (w.self-inside-is, w.check_moving.ensures.same) (reshape-kept w.in-Moving.moving w.fail-done-in-Moving.new.self w.check_moving.ensures.active w.fail-done-in-Moving.ensures.called.same.ahead was)
+      let old = w.in-Moving.moving in
+      let new = w.fail-done-in-Moving.new.self in
+      let did = w.fail-done-in-Moving.ensures in
+      let added = add-answered c.args.who (list_length old.parts.members.newest) (AsksFail c.args.role) (Failed c.args.role) w.fail-done-in-Moving.result did.answered refl in
+      rw (w.self-inside-is, w.check_moving.ensures.same) (reshape-called g.B.Bank.given g.B.Bank.tape (length c.self.inside.window.items) old new did.given added did.called w.check_moving.ensures.active w.check_moving.ensures.within was)
 ]

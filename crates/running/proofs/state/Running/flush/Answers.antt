@@ -1,5 +1,9 @@
-use Rattle.std.proofs.Common.{length}
-use Rattle.running.proofs.Kept.{rest-kept, reshape-kept, called-leaves}
+use Rattle.std.proofs.Common.{length, refl}
+use Rattle.superblocks.specs.Reading.{list_length}
+use Rattle.flat_history.specs.declared.events.Event.TheVariants.{Flushed}
+use Rattle.flat_history.specs.declared.events.Request.TheVariants.{Flush as AsksFlush}
+use Rattle.still_laws.proofs.PlansKept.{add-answered}
+use Rattle.running.proofs.Kept.{rest-called, reshape-called}
 use Rattle.running.proofs.state.Running.flush.Goals as goal
 use Rattle.running.proofs.state.Running.flush.Goals.{in-Still, in-Moving}
 
@@ -9,6 +13,12 @@ returns-clause-caused g c = elim c.match-self.branch [
   | in-Moving w ↦ rw (← c.self.view_is, w.in-Moving.is, w.self-inside-is, w.check_moving.ensures.same, w.result-is) w.flush-done-in-Moving.ensures.caused
 ]
 
+pub returns-clause-flushed : goal.returns-clause-flushed
+returns-clause-flushed g c = elim c.match-self.branch [
+  | in-Still w ↦ rw (← c.self.view_is, w.in-Still.is, w.self-inside-is, w.check_still.ensures.same, w.result-is) w.flush-done.ensures.flushed
+  | in-Moving w ↦ rw (← c.self.view_is, w.in-Moving.is, w.self-inside-is, w.check_moving.ensures.same, w.result-is) w.flush-done-in-Moving.ensures.flushed
+]
+
 pub invariant_of-self : goal.invariant_of-self
 invariant_of-self g c = elim c.match-self.branch [
   | in-Still w ↦
@@ -16,9 +26,13 @@ invariant_of-self g c = elim c.match-self.branch [
       let old = w.in-Still.still in
       let new = w.flush-done.new.self in
       let did = w.flush-done.ensures in
-      let leaves = called-leaves (g.B.Bank.given old.parts.bank) (g.B.Bank.given new.parts.bank) old new did.given did.called.same did.called.held did.called.spares in
-      rw (w.self-inside-is, w.check_still.ensures.same) (rest-kept (g.B.Bank.given old.parts.bank) (g.B.Bank.given new.parts.bank) (length c.self.inside.window.items) old new leaves w.check_still.ensures.rest was)
+      let added = add-answered c.args.who (list_length old.parts.members.newest) AsksFlush Flushed w.flush-done.result did.answered refl in
+      rw (w.self-inside-is, w.check_still.ensures.same) (rest-called g.B.Bank.given g.B.Bank.tape (length c.self.inside.window.items) old new did.given added did.called did.whole w.check_still.ensures.rest w.check_still.ensures.within was)
   | in-Moving w ↦
       let was = rw w.in-Moving.is at c.self.invariant in
-      rw (w.self-inside-is, w.check_moving.ensures.same) (reshape-kept w.in-Moving.moving w.flush-done-in-Moving.new.self w.check_moving.ensures.active w.flush-done-in-Moving.ensures.called.same.ahead was)
+      let old = w.in-Moving.moving in
+      let new = w.flush-done-in-Moving.new.self in
+      let did = w.flush-done-in-Moving.ensures in
+      let added = add-answered c.args.who (list_length old.parts.members.newest) AsksFlush Flushed w.flush-done-in-Moving.result did.answered refl in
+      rw (w.self-inside-is, w.check_moving.ensures.same) (reshape-called g.B.Bank.given g.B.Bank.tape (length c.self.inside.window.items) old new did.given added did.called w.check_moving.ensures.active w.check_moving.ensures.within was)
 ]

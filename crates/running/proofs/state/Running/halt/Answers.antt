@@ -1,6 +1,9 @@
-use Rattle.std.proofs.Common.{[], ◌∷◌}
+use Rattle.std.proofs.Common.{[], ◌∷◌, ap, refl}
 use Rattle.flat_history.specs.declared.events.Event.TheVariants.{Halted}
+use Rattle.views.proofs.MovedLaws.{grows-none}
+use Rattle.still_laws.proofs.PlansKept.{add-entered}
 use Rattle.running.proofs.Chosen.{ends-halted}
+use Rattle.running.proofs.Kept.{turned-out}
 use Rattle.running.proofs.state.Running.halt.Goals as goal
 
 pub returns-in-Still-clause-listed : goal.returns-in-Still-clause-listed
@@ -9,11 +12,30 @@ returns-in-Still-clause-listed g c = rw (← c.self.view_is, c.in-Still.is) (λ 
 pub returns-in-Still-clause-right : goal.returns-in-Still-clause-right
 returns-in-Still-clause-right g c = rw (← c.self.view_is, c.in-Still.is) c.halt.ensures.right
 
+pub returns-in-Still-clause-plain : goal.returns-in-Still-clause-plain
+returns-in-Still-clause-plain g c = rw (← c.self.view_is, c.in-Still.is) c.halt.ensures.plain
+
 pub returns-clause-ends : goal.returns-clause-ends
 returns-clause-ends g c =
-    let made = rw c.check_moving.ensures.same at c.halt-in-Moving.ensures.entered in
+    let was = rw c.in-Moving.is at c.self.invariant in
+    let moving = c.in-Moving.moving in
     rw (← c.self.view_is, c.in-Moving.is)
-    (ends-halted g.B.Bank.tells (g.B.Bank.tape c.in-Moving.moving.parts.bank) c.args.who c.in-Moving.moving.parts.entries c.halt-in-Moving.result.1.entries.items (Halted ∷ []) c.check_moving.ensures.ends made)
+    (ends-halted g.B.Bank.tells (g.B.Bank.tape moving.parts.bank) c.args.who moving.parts.entries c.halt-in-Moving.result.1.entries.items (Halted ∷ []) was.within.ends c.halt-in-Moving.ensures.entered)
 
 pub returns-clause-right : goal.returns-clause-right
-returns-clause-right g c = rw (← c.self.view_is, c.in-Moving.is, ← c.check_moving.ensures.same) c.halt-in-Moving.ensures.right
+returns-clause-right g c = rw (← c.self.view_is, c.in-Moving.is) c.halt-in-Moving.ensures.right
+
+pub returns-clause-plain : goal.returns-clause-plain
+returns-clause-plain g c =
+    let was = rw c.in-Moving.is at c.self.invariant in
+    let did = c.halt-in-Moving.ensures in
+    let moving = c.in-Moving.moving in
+    rw (← c.self.view_is, c.in-Moving.is)
+    (turned-out g.B.Bank.given g.B.Bank.tape moving c.halt-in-Moving.result.0 c.halt-in-Moving.result.1 (ap g.B.Bank.given did.bank) (grows-none (λ t. ap g.B.Bank.tape did.bank)) did.uuid did.given did.first
+    (add-entered (Halted ∷ []) did.entered (λ end. refl)) was)
+
+pub returns-clause-plainly : goal.returns-clause-plainly
+returns-clause-plainly g c =
+    let was = rw c.in-Moving.is at c.self.invariant in
+    let active = was.active in
+    rw (← c.self.view_is, c.in-Moving.is) (λ still. absurd (cc (active, still)))

@@ -1,6 +1,14 @@
-use Rattle.std.proofs.Common.{length}
-use Rattle.running.proofs.Kept.{rest-kept, stepped-leaves}
+use Rattle.std.proofs.Common.{◌<◌, length, ap, sym, ◌∙◌, subst}
+use Rattle.views.specs.Status.{left_of}
+use Rattle.running.specs.State.{parts_in}
+use Rattle.running.proofs.Closed.{closed-stepped}
+use Rattle.running.proofs.Entered.{add-stepped}
+use Rattle.running.proofs.Kept.{rest-stepped}
+use Rattle.running.proofs.Ended.{own-refused}
 use Rattle.running.proofs.state.Running.mend_or_rebuild.Goals as goal
+
+pub still_step-done-requires-clause-plans : goal.still_step-done-requires-clause-plans
+still_step-done-requires-clause-plans g c = let was = rw c.in-Still.is at c.self.invariant in was.plans
 
 pub invariant_of-self : goal.invariant_of-self
 invariant_of-self g c =
@@ -8,11 +16,25 @@ invariant_of-self g c =
     let old = c.in-Still.still in
     let new = c.still_step-done.new.still in
     let did = c.still_step-done.ensures in
-    let leaves = stepped-leaves (g.B.Bank.given old.parts.bank) (g.B.Bank.given new.parts.bank) old new did.given did.stepped.same did.held in
-    rw (c.check_still.ensures.same) (rest-kept (g.B.Bank.given old.parts.bank) (g.B.Bank.given new.parts.bank) (length c.self.inside.window.items) old new leaves c.check_still.ensures.rest was)
+    let some = subst (λ p. 0 < left_of p.parts.work p.parts.members) (sym c.self.view_is ∙ ap (λ s. parts_in s) c.in-Still.is) c.requires.pending in
+    let added = add-stepped c.args.who old.parts.entries new.parts.entries old.parts.work old.parts.members new.parts.members _ c.still_step-done.result did.entered in
+    let closed = closed-stepped (g.B.Bank.given new.parts.bank) c.args.who old new c.check_still.ensures.placed did.stepped.same.array.shape some c.still_step-done.result did.memory did.entered did.caused in
+    rw c.check_still.ensures.same (rest-stepped g.B.Bank.given g.B.Bank.tape (length c.self.inside.window.items) old new did.given added did.stepped did.held c.check_still.ensures.rest c.check_still.ensures.within closed was)
 
 pub returns-clause-flushed : goal.returns-clause-flushed
 returns-clause-flushed g c = rw (← c.self.view_is, c.in-Still.is, c.check_still.ensures.same) c.still_step-done.ensures.flushed
 
 pub returns-clause-good : goal.returns-clause-good
 returns-clause-good g c = rw (← c.self.view_is, c.in-Still.is, c.check_still.ensures.same) c.still_step-done.ensures.good
+
+pub returns-clause-whole : goal.returns-clause-whole
+returns-clause-whole g c = rw (← c.self.view_is, c.in-Still.is, c.check_still.ensures.same) c.still_step-done.ensures.whole
+
+pub returns-clause-closable : goal.returns-clause-closable
+returns-clause-closable g c = rw c.check_still.ensures.same c.still_step-done.ensures.closable
+
+pub returns-clause-ends : goal.returns-clause-ends
+returns-clause-ends g c =
+    let did = c.still_step-done.ensures in
+    rw (c.check_still.ensures.same)
+    (own-refused c.in-Still.still c.still_step-done.new.still c.still_step-done.result c.check_still.ensures.rest.still did.memory did.work did.caused)

@@ -1,5 +1,10 @@
-use Rattle.running.proofs.Kept.{rest-kept, reshape-kept, called-leaves}
-use Rattle.std.proofs.Common.{◌/◌, length}
+use Rattle.std.proofs.Common.{◌/◌, length, refl}
+use Rattle.md_base.specs.Sectors.{sectors_of}
+use Rattle.superblocks.specs.Reading.{list_length}
+use Rattle.flat_history.specs.declared.events.Event.TheVariants.{Read}
+use Rattle.flat_history.specs.declared.events.Request.TheVariants.{Read as AsksRead}
+use Rattle.still_laws.proofs.PlansKept.{add-answered}
+use Rattle.running.proofs.Kept.{rest-called, reshape-called}
 use Rattle.running.proofs.Chosen.{read-still, read-moving}
 use Rattle.running.proofs.state.Running.read.Goals as goal
 use Rattle.running.proofs.state.Running.read.Goals.{in-Still, in-Moving}
@@ -37,9 +42,13 @@ invariant_of-self g c = elim c.match-self.branch [
       let old = w.in-Still.still in
       let new = w.read-done.new.self in
       let did = w.read-done.ensures in
-      let leaves = called-leaves (g.B.Bank.given old.parts.bank) (g.B.Bank.given new.parts.bank) old new did.given did.called.same did.called.held did.called.spares in
-      rw (w.self-inside-is, w.check_still.ensures.same) (rest-kept (g.B.Bank.given old.parts.bank) (g.B.Bank.given new.parts.bank) (length c.self.inside.window.items) old new leaves w.check_still.ensures.rest was)
+      let added = add-answered c.args.who (list_length old.parts.members.newest) (AsksRead c.args.at (length c.args.into.now / 512)) (Read c.args.at (sectors_of w.read-done.new.into)) w.read-done.result did.answered refl in
+      rw (w.self-inside-is, w.check_still.ensures.same) (rest-called g.B.Bank.given g.B.Bank.tape (length c.self.inside.window.items) old new did.given added did.called did.whole w.check_still.ensures.rest w.check_still.ensures.within was)
   | in-Moving w ↦
       let was = rw w.in-Moving.is at c.self.invariant in
-      rw (w.self-inside-is, w.check_moving.ensures.same) (reshape-kept w.in-Moving.moving w.read-done-in-Moving.new.self w.check_moving.ensures.active w.read-done-in-Moving.ensures.called.same.ahead was)
+      let old = w.in-Moving.moving in
+      let new = w.read-done-in-Moving.new.self in
+      let did = w.read-done-in-Moving.ensures in
+      let added = add-answered c.args.who (list_length old.parts.members.newest) (AsksRead c.args.at (length c.args.into.now / 512)) (Read c.args.at (sectors_of w.read-done-in-Moving.new.into)) w.read-done-in-Moving.result did.answered refl in
+      rw (w.self-inside-is, w.check_moving.ensures.same) (reshape-called g.B.Bank.given g.B.Bank.tape (length c.self.inside.window.items) old new did.given added did.called w.check_moving.ensures.active w.check_moving.ensures.within was)
 ]

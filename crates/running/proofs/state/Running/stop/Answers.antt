@@ -1,5 +1,10 @@
-use Rattle.std.proofs.Common.{length}
-use Rattle.running.proofs.Kept.{rest-kept, called-leaves}
+use Rattle.std.proofs.Common.{length, refl}
+use Rattle.superblocks.specs.Reading.{list_length}
+use Rattle.flat_history.specs.declared.events.Event.TheVariants.{Stopped}
+use Rattle.still_laws.proofs.PlansKept.{add-behind}
+use Rattle.running.proofs.Closed.{unsettled-whole}
+use Rattle.running.proofs.Entered.{add-unsettled}
+use Rattle.running.proofs.Kept.{rest-called, reshape-called, turned-out}
 use Rattle.running.proofs.state.Running.stop.Goals as goal
 
 pub returns-in-Ok-clause-ready : goal.returns-in-Ok-clause-ready
@@ -8,8 +13,14 @@ returns-in-Ok-clause-ready g c = rw (← c.self.view_is, c.in-Still.is) c.in-Ok.
 pub returns-in-Ok-clause-right : goal.returns-in-Ok-clause-right
 returns-in-Ok-clause-right g c = rw (← c.self.view_is, c.in-Still.is) c.in-Ok.ensures.right
 
+pub returns-in-Ok-clause-plain : goal.returns-in-Ok-clause-plain
+returns-in-Ok-clause-plain g c = rw (← c.self.view_is, c.in-Still.is) c.in-Ok.ensures.plain
+
 pub returns-in-Err-clause-left_failed : goal.returns-in-Err-clause-left_failed
-returns-in-Err-clause-left_failed g c = rw (← c.self.view_is, c.in-Still.is, c.check_still.ensures.same) (λ still. c.in-Err.ensures.left_failed)
+returns-in-Err-clause-left_failed g c = rw (← c.self.view_is, c.in-Still.is, c.check_still.ensures.same) c.in-Err.ensures.left_failed
+
+pub returns-in-Err-stop-clause-left_failed : goal.returns-in-Err-stop-clause-left_failed
+returns-in-Err-stop-clause-left_failed g c = rw (← c.self.view_is, c.in-Moving.is, c.check_moving.ensures.same) c.in-Err-stop.ensures.left_failed
 
 pub returns-in-Ok-stop-clause-ready : goal.returns-in-Ok-stop-clause-ready
 returns-in-Ok-stop-clause-ready g c = rw (← c.self.view_is, c.in-Moving.is) c.in-Ok-stop.ensures.ready
@@ -17,11 +28,35 @@ returns-in-Ok-stop-clause-ready g c = rw (← c.self.view_is, c.in-Moving.is) c.
 pub returns-in-Ok-stop-clause-right : goal.returns-in-Ok-stop-clause-right
 returns-in-Ok-stop-clause-right g c = rw (← c.self.view_is, c.in-Moving.is) c.in-Ok-stop.ensures.right
 
-pub invariant_of-result : goal.invariant_of-result
-invariant_of-result g c =
+pub returns-in-Ok-stop-clause-plain : goal.returns-in-Ok-stop-clause-plain
+returns-in-Ok-stop-clause-plain g c =
+    let was = rw c.in-Moving.is at c.self.invariant in
+    let did = c.in-Ok-stop.ensures in
+    let moving = c.in-Moving.moving in
+    rw (← c.self.view_is, c.in-Moving.is)
+    (turned-out g.B.Bank.given g.B.Bank.tape moving c.in-Ok-stop.ended.0 c.in-Ok-stop.ended.1 did.given did.grows did.uuid did.slots did.first (add-behind Stopped did.stopped refl) was)
+
+pub returns-in-Ok-stop-clause-plainly : goal.returns-in-Ok-stop-clause-plainly
+returns-in-Ok-stop-clause-plainly g c =
+    let was = rw c.in-Moving.is at c.self.invariant in
+    let active = was.active in
+    rw (← c.self.view_is, c.in-Moving.is) (λ still. absurd (cc (active, still)))
+
+pub invariant_of-running : goal.invariant_of-running
+invariant_of-running g c =
     let was = rw c.in-Still.is at c.self.invariant in
     let old = c.in-Still.still in
     let new = c.in-Err.still in
     let did = c.in-Err.ensures in
-    let leaves = called-leaves (g.B.Bank.given old.parts.bank) (g.B.Bank.given new.parts.bank) old new did.left_given did.called.same did.called.held did.called.spares in
-    rw (c.check_still.ensures.same) (rest-kept (g.B.Bank.given old.parts.bank) (g.B.Bank.given new.parts.bank) (length c.self.inside.window.items) old new leaves c.check_still.ensures.rest was)
+    let whole = unsettled-whole (g.B.Bank.given new.parts.bank) (list_length old.parts.members.newest) old.parts.members new.parts.members c.in-Err.fault c.check_still.ensures.placed did.caused in
+    rw c.check_still.ensures.same
+    (rest-called g.B.Bank.given g.B.Bank.tape (length c.self.inside.window.items) old new did.left_given (add-unsettled c.args.who c.in-Err.fault did.refused) did.called whole c.check_still.ensures.rest c.check_still.ensures.within was)
+
+pub invariant_of-running-in-Err-stop : goal.invariant_of-running-in-Err-stop
+invariant_of-running-in-Err-stop g c =
+    let was = rw c.in-Moving.is at c.self.invariant in
+    let old = c.in-Moving.moving in
+    let new = c.in-Err-stop.moving in
+    let did = c.in-Err-stop.ensures in
+    rw c.check_moving.ensures.same
+    (reshape-called g.B.Bank.given g.B.Bank.tape (length c.self.inside.window.items) old new did.left_given (add-unsettled c.args.who c.in-Err-stop.fault did.refused) did.called c.check_moving.ensures.active c.check_moving.ensures.within was)

@@ -1,8 +1,13 @@
-use Rattle.running.proofs.Kept.{rest-kept, reshape-kept, called-leaves}
-use Rattle.std.proofs.Common.{◌/◌, length}
+use Rattle.std.proofs.Common.{ℕ, ◌/◌, Option, length, refl, subst}
+use Rattle.std.specs.Prelude.{IsSome}
+use Rattle.flat_history.specs.declared.events.Event.TheVariants.{Wrote}
+use Rattle.flat_history.specs.declared.events.Request.TheVariants.{Write as AsksWrite}
+use Rattle.still_laws.proofs.PlansKept.{add-answered}
+use Rattle.running.proofs.Entered.{add-written}
+use Rattle.running.proofs.Kept.{rest-called, reshape-called}
 use Rattle.md_base.specs.Sectors.{sectors_of}
 use Rattle.superblocks.specs.Reading.{list_length}
-use Rattle.running.proofs.Chosen.{write-still, write-moving, write-answered, on-ok}
+use Rattle.running.proofs.Chosen.{write-still, write-moving, write-replied, no-backup_fault, on-ok, on-err, err-so}
 use Rattle.running.proofs.state.Running.write.Goals as goal
 use Rattle.running.proofs.state.Running.write.Goals.{in-Still, in-Moving}
 
@@ -10,7 +15,7 @@ pub returns-clause-answered : goal.returns-clause-answered
 returns-clause-answered g c = elim c.match-self.branch [
   | in-Still w ↦
       rw (← c.self.view_is, w.in-Still.is, w.self-inside-is, w.check_still.ensures.same, w.result-is)
-      (write-answered (list_length w.in-Still.still.parts.members.newest) c.args.at (sectors_of c.args.from.now) c.args.who _ _ w.write-done.result w.write-done.ensures.answered)
+      (write-replied _ _ _ _ w.in-Still.still.parts.members w.write-done.new.self.parts.members _ c.args.at (sectors_of c.args.from.now) c.args.who _ _ w.write-done.result w.write-done.ensures.answered w.write-done.ensures.caused)
   | in-Moving w ↦ rw (← c.self.view_is, w.in-Moving.is, w.self-inside-is, w.check_moving.ensures.same, w.result-is) w.write-done-in-Moving.ensures.answered
 ]
 
@@ -38,12 +43,37 @@ returns-clause-caused g c = elim c.match-self.branch [
       rw (← c.self.view_is, w.in-Moving.is, w.self-inside-is, w.check_moving.ensures.same, w.result-is) (write-moving w.in-Moving.moving c.args.at (length c.args.from.now / 512) w.in-Moving.moving.parts.members w.write-done-in-Moving.new.self.parts.members w.write-done-in-Moving.result active.active w.write-done-in-Moving.ensures.caused)
 ]
 
+pub returns-clause-backed : goal.returns-clause-backed
+returns-clause-backed g c = elim c.match-self.branch [
+  | in-Still w ↦
+      let rest = rw w.in-Still.is at c.self.invariant in
+      rw (← c.self.view_is, w.in-Still.is) (λ active. absurd (cc (active, rest.now.still)))
+  | in-Moving w ↦ rw (← c.self.view_is, w.in-Moving.is) (λ active. subst (λ (o : Option ℕ). IsSome o) w.write-done-in-Moving.ensures.called.same.array.backup w.check_moving.ensures.backed)
+]
+
+pub returns-clause-backup : goal.returns-clause-backup
+returns-clause-backup g c = elim c.match-self.branch [
+  | in-Still w ↦
+      rw (← c.self.view_is, w.in-Still.is, w.result-is) (λ fault. no-backup_fault _ _ _ _ w.in-Still.still.parts.members w.write-done.new.self.parts.members w.write-done.result fault w.write-done.ensures.caused)
+  | in-Moving w ↦ rw (← c.self.view_is, w.in-Moving.is, w.self-inside-is, w.check_moving.ensures.same, w.result-is) w.write-done-in-Moving.ensures.backup
+]
+
 pub returns-clause-closed : goal.returns-clause-closed
 returns-clause-closed g c = elim c.match-self.branch [
   | in-Still w ↦
       let rest = rw w.in-Still.is at c.self.invariant in
       rw (← c.self.view_is, w.in-Still.is, rest.now.course) (on-ok c.match-self.result (λ touches. absurd (cc (touches.3))))
   | in-Moving w ↦ rw (← c.self.view_is, w.in-Moving.is, w.self-inside-is, w.check_moving.ensures.same, w.result-is) w.write-done-in-Moving.ensures.closed
+]
+
+pub returns-clause-untouched : goal.returns-clause-untouched
+returns-clause-untouched g c = elim c.match-self.branch [
+  | in-Still w ↦
+      rw (← c.self.view_is, w.in-Still.is, w.self-inside-is, w.check_still.ensures.same, w.result-is) (err-so w.write-done.result (λ untouched still. untouched) w.write-done.ensures.untouched)
+  | in-Moving w ↦
+      let active = rw w.in-Moving.is at c.self.invariant in
+      let moving = active.active in
+      rw (← c.self.view_is, w.in-Moving.is, w.result-is) (on-err w.write-done-in-Moving.result (λ still. absurd (cc (moving, still))))
 ]
 
 pub invariant_of-self : goal.invariant_of-self
@@ -53,9 +83,13 @@ invariant_of-self g c = elim c.match-self.branch [
       let old = w.in-Still.still in
       let new = w.write-done.new.self in
       let did = w.write-done.ensures in
-      let leaves = called-leaves (g.B.Bank.given old.parts.bank) (g.B.Bank.given new.parts.bank) old new did.given did.called.same did.called.held did.called.spares in
-      rw (w.self-inside-is, w.check_still.ensures.same) (rest-kept (g.B.Bank.given old.parts.bank) (g.B.Bank.given new.parts.bank) (length c.self.inside.window.items) old new leaves w.check_still.ensures.rest was)
+      let added = add-answered c.args.who (list_length old.parts.members.newest) (AsksWrite c.args.at (sectors_of c.args.from.now)) (Wrote c.args.at (sectors_of c.args.from.now)) w.write-done.result did.answered refl in
+      rw (w.self-inside-is, w.check_still.ensures.same) (rest-called g.B.Bank.given g.B.Bank.tape (length c.self.inside.window.items) old new did.given added did.called did.whole w.check_still.ensures.rest w.check_still.ensures.within was)
   | in-Moving w ↦
       let was = rw w.in-Moving.is at c.self.invariant in
-      rw (w.self-inside-is, w.check_moving.ensures.same) (reshape-kept w.in-Moving.moving w.write-done-in-Moving.new.self w.check_moving.ensures.active w.write-done-in-Moving.ensures.called.same.ahead was)
+      let old = w.in-Moving.moving in
+      let new = w.write-done-in-Moving.new.self in
+      let did = w.write-done-in-Moving.ensures in
+      let added = add-written c.args.who (list_length old.parts.members.newest) c.args.at (sectors_of c.args.from.now) w.write-done-in-Moving.result did.answered in
+      rw (w.self-inside-is, w.check_moving.ensures.same) (reshape-called g.B.Bank.given g.B.Bank.tape (length c.self.inside.window.items) old new did.given added did.called w.check_moving.ensures.active w.check_moving.ensures.within was)
 ]

@@ -21,6 +21,7 @@ use Rattle.still_laws.proofs.running_words_Lengths.{alone-keeps}
 use Rattle.still_laws.proofs.Kept.{ready, rows-same}
 use Rattle.still_laws.proofs.StepLaws.{shapes-same, stepped, refused-going}
 use Rattle.still_laws.proofs.AddLaws.{unaddable-refused}
+use Rattle.still_laws.proofs.PlainAdds.{unaddable-plain}
 use Rattle.still.proofs.state.Still.add.Goals as goal
 
 -- a refusal before the slot is touched
@@ -40,6 +41,7 @@ invariant_of-self-2 g c =
     ready (entries_of c.args.who end (Refused refusal ∷ [])) was (rows-same a.members.newest)
     (refused-going c.args.who end refusal was.kept (begins-going a.epoch.entries.items c.args.who number) c.requires.caller c.ops-end.ensures.count
     (unaddable-refused given a.backup c.args.slot a.members a.work.resync refusal c.in-Some.ensures))
+    (unaddable-plain was c.args.who end (begins-going a.epoch.entries.items c.args.who number) c.requires.caller c.ops-end.ensures.count c.args.slot a.backup refl refusal c.in-Some.ensures)
     (λ slot. omega arith) (alone-keeps c.args.who end (Refused refusal) (λ n. refl) refl)
     refl (scope-same given a.backup refl c.enter.ensures.uuid c.enter.ensures.given) c.enter.ensures.first c.make_room.ensures.items c.enter.ensures.items
     (omega (arith, c.enter.ensures.room, c.in-Ok.ensures.ok))

@@ -10,7 +10,8 @@ use Rattle.array_kept.specs.Adopting.{opener, absent_losses, found_losses, IsAdo
 use Rattle.array_kept.proofs.ReadyLaws.{scope-same}
 use Rattle.calls_kept.proofs.AdoptingLaws.{ready_adopted}
 use Rattle.views.proofs.Fit.{valid, roles-still}
-use Rattle.still_laws.proofs.Adopting.{begins-ready}
+use Rattle.still_laws.proofs.Adopting.{begins-ready, found-plainly}
+use Rattle.still_laws.specs.Plain.{AreToldPlainly}
 use Rattle.still.proofs.state.Still.adopt.Goals as goal
 
 pub invariant_of-result : goal.invariant_of-result
@@ -28,7 +29,7 @@ invariant_of-result g c =
     did.items ∙ ap (λ (l : List Entry). l ++ entries_of opener c.ops-first.result (absent_losses (reading_of m) c.shape_in-disks.result.disks)) room.empty
     ∙ ap (λ (s : Shape). entries_of opener c.ops-first.result (absent_losses (reading_of m) s.disks)) c.shape_in-disks.ensures ∙ ap (λ (n : ℕ). entries_of opener n (found_losses (reading_of m))) (sym did.same.first) in
     rw c.found_work-work.ensures.work (begins-ready (ready_adopted adoptable c.ops-first.ensures.whole c.found_work-work.ensures.slots (subst (λ (slots : ℕ). (slot : ℕ) → slot < given.slots → has_slot slots slot ≡ false → 0 < g.B.Bank.faults_of c.args.bank slot) (sym did.same.given) c.requires.failed)
-    entries (λ t. did.same.first ∙ c.ops-first.ensures.count t) did.room room.rows (omega (arith, room.buffer))) far.rows (omega (arith, far.buffer)))
+    entries (λ t. did.same.first ∙ c.ops-first.ensures.count t) did.room room.rows (omega (arith, room.buffer))) far.rows (omega (arith, far.buffer)) (subst AreToldPlainly (sym entries) (found-plainly m epoch.first)))
 
 pub found_work-work-requires-clause-small : goal.found_work-work-requires-clause-small
 found_work-work-requires-clause-small g c = λ role slot is. (c.requires.adoptable.placed.holders role slot is).small

@@ -6,10 +6,13 @@ use Rattle.array_kept.proofs.LossLaws.{ended-behind}
 use Rattle.array_kept.proofs.ReadyLaws.{scope-same}
 use Rattle.kept_history.specs.Recorded.{IsCallGoing}
 use Rattle.still_laws.proofs.running_words_Called.{alone-lossless}
-use Rattle.still_laws.specs.Steps.{MayLeaveNone, IsStepsReplyNow}
+use Rattle.still_laws.specs.running_words_Calls.{moving_world}
+use Rattle.still_laws.specs.running_words_Plans.{ArePlansKept}
+use Rattle.still_laws.specs.Steps.{IsStepsReplyNow, MayAnswer}
 use Rattle.still_laws.proofs.Kept.{ready, rows-same}
 use Rattle.still_laws.proofs.StepLaws.{shapes-same, stepped}
 use Rattle.still_laws.proofs.AnswerLaws.{answer-stands, reply-keeps, reply-lossless}
+use Rattle.still_laws.proofs.PlainBehind.{answered-plain}
 use Rattle.still.proofs.state.Still.answer.Goals as goal
 
 pub invariant_of-self : goal.invariant_of-self
@@ -19,11 +22,13 @@ invariant_of-self g c =
     let given = g.B.Bank.given a.bank in
     let goes : IsCallGoing a.epoch.entries.items c.args.who = subst (λ p. IsCallGoing p.parts.entries c.args.who) (sym c.self.view_is) c.requires.open in
     let some : 1 ≤ a.steps = subst (λ p. 1 ≤ p.parts.steps) (sym c.self.view_is) c.requires.room in
-    let plans = subst (λ p. MayLeaveNone p) (sym c.self.view_is) c.requires.plans in
+    let plans = subst (λ p. ArePlansKept g.B.Bank.tells (moving_world (g.B.Bank.given p.parts.bank) (g.B.Bank.tape p.parts.bank) p) p) (sym c.self.view_is) c.requires.plans in
+    let may = subst (λ p. MayAnswer p.parts.entries p.parts.work p.parts.members p.ahead c.args.event) (sym c.self.view_is) c.requires.closable in
     let reply = subst (λ p. IsStepsReplyNow p.parts.work p.parts.members p.ahead c.args.event) (sym c.self.view_is) c.requires.reply in
     let end = c.ops-end.result in
     ready (entries_of c.args.who end (c.args.event ∷ [])) was (rows-same a.members.newest)
-    (answer-stands a.work a.members a.ahead c.args.who end c.args.event was.kept goes c.requires.caller c.ops-end.ensures.count plans reply)
+    (answer-stands a.work a.members a.ahead c.args.who end c.args.event was.kept goes c.requires.caller c.ops-end.ensures.count plans may reply)
+    (answered-plain was c.args.who end goes c.requires.caller c.ops-end.ensures.count (grows-none (λ t. refl)) c.args.event reply)
     (λ slot. omega arith) (reply-keeps a.work a.members a.ahead c.args.who end c.args.event reply)
     refl (scope-same given a.backup refl c.enter.ensures.uuid c.enter.ensures.given) c.enter.ensures.first refl c.enter.ensures.items
     (omega (arith, c.enter.ensures.room, was.room_left, some))

@@ -33,13 +33,15 @@ use Rattle.calls_kept.proofs.RebuildLaws.{losses-open, losses-end}
 use Rattle.kept_history.specs.Safe.{world_in}
 use Rattle.still_laws.proofs.still_kept_Ending.{IsMadeWhole}
 use Rattle.still_laws.specs.running_words_Calls.{moving_world}
-use Rattle.still_laws.specs.Steps.{MayLeaveNone, IsCallUnbroken}
+use Rattle.still_laws.specs.running_words_Plans.{ArePlansKept}
+use Rattle.still_laws.specs.Steps.{IsCallUnbroken}
 use Rattle.still_laws.proofs.running_words_Called.{risen-told}
 use Rattle.still_laws.proofs.running_words_Lengths.{behind-keeps}
 use Rattle.still_laws.proofs.Kept.{ready, rows-moved}
 use Rattle.still_laws.proofs.Going.{still-going}
 use Rattle.still_laws.proofs.StepLaws.{shapes-moved, planned-same, stepped, fewer-more, losses-keep}
 use Rattle.still_laws.proofs.RebuildLaws.{alone, both, among-vacant, whole-held, whole-less, whole-done, end-lost}
+use Rattle.still_laws.proofs.PlainSteps.{gone-plain, whole-plain}
 use Rattle.still.proofs.state.Still.end_rebuild.Goals as goal
 
 -- ---- refused before anything is done
@@ -97,14 +99,14 @@ invariant_of-self g c =
     let unbroken : IsCallUnbroken g.B.Bank.tells (world_in given (g.B.Bank.tape a.bank) (scope_in given a.epoch.uuid a.epoch.given a.backup) a.epoch.first) a.epoch.entries.items c.args.who =
     subst (λ p. IsCallUnbroken g.B.Bank.tells (moving_world (g.B.Bank.given p.parts.bank) (g.B.Bank.tape p.parts.bank) p) p.parts.entries c.args.who) (sym c.self.view_is) c.requires.open in
     let some : 1 ≤ a.steps = subst (λ p. 1 ≤ p.parts.steps) (sym c.self.view_is) c.requires.room in
-    let did = c.flush_and_record-spares.ensures in
-    let m = c.flush_and_record-spares.new.members in
+    let did = c.record_and_name-spares.ensures in
+    let m = c.record_and_name-spares.new.members in
     let tape = g.B.Bank.tape a.bank in
-    let tape' = g.B.Bank.tape c.flush_and_record-spares.new.bank in
+    let tape' = g.B.Bank.tape c.record_and_name-spares.new.bank in
     let before = g.B.Bank.faults_of a.bank in
-    let after = g.B.Bank.faults_of c.flush_and_record-spares.new.bank in
+    let after = g.B.Bank.faults_of c.record_and_name-spares.new.bank in
     let roles = c.newly_vacant-roles.result in
-    let spares = c.flush_and_record-spares.result in
+    let spares = c.record_and_name-spares.result in
     let end = c.ops-end.result in
     let role = c.args.role in
     let slot = c.in-Some-recovering_slot.slot in
@@ -123,6 +125,7 @@ invariant_of-self g c =
       since = since;
       grows = did.grows;
       clean = did.clean;
+      missing = did.missing;
       rise = risen-told did.rise;
       others = did.others;
       safe = did.safe;
@@ -131,6 +134,7 @@ invariant_of-self g c =
     let vacant = sym c.is_vacant.ensures ∙ c.if-is_vacant.true in
     ready (entries_of c.args.who end (losses_of roles spares)) was (rows-moved given (with_whole role slot a.members) m did.moved)
     (end-lost a.ahead c.args.who end role slot roles spares was.kept c.in_default.ensures unbroken.goes c.requires.caller c.ops-end.ensures.count pending.1 synced leaves vacant)
+    (gone-plain was c.args.who end c.in_default.ensures unbroken.goes c.requires.caller c.ops-end.ensures.count pending.1 synced leaves vacant)
     did.counts (losses-keep c.args.who end roles spares)
     did.given (scope-same given a.backup did.given c.enter_lost.ensures.uuid c.enter_lost.ensures.given) c.enter_lost.ensures.first refl c.enter_lost.ensures.items
     (omega (arith, c.enter_lost.ensures.room, was.room_left, some))
@@ -141,14 +145,14 @@ returns-then-is_vacant-clause-entered g c =
     let here = was.kept.members_are in
     let a = c.self.inside in
     let given = g.B.Bank.given a.bank in
-    let did = c.flush_and_record-spares.ensures in
-    let m = c.flush_and_record-spares.new.members in
+    let did = c.record_and_name-spares.ensures in
+    let m = c.record_and_name-spares.new.members in
     let tape = g.B.Bank.tape a.bank in
-    let tape' = g.B.Bank.tape c.flush_and_record-spares.new.bank in
+    let tape' = g.B.Bank.tape c.record_and_name-spares.new.bank in
     let before = g.B.Bank.faults_of a.bank in
-    let after = g.B.Bank.faults_of c.flush_and_record-spares.new.bank in
+    let after = g.B.Bank.faults_of c.record_and_name-spares.new.bank in
     let roles = c.newly_vacant-roles.result in
-    let spares = c.flush_and_record-spares.result in
+    let spares = c.record_and_name-spares.result in
     let end = c.ops-end.result in
     let role = c.args.role in
     let slot = c.in-Some-recovering_slot.slot in
@@ -169,14 +173,14 @@ returns-then-is_vacant-clause-stepped g c =
     let here = was.kept.members_are in
     let a = c.self.inside in
     let given = g.B.Bank.given a.bank in
-    let did = c.flush_and_record-spares.ensures in
-    let m = c.flush_and_record-spares.new.members in
+    let did = c.record_and_name-spares.ensures in
+    let m = c.record_and_name-spares.new.members in
     let tape = g.B.Bank.tape a.bank in
-    let tape' = g.B.Bank.tape c.flush_and_record-spares.new.bank in
+    let tape' = g.B.Bank.tape c.record_and_name-spares.new.bank in
     let before = g.B.Bank.faults_of a.bank in
-    let after = g.B.Bank.faults_of c.flush_and_record-spares.new.bank in
+    let after = g.B.Bank.faults_of c.record_and_name-spares.new.bank in
     let roles = c.newly_vacant-roles.result in
-    let spares = c.flush_and_record-spares.result in
+    let spares = c.record_and_name-spares.result in
     let end = c.ops-end.result in
     let role = c.args.role in
     let slot = c.in-Some-recovering_slot.slot in
@@ -190,7 +194,7 @@ returns-then-is_vacant-clause-stepped g c =
     let vacant = sym c.is_vacant.ensures ∙ c.if-is_vacant.true in
     let told = among-vacant did.moved since role pending.0.0 (whole-held given a.members here.placed role slot to) vacant in
     rw (← c.self.view_is) (stepped did.grows (shapes-moved did.moved)
-    (λ t. subst (λ (l : List Entry). last_end_from c.enter_lost.new.epoch.first l ≡ length (g.B.Bank.tape c.flush_and_record-spares.new.bank)) (sym c.enter_lost.ensures.items)
+    (λ t. subst (λ (l : List Entry). last_end_from c.enter_lost.new.epoch.first l ≡ length (g.B.Bank.tape c.record_and_name-spares.new.bank)) (sym c.enter_lost.ensures.items)
     (losses-end c.enter_lost.new.epoch.first a.epoch.entries.items c.args.who end (losses_of roles spares) (Lost role Fault) told ∙ c.ops-end.ensures.count t))
     (failed-still given a.members m here.placed role slot to here.free recovers did.moved spares before after did.failed).roles
     (losses-tail (Held a.members) (with_whole role slot a.members) m (λ r s held. holder-before given a.members m here.placed role slot to here.free recovers did.moved r s held) before after a.epoch.entries.items a.epoch.entries.items c.enter_lost.new.epoch.entries.items
@@ -206,7 +210,7 @@ returns-then-is_vacant-clause-whole g c = rw (← c.self.view_is) (inr (sym c.is
 pub returns-then-is_vacant-clause-good : goal.returns-then-is_vacant-clause-good
 returns-then-is_vacant-clause-good g c =
     let a = c.self.inside in
-    let m = c.flush_and_record-spares.new.members in
+    let m = c.record_and_name-spares.new.members in
     let synced : a.work.resync ≡ None = subst (λ p. p.parts.work.resync ≡ None) (sym c.self.view_is) c.requires.synced in
     λ t does fit row low. ((invariant_of-self g c).kept.listed t does (inr fit)).rows fit row (subst (λ o. row < mended_rows o m) (sym synced) low) low
 
@@ -222,8 +226,8 @@ returns-then-is_vacant-clause-held g c =
     let pending : AreStripesRebuilt a.work a.members role = subst (λ p. AreStripesRebuilt p.parts.work p.parts.members role) (sym c.self.view_is) c.requires.pending in
     let below : role < (shape_of a.members.newest).disks = subst (λ (n : ℕ). role < n) (count-still a.members.newest here.still) pending.0.0 in
     let to = receiver-recovering given a.members here.placed here.unlost role slot below recovers in
-    let did = c.flush_and_record-spares.ensures in
-    let m = c.flush_and_record-spares.new.members in
+    let did = c.record_and_name-spares.ensures in
+    let m = c.record_and_name-spares.new.members in
     rw (← c.self.view_is) (λ r s held. holder-before given a.members m here.placed role slot to here.free recovers did.moved r s (did.moved.held r s held))
 
 pub returns-then-is_vacant-clause-spares : goal.returns-then-is_vacant-clause-spares
@@ -238,7 +242,7 @@ returns-then-is_vacant-clause-spares g c =
     let pending : AreStripesRebuilt a.work a.members role = subst (λ p. AreStripesRebuilt p.parts.work p.parts.members role) (sym c.self.view_is) c.requires.pending in
     let below : role < (shape_of a.members.newest).disks = subst (λ (n : ℕ). role < n) (count-still a.members.newest here.still) pending.0.0 in
     let to = receiver-recovering given a.members here.placed here.unlost role slot below recovers in
-    rw (← c.self.view_is) (λ s has. (spare-before given a.members here.placed None role slot to s (c.flush_and_record-spares.ensures.moved.fewer s has)).0)
+    rw (← c.self.view_is) (λ s has. (spare-before given a.members here.placed None role slot to s (c.record_and_name-spares.ensures.moved.fewer s has)).0)
 
 pub returns-then-is_vacant-clause-left : goal.returns-then-is_vacant-clause-left
 returns-then-is_vacant-clause-left g c =
@@ -248,14 +252,14 @@ returns-then-is_vacant-clause-left g c =
     let given = g.B.Bank.given a.bank in
     let unbroken : IsCallUnbroken g.B.Bank.tells (world_in given (g.B.Bank.tape a.bank) (scope_in given a.epoch.uuid a.epoch.given a.backup) a.epoch.first) a.epoch.entries.items c.args.who =
     subst (λ p. IsCallUnbroken g.B.Bank.tells (moving_world (g.B.Bank.given p.parts.bank) (g.B.Bank.tape p.parts.bank) p) p.parts.entries c.args.who) (sym c.self.view_is) c.requires.open in
-    let did = c.flush_and_record-spares.ensures in
-    let m = c.flush_and_record-spares.new.members in
+    let did = c.record_and_name-spares.ensures in
+    let m = c.record_and_name-spares.new.members in
     let tape = g.B.Bank.tape a.bank in
-    let tape' = g.B.Bank.tape c.flush_and_record-spares.new.bank in
+    let tape' = g.B.Bank.tape c.record_and_name-spares.new.bank in
     let before = g.B.Bank.faults_of a.bank in
-    let after = g.B.Bank.faults_of c.flush_and_record-spares.new.bank in
+    let after = g.B.Bank.faults_of c.record_and_name-spares.new.bank in
     let roles = c.newly_vacant-roles.result in
-    let spares = c.flush_and_record-spares.result in
+    let spares = c.record_and_name-spares.result in
     let end = c.ops-end.result in
     let role = c.args.role in
     let slot = c.in-Some-recovering_slot.slot in
@@ -274,6 +278,7 @@ returns-then-is_vacant-clause-left g c =
       since = since;
       grows = did.grows;
       clean = did.clean;
+      missing = did.missing;
       rise = risen-told did.rise;
       others = did.others;
       safe = did.safe;
@@ -297,15 +302,15 @@ invariant_of-self-2 g c =
     let unbroken : IsCallUnbroken g.B.Bank.tells (world_in given (g.B.Bank.tape a.bank) (scope_in given a.epoch.uuid a.epoch.given a.backup) a.epoch.first) a.epoch.entries.items c.args.who =
     subst (λ p. IsCallUnbroken g.B.Bank.tells (moving_world (g.B.Bank.given p.parts.bank) (g.B.Bank.tape p.parts.bank) p) p.parts.entries c.args.who) (sym c.self.view_is) c.requires.open in
     let some : 1 ≤ a.steps = subst (λ p. 1 ≤ p.parts.steps) (sym c.self.view_is) c.requires.room in
-    let plans = subst (λ p. MayLeaveNone p) (sym c.self.view_is) c.requires.plans in
-    let did = c.flush_and_record-spares.ensures in
-    let m = c.flush_and_record-spares.new.members in
+    let plans = subst (λ p. ArePlansKept g.B.Bank.tells (moving_world (g.B.Bank.given p.parts.bank) (g.B.Bank.tape p.parts.bank) p) p) (sym c.self.view_is) c.requires.plans in
+    let did = c.record_and_name-spares.ensures in
+    let m = c.record_and_name-spares.new.members in
     let tape = g.B.Bank.tape a.bank in
-    let tape' = g.B.Bank.tape c.flush_and_record-spares.new.bank in
+    let tape' = g.B.Bank.tape c.record_and_name-spares.new.bank in
     let before = g.B.Bank.faults_of a.bank in
-    let after = g.B.Bank.faults_of c.flush_and_record-spares.new.bank in
+    let after = g.B.Bank.faults_of c.record_and_name-spares.new.bank in
     let roles = c.newly_vacant-roles.result in
-    let spares = c.flush_and_record-spares.result in
+    let spares = c.record_and_name-spares.result in
     let end = c.ops-end.result in
     let role = c.args.role in
     let slot = c.in-Some-recovering_slot.slot in
@@ -324,6 +329,7 @@ invariant_of-self-2 g c =
       since = since;
       grows = did.grows;
       clean = did.clean;
+      missing = did.missing;
       rise = risen-told did.rise;
       others = did.others;
       safe = did.safe;
@@ -333,6 +339,7 @@ invariant_of-self-2 g c =
     let left = c.all_left-left.result in
     ready (entries_of c.args.who end (losses_of roles spares ++ Step RebuildEnded left ∷ Rebuilt role ∷ [])) was (rows-moved given (with_whole role slot a.members) m did.moved)
     (whole-done a.ahead c.args.who end role slot roles spares was.kept c.in_default.ensures unbroken.goes c.requires.caller c.ops-end.ensures.count pending.1 synced leaves left c.all_left-left.ensures plans whole_is unbroken.kept)
+    (whole-plain was c.args.who end c.in_default.ensures unbroken.goes c.requires.caller c.ops-end.ensures.count pending.1 synced leaves left whole_is c.all_left-left.ensures)
     did.counts (behind-keeps c.args.who end roles spares (Step RebuildEnded left ∷ Rebuilt role ∷ []) (record { long = λ n. refl; free = refl }))
     did.given (scope-same given a.backup did.given (c.enter.ensures.uuid ∙ c.enter_behind.ensures.uuid) (c.enter.ensures.given ∙ c.enter_behind.ensures.given)) (c.enter.ensures.first ∙ c.enter_behind.ensures.first) refl
     (both a.epoch.entries.items c.enter_behind.new.epoch.entries.items c.enter.new.epoch.entries.items c.args.who end (losses_of roles spares) (Step RebuildEnded c.all_left-left.result) (Rebuilt role) c.enter_behind.ensures.items c.enter.ensures.items)
@@ -344,14 +351,14 @@ returns-clause-entered g c =
     let here = was.kept.members_are in
     let a = c.self.inside in
     let given = g.B.Bank.given a.bank in
-    let did = c.flush_and_record-spares.ensures in
-    let m = c.flush_and_record-spares.new.members in
+    let did = c.record_and_name-spares.ensures in
+    let m = c.record_and_name-spares.new.members in
     let tape = g.B.Bank.tape a.bank in
-    let tape' = g.B.Bank.tape c.flush_and_record-spares.new.bank in
+    let tape' = g.B.Bank.tape c.record_and_name-spares.new.bank in
     let before = g.B.Bank.faults_of a.bank in
-    let after = g.B.Bank.faults_of c.flush_and_record-spares.new.bank in
+    let after = g.B.Bank.faults_of c.record_and_name-spares.new.bank in
     let roles = c.newly_vacant-roles.result in
-    let spares = c.flush_and_record-spares.result in
+    let spares = c.record_and_name-spares.result in
     let end = c.ops-end.result in
     let role = c.args.role in
     rw (← c.self.view_is) (inl (
@@ -368,14 +375,14 @@ returns-clause-stepped g c =
     let here = was.kept.members_are in
     let a = c.self.inside in
     let given = g.B.Bank.given a.bank in
-    let did = c.flush_and_record-spares.ensures in
-    let m = c.flush_and_record-spares.new.members in
+    let did = c.record_and_name-spares.ensures in
+    let m = c.record_and_name-spares.new.members in
     let tape = g.B.Bank.tape a.bank in
-    let tape' = g.B.Bank.tape c.flush_and_record-spares.new.bank in
+    let tape' = g.B.Bank.tape c.record_and_name-spares.new.bank in
     let before = g.B.Bank.faults_of a.bank in
-    let after = g.B.Bank.faults_of c.flush_and_record-spares.new.bank in
+    let after = g.B.Bank.faults_of c.record_and_name-spares.new.bank in
     let roles = c.newly_vacant-roles.result in
-    let spares = c.flush_and_record-spares.result in
+    let spares = c.record_and_name-spares.result in
     let end = c.ops-end.result in
     let role = c.args.role in
     let slot = c.in-Some-recovering_slot.slot in
@@ -410,15 +417,15 @@ returns-clause-whole g c =
     let pending : AreStripesRebuilt a.work a.members role = subst (λ p. AreStripesRebuilt p.parts.work p.parts.members role) (sym c.self.view_is) c.requires.pending in
     let below : role < (shape_of a.members.newest).disks = subst (λ (n : ℕ). role < n) (count-still a.members.newest here.still) pending.0.0 in
     let to = receiver-recovering given a.members here.placed here.unlost role slot below recovers in
-    let did = c.flush_and_record-spares.ensures in
-    let m = c.flush_and_record-spares.new.members in
+    let did = c.record_and_name-spares.ensures in
+    let m = c.record_and_name-spares.new.members in
     let whole_is : role_state (reading_of m) role ≡ Whole slot = whole-after given a.members m here.placed role slot to here.free recovers did.moved (sym c.is_vacant.ensures ∙ c.if-is_vacant.false) in
     rw (← c.self.view_is) (inl (slot, recovers, whole_is))
 
 pub returns-clause-good : goal.returns-clause-good
 returns-clause-good g c =
     let a = c.self.inside in
-    let m = c.flush_and_record-spares.new.members in
+    let m = c.record_and_name-spares.new.members in
     let synced : a.work.resync ≡ None = subst (λ p. p.parts.work.resync ≡ None) (sym c.self.view_is) c.requires.synced in
     λ t does fit row low. ((invariant_of-self-2 g c).kept.listed t does (inr fit)).rows fit row (subst (λ o. row < mended_rows o m) (sym synced) low) low
 
@@ -434,8 +441,8 @@ returns-clause-held g c =
     let pending : AreStripesRebuilt a.work a.members role = subst (λ p. AreStripesRebuilt p.parts.work p.parts.members role) (sym c.self.view_is) c.requires.pending in
     let below : role < (shape_of a.members.newest).disks = subst (λ (n : ℕ). role < n) (count-still a.members.newest here.still) pending.0.0 in
     let to = receiver-recovering given a.members here.placed here.unlost role slot below recovers in
-    let did = c.flush_and_record-spares.ensures in
-    let m = c.flush_and_record-spares.new.members in
+    let did = c.record_and_name-spares.ensures in
+    let m = c.record_and_name-spares.new.members in
     rw (← c.self.view_is) (λ r s held. holder-before given a.members m here.placed role slot to here.free recovers did.moved r s (did.moved.held r s held))
 
 pub returns-clause-spares : goal.returns-clause-spares
@@ -450,7 +457,7 @@ returns-clause-spares g c =
     let pending : AreStripesRebuilt a.work a.members role = subst (λ p. AreStripesRebuilt p.parts.work p.parts.members role) (sym c.self.view_is) c.requires.pending in
     let below : role < (shape_of a.members.newest).disks = subst (λ (n : ℕ). role < n) (count-still a.members.newest here.still) pending.0.0 in
     let to = receiver-recovering given a.members here.placed here.unlost role slot below recovers in
-    rw (← c.self.view_is) (λ s has. (spare-before given a.members here.placed None role slot to s (c.flush_and_record-spares.ensures.moved.fewer s has)).0)
+    rw (← c.self.view_is) (λ s has. (spare-before given a.members here.placed None role slot to s (c.record_and_name-spares.ensures.moved.fewer s has)).0)
 
 pub returns-clause-left : goal.returns-clause-left
 returns-clause-left g c =
@@ -460,14 +467,14 @@ returns-clause-left g c =
     let given = g.B.Bank.given a.bank in
     let unbroken : IsCallUnbroken g.B.Bank.tells (world_in given (g.B.Bank.tape a.bank) (scope_in given a.epoch.uuid a.epoch.given a.backup) a.epoch.first) a.epoch.entries.items c.args.who =
     subst (λ p. IsCallUnbroken g.B.Bank.tells (moving_world (g.B.Bank.given p.parts.bank) (g.B.Bank.tape p.parts.bank) p) p.parts.entries c.args.who) (sym c.self.view_is) c.requires.open in
-    let did = c.flush_and_record-spares.ensures in
-    let m = c.flush_and_record-spares.new.members in
+    let did = c.record_and_name-spares.ensures in
+    let m = c.record_and_name-spares.new.members in
     let tape = g.B.Bank.tape a.bank in
-    let tape' = g.B.Bank.tape c.flush_and_record-spares.new.bank in
+    let tape' = g.B.Bank.tape c.record_and_name-spares.new.bank in
     let before = g.B.Bank.faults_of a.bank in
-    let after = g.B.Bank.faults_of c.flush_and_record-spares.new.bank in
+    let after = g.B.Bank.faults_of c.record_and_name-spares.new.bank in
     let roles = c.newly_vacant-roles.result in
-    let spares = c.flush_and_record-spares.result in
+    let spares = c.record_and_name-spares.result in
     let end = c.ops-end.result in
     let role = c.args.role in
     let slot = c.in-Some-recovering_slot.slot in
@@ -486,6 +493,7 @@ returns-clause-left g c =
       since = since;
       grows = did.grows;
       clean = did.clean;
+      missing = did.missing;
       rise = risen-told did.rise;
       others = did.others;
       safe = did.safe;
@@ -503,8 +511,8 @@ returns-clause-caused g c = rw (← c.self.view_is) (omega arith, λ refusal man
 
 pub returns-then-is_vacant-clause-open : goal.returns-then-is_vacant-clause-open
 returns-then-is_vacant-clause-open g c =
-    let losses = losses_of c.newly_vacant-roles.result c.flush_and_record-spares.result in
-    still-going c.args.who c.ops-end.result (losses ++ []) c.requires.open.goes (losses-open losses [] (losses-are c.newly_vacant-roles.result c.flush_and_record-spares.result) tt) (ap (λ p. p.parts.entries) c.self.view_is)
+    let losses = losses_of c.newly_vacant-roles.result c.record_and_name-spares.result in
+    still-going c.args.who c.ops-end.result (losses ++ []) c.requires.open.goes (losses-open losses [] (losses-are c.newly_vacant-roles.result c.record_and_name-spares.result) tt) (ap (λ p. p.parts.entries) c.self.view_is)
     (alone c.self.inside.epoch.entries.items c.enter_lost.new.epoch.entries.items c.args.who c.ops-end.result losses c.enter_lost.ensures.items)
 
 pub returns-clause-open : goal.returns-clause-open
@@ -512,8 +520,14 @@ returns-clause-open g c =
     let a = c.self.inside in
     let role = c.args.role in
     let roles = c.newly_vacant-roles.result in
-    let spares = c.flush_and_record-spares.result in
+    let spares = c.record_and_name-spares.result in
     let end = c.ops-end.result in
     still-going c.args.who end (losses_of roles spares ++ Step RebuildEnded c.all_left-left.result ∷ Rebuilt role ∷ []) c.requires.open.goes
     (losses-open (losses_of roles spares) (Step RebuildEnded c.all_left-left.result ∷ Rebuilt role ∷ []) (losses-are roles spares) (tt, (tt, tt))) (ap (λ p. p.parts.entries) c.self.view_is)
     (both a.epoch.entries.items c.enter_behind.new.epoch.entries.items c.enter.new.epoch.entries.items c.args.who end (losses_of roles spares) (Step RebuildEnded c.all_left-left.result) (Rebuilt role) c.enter_behind.ensures.items c.enter.ensures.items)
+
+pub returns-then-is_vacant-clause-closable : goal.returns-then-is_vacant-clause-closable
+returns-then-is_vacant-clause-closable g c = λ none. inr (inl c.record_and_name-spares.ensures.missing)
+
+pub returns-clause-closable : goal.returns-clause-closable
+returns-clause-closable g c = λ none. inr (inl c.record_and_name-spares.ensures.missing)

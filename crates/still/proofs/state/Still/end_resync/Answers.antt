@@ -16,13 +16,17 @@ use Rattle.array_kept.proofs.ReplyLaws.{too-many-of, refused-for}
 use Rattle.array_kept.proofs.StepsLeft.{left-ended, steps-fewer, steps-kept}
 use Rattle.kept_history.specs.Recorded.{IsCallGoing}
 use Rattle.still_laws.proofs.still_kept_Flushing.{IsFlushedStill, IsSettledStill}
-use Rattle.still_laws.specs.Steps.{MayLeaveNone}
+use Rattle.still_laws.specs.running_words_Calls.{moving_world}
+use Rattle.still_laws.specs.running_words_Plans.{ArePlansKept}
 use Rattle.still_laws.proofs.running_words_Called.{risen-told}
 use Rattle.still_laws.proofs.running_words_Lengths.{alone-keeps, behind-keeps}
 use Rattle.still_laws.proofs.Kept.{ready, rows-moved}
 use Rattle.still_laws.proofs.Going.{step-going}
 use Rattle.still_laws.proofs.StepLaws.{refused-of, shapes-moved, planned-same, stepped, fewer-more, kept-more}
 use Rattle.still_laws.proofs.MendLaws.{resync-done, resync-refused}
+use Rattle.array_kept.proofs.DegradedLaws.{too-many-here}
+use Rattle.still_laws.proofs.PlainBehind.{plain-refused}
+use Rattle.still_laws.proofs.PlainSteps.{resynced-plain}
 use Rattle.still.proofs.state.Still.end_resync.Goals as goal
 
 -- ---- refused before anything is done
@@ -73,6 +77,8 @@ invariant_of-self g c =
     ready (entries_of c.args.who end (losses_of roles spares ++ Refused refusal ∷ [])) was (rows-moved given a.members m did.moved)
     (resync-refused a.ahead c.args.who end roles spares was.kept c.in_default.ensures goes c.requires.caller c.ops-end.ensures.count all leaves refusal
     (refused-of (AreTooMany m) c.settle-settled.result.refusal refusal c.in-Some-refusal.is did.refused))
+    (plain-refused was c.args.who end goes c.requires.caller c.ops-end.ensures.count did.grows did.moved since refusal
+    (too-many-here (list_length a.members.newest) a.work.resync m refusal (refused-of (AreTooMany m) c.settle-settled.result.refusal refusal c.in-Some-refusal.is did.refused)))
     did.counts (behind-keeps c.args.who end roles spares (Refused refusal ∷ []) (alone-keeps c.args.who end (Refused refusal) (λ n. refl) refl))
     did.given (scope-same given a.backup did.given c.enter_behind.ensures.uuid c.enter_behind.ensures.given) c.enter_behind.ensures.first refl c.enter_behind.ensures.items
     (omega (arith, c.enter_behind.ensures.room, was.room_left, some))
@@ -141,7 +147,7 @@ invariant_of-self-2 g c =
     let given = g.B.Bank.given a.bank in
     let goes : IsCallGoing a.epoch.entries.items c.args.who = subst (λ p. IsCallGoing p.parts.entries c.args.who) (sym c.self.view_is) c.requires.open in
     let all : IsAllMended a.work.resync a.members = subst (λ p. IsAllMended p.parts.work.resync p.parts.members) (sym c.self.view_is) c.requires.pending in
-    let plans = subst (λ p. MayLeaveNone p) (sym c.self.view_is) c.requires.plans in
+    let plans = subst (λ p. ArePlansKept g.B.Bank.tells (moving_world (g.B.Bank.given p.parts.bank) (g.B.Bank.tape p.parts.bank) p) p) (sym c.self.view_is) c.requires.plans in
     let some : 1 ≤ a.steps = subst (λ p. 1 ≤ p.parts.steps) (sym c.self.view_is) c.requires.room in
     let did = c.settle-settled.ensures in
     let m = c.settle-settled.new.members in
@@ -168,6 +174,7 @@ invariant_of-self-2 g c =
     } in
     ready (entries_of c.args.who end (losses_of roles spares ++ Step ResyncEnded left ∷ [])) was (rows-moved given a.members m did.moved)
     (resync-done a.ahead c.args.who end roles spares was.kept c.in_default.ensures goes c.requires.caller c.ops-end.ensures.count all leaves left c.all_left-left.ensures plans done)
+    (resynced-plain was c.args.who end goes c.requires.caller c.ops-end.ensures.count did.grows did.moved since left all c.all_left-left.ensures)
     did.counts (behind-keeps c.args.who end roles spares (Step ResyncEnded left ∷ []) (alone-keeps c.args.who end (Step ResyncEnded left) (λ n. refl) refl))
     did.given (scope-same given a.backup did.given c.enter_behind-2.ensures.uuid c.enter_behind-2.ensures.given) c.enter_behind-2.ensures.first refl c.enter_behind-2.ensures.items
     (omega (arith, c.enter_behind-2.ensures.room, was.room_left, some))

@@ -16,7 +16,7 @@ use Rattle.array_kept.specs.Kept.{scope_in}
 use Rattle.array_kept.proofs.ReadyLaws.{scope-same}
 use Rattle.array_kept.proofs.ReplyLaws.{fail_reply, no_role_reply}
 use Rattle.array_kept.proofs.LossLaws.{losses-failed, ended-behind}
-use Rattle.calls_kept.proofs.FailedLaws.{placed-out, unlost-out, moved-out, out-vacant, clean-out, rise-out, named-out}
+use Rattle.calls_kept.proofs.FailedLaws.{placed-out, unlost-out, moved-out, out-vacant, clean-out, rise-out, named-out, out-only, out-spares}
 use Rattle.kept_history.proofs.Records.{begins-going}
 use Rattle.still_laws.proofs.still_kept_Failing.{IsTakenOut, failed-stands}
 use Rattle.still_laws.specs.running_words_Parts.{still_left}
@@ -25,6 +25,8 @@ use Rattle.still_laws.proofs.running_words_Lengths.{alone-keeps, behind-keeps}
 use Rattle.still_laws.proofs.running_words_TakenOut.{behind-loss, moved-all, since-out, missing-out}
 use Rattle.still_laws.proofs.Asking.{refused-alone}
 use Rattle.still_laws.proofs.Kept.{ready, rows-same, rows-moved}
+use Rattle.still_laws.proofs.PlainBehind.{here-plain}
+use Rattle.still_laws.proofs.PlainAdds.{failed-plain}
 use Rattle.still.proofs.state.Still.fail.Goals as goal
 
 -- ---- what it asks of the functions that it calls
@@ -97,6 +99,7 @@ invariant_of-self-in_default g c =
     let number : c.args.who.number ≡ next_number c.args.who.caller a.epoch.entries.items = c.requires.next ∙ ap (λ p. next_number c.args.who.caller p.parts.entries) (sym c.self.view_is) in
     ready (entries_of c.args.who c.ops-end.result (Refused (NoSuchRole c.args.role) ∷ [])) was (rows-same a.members.newest)
     (refused-alone c.args.who c.ops-end.result was.kept number c.requires.caller c.ops-end.ensures.count (NoSuchRole c.args.role) (λ t right. tt))
+    (here-plain was c.args.who c.ops-end.result (begins-going a.epoch.entries.items c.args.who number) c.requires.caller c.ops-end.ensures.count (grows-none (λ t. refl)) (NoSuchRole c.args.role) c.in_default.ensures.none)
     (λ slot. omega arith) (alone-keeps c.args.who c.ops-end.result (Refused (NoSuchRole c.args.role)) (λ n. refl) refl)
     refl (scope-same given a.backup refl c.enter.ensures.uuid c.enter.ensures.given) c.enter.ensures.first c.make_room.ensures.items c.enter.ensures.items
     (omega (arith, c.enter.ensures.room, c.in-Ok.ensures.ok))
@@ -160,6 +163,13 @@ invariant_of-self-2 g c =
     ready (entries_of c.args.who end ((Lost role Command ∷ losses_of roles spares) ++ Failed role ∷ [])) was (rows-moved given a.members m moved)
     (failed-stands g.B.Bank.tells given tape tape' scope a.epoch.first a.epoch.entries.items a.members m a.work (still_left a.work a.members a.ahead) (still_left a.work m a.ahead) c.args.who end role roles spares
     was.kept (holder-left given a.members role c.in-Some.slot here.placed here.unlost c.in-Some.ensures.held) (begins-going a.epoch.entries.items c.args.who number) (not_254 c.args.who.caller c.requires.caller) c.ops-end-2.ensures.count out)
+    (failed-plain was c.args.who end (begins-going a.epoch.entries.items c.args.who number) c.requires.caller c.ops-end-2.ensures.count did.grows moved role
+    (out-only given a.members mid lost c.in-Some.slot role here.placed here.unlost is c.lose_slot.ensures.alone c.in-Some.ensures.held)
+    (since-out given a.members mid m lost c.in-Some.slot role here.placed here.unlost is c.lose_slot.ensures.alone c.in-Some.ensures.held did.moved
+    c.len-count.result c.vacant_roles-before.result roles spares (g.B.Bank.faults_of a.bank) (g.B.Bank.faults_of c.name_missing-spares.new.bank) did.failed (c.len-count.ensures ∙ here.placed.roles)
+    c.vacant_roles-before.ensures c.newly_vacant-roles.ensures)
+    (vacant-moved did.moved role (out-vacant given a.members mid lost c.in-Some.slot role here.placed here.unlost is c.lose_slot.ensures.alone c.in-Some.ensures.held))
+    (out-spares given a.members mid lost c.in-Some.slot role here.placed here.unlost is c.lose_slot.ensures.alone c.in-Some.ensures.held))
     did.counts (record { long = λ n. quiet.long n; free = quiet.free })
     did.given (scope-same given a.backup did.given (c.enter_behind.ensures.uuid ∙ c.enter-2.ensures.uuid) (c.enter_behind.ensures.given ∙ c.enter-2.ensures.given)) (c.enter_behind.ensures.first ∙ c.enter-2.ensures.first)
     c.make_room.ensures.items items (omega (arith, c.enter_behind.ensures.room, c.enter-2.ensures.room, c.in-Ok.ensures.ok))

@@ -34,7 +34,9 @@ use Rattle.still_laws.proofs.running_words_Lengths.{alone-keeps, behind-keeps}
 use Rattle.still_laws.proofs.Kept.{ready, rows-moved, with-buffers}
 use Rattle.still_laws.proofs.Going.{still-going, step-going}
 use Rattle.still_laws.proofs.StepLaws.{refused-of, shapes-moved, planned-same, stepped, fewer-more, kept-more, losses-keep}
-use Rattle.still_laws.proofs.RebuildLaws.{alone, recovering-held, among-vacant, fill-done, fill-gone, fill-refused}
+use Rattle.still_laws.proofs.RebuildLaws.{alone, held-some, recovering-held, among-vacant, fill-done, fill-gone, fill-refused}
+use Rattle.still_laws.proofs.PlainBehind.{lacks-here, plain-lost, plain-refused}
+use Rattle.still_laws.proofs.PlainSteps.{filled-plain}
 use Rattle.still.proofs.state.Still.fill_stripe.Goals as goal
 
 -- ---- refused before anything is done
@@ -96,15 +98,15 @@ invariant_of-self g c =
     let given = g.B.Bank.given a.bank in
     let goes : IsCallGoing a.epoch.entries.items c.args.who = subst (λ p. IsCallGoing p.parts.entries c.args.who) (sym c.self.view_is) c.requires.open in
     let some : 1 ≤ a.steps = subst (λ p. 1 ≤ p.parts.steps) (sym c.self.view_is) c.requires.room in
-    let did = c.fill-filled.ensures in
-    let m = c.fill-filled.new.members in
+    let did = c.fill_and_name-filled.ensures in
+    let m = c.fill_and_name-filled.new.members in
     let before = g.B.Bank.faults_of a.bank in
-    let after = g.B.Bank.faults_of c.fill-filled.new.bank in
+    let after = g.B.Bank.faults_of c.fill_and_name-filled.new.bank in
     let roles = c.newly_vacant-roles.result in
-    let spares = c.fill-filled.result.spares in
+    let spares = c.fill_and_name-filled.result.spares in
     let end = c.ops-end.result in
     let tape = g.B.Bank.tape a.bank in
-    let tape' = g.B.Bank.tape c.fill-filled.new.bank in
+    let tape' = g.B.Bank.tape c.fill_and_name-filled.new.bank in
     let role = c.args.role in
     let slot = c.in-Some-recovering_slot.slot in
     let pending : HasStripeUnbuilt a.work a.members role = subst (λ p. HasStripeUnbuilt p.parts.work p.parts.members role) (sym c.self.view_is) c.requires.pending in
@@ -124,7 +126,10 @@ invariant_of-self g c =
     let refusal = c.in-Some-refusal.refusal in
     with-buffers (omega (arith, was.rows_fit, did.rows)) (rw did.buffer was.buffer_fits) (ready (entries_of c.args.who end (losses_of roles spares ++ Refused refusal ∷ [])) was (rows-moved given a.members m did.moved)
     (fill-refused a.ahead c.args.who end role slot roles spares c.shape_in-shape.result was.kept c.in_default.ensures goes c.requires.caller c.ops-end.ensures.count c.shape_in-shape.ensures below leaves refusal
-    (refused-of (LacksTooMany c.shape_in-shape.result m) c.fill-filled.result.refusal refusal c.in-Some-refusal.is did.refused))
+    (refused-of (LacksTooMany c.shape_in-shape.result m) c.fill_and_name-filled.result.refusal refusal c.in-Some-refusal.is did.refused))
+    (plain-refused was c.args.who end goes c.requires.caller c.ops-end.ensures.count did.grows did.moved since refusal
+    (lacks-here (list_length a.members.newest) a.work.resync c.shape_in-shape.result m refusal (c.shape_in-shape.ensures ∙ sym did.moved.shape)
+    (refused-of (LacksTooMany c.shape_in-shape.result m) c.fill_and_name-filled.result.refusal refusal c.in-Some-refusal.is did.refused)))
     did.counts (behind-keeps c.args.who end roles spares (Refused refusal ∷ []) (alone-keeps c.args.who end (Refused refusal) (λ n. refl) refl))
     did.given (scope-same given a.backup did.given c.enter_behind.ensures.uuid c.enter_behind.ensures.given) c.enter_behind.ensures.first refl c.enter_behind.ensures.items
     (omega (arith, c.enter_behind.ensures.room, was.room_left, some)))
@@ -135,18 +140,18 @@ returns-in-Some-refusal-clause-stepped g c =
     let here = was.kept.members_are in
     let a = c.self.inside in
     let given = g.B.Bank.given a.bank in
-    let did = c.fill-filled.ensures in
-    let m = c.fill-filled.new.members in
+    let did = c.fill_and_name-filled.ensures in
+    let m = c.fill_and_name-filled.new.members in
     let before = g.B.Bank.faults_of a.bank in
-    let after = g.B.Bank.faults_of c.fill-filled.new.bank in
+    let after = g.B.Bank.faults_of c.fill_and_name-filled.new.bank in
     let roles = c.newly_vacant-roles.result in
-    let spares = c.fill-filled.result.spares in
+    let spares = c.fill_and_name-filled.result.spares in
     let end = c.ops-end.result in
     let since : AreLostSince a.members m roles spares before after = lost-since given a.members m c.shape_in-shape.result.disks c.vacant_roles-before.result roles spares before after here.placed did.moved did.failed
     (ap (λ (s : Shape). s.disks) c.shape_in-shape.ensures ∙ sym (count-still a.members.newest here.still)) c.vacant_roles-before.ensures c.newly_vacant-roles.ensures in
     let event = Refused c.in-Some-refusal.refusal in
     rw (← c.self.view_is) (stepped did.grows (shapes-moved did.moved)
-    (ended-behind (g.B.Bank.tape c.fill-filled.new.bank) c.enter_behind.new.epoch.first a.epoch.entries.items c.args.who end (losses_of roles spares) event c.enter_behind.ensures.items c.ops-end.ensures.count)
+    (ended-behind (g.B.Bank.tape c.fill_and_name-filled.new.bank) c.enter_behind.new.epoch.first a.epoch.entries.items c.args.who end (losses_of roles spares) event c.enter_behind.ensures.items c.ops-end.ensures.count)
     did.failed.roles
     (losses-behind a.members m before after a.epoch.entries.items a.epoch.entries.items c.enter_behind.new.epoch.entries.items c.args.who end roles spares event since tt refl c.enter_behind.ensures.items)
     did.counts
@@ -159,12 +164,12 @@ returns-in-Some-refusal-clause-stays g c =
     let here = was.kept.members_are in
     let a = c.self.inside in
     let given = g.B.Bank.given a.bank in
-    let did = c.fill-filled.ensures in
-    let m = c.fill-filled.new.members in
+    let did = c.fill_and_name-filled.ensures in
+    let m = c.fill_and_name-filled.new.members in
     let before = g.B.Bank.faults_of a.bank in
-    let after = g.B.Bank.faults_of c.fill-filled.new.bank in
+    let after = g.B.Bank.faults_of c.fill_and_name-filled.new.bank in
     let roles = c.newly_vacant-roles.result in
-    let spares = c.fill-filled.result.spares in
+    let spares = c.fill_and_name-filled.result.spares in
     let end = c.ops-end.result in
     let since : AreLostSince a.members m roles spares before after = lost-since given a.members m c.shape_in-shape.result.disks c.vacant_roles-before.result roles spares before after here.placed did.moved did.failed
     (ap (λ (s : Shape). s.disks) c.shape_in-shape.ensures ∙ sym (count-still a.members.newest here.still)) c.vacant_roles-before.ensures c.newly_vacant-roles.ensures in
@@ -173,17 +178,17 @@ returns-in-Some-refusal-clause-stays g c =
 pub returns-in-Some-refusal-clause-caused : goal.returns-in-Some-refusal-clause-caused
 returns-in-Some-refusal-clause-caused g c =
     let a = c.self.inside in
-    let m = c.fill-filled.new.members in
+    let m = c.fill_and_name-filled.new.members in
     let refusal = c.in-Some-refusal.refusal in
-    let lacks = refused-of (LacksTooMany c.shape_in-shape.result m) c.fill-filled.result.refusal refusal c.in-Some-refusal.is c.fill-filled.ensures.refused in
-    let many : AreTooMany m refusal = inl (subst (λ (s : Shape). LacksTooMany s m refusal) (c.shape_in-shape.ensures ∙ sym c.fill-filled.ensures.moved.shape) lacks) in
+    let lacks = refused-of (LacksTooMany c.shape_in-shape.result m) c.fill_and_name-filled.result.refusal refusal c.in-Some-refusal.is c.fill_and_name-filled.ensures.refused in
+    let many : AreTooMany m refusal = inl (subst (λ (s : Shape). LacksTooMany s m refusal) (c.shape_in-shape.ensures ∙ sym c.fill_and_name-filled.ensures.moved.shape) lacks) in
     rw (← c.self.view_is) (refused-for (list_length a.members.newest) 0 AreTooMany a.members m refusal (too-many-of m refusal many) (omega arith) many)
 
 pub returns-in-Some-refusal-clause-held : goal.returns-in-Some-refusal-clause-held
-returns-in-Some-refusal-clause-held g c = rw (← c.self.view_is) c.fill-filled.ensures.moved.held
+returns-in-Some-refusal-clause-held g c = rw (← c.self.view_is) c.fill_and_name-filled.ensures.moved.held
 
 pub returns-in-Some-refusal-clause-spares : goal.returns-in-Some-refusal-clause-spares
-returns-in-Some-refusal-clause-spares g c = rw (← c.self.view_is) c.fill-filled.ensures.moved.fewer
+returns-in-Some-refusal-clause-spares g c = rw (← c.self.view_is) c.fill_and_name-filled.ensures.moved.fewer
 
 -- ---- the slot is lost
 
@@ -195,15 +200,15 @@ invariant_of-self-then-is_vacant g c =
     let given = g.B.Bank.given a.bank in
     let goes : IsCallGoing a.epoch.entries.items c.args.who = subst (λ p. IsCallGoing p.parts.entries c.args.who) (sym c.self.view_is) c.requires.open in
     let some : 1 ≤ a.steps = subst (λ p. 1 ≤ p.parts.steps) (sym c.self.view_is) c.requires.room in
-    let did = c.fill-filled.ensures in
-    let m = c.fill-filled.new.members in
+    let did = c.fill_and_name-filled.ensures in
+    let m = c.fill_and_name-filled.new.members in
     let before = g.B.Bank.faults_of a.bank in
-    let after = g.B.Bank.faults_of c.fill-filled.new.bank in
+    let after = g.B.Bank.faults_of c.fill_and_name-filled.new.bank in
     let roles = c.newly_vacant-roles.result in
-    let spares = c.fill-filled.result.spares in
+    let spares = c.fill_and_name-filled.result.spares in
     let end = c.ops-end.result in
     let tape = g.B.Bank.tape a.bank in
-    let tape' = g.B.Bank.tape c.fill-filled.new.bank in
+    let tape' = g.B.Bank.tape c.fill_and_name-filled.new.bank in
     let role = c.args.role in
     let slot = c.in-Some-recovering_slot.slot in
     let pending : HasStripeUnbuilt a.work a.members role = subst (λ p. HasStripeUnbuilt p.parts.work p.parts.members role) (sym c.self.view_is) c.requires.pending in
@@ -226,7 +231,7 @@ invariant_of-self-then-is_vacant g c =
     (fill-gone a.ahead c.args.who end role slot roles spares c.shape_in-shape.result was.kept c.in_default.ensures goes c.requires.caller c.ops-end.ensures.count c.shape_in-shape.ensures below leaves
     synced c.set_rebuilt.ensures.known (sym c.is_vacant.ensures ∙ c.if-is_vacant.true)) in
     with-buffers (omega (arith, was.rows_fit, did.rows)) (rw did.buffer was.buffer_fits) (ready (entries_of c.args.who end (losses_of roles spares)) was (rows-moved given a.members m did.moved)
-    kept
+    kept (plain-lost was c.args.who end goes c.requires.caller c.ops-end.ensures.count did.grows did.moved since)
     did.counts (losses-keep c.args.who end roles spares)
     did.given (scope-same given a.backup did.given c.enter_lost.ensures.uuid c.enter_lost.ensures.given) c.enter_lost.ensures.first refl c.enter_lost.ensures.items
     (omega (arith, c.enter_lost.ensures.room, was.room_left, some)))
@@ -237,12 +242,12 @@ returns-then-is_vacant-clause-entered g c =
     let here = was.kept.members_are in
     let a = c.self.inside in
     let given = g.B.Bank.given a.bank in
-    let did = c.fill-filled.ensures in
-    let m = c.fill-filled.new.members in
+    let did = c.fill_and_name-filled.ensures in
+    let m = c.fill_and_name-filled.new.members in
     let before = g.B.Bank.faults_of a.bank in
-    let after = g.B.Bank.faults_of c.fill-filled.new.bank in
+    let after = g.B.Bank.faults_of c.fill_and_name-filled.new.bank in
     let roles = c.newly_vacant-roles.result in
-    let spares = c.fill-filled.result.spares in
+    let spares = c.fill_and_name-filled.result.spares in
     let end = c.ops-end.result in
     let role = c.args.role in
     let slot = c.in-Some-recovering_slot.slot in
@@ -268,12 +273,12 @@ returns-then-is_vacant-clause-stepped g c =
     let here = was.kept.members_are in
     let a = c.self.inside in
     let given = g.B.Bank.given a.bank in
-    let did = c.fill-filled.ensures in
-    let m = c.fill-filled.new.members in
+    let did = c.fill_and_name-filled.ensures in
+    let m = c.fill_and_name-filled.new.members in
     let before = g.B.Bank.faults_of a.bank in
-    let after = g.B.Bank.faults_of c.fill-filled.new.bank in
+    let after = g.B.Bank.faults_of c.fill_and_name-filled.new.bank in
     let roles = c.newly_vacant-roles.result in
-    let spares = c.fill-filled.result.spares in
+    let spares = c.fill_and_name-filled.result.spares in
     let end = c.ops-end.result in
     let role = c.args.role in
     let slot = c.in-Some-recovering_slot.slot in
@@ -284,7 +289,7 @@ returns-then-is_vacant-clause-stepped g c =
     let vacant = sym c.is_vacant.ensures ∙ c.if-is_vacant.true in
     let told = among-vacant did.moved since role pending.0.0 (recovering-held a.members role slot c.in-Some-recovering_slot.ensures.some) vacant in
     rw (← c.self.view_is) (stepped did.grows (shapes-moved did.moved)
-    (λ t. subst (λ (l : List Entry). last_end_from c.enter_lost.new.epoch.first l ≡ length (g.B.Bank.tape c.fill-filled.new.bank)) (sym c.enter_lost.ensures.items)
+    (λ t. subst (λ (l : List Entry). last_end_from c.enter_lost.new.epoch.first l ≡ length (g.B.Bank.tape c.fill_and_name-filled.new.bank)) (sym c.enter_lost.ensures.items)
     (losses-end c.enter_lost.new.epoch.first a.epoch.entries.items c.args.who end (losses_of roles spares) (Lost role Fault) told ∙ c.ops-end.ensures.count t))
     did.failed.roles
     (losses-tail (Held a.members) a.members m (λ r s held. held) before after a.epoch.entries.items a.epoch.entries.items c.enter_lost.new.epoch.entries.items c.args.who end roles spares since refl [] (All-nil (λ e. IsLossBy (Held a.members) before after e.event))
@@ -299,12 +304,12 @@ returns-then-is_vacant-clause-left g c =
     let here = was.kept.members_are in
     let a = c.self.inside in
     let given = g.B.Bank.given a.bank in
-    let did = c.fill-filled.ensures in
-    let m = c.fill-filled.new.members in
+    let did = c.fill_and_name-filled.ensures in
+    let m = c.fill_and_name-filled.new.members in
     let before = g.B.Bank.faults_of a.bank in
-    let after = g.B.Bank.faults_of c.fill-filled.new.bank in
+    let after = g.B.Bank.faults_of c.fill_and_name-filled.new.bank in
     let roles = c.newly_vacant-roles.result in
-    let spares = c.fill-filled.result.spares in
+    let spares = c.fill_and_name-filled.result.spares in
     let end = c.ops-end.result in
     let role = c.args.role in
     let slot = c.in-Some-recovering_slot.slot in
@@ -325,10 +330,10 @@ pub returns-then-is_vacant-clause-caused : goal.returns-then-is_vacant-clause-ca
 returns-then-is_vacant-clause-caused g c = rw (← c.self.view_is) (omega arith, λ refusal many. never-both c.self.inside.members refusal c.in_default.ensures many)
 
 pub returns-then-is_vacant-clause-held : goal.returns-then-is_vacant-clause-held
-returns-then-is_vacant-clause-held g c = rw (← c.self.view_is) c.fill-filled.ensures.moved.held
+returns-then-is_vacant-clause-held g c = rw (← c.self.view_is) c.fill_and_name-filled.ensures.moved.held
 
 pub returns-then-is_vacant-clause-spares : goal.returns-then-is_vacant-clause-spares
-returns-then-is_vacant-clause-spares g c = rw (← c.self.view_is) c.fill-filled.ensures.moved.fewer
+returns-then-is_vacant-clause-spares g c = rw (← c.self.view_is) c.fill_and_name-filled.ensures.moved.fewer
 
 -- ---- it is rebuilt
 
@@ -340,15 +345,15 @@ invariant_of-self-2 g c =
     let given = g.B.Bank.given a.bank in
     let goes : IsCallGoing a.epoch.entries.items c.args.who = subst (λ p. IsCallGoing p.parts.entries c.args.who) (sym c.self.view_is) c.requires.open in
     let some : 1 ≤ a.steps = subst (λ p. 1 ≤ p.parts.steps) (sym c.self.view_is) c.requires.room in
-    let did = c.fill-filled.ensures in
-    let m = c.fill-filled.new.members in
+    let did = c.fill_and_name-filled.ensures in
+    let m = c.fill_and_name-filled.new.members in
     let before = g.B.Bank.faults_of a.bank in
-    let after = g.B.Bank.faults_of c.fill-filled.new.bank in
+    let after = g.B.Bank.faults_of c.fill_and_name-filled.new.bank in
     let roles = c.newly_vacant-roles.result in
-    let spares = c.fill-filled.result.spares in
+    let spares = c.fill_and_name-filled.result.spares in
     let end = c.ops-end.result in
     let tape = g.B.Bank.tape a.bank in
-    let tape' = g.B.Bank.tape c.fill-filled.new.bank in
+    let tape' = g.B.Bank.tape c.fill_and_name-filled.new.bank in
     let role = c.args.role in
     let slot = c.in-Some-recovering_slot.slot in
     let pending : HasStripeUnbuilt a.work a.members role = subst (λ p. HasStripeUnbuilt p.parts.work p.parts.members role) (sym c.self.view_is) c.requires.pending in
@@ -373,7 +378,7 @@ invariant_of-self-2 g c =
     (fill-done a.ahead c.args.who end role slot roles spares c.shape_in-shape.result was.kept c.in_default.ensures goes c.requires.caller c.ops-end.ensures.count c.shape_in-shape.ensures below leaves
     left synced c.set_rebuilt.ensures.known pending.1 (sym c.is_vacant.ensures ∙ c.if-is_vacant.false) told (did.filled c.in_default-refusal.is)) in
     with-buffers (omega (arith, was.rows_fit, did.rows)) (rw did.buffer was.buffer_fits) (ready (entries_of c.args.who end (losses_of roles spares ++ Step RebuildStripe left ∷ [])) was (rows-moved given a.members m did.moved)
-    kept
+    kept (filled-plain was c.args.who end goes c.requires.caller c.ops-end.ensures.count did.grows did.moved since left role slot below c.set_rebuilt.ensures.known c.in-Some-recovering_slot.ensures.some pending.1 told)
     did.counts (behind-keeps c.args.who end roles spares (Step RebuildStripe left ∷ []) (alone-keeps c.args.who end (Step RebuildStripe left) (λ n. refl) refl))
     did.given (scope-same given a.backup did.given c.enter_behind-2.ensures.uuid c.enter_behind-2.ensures.given) c.enter_behind-2.ensures.first refl c.enter_behind-2.ensures.items
     (omega (arith, c.enter_behind-2.ensures.room, was.room_left, some)))
@@ -384,18 +389,18 @@ returns-clause-stepped g c =
     let here = was.kept.members_are in
     let a = c.self.inside in
     let given = g.B.Bank.given a.bank in
-    let did = c.fill-filled.ensures in
-    let m = c.fill-filled.new.members in
+    let did = c.fill_and_name-filled.ensures in
+    let m = c.fill_and_name-filled.new.members in
     let before = g.B.Bank.faults_of a.bank in
-    let after = g.B.Bank.faults_of c.fill-filled.new.bank in
+    let after = g.B.Bank.faults_of c.fill_and_name-filled.new.bank in
     let roles = c.newly_vacant-roles.result in
-    let spares = c.fill-filled.result.spares in
+    let spares = c.fill_and_name-filled.result.spares in
     let end = c.ops-end.result in
     let since : AreLostSince a.members m roles spares before after = lost-since given a.members m c.shape_in-shape.result.disks c.vacant_roles-before.result roles spares before after here.placed did.moved did.failed
     (ap (λ (s : Shape). s.disks) c.shape_in-shape.ensures ∙ sym (count-still a.members.newest here.still)) c.vacant_roles-before.ensures c.newly_vacant-roles.ensures in
     let event = Step RebuildStripe c.all_left-left.result in
     rw (← c.self.view_is) (stepped did.grows (shapes-moved did.moved)
-    (ended-behind (g.B.Bank.tape c.fill-filled.new.bank) c.enter_behind-2.new.epoch.first a.epoch.entries.items c.args.who end (losses_of roles spares) event c.enter_behind-2.ensures.items c.ops-end.ensures.count)
+    (ended-behind (g.B.Bank.tape c.fill_and_name-filled.new.bank) c.enter_behind-2.new.epoch.first a.epoch.entries.items c.args.who end (losses_of roles spares) event c.enter_behind-2.ensures.items c.ops-end.ensures.count)
     did.failed.roles
     (losses-behind a.members m before after a.epoch.entries.items a.epoch.entries.items c.enter_behind-2.new.epoch.entries.items c.args.who end roles spares event since tt refl c.enter_behind-2.ensures.items)
     did.counts
@@ -408,12 +413,12 @@ returns-clause-left g c =
     let here = was.kept.members_are in
     let a = c.self.inside in
     let given = g.B.Bank.given a.bank in
-    let did = c.fill-filled.ensures in
-    let m = c.fill-filled.new.members in
+    let did = c.fill_and_name-filled.ensures in
+    let m = c.fill_and_name-filled.new.members in
     let before = g.B.Bank.faults_of a.bank in
-    let after = g.B.Bank.faults_of c.fill-filled.new.bank in
+    let after = g.B.Bank.faults_of c.fill_and_name-filled.new.bank in
     let roles = c.newly_vacant-roles.result in
-    let spares = c.fill-filled.result.spares in
+    let spares = c.fill_and_name-filled.result.spares in
     let end = c.ops-end.result in
     let role = c.args.role in
     let slot = c.in-Some-recovering_slot.slot in
@@ -433,21 +438,33 @@ pub returns-clause-caused : goal.returns-clause-caused
 returns-clause-caused g c = rw (← c.self.view_is) (omega arith, λ refusal many. never-both c.self.inside.members refusal c.in_default.ensures many)
 
 pub returns-clause-held : goal.returns-clause-held
-returns-clause-held g c = rw (← c.self.view_is) c.fill-filled.ensures.moved.held
+returns-clause-held g c = rw (← c.self.view_is) c.fill_and_name-filled.ensures.moved.held
 
 pub returns-clause-spares : goal.returns-clause-spares
-returns-clause-spares g c = rw (← c.self.view_is) c.fill-filled.ensures.moved.fewer
+returns-clause-spares g c = rw (← c.self.view_is) c.fill_and_name-filled.ensures.moved.fewer
 
 -- ---- the call goes on
 
 pub returns-in-Some-refusal-clause-open : goal.returns-in-Some-refusal-clause-open
-returns-in-Some-refusal-clause-open g c = step-going c.args.who c.ops-end.result c.newly_vacant-roles.result c.fill-filled.result.spares (Refused c.in-Some-refusal.refusal) c.requires.open tt (ap (λ p. p.parts.entries) c.self.view_is) c.enter_behind.ensures.items
+returns-in-Some-refusal-clause-open g c = step-going c.args.who c.ops-end.result c.newly_vacant-roles.result c.fill_and_name-filled.result.spares (Refused c.in-Some-refusal.refusal) c.requires.open tt (ap (λ p. p.parts.entries) c.self.view_is) c.enter_behind.ensures.items
 
 pub returns-then-is_vacant-clause-open : goal.returns-then-is_vacant-clause-open
 returns-then-is_vacant-clause-open g c =
-    let losses = losses_of c.newly_vacant-roles.result c.fill-filled.result.spares in
-    still-going c.args.who c.ops-end.result (losses ++ []) c.requires.open (losses-open losses [] (losses-are c.newly_vacant-roles.result c.fill-filled.result.spares) tt) (ap (λ p. p.parts.entries) c.self.view_is)
+    let losses = losses_of c.newly_vacant-roles.result c.fill_and_name-filled.result.spares in
+    still-going c.args.who c.ops-end.result (losses ++ []) c.requires.open (losses-open losses [] (losses-are c.newly_vacant-roles.result c.fill_and_name-filled.result.spares) tt) (ap (λ p. p.parts.entries) c.self.view_is)
     (alone c.self.inside.epoch.entries.items c.enter_lost.new.epoch.entries.items c.args.who c.ops-end.result losses c.enter_lost.ensures.items)
 
 pub returns-clause-open : goal.returns-clause-open
-returns-clause-open g c = step-going c.args.who c.ops-end.result c.newly_vacant-roles.result c.fill-filled.result.spares (Step RebuildStripe c.all_left-left.result) c.requires.open tt (ap (λ p. p.parts.entries) c.self.view_is) c.enter_behind-2.ensures.items
+returns-clause-open g c = step-going c.args.who c.ops-end.result c.newly_vacant-roles.result c.fill_and_name-filled.result.spares (Step RebuildStripe c.all_left-left.result) c.requires.open tt (ap (λ p. p.parts.entries) c.self.view_is) c.enter_behind-2.ensures.items
+
+pub returns-then-is_vacant-clause-closable : goal.returns-then-is_vacant-clause-closable
+returns-then-is_vacant-clause-closable g c = λ none. inr (inl (c.fill_and_name-filled.ensures.missing c.in_default-refusal.is (sym c.is_vacant.ensures ∙ c.if-is_vacant.true)))
+
+pub returns-clause-closable : goal.returns-clause-closable
+returns-clause-closable g c =
+    let a = c.self.inside in
+    let here = c.self.invariant.kept.members_are in
+    let pending : HasStripeUnbuilt a.work a.members c.args.role = subst (λ p. HasStripeUnbuilt p.parts.work p.parts.members c.args.role) (sym c.self.view_is) c.requires.pending in
+    let below = subst (λ (n : ℕ). c.args.role < n) (count-still a.members.newest here.still) pending.0.0 in
+    λ none. absurd (held-some c.fill_and_name-filled.ensures.moved c.set_rebuilt.new.work a.ahead c.args.role c.in-Some-recovering_slot.slot below c.in-Some-recovering_slot.ensures.some
+    (sym c.is_vacant.ensures ∙ c.if-is_vacant.false) none)

@@ -1,15 +1,23 @@
-use Rattle.std.proofs.Common.{◌≡◌, ℕ, List, [], ◌∷◌, ◌++◌, length, refl, sym, ◌∙◌, ap, subst}
+use Rattle.std.proofs.Common.{◌≡◌, ℕ, List, [], ◌∷◌, ◌++◌, length, refl, sym, ◌∙◌, ap, subst, arith}
+use Rattle.std.specs.Prelude.{vec_capacity}
 use Rattle.superblocks.specs.Reading.{Scope}
 use Rattle.flat_history.specs.declared.events.Entry.{Entry}
 use Rattle.flat_history.specs.declared.events.Event.TheVariants.{Halted}
 use Rattle.flat_history.specs.Flat.{next_number}
 use Rattle.flat_history.specs.Growing.{EndBy}
 use Rattle.flat_history.specs.Plain.{entries_of}
+use Rattle.views.proofs.MovedLaws.{grows-none}
 use Rattle.array_kept.specs.Kept.{scope_in}
 use Rattle.array_kept.proofs.ReadyLaws.{scope-same}
+use Rattle.kept_history.proofs.Records.{begins-going}
 use Rattle.still_laws.specs.still_kept_Still.{IsStill}
 use Rattle.still_laws.specs.running_words_Parts.{still_left}
+use Rattle.still_laws.specs.Ready.{IsReady}
+use Rattle.still_laws.proofs.running_words_Lengths.{alone-keeps}
 use Rattle.still_laws.proofs.Asking.{halted-stands, epoch-kept}
+use Rattle.still_laws.proofs.Kept.{ready, plainly-more, rows-same}
+use Rattle.still_laws.proofs.Plain.{plain-epoch}
+use Rattle.still_laws.proofs.PlainBehind.{halted-plain}
 use Rattle.still.proofs.state.Still.halt.Goals as goal
 
 pub returns-clause-right : goal.returns-clause-right
@@ -38,3 +46,29 @@ returns-clause-ends g c =
     let number : c.args.who.number ≡ next_number c.args.who.caller a.epoch.entries.items = c.requires.next ∙ ap (λ p. next_number c.args.who.caller p.parts.entries) (sym c.self.view_is) in
     let kept = halted-stands c.args.who c.ops-end.result c.self.invariant.kept number c.requires.caller c.ops-end.ensures.count in
     rw (← c.self.view_is) (λ t. subst (λ (l : List Entry). EndBy (length tape) l) (sym c.enter.ensures.items) (kept.recorded t).ends)
+
+pub returns-clause-plain : goal.returns-clause-plain
+returns-clause-plain g c =
+    let was = c.self.invariant in
+    let a = c.self.inside in
+    let epoch = c.enter.new.epoch in
+    let given = g.B.Bank.given a.bank in
+    let tape = g.B.Bank.tape a.bank in
+    let end = c.ops-end.result in
+    let number : c.args.who.number ≡ next_number c.args.who.caller a.epoch.entries.items = c.requires.next ∙ ap (λ p. next_number c.args.who.caller p.parts.entries) (sym c.self.view_is) in
+    let ended : IsReady g.B.Bank.tells given tape (scope_in given epoch.uuid epoch.given a.backup) epoch.first epoch.entries.items a.members a.work a.ahead (g.B.Bank.faults_of a.bank) 0 1
+    (vec_capacity a.rows) (length a.buffer.items) (vec_capacity a.far_rows) (length a.far_buffer.items) =
+    ready (entries_of c.args.who end (Halted ∷ [])) was (rows-same a.members.newest) (halted-stands c.args.who end was.kept number c.requires.caller c.ops-end.ensures.count)
+    (halted-plain was c.args.who end (begins-going a.epoch.entries.items c.args.who number) c.requires.caller c.ops-end.ensures.count (grows-none (λ t. refl)))
+    (λ slot. omega arith) (alone-keeps c.args.who end Halted (λ n. refl) refl)
+    refl (scope-same given a.backup refl c.enter.ensures.uuid c.enter.ensures.given) c.enter.ensures.first refl c.enter.ensures.items (omega arith) in
+    rw (← c.self.view_is) (λ t keeps. plain-epoch given tape a.backup epoch a.members (ended.plain t keeps) (ended.plainly keeps.none))
+
+pub returns-clause-plainly : goal.returns-clause-plainly
+returns-clause-plainly g c =
+    let was = c.self.invariant in
+    let a = c.self.inside in
+    let end = c.ops-end.result in
+    let number : c.args.who.number ≡ next_number c.args.who.caller a.epoch.entries.items = c.requires.next ∙ ap (λ p. next_number c.args.who.caller p.parts.entries) (sym c.self.view_is) in
+    let left = halted-plain was c.args.who end (begins-going a.epoch.entries.items c.args.who number) c.requires.caller c.ops-end.ensures.count (grows-none (λ t. refl)) in
+    λ none. plainly-more a.epoch.entries.items (entries_of c.args.who end (Halted ∷ [])) c.enter.new.epoch.entries.items c.enter.ensures.items was.plainly left.plainly none

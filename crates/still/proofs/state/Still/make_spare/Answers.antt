@@ -34,6 +34,9 @@ use Rattle.still_laws.proofs.Kept.{ready, rows-same, rows-moved}
 use Rattle.still_laws.proofs.StepLaws.{shapes-same, shapes-moved, stepped}
 use Rattle.still_laws.proofs.AddLaws.{looked-refused}
 use Rattle.still_laws.proofs.AddLaws as law
+use Rattle.kept_history.proofs.Records.{begins-going}
+use Rattle.still_laws.proofs.PlainBehind.{refused-plain}
+use Rattle.still_laws.proofs.PlainAdds.{added-plain, unadded-plain}
 use Rattle.still.proofs.state.Still.make_spare.Goals as goal
 
 pub look_at-requires-clause-slot : goal.look_at-requires-clause-slot
@@ -60,6 +63,7 @@ invariant_of-self-in_default g c =
     let did = c.look_at.ensures in
     ready (entries_of c.args.who end (Refused (SlotFault c.args.slot) ∷ [])) was (rows-same a.members.newest)
     (looked-refused c.args.who end c.args.slot was.kept (without-left given a.members here.placed here.unlost (slot-does given a.backup c.args.slot a.members here.placed addable)) number c.requires.caller c.ops-end.ensures.count did.tape)
+    (refused-plain was c.args.who end (begins-going a.epoch.entries.items c.args.who number) c.requires.caller c.ops-end.ensures.count (record { more = λ t. ((did.tape t).0, (did.tape t).2) }) (SlotFault c.args.slot) (λ t p. tt) tt)
     did.counts (alone-keeps c.args.who end (Refused (SlotFault c.args.slot)) (λ n. refl) refl)
     did.given (scope-same given a.backup did.given c.enter.ensures.uuid c.enter.ensures.given) c.enter.ensures.first c.make_room.ensures.items c.enter.ensures.items
     (omega (arith, c.enter.ensures.room, c.in-Ok.ensures.ok))
@@ -200,6 +204,7 @@ invariant_of-self-then-contains g c =
     (ap (λ (n : ℕ). is_carried a.work n) c.spare_for-sb.ensures.number ∙ free.1)
     (λ t sector may. second-half sb c.in-Some.second sector c.spare_for-sb.ensures.second (c.in-Some.ensures.second t sector may)) safe (e.lost (sym c.contains.ensures ∙ c.if-contains.true))) in
     ready (entries_of c.args.who end (losses_of roles spares ++ Refused (SlotFault c.args.slot) ∷ [])) was (rows-moved given (with_spare c.args.slot sb a.members) m did.moved) kept
+    (unadded-plain was c.args.who end (begins-going a.epoch.entries.items c.args.who number) c.requires.caller c.ops-end-2.ensures.count look.tape did since (e.lost (sym c.contains.ensures ∙ c.if-contains.true)))
     did.counts (behind-keeps c.args.who end roles spares (Refused (SlotFault c.args.slot) ∷ []) (alone-keeps c.args.who end (Refused (SlotFault c.args.slot)) (λ n. refl) refl))
     given_is (scope-same given a.backup given_is c.enter_behind.ensures.uuid c.enter_behind.ensures.given) c.enter_behind.ensures.first c.make_room.ensures.items c.enter_behind.ensures.items
     (omega (arith, c.enter_behind.ensures.room, c.in-Ok.ensures.ok))
@@ -282,6 +287,9 @@ returns-then-contains-clause-others g c =
 pub returns-then-contains-clause-held : goal.returns-then-contains-clause-held
 returns-then-contains-clause-held g c = rw (← c.self.view_is) c.add_member-lost.ensures.moved.held
 
+pub returns-then-contains-clause-whole : goal.returns-then-contains-clause-whole
+returns-then-contains-clause-whole g c = rw (← c.self.view_is) c.add_member-lost.ensures.moved.whole
+
 pub returns-then-contains-clause-work : goal.returns-then-contains-clause-work
 returns-then-contains-clause-work g c =
     let a = c.self.inside in
@@ -330,6 +338,7 @@ invariant_of-self-2 g c =
     (ap (λ (n : ℕ). is_carried a.work n) c.spare_for-sb.ensures.number ∙ free.1)
     (λ t sector may. second-half sb c.in-Some.second sector c.spare_for-sb.ensures.second (c.in-Some.ensures.second t sector may)) safe) in
     ready (entries_of c.args.who end (losses_of roles spares ++ Added c.args.slot ∷ [])) was (rows-moved given (with_spare c.args.slot sb a.members) m did.moved) kept
+    (added-plain was c.args.who end (begins-going a.epoch.entries.items c.args.who number) c.requires.caller c.ops-end-2.ensures.count look.tape did since (e.spare (sym c.contains.ensures ∙ c.if-contains.false)))
     did.counts (behind-keeps c.args.who end roles spares (Added c.args.slot ∷ []) (alone-keeps c.args.who end (Added c.args.slot) (λ n. refl) refl))
     given_is (scope-same given a.backup given_is c.enter_behind-2.ensures.uuid c.enter_behind-2.ensures.given) c.enter_behind-2.ensures.first c.make_room.ensures.items c.enter_behind-2.ensures.items
     (omega (arith, c.enter_behind-2.ensures.room, c.in-Ok.ensures.ok))
@@ -404,6 +413,9 @@ returns-clause-others g c =
 
 pub returns-clause-held : goal.returns-clause-held
 returns-clause-held g c = rw (← c.self.view_is) c.add_member-lost.ensures.moved.held
+
+pub returns-clause-whole : goal.returns-clause-whole
+returns-clause-whole g c = rw (← c.self.view_is) c.add_member-lost.ensures.moved.whole
 
 pub returns-clause-work : goal.returns-clause-work
 returns-clause-work g c =

@@ -25,6 +25,8 @@ use Rattle.still_laws.proofs.Kept.{ready, rows-moved, with-buffers}
 use Rattle.still_laws.proofs.Going.{step-going}
 use Rattle.still_laws.proofs.StepLaws.{refused-of, shapes-moved, planned-same, stepped, fewer-more, kept-more}
 use Rattle.still_laws.proofs.MendLaws.{mend-done, mend-refused}
+use Rattle.still_laws.proofs.PlainBehind.{unmended-plain, plain-refused}
+use Rattle.still_laws.proofs.PlainSteps.{mended-plain}
 use Rattle.still.proofs.state.Still.mend_stripe.Goals as goal
 
 -- ---- refused before anything is done
@@ -103,6 +105,9 @@ invariant_of-self g c =
     with-buffers (omega (arith, was.rows_fit, did.rows)) (rw did.buffer was.buffer_fits) (ready (entries_of c.args.who end (losses_of roles spares ++ Refused refusal ∷ [])) was (rows-moved given a.members m did.moved)
     (mend-refused a.ahead c.args.who end roles spares shape stripe was.kept does goes c.requires.caller c.ops-end.ensures.count c.shape_in-shape.ensures next.0 leaves refusal
     (refused-of (IsUnwritten shape false m) c.mend-mended.result.refusal refusal c.in-Some-refusal.is did.refused))
+    (plain-refused was c.args.who end goes c.requires.caller c.ops-end.ensures.count did.grows did.moved since refusal
+    (unmended-plain given a.members m did.moved a.work.resync (list_length a.members.newest) stripe shape refusal c.shape_in-shape.ensures next.0
+    (refused-of (IsUnwritten shape false m) c.mend-mended.result.refusal refusal c.in-Some-refusal.is did.refused)))
     did.counts (behind-keeps c.args.who end roles spares (Refused refusal ∷ []) (alone-keeps c.args.who end (Refused refusal) (λ n. refl) refl))
     did.given (scope-same given a.backup did.given c.enter_behind.ensures.uuid c.enter_behind.ensures.given) c.enter_behind.ensures.first refl c.enter_behind.ensures.items
     (omega (arith, c.enter_behind.ensures.room, was.room_left, some)))
@@ -210,6 +215,7 @@ invariant_of-self-2 g c =
     with-buffers (omega (arith, was.rows_fit, did.rows)) (rw did.buffer was.buffer_fits) (ready (entries_of c.args.who end (losses_of roles spares ++ Step ResyncStripe left ∷ [])) was (rows-moved given a.members m did.moved)
     (mend-done a.ahead c.args.who end roles spares shape stripe was.kept does goes c.requires.caller c.ops-end.ensures.count c.shape_in-shape.ensures next.0 leaves left next.1 c.all_left-left.ensures
     (did.mended c.in_default-refusal.is))
+    (mended-plain was c.args.who end goes c.requires.caller c.ops-end.ensures.count did.grows did.moved since left stripe next.0 next.1 c.all_left-left.ensures)
     did.counts (behind-keeps c.args.who end roles spares (Step ResyncStripe left ∷ []) (alone-keeps c.args.who end (Step ResyncStripe left) (λ n. refl) refl))
     did.given (scope-same given a.backup did.given c.enter_behind-2.ensures.uuid c.enter_behind-2.ensures.given) c.enter_behind-2.ensures.first refl c.enter_behind-2.ensures.items
     (omega (arith, c.enter_behind-2.ensures.room, was.room_left, some)))

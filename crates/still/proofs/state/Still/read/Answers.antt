@@ -47,6 +47,7 @@ use Rattle.still_laws.proofs.running_words_Called.{not_254, called, alone-lossle
 use Rattle.still_laws.proofs.running_words_Lengths.{alone-keeps, behind-keeps}
 use Rattle.still_laws.proofs.Asking.{refused-alone}
 use Rattle.still_laws.proofs.Kept.{ready, rows-same, rows-moved, with-buffers}
+use Rattle.still_laws.proofs.PlainBehind.{unread-plain, plain-refused, plain-read, first-plain}
 use Rattle.still_laws.proofs.Left.{left-alike}
 use Rattle.still_laws.proofs.Reading.{seen, unread-still, refused-first, fetched-holds, read-holds}
 use Rattle.still.proofs.state.Still.read.Goals as goal
@@ -73,6 +74,9 @@ invariant_of-self-in-Some g c =
     (refused-alone c.args.who c.ops-end.result was.kept number c.requires.caller c.ops-end.ensures.count refusal
     (refused-first was.kept was.unlimited (c.args.at + count) (IsUnread (shape_of a.members.newest) (mended_rows a.work.resync a.members) c.args.at count) refusal
     (λ within. unread-still given a.members was.kept.members_are a.work.resync c.args.at count refusal within) c.in-Some.ensures.why))
+    (first-plain was c.args.who c.ops-end.result (begins-going a.epoch.entries.items c.args.who number) c.requires.caller c.ops-end.ensures.count (grows-none (λ t. refl)) (c.args.at + count)
+    (IsUnread (shape_of a.members.newest) (mended_rows a.work.resync a.members) c.args.at count) refusal
+    (λ within. unread-plain given a.members was.kept.members_are a.work.resync (list_length a.members.newest) c.args.at count refusal within) c.in-Some.ensures.why)
     (λ slot. omega arith) (alone-keeps c.args.who c.ops-end.result (Refused refusal) (λ n. refl) refl)
     refl (scope-same given a.backup refl c.enter.ensures.uuid c.enter.ensures.given) c.enter.ensures.first c.make_room.ensures.items c.enter.ensures.items
     (omega (arith, c.enter.ensures.room, c.in-Ok-make_room.ensures.ok))
@@ -182,16 +186,19 @@ invariant_of-self-in-Some-refusal g c =
     let named : IsNamedStill g.B.Bank.tells given tape tape' a.members m roles spares before after =
     record { moved = did.moved; since = since; grows = did.grows; clean = did.clean; rise = risen-told did.rise; others = did.others; safe = did.safe } in
     let why = some-of (IsUnread c.shape_in-shape.result c.mended_rows-mended.result c.args.at asked m) c.fetch-fetched.result.refusal refusal c.in-Some-refusal.is did.refused in
+    let inside : c.args.at + count ≤ list_length m.newest = (let long = (rows-moved given a.members m did.moved).long in let below = c.in_default.ensures.why.0 in omega (arith, long, below)) in
+    let unread : IsUnread (shape_of m.newest) (mended_rows a.work.resync m) c.args.at count m refusal =
+    subst (λ (s : Shape). IsUnread s (mended_rows a.work.resync m) c.args.at count m refusal) (c.shape_in-shape.ensures ∙ sym did.moved.shape)
+    (subst (λ (n : ℕ). IsUnread c.shape_in-shape.result n c.args.at count m refusal) (c.mended_rows-mended.ensures.rows ∙ sym (mended-moved did.moved a.work.resync))
+    (subst (λ (n : ℕ). IsUnread c.shape_in-shape.result c.mended_rows-mended.result c.args.at n m refusal) same why)) in
     with-buffers was.rows_fit (let len = (with_items a.buffer c.fetch-fetched.new.scratch).ok.0 in let ok = a.buffer.ok.0 in let fits = was.buffer_fits in omega (arith, len, ok, fits))
     (ready (entries_of c.args.who end (losses_of roles spares ++ Refused refusal ∷ [])) was (rows-moved given a.members m did.moved)
     (refused-stands g.B.Bank.tells given tape tape' scope a.epoch.first a.epoch.entries.items a.members m a.work (still_left a.work a.members a.ahead) (still_left a.work m a.ahead) c.args.who end roles spares before after refusal
     was.kept (without-left given a.members here.placed here.unlost does) (begins-going a.epoch.entries.items c.args.who number) (not_254 c.args.who.caller c.requires.caller) c.ops-end-2.ensures.count named
     (left-alike a.work a.ahead roles spares before after did.moved since)
-    (unread-still given m (rest-moved given a.members m did.moved here) a.work.resync c.args.at count refusal
-    (let long = (rows-moved given a.members m did.moved).long in let below = c.in_default.ensures.why.0 in omega (arith, long, below))
-    (subst (λ (s : Shape). IsUnread s (mended_rows a.work.resync m) c.args.at count m refusal) (c.shape_in-shape.ensures ∙ sym did.moved.shape)
-    (subst (λ (n : ℕ). IsUnread c.shape_in-shape.result n c.args.at count m refusal) (c.mended_rows-mended.ensures.rows ∙ sym (mended-moved did.moved a.work.resync))
-    (subst (λ (n : ℕ). IsUnread c.shape_in-shape.result c.mended_rows-mended.result c.args.at n m refusal) same why)))))
+    (unread-still given m (rest-moved given a.members m did.moved here) a.work.resync c.args.at count refusal inside unread))
+    (plain-refused was c.args.who end (begins-going a.epoch.entries.items c.args.who number) c.requires.caller c.ops-end-2.ensures.count did.grows did.moved since refusal
+    (unread-plain given m (rest-moved given a.members m did.moved here) a.work.resync (list_length a.members.newest) c.args.at count refusal inside unread))
     did.counts (behind-keeps c.args.who end roles spares (Refused refusal ∷ []) (alone-keeps c.args.who end (Refused refusal) (λ n. refl) refl))
     did.given (scope-same given a.backup did.given c.enter_behind.ensures.uuid c.enter_behind.ensures.given) c.enter_behind.ensures.first c.make_room.ensures.items c.enter_behind.ensures.items
     (omega (arith, c.enter_behind.ensures.room, c.in-Ok-make_room.ensures.ok)))
@@ -273,6 +280,9 @@ returns-in-Some-refusal-clause-others g c = rw (← c.self.view_is) c.fetch-fetc
 pub returns-in-Some-refusal-clause-failed : goal.returns-in-Some-refusal-clause-failed
 returns-in-Some-refusal-clause-failed g c = rw (← c.self.view_is) c.fetch-fetched.ensures.failed.roles
 
+pub returns-in-Some-refusal-clause-whole : goal.returns-in-Some-refusal-clause-whole
+returns-in-Some-refusal-clause-whole g c = rw (← c.self.view_is) c.fetch-fetched.ensures.moved.whole
+
 -- ---- done
 
 pub invariant_of-self-2 : goal.invariant_of-self-2
@@ -302,13 +312,14 @@ invariant_of-self-2 g c =
     (ap (λ (s : Shape). s.disks) c.shape_in-shape.ensures ∙ sym (count-still a.members.newest here.still)) c.vacant_roles-before.ensures c.newly_vacant-roles.ensures in
     let named : IsNamedStill g.B.Bank.tells given tape tape' a.members m roles spares before after =
     record { moved = did.moved; since = since; grows = did.grows; clean = did.clean; rise = risen-told did.rise; others = did.others; safe = did.safe } in
+    let fetched = fetched-holds given tape a.members m a.work.resync c.shape_in-shape.result c.args.at (length c.as_mut_slice.result.now / 512) c.mended_rows-mended.result bytes c.shape_in-shape.ensures c.mended_rows-mended.ensures.rows same
+    (did.holds c.in_default-refusal.is) in
     with-buffers was.rows_fit (let len = (with_items a.buffer c.fetch-fetched.new.scratch).ok.0 in let ok = a.buffer.ok.0 in let fits = was.buffer_fits in omega (arith, len, ok, fits))
     (ready (entries_of c.args.who end (losses_of roles spares ++ Read c.args.at (sectors_of bytes) ∷ [])) was (rows-moved given a.members m did.moved)
     (read-stands g.B.Bank.tells given tape tape' scope a.epoch.first a.epoch.entries.items a.members m a.work (still_left a.work a.members a.ahead) (still_left a.work m a.ahead) c.args.who end roles spares before after
     was.kept does (begins-going a.epoch.entries.items c.args.who number) (not_254 c.args.who.caller c.requires.caller) c.ops-end-2.ensures.count named (left-alike a.work a.ahead roles spares before after did.moved since)
-    c.args.at bytes within (λ t. let all = seen was.kept was.unlimited t in omega (arith, all, within))
-    (fetched-holds given tape a.members m a.work.resync c.shape_in-shape.result c.args.at (length c.as_mut_slice.result.now / 512) c.mended_rows-mended.result bytes c.shape_in-shape.ensures c.mended_rows-mended.ensures.rows same
-    (did.holds c.in_default-refusal.is)))
+    c.args.at bytes within (λ t. let all = seen was.kept was.unlimited t in omega (arith, all, within)) fetched)
+    (plain-read was c.args.who end (begins-going a.epoch.entries.items c.args.who number) c.requires.caller c.ops-end-2.ensures.count did.grows did.moved since c.args.at bytes does within fetched)
     did.counts (behind-keeps c.args.who end roles spares (Read c.args.at (sectors_of bytes) ∷ []) (alone-keeps c.args.who end (Read c.args.at (sectors_of bytes)) (λ n. refl) refl))
     did.given (scope-same given a.backup did.given c.enter_behind-2.ensures.uuid c.enter_behind-2.ensures.given) c.enter_behind-2.ensures.first c.make_room.ensures.items
     (c.enter_behind-2.ensures.items ∙ ap (λ (b : List Sector). c.make_room.new.self.items ++ entries_of c.args.who end (losses_of roles spares ++ Read c.args.at b ∷ [])) (c.from_bytes-body.ensures ∙ ap sectors_of whole))
@@ -395,6 +406,9 @@ returns-clause-caused g c = rw (← c.self.view_is) c.in_default.ensures.why
 
 pub returns-clause-failed : goal.returns-clause-failed
 returns-clause-failed g c = rw (← c.self.view_is) c.fetch-fetched.ensures.failed.roles
+
+pub returns-clause-whole : goal.returns-clause-whole
+returns-clause-whole g c = rw (← c.self.view_is) c.fetch-fetched.ensures.moved.whole
 
 pub returns-clause-first : goal.returns-clause-first
 returns-clause-first g c = rw (← c.self.view_is) (sym c.in_default.ensures.first)

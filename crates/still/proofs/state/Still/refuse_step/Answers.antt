@@ -12,6 +12,8 @@ use Rattle.still_laws.proofs.running_words_Lengths.{alone-keeps}
 use Rattle.still_laws.proofs.Kept.{ready, rows-same}
 use Rattle.still_laws.proofs.Going.{still-going}
 use Rattle.still_laws.proofs.StepLaws.{shapes-same, stepped, step-refused, refused-going}
+use Rattle.superblocks.specs.Reading.{list_length}
+use Rattle.still_laws.proofs.PlainBehind.{step-here, here-plain}
 use Rattle.still.proofs.state.Still.refuse_step.Goals as goal
 
 pub invariant_of-self : goal.invariant_of-self
@@ -27,6 +29,8 @@ invariant_of-self g c =
     let end = c.ops-end.result in
     ready (entries_of c.args.who end (Refused c.args.refusal ∷ [])) was (rows-same a.members.newest)
     (refused-going c.args.who end c.args.refusal was.kept goes c.requires.caller c.ops-end.ensures.count why)
+    (here-plain was c.args.who end goes c.requires.caller c.ops-end.ensures.count (grows-none (λ t. refl)) c.args.refusal
+    (step-here given a.members was.kept.members_are.placed (list_length a.members.newest) c.args.refusal a.work.resync unmendable many))
     (λ slot. omega arith) (alone-keeps c.args.who end (Refused c.args.refusal) (λ n. refl) refl)
     refl (scope-same given a.backup refl c.enter.ensures.uuid c.enter.ensures.given) c.enter.ensures.first refl c.enter.ensures.items
     (omega (arith, c.enter.ensures.room, was.room_left, some))

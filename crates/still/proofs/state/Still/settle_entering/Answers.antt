@@ -19,6 +19,9 @@ use Rattle.still_laws.proofs.Asking.{many-alone}
 use Rattle.still_laws.proofs.Kept.{ready, rows-same, rows-moved}
 use Rattle.still_laws.proofs.Left.{left-alike}
 use Rattle.still_laws.proofs.Settled.{settled-stands, left-settled, settling-keeps}
+use Rattle.superblocks.specs.Reading.{list_length}
+use Rattle.array_kept.proofs.DegradedLaws.{too-many-here}
+use Rattle.still_laws.proofs.PlainBehind.{plain-refused, plain-settled, here-plain}
 use Rattle.still.proofs.state.Still.settle_entering.Goals as goal
 
 pub overflow_cast-count : goal.overflow_cast-count
@@ -57,6 +60,8 @@ invariant_of-self-in-Some g c =
     let refusal = c.in-Some.refusal in
     ready (entries_of c.args.who end (Refused refusal ∷ [])) was (rows-same a.members.newest)
     (many-alone c.args.who end was.kept number c.requires.caller c.ops-end.ensures.count refusal c.in-Some.ensures)
+    (here-plain was c.args.who end (begins-going a.epoch.entries.items c.args.who number) c.requires.caller c.ops-end.ensures.count (grows-none (λ t. refl)) refusal
+    (too-many-here (list_length a.members.newest) a.work.resync a.members refusal c.in-Some.ensures))
     (λ slot. omega arith) (alone-keeps c.args.who end (Refused refusal) (λ n. refl) refl)
     refl (scope-same given a.backup refl c.enter.ensures.uuid c.enter.ensures.given) c.enter.ensures.first c.make_room.ensures.items c.enter.ensures.items
     (omega (arith, c.enter.ensures.room, c.in-Ok.ensures.ok))
@@ -111,6 +116,8 @@ invariant_of-self-in-Some-refusal g c =
     (without-left given a.members here.placed here.unlost c.in_default.ensures) (begins-going a.epoch.entries.items c.args.who number) (not_254 c.args.who.caller c.requires.caller) c.ops-end-2.ensures.count
     (all-mended a.members a.work.resync c.is_some.result c.is_some.ensures) flushed left' refusal (many-of m c.settle-settled.result.refusal refusal c.in-Some-refusal.is did.refused)
     (left-alike a.work a.ahead roles spares before after did.moved since))
+    (plain-refused was c.args.who end (begins-going a.epoch.entries.items c.args.who number) c.requires.caller c.ops-end-2.ensures.count did.grows did.moved since refusal
+    (too-many-here (list_length a.members.newest) a.work.resync m refusal (many-of m c.settle-settled.result.refusal refusal c.in-Some-refusal.is did.refused)))
     did.counts (behind-keeps c.args.who end roles spares (Refused refusal ∷ []) (alone-keeps c.args.who end (Refused refusal) (λ n. refl) refl))
     did.given (scope-same given a.backup did.given c.enter_behind.ensures.uuid c.enter_behind.ensures.given) c.enter_behind.ensures.first c.make_room.ensures.items c.enter_behind.ensures.items
     (omega (arith, c.enter_behind.ensures.room, c.in-Ok.ensures.ok))
@@ -144,6 +151,9 @@ returns-in-Some-refusal-clause-others g c = rw (← c.self.view_is) c.settle-set
 pub returns-in-Some-refusal-clause-failed : goal.returns-in-Some-refusal-clause-failed
 returns-in-Some-refusal-clause-failed g c = rw (← c.self.view_is) c.settle-settled.ensures.failed.roles
 
+pub returns-in-Some-refusal-clause-whole : goal.returns-in-Some-refusal-clause-whole
+returns-in-Some-refusal-clause-whole g c = rw (← c.self.view_is) c.settle-settled.ensures.moved.whole
+
 -- ---- it is done
 
 pub invariant_of-self-2 : goal.invariant_of-self-2
@@ -171,6 +181,7 @@ invariant_of-self-2 g c =
     (begins-going a.epoch.entries.items c.args.who number) (not_254 c.args.who.caller c.requires.caller) c.ops-end-2.ensures.count c.is_some.ensures flushed
     (record { clean = did.clean c.in_default-refusal.is; stays = did.stays; settled = did.settled c.in_default-refusal.is })
     (left-alike a.work a.ahead roles spares before after did.moved since))
+    (plain-settled was c.args.who end (begins-going a.epoch.entries.items c.args.who number) c.requires.caller c.ops-end-2.ensures.count did.grows did.moved since c.args.event c.requires.event)
     did.counts (behind-keeps c.args.who end roles spares (c.args.event ∷ []) (settling-keeps c.args.who end c.args.event c.requires.event))
     did.given (scope-same given a.backup did.given c.enter_behind-2.ensures.uuid c.enter_behind-2.ensures.given) c.enter_behind-2.ensures.first c.make_room.ensures.items c.enter_behind-2.ensures.items
     (omega (arith, c.enter_behind-2.ensures.room, c.in-Ok.ensures.ok))
@@ -222,6 +233,9 @@ returns-clause-others g c = rw (← c.self.view_is) c.settle-settled.ensures.oth
 
 pub returns-clause-failed : goal.returns-clause-failed
 returns-clause-failed g c = rw (← c.self.view_is) c.settle-settled.ensures.failed.roles
+
+pub returns-clause-whole : goal.returns-clause-whole
+returns-clause-whole g c = rw (← c.self.view_is) c.settle-settled.ensures.moved.whole
 
 pub returns-clause-flushed : goal.returns-clause-flushed
 returns-clause-flushed g c = rw (← c.self.view_is) c.settle-settled.ensures.flushed

@@ -9,9 +9,15 @@ use Rattle.array_kept.proofs.LossLaws.{ended-behind}
 use Rattle.array_kept.proofs.ReadyLaws.{scope-same}
 use Rattle.still_laws.specs.running_words_Parts.{still_left}
 use Rattle.still_laws.proofs.running_words_Lengths.{alone-keeps}
-use Rattle.still_laws.proofs.Kept.{ready, rows-same}
+use Rattle.still_laws.proofs.Kept.{ready, rows-same, roomier}
 use Rattle.still_laws.proofs.Asking.{status-same, shown-stands}
+use Rattle.views.proofs.MovedLaws.{grows-none}
+use Rattle.kept_history.proofs.Records.{begins-going}
+use Rattle.still_laws.proofs.PlainBehind.{shown-plain}
 use Rattle.still.proofs.state.Still.status.Goals as goal
+
+pub invariant_of-self : goal.invariant_of-self
+invariant_of-self g c = roomier c.self.invariant c.make_room.ensures.items c.make_room.ensures.keeps
 
 pub invariant_of-self-2 : goal.invariant_of-self-2
 invariant_of-self-2 g c =
@@ -22,6 +28,8 @@ invariant_of-self-2 g c =
     let steps : c.in-Ok.shown.left ≡ still_left a.work a.members a.ahead = c.in-Ok.ensures.left ∙ ap (λ p. still_left p.parts.work p.parts.members p.ahead) (sym c.self.view_is) in
     ready (entries_of c.args.who c.ops-end.result (Shown c.in-Ok.shown ∷ [])) was (rows-same a.members.newest)
     (shown-stands c.args.who c.ops-end.result was.kept number c.requires.caller c.ops-end.ensures.count c.in-Ok.shown steps)
+    (shown-plain was c.args.who c.ops-end.result (begins-going a.epoch.entries.items c.args.who number) c.requires.caller c.ops-end.ensures.count (grows-none (λ t. refl)) c.in-Ok.shown steps
+    (c.in-Ok.ensures.spares ∙ ap (λ p. p.parts.members.spares) (sym c.self.view_is)))
     (λ slot. omega arith) (alone-keeps c.args.who c.ops-end.result (Shown c.in-Ok.shown) (λ n. refl) refl)
     refl (scope-same given a.backup refl c.enter.ensures.uuid c.enter.ensures.given) c.enter.ensures.first c.make_room.ensures.items c.enter.ensures.items
     (omega (arith, c.enter.ensures.room, c.in-Ok-make_room.ensures.ok))

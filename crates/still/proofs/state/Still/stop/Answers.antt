@@ -5,7 +5,9 @@ use Rattle.flat_history.specs.Growing.{EndBy}
 use Rattle.array_kept.specs.Calls.{IsEndOf}
 use Rattle.history_calls.specs.Reliable.{IsReliable}
 use Rattle.still_laws.specs.running_words_Calls.{IsEpochKept}
+use Rattle.still_laws.specs.running_words_Plans.{KeepsShape}
 use Rattle.still_laws.specs.running_words_Still.{AreLeftSettled}
+use Rattle.still_laws.specs.Plain.{IsPlainEpoch}
 use Rattle.still.proofs.state.Still.stop.Goals as goal
 
 pub returns-in-Ok-clause-right : goal.returns-in-Ok-clause-right
@@ -14,6 +16,13 @@ returns-in-Ok-clause-right g c = λ t.
     let epoch = c.bank_and_epoch.result.1 in
     subst (λ (b : Option ℕ). IsReliable (world_of (g.B.Bank.given bank) (g.B.Bank.tape bank) b epoch) epoch.entries.items → IsEpochKept (g.B.Bank.given bank) (g.B.Bank.tape bank) b epoch)
     c.in-Ok.ensures.called.same.array.backup (c.bank_and_epoch.ensures.right t (c.in-Ok.ensures.last t))
+
+pub returns-in-Ok-clause-plain : goal.returns-in-Ok-clause-plain
+returns-in-Ok-clause-plain g c = λ t.
+    let bank = c.bank_and_epoch.result.0 in
+    let epoch = c.bank_and_epoch.result.1 in
+    subst (λ (b : Option ℕ). KeepsShape (world_of (g.B.Bank.given bank) (g.B.Bank.tape bank) b epoch) epoch.entries.items → IsPlainEpoch (g.B.Bank.given bank) (g.B.Bank.tape bank) b epoch)
+    c.in-Ok.ensures.called.same.array.backup (c.bank_and_epoch.ensures.plain t)
 
 pub returns-in-Ok-clause-never_falls : goal.returns-in-Ok-clause-never_falls
 returns-in-Ok-clause-never_falls g c = λ slot.

@@ -1,4 +1,4 @@
-use Rattle.std.proofs.Common.{◌≡◌, ◌≤◌, ◌<◌, true, [], ◌∷◌, ◌++◌, Some, inl, refl, sym, ◌∙◌, ap, subst, arith}
+use Rattle.std.proofs.Common.{◌≡◌, ◌≤◌, ◌<◌, true, [], ◌∷◌, ◌++◌, Some, inl, inr, refl, sym, ◌∙◌, ap, subst, arith}
 use Rattle.md_base.specs.declared.places.Shape.{Shape}
 use Rattle.layout.proofs.Limits.{limited}
 use Rattle.superblocks.specs.Reading.{shape_of, list_length}
@@ -28,13 +28,15 @@ use Rattle.kept_history.specs.Recorded.{IsCallGoing}
 use Rattle.still_laws.specs.still_kept_Still.{IsStill}
 use Rattle.still_laws.proofs.still_kept_Rebuilding.{IsTaken}
 use Rattle.still_laws.specs.running_words_Parts.{still_left}
-use Rattle.still_laws.specs.Steps.{MayLeaveNone}
+use Rattle.still_laws.specs.running_words_Calls.{moving_world}
+use Rattle.still_laws.specs.running_words_Plans.{ArePlansKept}
 use Rattle.still_laws.proofs.running_words_Called.{risen-told}
 use Rattle.still_laws.proofs.running_words_Lengths.{alone-keeps, behind-keeps}
 use Rattle.still_laws.proofs.Kept.{ready, rows-moved}
 use Rattle.still_laws.proofs.Going.{step-going}
 use Rattle.still_laws.proofs.StepLaws.{shapes-moved, planned-same, stepped, stepped-more, fewer-more}
 use Rattle.still_laws.proofs.RebuildLaws.{taken-less, take-done}
+use Rattle.still_laws.proofs.PlainSteps.{taken-plain}
 use Rattle.still.proofs.state.Still.take_role.Goals as goal
 
 -- ---- refused before anything is done
@@ -94,16 +96,16 @@ invariant_of-self g c =
     let given = g.B.Bank.given a.bank in
     let goes : IsCallGoing a.epoch.entries.items c.args.who = subst (λ p. IsCallGoing p.parts.entries c.args.who) (sym c.self.view_is) c.requires.open in
     let some : 1 ≤ a.steps = subst (λ p. 1 ≤ p.parts.steps) (sym c.self.view_is) c.requires.room in
-    let plans = subst (λ p. MayLeaveNone p) (sym c.self.view_is) c.requires.plans in
-    let did = c.give_role-spares.ensures in
-    let m = c.give_role-spares.new.members in
+    let plans = subst (λ p. ArePlansKept g.B.Bank.tells (moving_world (g.B.Bank.given p.parts.bank) (g.B.Bank.tape p.parts.bank) p) p) (sym c.self.view_is) c.requires.plans in
+    let did = c.give_and_name-spares.ensures in
+    let m = c.give_and_name-spares.new.members in
     let before = g.B.Bank.faults_of a.bank in
-    let after = g.B.Bank.faults_of c.give_role-spares.new.bank in
+    let after = g.B.Bank.faults_of c.give_and_name-spares.new.bank in
     let roles = c.newly_vacant-roles.result in
-    let spares = c.give_role-spares.result in
+    let spares = c.give_and_name-spares.result in
     let end = c.ops-end.result in
     let tape = g.B.Bank.tape a.bank in
-    let tape' = g.B.Bank.tape c.give_role-spares.new.bank in
+    let tape' = g.B.Bank.tape c.give_and_name-spares.new.bank in
     let role = c.args.role in
     let slot = c.args.slot in
     let below : role < (shape_of a.members.newest).disks = subst (λ p. role < (shape_of p.parts.members.newest).disks) (sym c.self.view_is) c.requires.role in
@@ -124,6 +126,7 @@ invariant_of-self g c =
       since = since;
       grows = did.grows;
       clean = did.clean;
+      missing = did.missing;
       rise = risen-told did.rise;
       others = did.others;
       safe = did.safe;
@@ -134,7 +137,7 @@ invariant_of-self g c =
     let kept = subst (λ (w : Work). IsStill g.B.Bank.tells given tape' (scope_in given a.epoch.uuid a.epoch.given a.backup) a.epoch.first (a.epoch.entries.items ++ entries_of c.args.who end (losses_of roles spares ++ Step RebuildTaken left ∷ [])) m w (still_left w m a.ahead)) (sym next)
     (take-done a.ahead c.args.who end role slot roles spares was.kept c.in_default.ensures goes c.requires.caller c.ops-end.ensures.count c.set_rebuilt.ensures.known leaves left told plans) in
     ready (entries_of c.args.who end (losses_of roles spares ++ Step RebuildTaken left ∷ [])) was (rows-moved given (with_recovering role slot a.members) m did.moved)
-    kept
+    kept (taken-plain was c.args.who end c.in_default.ensures goes c.requires.caller c.ops-end.ensures.count c.set_rebuilt.ensures.known leaves left told)
     did.counts (behind-keeps c.args.who end roles spares (Step RebuildTaken left ∷ []) (alone-keeps c.args.who end (Step RebuildTaken left) (λ n. refl) refl))
     did.given (scope-same given a.backup did.given c.enter_behind.ensures.uuid c.enter_behind.ensures.given) c.enter_behind.ensures.first refl c.enter_behind.ensures.items
     (omega (arith, c.enter_behind.ensures.room, was.room_left, some))
@@ -145,12 +148,12 @@ returns-clause-stepped g c =
     let here = was.kept.members_are in
     let a = c.self.inside in
     let given = g.B.Bank.given a.bank in
-    let did = c.give_role-spares.ensures in
-    let m = c.give_role-spares.new.members in
+    let did = c.give_and_name-spares.ensures in
+    let m = c.give_and_name-spares.new.members in
     let before = g.B.Bank.faults_of a.bank in
-    let after = g.B.Bank.faults_of c.give_role-spares.new.bank in
+    let after = g.B.Bank.faults_of c.give_and_name-spares.new.bank in
     let roles = c.newly_vacant-roles.result in
-    let spares = c.give_role-spares.result in
+    let spares = c.give_and_name-spares.result in
     let end = c.ops-end.result in
     let role = c.args.role in
     let slot = c.args.slot in
@@ -166,7 +169,7 @@ returns-clause-stepped g c =
     c.newly_vacant-roles.ensures in
     let event = Step RebuildTaken c.all_left-left.result in
     rw (← c.self.view_is) (stepped did.grows (shapes-moved did.moved)
-    (ended-behind (g.B.Bank.tape c.give_role-spares.new.bank) c.enter_behind.new.epoch.first a.epoch.entries.items c.args.who end (losses_of roles spares) event c.enter_behind.ensures.items c.ops-end.ensures.count)
+    (ended-behind (g.B.Bank.tape c.give_and_name-spares.new.bank) c.enter_behind.new.epoch.first a.epoch.entries.items c.args.who end (losses_of roles spares) event c.enter_behind.ensures.items c.ops-end.ensures.count)
     (λ r s held. did.failed.roles r s (taken-held given a.members here.placed role slot to r s held))
     (losses-before (IsHeldOrGiven a.members role slot) (with_recovering role slot a.members) m (taken-by given a.members here.placed role slot to) before after a.epoch.entries.items a.epoch.entries.items c.enter_behind.new.epoch.entries.items c.args.who end
     roles spares since refl event tt c.enter_behind.ensures.items)
@@ -186,7 +189,7 @@ returns-clause-taken g c =
     let vacant : is_vacant (reading_of a.members) role ≡ true = subst (λ p. is_vacant (reading_of p.parts.members) role ≡ true) (sym c.self.view_is) c.requires.vacant in
     let spare : has_spare a.members.spares slot ≡ true = subst (λ p. has_spare p.parts.members.spares slot ≡ true) (sym c.self.view_is) c.requires.spare in
     let to = receiver-spare given a.members here.placed here.free role slot below vacant spare in
-    taken-after given a.members here.placed role slot to c.give_role-spares.new.members c.give_role-spares.ensures.moved
+    taken-after given a.members here.placed role slot to c.give_and_name-spares.new.members c.give_and_name-spares.ensures.moved
 
 pub returns-clause-held : goal.returns-clause-held
 returns-clause-held g c =
@@ -200,7 +203,7 @@ returns-clause-held g c =
     let vacant : is_vacant (reading_of a.members) role ≡ true = subst (λ p. is_vacant (reading_of p.parts.members) role ≡ true) (sym c.self.view_is) c.requires.vacant in
     let spare : has_spare a.members.spares slot ≡ true = subst (λ p. has_spare p.parts.members.spares slot ≡ true) (sym c.self.view_is) c.requires.spare in
     let to = receiver-spare given a.members here.placed here.free role slot below vacant spare in
-    let did = c.give_role-spares.ensures in
+    let did = c.give_and_name-spares.ensures in
     rw (← c.self.view_is) (record {
       roles = λ r s held. taken-before given a.members here.placed role slot to spare r s (did.moved.held r s held);
       spares = λ s has. (spare-before given a.members here.placed (Some 0) role slot to s (did.moved.fewer s has)).0;
@@ -213,15 +216,15 @@ returns-clause-left g c =
     let a = c.self.inside in
     let given = g.B.Bank.given a.bank in
     let goes : IsCallGoing a.epoch.entries.items c.args.who = subst (λ p. IsCallGoing p.parts.entries c.args.who) (sym c.self.view_is) c.requires.open in
-    let did = c.give_role-spares.ensures in
-    let m = c.give_role-spares.new.members in
+    let did = c.give_and_name-spares.ensures in
+    let m = c.give_and_name-spares.new.members in
     let before = g.B.Bank.faults_of a.bank in
-    let after = g.B.Bank.faults_of c.give_role-spares.new.bank in
+    let after = g.B.Bank.faults_of c.give_and_name-spares.new.bank in
     let roles = c.newly_vacant-roles.result in
-    let spares = c.give_role-spares.result in
+    let spares = c.give_and_name-spares.result in
     let end = c.ops-end.result in
     let tape = g.B.Bank.tape a.bank in
-    let tape' = g.B.Bank.tape c.give_role-spares.new.bank in
+    let tape' = g.B.Bank.tape c.give_and_name-spares.new.bank in
     let role = c.args.role in
     let slot = c.args.slot in
     let below : role < (shape_of a.members.newest).disks = subst (λ p. role < (shape_of p.parts.members.newest).disks) (sym c.self.view_is) c.requires.role in
@@ -242,6 +245,7 @@ returns-clause-left g c =
       since = since;
       grows = did.grows;
       clean = did.clean;
+      missing = did.missing;
       rise = risen-told did.rise;
       others = did.others;
       safe = did.safe;
@@ -260,4 +264,7 @@ returns-clause-caused g c = rw (← c.self.view_is) (omega arith, λ refusal man
 -- ---- the call goes on
 
 pub returns-clause-open : goal.returns-clause-open
-returns-clause-open g c = step-going c.args.who c.ops-end.result c.newly_vacant-roles.result c.give_role-spares.result (Step RebuildTaken c.all_left-left.result) c.requires.open tt (ap (λ p. p.parts.entries) c.self.view_is) c.enter_behind.ensures.items
+returns-clause-open g c = step-going c.args.who c.ops-end.result c.newly_vacant-roles.result c.give_and_name-spares.result (Step RebuildTaken c.all_left-left.result) c.requires.open tt (ap (λ p. p.parts.entries) c.self.view_is) c.enter_behind.ensures.items
+
+pub returns-clause-closable : goal.returns-clause-closable
+returns-clause-closable g c = λ none. inr (inl c.give_and_name-spares.ensures.missing)

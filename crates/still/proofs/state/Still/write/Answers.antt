@@ -34,6 +34,7 @@ use Rattle.still_laws.proofs.running_words_Called.{not_254, called, alone-lossle
 use Rattle.still_laws.proofs.running_words_Lengths.{alone-keeps, behind-keeps, failure-keeps}
 use Rattle.still_laws.proofs.Asking.{refused-alone}
 use Rattle.still_laws.proofs.Kept.{ready, rows-same, rows-moved, with-buffers}
+use Rattle.still_laws.proofs.PlainBehind.{unwritten-plain, put-plain, plain-wrote, plain-unwritten, first-plain}
 use Rattle.still_laws.proofs.Left.{left-alike}
 use Rattle.still_laws.proofs.Reading.{seen, unwritten-still, refused-first}
 use Rattle.still_laws.proofs.Writing.{put-still, written-still, failed-stands}
@@ -53,6 +54,9 @@ invariant_of-self-in-Some g c =
     (refused-alone c.args.who c.ops-end.result was.kept number c.requires.caller c.ops-end.ensures.count refusal
     (refused-first was.kept was.unlimited to (IsUnwritten (shape_of a.members.newest) (are_mended (shape_of a.members.newest) (mended_rows a.work.resync a.members) to)) refusal
     (λ within. unwritten-still given a.members was.kept.members_are a.work.resync to refusal within) c.in-Some.ensures.why))
+    (first-plain was c.args.who c.ops-end.result (begins-going a.epoch.entries.items c.args.who number) c.requires.caller c.ops-end.ensures.count (grows-none (λ t. refl)) to
+    (IsUnwritten (shape_of a.members.newest) (are_mended (shape_of a.members.newest) (mended_rows a.work.resync a.members) to)) refusal
+    (λ within. unwritten-plain given a.members was.kept.members_are a.work.resync (list_length a.members.newest) to refusal within) c.in-Some.ensures.why)
     (λ slot. omega arith) (alone-keeps c.args.who c.ops-end.result (Refused refusal) (λ n. refl) refl)
     refl (scope-same given a.backup refl c.enter.ensures.uuid c.enter.ensures.given) c.enter.ensures.first c.make_room.ensures.items c.enter.ensures.items
     (omega (arith, c.enter.ensures.room, c.in-Ok-make_room.ensures.ok))
@@ -149,6 +153,11 @@ invariant_of-self-in-Some-refusal g c =
     (λ t. let all = seen was.kept was.unlimited t in let within = c.in_default.ensures.why.0 in omega (arith, all, within)) put
     (some-of (IsUnwritten shape synced m) c.put-done.result.refusal refusal c.in-Some-refusal.is did.refused)
     (λ begun. some-of (LacksTooMany shape m) c.put-done.result.refusal refusal c.in-Some-refusal.is (did.torn begun)) did.untouched)
+    (plain-unwritten was c.args.who end (begins-going a.epoch.entries.items c.args.who number) c.requires.caller c.ops-end-2.ensures.count did.grows did.moved since c.args.at from shape torn refusal c.in_default.ensures.why.0
+    (c.shape_in-shape.ensures ∙ sym did.moved.shape)
+    (put-plain given a.members m here did.moved a.work.resync (list_length a.members.newest) (c.args.at + length from / 512) shape synced refusal c.shape_in-shape.ensures asked c.in_default.ensures.why.0
+    (some-of (IsUnwritten shape synced m) c.put-done.result.refusal refusal c.in-Some-refusal.is did.refused))
+    (λ begun. some-of (LacksTooMany shape m) c.put-done.result.refusal refusal c.in-Some-refusal.is (did.torn begun)))
     did.counts (failure-keeps c.args.who end roles spares torn c.args.at body refusal)
     did.given (scope-same given a.backup did.given c.enter_failure.ensures.uuid c.enter_failure.ensures.given) c.enter_failure.ensures.first c.make_room.ensures.items
     (c.enter_failure.ensures.items ∙ ap (λ (b : List Sector). c.make_room.new.self.items ++ entries_of c.args.who end (failure_events roles spares torn c.args.at b refusal)) c.in-Ok.ensures)
@@ -210,6 +219,9 @@ returns-in-Some-refusal-clause-first g c =
 
 pub returns-in-Some-refusal-clause-failed : goal.returns-in-Some-refusal-clause-failed
 returns-in-Some-refusal-clause-failed g c = rw (← c.self.view_is) c.put-done.ensures.failed.roles
+
+pub returns-in-Some-refusal-clause-whole : goal.returns-in-Some-refusal-clause-whole
+returns-in-Some-refusal-clause-whole g c = rw (← c.self.view_is) c.put-done.ensures.moved.whole
 
 pub returns-in-Some-refusal-clause-called : goal.returns-in-Some-refusal-clause-called
 returns-in-Some-refusal-clause-called g c =
@@ -273,6 +285,7 @@ invariant_of-self-2 g c =
     (wrote-stands g.B.Bank.tells given tape tape' scope a.epoch.first a.epoch.entries.items a.members m a.work (still_left a.work a.members a.ahead) (still_left a.work m a.ahead) c.args.who end roles spares before after c.args.at from c.put-done.result.begun
     was.kept does (begins-going a.epoch.entries.items c.args.who number) (not_254 c.args.who.caller c.requires.caller) c.ops-end-2.ensures.count (left-alike a.work a.ahead roles spares before after did.moved since) c.in_default.ensures.why.0
     (λ t. let all = seen was.kept was.unlimited t in let within = c.in_default.ensures.why.0 in omega (arith, all, within)) put written c.requires.whole bytes)
+    (plain-wrote was c.args.who end (begins-going a.epoch.entries.items c.args.who number) c.requires.caller c.ops-end-2.ensures.count did.grows did.moved since c.args.at from c.in_default.ensures.why.0)
     did.counts (behind-keeps c.args.who end roles spares (Wrote c.args.at body ∷ []) (alone-keeps c.args.who end (Wrote c.args.at body) (λ n. refl) refl))
     did.given (scope-same given a.backup did.given c.enter_behind.ensures.uuid c.enter_behind.ensures.given) c.enter_behind.ensures.first c.make_room.ensures.items
     (c.enter_behind.ensures.items ∙ ap (λ (b : List Sector). c.make_room.new.self.items ++ entries_of c.args.who end (losses_of roles spares ++ Wrote c.args.at b ∷ [])) c.in-Ok.ensures)
@@ -320,6 +333,9 @@ returns-clause-caused g c = rw (← c.self.view_is) c.in_default.ensures.why
 
 pub returns-clause-failed : goal.returns-clause-failed
 returns-clause-failed g c = rw (← c.self.view_is) c.put-done.ensures.failed.roles
+
+pub returns-clause-whole : goal.returns-clause-whole
+returns-clause-whole g c = rw (← c.self.view_is) c.put-done.ensures.moved.whole
 
 pub returns-clause-first : goal.returns-clause-first
 returns-clause-first g c = rw (← c.self.view_is) (sym c.in_default.ensures.first)

@@ -1,21 +1,23 @@
-use Rattle.std.proofs.Common.{◌≡◌, false, List, length, sym, ◌∙◌, ap, subst, arith}
+use Rattle.std.proofs.Common.{◌≡◌, false, List, [], length, sym, ◌∙◌, ap, subst, arith}
 use Rattle.bank.specs.declared.bank.Operation.{Operation}
 use Rattle.bank.specs.Given.{Given}
 use Rattle.bank.specs.Tape.{contents}
 use Rattle.superblocks.specs.Reading.{is_reshaping}
 use Rattle.row_io.specs.Rows.{present}
 use Rattle.views.specs.Flushing.{OnlyItsSlotsFail}
-use Rattle.array_kept.specs.Adopting.{IsAdoptable}
+use Rattle.array_kept.specs.Adopting.{IsAdoptable, IsAdopted}
+use Rattle.grow_asked.specs.Left.{phases_of}
 use Rattle.assemble.specs.declared.opening.Opened.{Opened}
 use Rattle.assemble.specs.Opening.{scope_of, HasFoundNone}
 use Rattle.assemble.proofs.PlacedFound.{placed-found, unlost-found, free-found}
 use Rattle.assemble.proofs.Adopting.{adoptable}
 use Rattle.assemble.proofs.RunningLaws.{slots-failed, ok-then}
 use Rattle.moving_opens.specs.Opening.{AreOpenedMoving}
-use Rattle.openings.specs.Adopted.{IsNotAdopted}
-use Rattle.openings.specs.Found.{IsStillRun, IsMovingRun, IsArrayFound, bank_of}
+use Rattle.openings.specs.Adopted.{IsMovingAdopted, IsNotAdopted}
+use Rattle.openings.specs.Found.{IsRunningFound}
+use Rattle.openings.proofs.Aside.{found-aside}
 use Rattle.openings.proofs.FoundArrays.{ok-both, err-then, err-both, opened-still, still-found, found-there, moving-found, counts-both, none-found, not-adopted}
-use Rattle.openings.proofs.finding.open_array.Goals as goal
+use Rattle.openings.proofs.finding.open_running.Goals as goal
 
 pub run_moving-requires-clause-opened : goal.run_moving-requires-clause-opened
 run_moving-requires-clause-opened g c =
@@ -45,6 +47,14 @@ run_still-requires-clause-adoptable g c =
     (unlost-found bank c.requires.few opened.members found.found.elected still found.writable found.counted opened.given found.own found.found.lost)
     (free-found bank c.requires.few opened.members found.found.elected still found.writable found.counted opened.given found.own found.found.lost))
 
+pub run_still-requires-clause-aside : goal.run_still-requires-clause-aside
+run_still-requires-clause-aside g c =
+    let bank : Given = g.B.Bank.given c.args.bank in
+    let tape : List Operation = g.B.Bank.tape c.find.new.bank in
+    let opened : Opened = c.in-Ok.found in
+    let found = c.in-Ok.ensures in
+    found-aside bank (contents bank.start tape (length tape)) c.args.backup c.args.uuid opened c.requires.few found.found (sym c.is_reshaping.ensures ∙ c.if-is_reshaping.false) found.aside found.writable found.own found.counted
+
 pub returns-else-is_reshaping-clause-found : goal.returns-else-is_reshaping-clause-found
 returns-else-is_reshaping-clause-found g c =
     let tells = g.B.Bank.tells in
@@ -53,11 +63,11 @@ returns-else-is_reshaping-clause-found g c =
     let opened : Opened = c.in-Ok.found in
     let found = c.in-Ok.ensures in
     ok-then c.run_still.result
-    (λ run. IsStillRun tells c.find.new.bank tape opened.given c.args.backup opened.members run)
-    (λ run. IsArrayFound tells bank (g.B.Bank.tape (bank_of run)) c.args.backup c.args.uuid (g.B.Bank.faults_of c.args.bank) (g.B.Bank.faults_of (bank_of run)) run)
-    (still-found g.B.Bank.tape g.B.Bank.faults_of c.find.new.bank bank c.args.backup c.args.uuid (g.B.Bank.faults_of c.args.bank) opened
-    (opened-still bank (contents bank.start tape (length tape)) c.args.backup c.args.uuid opened found.found (sym c.is_reshaping.ensures ∙ c.if-is_reshaping.false)) found.given found.named)
-    c.run_still.ensures.run
+    (λ run. IsAdopted tells c.find.new.bank tape opened.given c.args.backup opened.members run.parts × (phases_of run.ahead ≡ []))
+    (λ run. IsRunningFound tells bank (g.B.Bank.tape run.parts.bank) c.args.backup c.args.uuid (g.B.Bank.faults_of c.args.bank) (g.B.Bank.faults_of run.parts.bank) run)
+    (λ run did. still-found g.B.Bank.tape g.B.Bank.faults_of c.find.new.bank bank c.args.backup c.args.uuid (g.B.Bank.faults_of c.args.bank) opened
+    (opened-still bank (contents bank.start tape (length tape)) c.args.backup c.args.uuid opened found.found (sym c.is_reshaping.ensures ∙ c.if-is_reshaping.false)) found.given found.named run did.0 did.1)
+    (ok-both (λ run. IsAdopted tells c.find.new.bank tape opened.given c.args.backup opened.members run.parts) (λ run. phases_of run.ahead ≡ []) c.run_still.result c.run_still.ensures.run c.run_still.ensures.planless)
 
 pub returns-in-Some-clause-found : goal.returns-in-Some-clause-found
 returns-in-Some-clause-found g c =
@@ -68,25 +78,25 @@ returns-in-Some-clause-found g c =
     let found = c.in-Ok.ensures in
     let did = c.run_moving.ensures in
     ok-then c.run_moving.result
-    (λ run. IsMovingRun tells (g.B.Bank.given c.find.new.bank) tape opened.given c.in-Some.slot opened.members run
-    × ((tells → g.B.Bank.tape (bank_of run) ≡ tape) × OnlyItsSlotsFail (g.B.Bank.given c.find.new.bank) (g.B.Bank.faults_of c.find.new.bank) (g.B.Bank.faults_of (bank_of run))))
-    (λ run. IsArrayFound tells bank (g.B.Bank.tape (bank_of run)) c.args.backup c.args.uuid (g.B.Bank.faults_of c.args.bank) (g.B.Bank.faults_of (bank_of run)) run)
+    (λ run. IsMovingAdopted tells (g.B.Bank.given c.find.new.bank) tape opened.given c.in-Some.slot opened.members run
+    × ((tells → g.B.Bank.tape run.parts.bank ≡ tape) × OnlyItsSlotsFail (g.B.Bank.given c.find.new.bank) (g.B.Bank.faults_of c.find.new.bank) (g.B.Bank.faults_of run.parts.bank)))
+    (λ run. IsRunningFound tells bank (g.B.Bank.tape run.parts.bank) c.args.backup c.args.uuid (g.B.Bank.faults_of c.args.bank) (g.B.Bank.faults_of run.parts.bank) run)
     (λ run now. moving-found g.B.Bank.tape g.B.Bank.faults_of bank tape c.in-Some.slot c.args.backup c.in-Some.is c.args.uuid (g.B.Bank.faults_of c.args.bank) (g.B.Bank.faults_of c.find.new.bank) opened found.found
     (found-there bank tape c.in-Some.slot c.args.backup c.in-Some.is c.args.uuid opened c.requires.few found.found (sym c.is_reshaping.ensures ∙ c.if-is_reshaping.true) found.aside found.writable found.own found.counted
     found.given.known found.sectors found.flushed) c.find.ensures.counts.never_falls found.given found.named run now.1.0 now.1.1.never_falls
-    (subst (λ (b : Given). IsMovingRun tells b tape opened.given c.in-Some.slot opened.members run) c.find.ensures.slots now.0))
-    (ok-both (λ run. IsMovingRun tells (g.B.Bank.given c.find.new.bank) tape opened.given c.in-Some.slot opened.members run)
-    (λ run. (tells → g.B.Bank.tape (bank_of run) ≡ tape) × OnlyItsSlotsFail (g.B.Bank.given c.find.new.bank) (g.B.Bank.faults_of c.find.new.bank) (g.B.Bank.faults_of (bank_of run)))
-    c.run_moving.result did.run (ok-both (λ run. tells → g.B.Bank.tape (bank_of run) ≡ tape)
-    (λ run. OnlyItsSlotsFail (g.B.Bank.given c.find.new.bank) (g.B.Bank.faults_of c.find.new.bank) (g.B.Bank.faults_of (bank_of run))) c.run_moving.result did.tape did.counts))
+    (subst (λ (b : Given). IsMovingAdopted tells b tape opened.given c.in-Some.slot opened.members run) c.find.ensures.slots now.0))
+    (ok-both (λ run. IsMovingAdopted tells (g.B.Bank.given c.find.new.bank) tape opened.given c.in-Some.slot opened.members run)
+    (λ run. (tells → g.B.Bank.tape run.parts.bank ≡ tape) × OnlyItsSlotsFail (g.B.Bank.given c.find.new.bank) (g.B.Bank.faults_of c.find.new.bank) (g.B.Bank.faults_of run.parts.bank))
+    c.run_moving.result did.run (ok-both (λ run. tells → g.B.Bank.tape run.parts.bank ≡ tape)
+    (λ run. OnlyItsSlotsFail (g.B.Bank.given c.find.new.bank) (g.B.Bank.faults_of c.find.new.bank) (g.B.Bank.faults_of run.parts.bank)) c.run_moving.result did.tape did.counts))
 
 pub returns-in-Some-clause-counts : goal.returns-in-Some-clause-counts
 returns-in-Some-clause-counts g c =
     let bank : Given = g.B.Bank.given c.args.bank in
-    ok-then c.run_moving.result (λ run. OnlyItsSlotsFail (g.B.Bank.given c.find.new.bank) (g.B.Bank.faults_of c.find.new.bank) (g.B.Bank.faults_of (bank_of run)))
-    (λ run. OnlyItsSlotsFail bank (g.B.Bank.faults_of c.args.bank) (g.B.Bank.faults_of (bank_of run)))
-    (λ run now. counts-both bank (g.B.Bank.faults_of c.args.bank) (g.B.Bank.faults_of c.find.new.bank) (g.B.Bank.faults_of (bank_of run)) c.find.ensures.counts
-    (subst (λ (b : Given). OnlyItsSlotsFail b (g.B.Bank.faults_of c.find.new.bank) (g.B.Bank.faults_of (bank_of run))) c.find.ensures.slots now)) c.run_moving.ensures.counts
+    ok-then c.run_moving.result (λ run. OnlyItsSlotsFail (g.B.Bank.given c.find.new.bank) (g.B.Bank.faults_of c.find.new.bank) (g.B.Bank.faults_of run.parts.bank))
+    (λ run. OnlyItsSlotsFail bank (g.B.Bank.faults_of c.args.bank) (g.B.Bank.faults_of run.parts.bank))
+    (λ run now. counts-both bank (g.B.Bank.faults_of c.args.bank) (g.B.Bank.faults_of c.find.new.bank) (g.B.Bank.faults_of run.parts.bank) c.find.ensures.counts
+    (subst (λ (b : Given). OnlyItsSlotsFail b (g.B.Bank.faults_of c.find.new.bank) (g.B.Bank.faults_of run.parts.bank)) c.find.ensures.slots now)) c.run_moving.ensures.counts
 
 pub returns-in-Some-clause-left_counts : goal.returns-in-Some-clause-left_counts
 returns-in-Some-clause-left_counts g c =

@@ -1,0 +1,116 @@
+-- The backup of an array that was found, or made, holds no role and is no spare.
+use Rattle.std.proofs.Common.{◌≡◌, inl, inr, ℕ, ◌+◌, ◌-◌, ◌<◌, ◌≤◌, ◌==◌, nat_lt, Bool, true, false, not, if◌then◌else◌, List, get_or, Option, Some, None, option_map, refl, sym, ◌∙◌, ap, subst, arith}
+use Rattle.std.specs.Option.{option_or}
+use Rattle.std.specs.List.{list_any}
+use Rattle.std.proofs.lemmas.Bool.{cases_lt}
+use Rattle.std.proofs.lemmas.Bool.Decides.{nat_tests}
+use Rattle.std.proofs.lemmas.List.{get_or_past}
+use Rattle.md_base.specs.declared.answers.Refusal.{Refusal}
+use Rattle.md_base.specs.declared.answers.Refusal.TheVariants.{BadShape}
+use Rattle.md_base.specs.declared.answers.ShapeField.{ShapeField}
+use Rattle.md_base.specs.declared.status.Role.{Role}
+use Rattle.md_base.specs.declared.status.Role.TheVariants.{Whole, Missing}
+use Rattle.md_base.specs.Search.{tabulate}
+use Rattle.md_base.proofs.Tabulated.{length-tabulate, get_or-tabulate}
+use Rattle.bank.specs.declared.bank.Operation.{Operation}
+use Rattle.bank.specs.Given.{Given}
+use Rattle.bank.specs.Tape.{Contents}
+use Rattle.superblocks.specs.declared.members.Members.{Members}
+use Rattle.superblocks.specs.Reading.{is_backup, is_reshaping, role_state, holder}
+use Rattle.superblocks.specs.Reads.{has_spare}
+use Rattle.superblocks.specs.Update.{own_in, is_held_by}
+use Rattle.superblocks.specs.Writing.{AreWritable}
+use Rattle.row_io.specs.Rows.{reading_of}
+use Rattle.shape_views.specs.Regions.{AreShapesFit}
+use Rattle.views.specs.Parts.{Parts}
+use Rattle.views.specs.Rebuilding.{Held}
+use Rattle.array_kept.specs.Adopting.{IsAdopted}
+use Rattle.array.specs.declared.spec.CreateSpec.{CreateSpec}
+use Rattle.kept_history.proofs.Tests.{or-right}
+use Rattle.assemble.specs.declared.opening.Opened.{Opened}
+use Rattle.assemble.specs.Opening.{AreOfGiven, AreCounted, IsFound, IsAside}
+use Rattle.assemble.specs.Creating.{IsLastSlot, member_slots, bad_field, create_refusal}
+use Rattle.assemble.specs.Made.{IsNew}
+use Rattle.assemble.proofs.PlacedFound.{placed-found}
+use Rattle.found_members.specs.Found.{AreElected}
+use Rattle.found_members.proofs.Placed.{live-there, holder-there-is}
+
+-- so it is of the slot, if one is the backup
+abbrev pub IsAsideOf : Option ℕ → Members → Type 0
+IsAsideOf backup members = (slot : ℕ) → backup ≡ Some slot → (has_spare members.spares slot ≡ false) × ((role : ℕ) → Held members role slot → ⊥)
+
+not-true : (b : Bool) → (b ≡ true → ⊥) → b ≡ false
+not-true true none = absurd (none refl)
+not-true false none = refl
+
+one-of : (a b : ℕ) → Some a ≡ Some b → a ≡ b
+one-of a b e = cc
+
+none-some : {X : Type 0} (x : X) → None ≡ Some x → ⊥
+none-some x e = absurd (cc)
+
+-- ---- found
+
+module _ (bank : Given) (given : ℕ) (m : Members) (are : AreElected bank given m) (fit : AreShapesFit m.newest) (backup : Option ℕ) (aside : IsAside backup m.own) where
+  -- it has no superblock of the array
+  no-own : (slot : ℕ) → backup ≡ Some slot → own_in m.own slot ≡ None
+  no-own slot is = aside slot (subst (λ (b : Option ℕ). is_backup b slot ≡ true) (sym is) (itself slot))
+    where
+      itself : (n : ℕ) → (n == n) ≡ true
+      itself n = grind (arith, nat_tests)
+
+  pub elected-aside : IsAsideOf backup m
+  elected-aside slot is = (
+    not-true (has_spare m.spares slot) (λ spare. (let found = live-there bank given m are fit slot (or-right (list_any (is_held_by slot) m.roles) (has_spare m.spares slot) spare) in
+        none-some found.0 (sym (no-own slot is) ∙ found.1))),
+    λ role held. (let found = holder-there-is bank given m are fit role slot held in none-some found.0 (sym (no-own slot is) ∙ found.1)),
+  )
+
+pub found-aside : {tells : Type 0} (bank : Given) (c : Contents) (backup : Option ℕ) (asked : Option (List ℕ)) (opened : Opened) → bank.slots ≤ 32 → IsFound tells bank c backup asked opened
+    → is_reshaping opened.members.newest ≡ false → IsAside backup opened.members.own → AreWritable bank opened.members.own → AreOfGiven opened.given opened.members.own → AreCounted bank → IsAsideOf backup opened.members
+found-aside bank c backup asked opened few is still aside writable own counted =
+    elected-aside bank opened.given opened.members (record { few = few; elected = is.elected; lost = is.lost; own = own; writable = writable; counted = counted })
+    (placed-found bank few opened.members is.elected still writable counted).fit backup aside
+
+-- ---- made
+
+-- nothing is refused, so there are as many slots besides it as the shape has disks
+room-of : (field : Option ShapeField) (multiple more : Bool) (a b : Refusal) (rest : Option Refusal)
+    → option_or (option_map (λ field. BadShape field) field) (if not multiple then Some a else if more then Some b else rest) ≡ None → more ≡ false
+room-of (Some field) multiple more a b rest is = absurd (cc)
+room-of None false more a b rest is = absurd (cc)
+room-of None true true a b rest is = absurd (cc)
+room-of None true false a b rest is = refl
+
+module _ (bank : Given) (backup : Option ℕ) (spec : CreateSpec) (opened : Opened) (new : IsNew bank spec opened) (last : IsLastSlot bank.slots backup) (none : create_refusal bank backup spec ≡ None) where
+  disks-few : nat_lt (member_slots bank.slots backup) spec.shape.disks ≡ false
+  disks-few = room-of (bad_field spec) _ (nat_lt (member_slots bank.slots backup) spec.shape.disks) _ _ _ none
+
+  few-disks : (slot : ℕ) → backup ≡ Some slot → spec.shape.disks ≤ slot
+  few-disks slot is =
+      reach bank.slots slot spec.shape.disks (subst (λ (b : Option ℕ). nat_lt (member_slots bank.slots b) spec.shape.disks ≡ false) is disks-few) (subst (λ (b : Option ℕ). IsLastSlot bank.slots b) is last)
+    where
+      reach : (slots slot disks : ℕ) → nat_lt (slots - 1) disks ≡ false → slot + 1 ≡ slots → disks ≤ slot
+      reach slots slot disks fits at = grind (arith, nat_tests, fits, at)
+
+  held-below : (role slot : ℕ) → Held opened.members role slot → slot < spec.shape.disks
+  held-below role slot held = elim (cases_lt role spec.shape.disks) [
+    | inl lt ↦ (let same : role ≡ slot = one-of role slot (sym (ap holder (state-is role ∙ get_or-tabulate spec.shape.disks (λ role. Whole role) role Missing lt)) ∙ held) in omega (arith, same, lt))
+    | inr past ↦ absurd (none-some slot (sym (ap holder (state-is role ∙ get_or_past (tabulate spec.shape.disks (λ role. Whole role)) role Missing (let long = length-tabulate spec.shape.disks (λ role. Whole role) in omega (arith, long, past)))) ∙ held))
+  ]
+    where
+      state-is : (role : ℕ) → role_state (reading_of opened.members) role ≡ get_or (tabulate spec.shape.disks (λ role. Whole role)) role Missing
+      state-is role = ap (λ (l : List Role). get_or l role Missing) new.members.roles
+
+  pub made-aside : IsAsideOf backup opened.members
+  made-aside slot is = (
+    ap (λ (l : List ℕ). has_spare l slot) new.members.spares,
+    λ role held. (let low = few-disks slot is in let high = held-below role slot held in absurd (omega (arith, low, high))),
+  )
+
+-- ---- taken over
+
+pub adopted-aside : {B tells : Type 0} {device : B} {tape : List Operation} {slots : ℕ} {backup : Option ℕ} {members : Members} {made : Parts B} → IsAdopted tells device tape slots backup members made → IsAsideOf backup members
+    → IsAsideOf made.backup made.members
+adopted-aside {backup = backup} {made = made} adopted aside =
+    subst (λ (b : Option ℕ). IsAsideOf b made.members) (sym adopted.backup_is) (subst (λ (m : Members). IsAsideOf backup m) (sym adopted.members_are) aside)

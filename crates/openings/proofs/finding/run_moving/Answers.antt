@@ -1,0 +1,10 @@
+use Rattle.openings.proofs.Unplanned.{moving-unplanned, moving-turned}
+use Rattle.openings.proofs.finding.run_moving.Goals as goal
+
+pub of_moving-requires-clause-unplanned : goal.of_moving-requires-clause-unplanned
+of_moving-requires-clause-unplanned g c = moving-unplanned c.in-Ok.ensures.adopted
+
+pub of_moving-requires-clause-turned : goal.of_moving-requires-clause-turned
+of_moving-requires-clause-turned g c =
+    moving-turned (g.B.Bank.given c.args.bank) (g.B.Bank.given c.in-Ok.moving.parts.bank) (g.B.Bank.tape c.args.bank) (g.B.Bank.tape c.in-Ok.moving.parts.bank) c.in-Ok.moving c.requires.opened c.in-Ok.ensures.adopted
+    c.in-Ok.ensures.given c.in-Ok.ensures.tape

@@ -1,0 +1,103 @@
+-- The answer to a request for steps, by the state, and what is next to do.
+use Rattle.std.proofs.Common.{◌≡◌, ◌≢◌, ℕ, ◌<◌, Bool, true, false, cond, Option, Some, None, List, [], ◌∷◌, refl, sym, ◌∙◌, ap, subst, arith}
+use Rattle.std.specs.Prelude.{MatchBool, MatchOption, ⊤}
+use Rattle.md_base.specs.declared.answers.Refusal.{Refusal}
+use Rattle.md_base.specs.declared.answers.Refusal.TheVariants.{Nothing}
+use Rattle.md_base.specs.declared.answers.Who.{Who}
+use Rattle.md_base.specs.declared.places.Shape.{Shape}
+use Rattle.md_base.specs.declared.wishes.Phase.{Phase}
+use Rattle.md_base.specs.declared.wishes.Phase.TheVariants.{Reshape}
+use Rattle.grow_plan.specs.Plans.{phases_steps}
+use Rattle.bank.specs.declared.bank.Operation.{Operation}
+use Rattle.bank.specs.Given.{Given}
+use Rattle.superblocks.specs.declared.members.Members.{Members}
+use Rattle.superblocks.specs.Reading.{is_reshaping, shape_of}
+use Rattle.superblocks.specs.Reads.{has_spare}
+use Rattle.flat_history.specs.declared.events.Event.{Event}
+use Rattle.flat_history.specs.declared.events.Event.TheVariants.{Refused, Stepped}
+use Rattle.flat_history.specs.Plain.{entries_of}
+use Rattle.views.specs.Rebuilding.{Held}
+use Rattle.views.specs.Status.{left_of}
+use Rattle.views.specs.declared.work.Work.{Work}
+use Rattle.grow_asked.specs.declared.window.PhasesLeft.{PhasesLeft}
+use Rattle.grow_asked.specs.Left.{phases_of}
+use Rattle.growing.proofs.Idle.{some-steps}
+use Rattle.running_words.specs.Parts.{RunningParts, left_in, still_left}
+use Rattle.running_words.specs.Calls.{IsCalled}
+use Rattle.still_laws.specs.Steps.{IsStepped, MayEndNow, IsStepsReplyNow}
+use Rattle.still_laws.proofs.PlansKept.{PlanNone}
+use Rattle.moving_steps.specs.Replies.{IsEndedInReshape, IsReplyInReshape}
+use Rattle.running.specs.Calls.{running_left, MayEndSteps, IsReplyNow}
+use Rattle.running.proofs.Checked.{some-of}
+
+-- ---- by the state
+
+pub left-still : {B : Type 0} (array : RunningParts B) → is_reshaping array.parts.members.newest ≡ false → running_left array ≡ still_left array.parts.work array.parts.members array.ahead
+left-still array still = ap (λ (b : Bool). cond b (left_in array.parts.work array.parts.members array.course array.ahead) (still_left array.parts.work array.parts.members array.ahead)) still
+
+pub left-moving : {B : Type 0} (array : RunningParts B) → is_reshaping array.parts.members.newest ≡ true → running_left array ≡ left_in array.parts.work array.parts.members array.course array.ahead
+left-moving array active = ap (λ (b : Bool). cond b (left_in array.parts.work array.parts.members array.course array.ahead) (still_left array.parts.work array.parts.members array.ahead)) active
+
+module _ {B : Type 0} (array : RunningParts B) where
+  may-still : is_reshaping array.parts.members.newest ≡ false → (ended : Option Refusal) → MatchOption ended ⊤ (MayEndSteps array) → MatchOption ended ⊤ (MayEndNow array.parts.work array.parts.members array.ahead)
+  may-still still None may = tt
+  may-still still (Some refusal) may =
+      subst (λ (b : Bool). MatchBool b (IsEndedInReshape array.parts.work array.parts.members refusal) (MayEndNow array.parts.work array.parts.members array.ahead refusal)) still may
+
+  may-moving : is_reshaping array.parts.members.newest ≡ true → (ended : Option Refusal) → MatchOption ended ⊤ (MayEndSteps array) → MatchOption ended ⊤ (IsEndedInReshape array.parts.work array.parts.members)
+  may-moving active None may = tt
+  may-moving active (Some refusal) may =
+      subst (λ (b : Bool). MatchBool b (IsEndedInReshape array.parts.work array.parts.members refusal) (MayEndNow array.parts.work array.parts.members array.ahead refusal)) active may
+
+  pub reply-still : (event : Event) → is_reshaping array.parts.members.newest ≡ false → IsReplyNow array event → IsStepsReplyNow array.parts.work array.parts.members array.ahead event
+  reply-still (Refused Nothing) still reply = sym (left-still array still) ∙ reply
+  reply-still (Stepped done left ended) still reply = (reply.0 ∙ left-still array still, may-still still ended reply.1)
+  reply-still event still reply = absurd reply
+
+  pub reply-moving : (event : Event) → is_reshaping array.parts.members.newest ≡ true → 0 < left_in array.parts.work array.parts.members array.course array.ahead → IsReplyNow array event
+      → IsReplyInReshape array.parts.work array.parts.members array.course array.ahead event
+  reply-moving (Refused Nothing) active some reply = absurd (let none = sym (left-moving array active) ∙ reply in omega (arith, some, none))
+  reply-moving (Stepped done left ended) active some reply = (reply.0 ∙ left-moving array active, may-moving active ended reply.1)
+  reply-moving event active some reply = absurd reply
+
+  -- it is no plan
+  pub reply-none : (event : Event) → IsReplyNow array event → (who : Who) (end : ℕ) → PlanNone (entries_of who end (event ∷ []))
+  reply-none (Refused Nothing) reply who end = refl
+  reply-none (Stepped done left ended) reply who end = refl
+  reply-none event reply who end = absurd reply
+
+-- what it leaves without a reshape is what each call does
+pub answered-called : {B tells : Type 0} {given : Given} {tape tape' : List Operation} {f g : ℕ → ℕ} (old new : RunningParts B) → IsStepped tells given tape tape' (Held old.parts.members) f g old new
+    → new.parts.members ≡ old.parts.members → new.parts.work ≡ old.parts.work → IsCalled tells given tape tape' f g old new
+answered-called old new did members work = record {
+  grows = did.grows;
+  ended = did.ended;
+  held = λ role slot held. subst (λ (m : Members). Held m role slot) members held;
+  spares = λ slot is. subst (λ (m : Members). has_spare m.spares slot ≡ true) members is;
+  losses = did.losses;
+  never_falls = did.never_falls;
+  work = work;
+  same = did.same;
+}
+
+-- ---- what is next
+
+-- in a reshape some are left
+pub moving-some : {B : Type 0} (array : RunningParts B) → is_reshaping array.parts.members.newest ≡ true → left_in array.parts.work array.parts.members array.course array.ahead ≢ 0 → 0 < running_left array
+moving-some array active some = some-of (running_left array) (λ none. some (sym (left-moving array active) ∙ none))
+
+-- so where some are of what is under way without one, or where a reshape is ahead
+pub still-some : {B : Type 0} (array : RunningParts B) → is_reshaping array.parts.members.newest ≡ false → 0 < still_left array.parts.work array.parts.members array.ahead → 0 < running_left array
+still-some array still some = subst (λ (n : ℕ). 0 < n) (sym (left-still array still)) some
+
+pub own-some : (work : Work) (m : Members) (ahead : PhasesLeft) → 0 < left_of work m → 0 < still_left work m ahead
+own-some work m ahead some = omega (arith, some)
+
+pub ahead-some : (work : Work) (m : Members) (ahead : PhasesLeft) (to : Shape) → phases_of ahead ≡ Reshape to ∷ [] → 0 < still_left work m ahead
+ahead-some work m ahead to is = let some = some-steps (shape_of m.newest) m.newest.size (phases_of ahead) [] (Reshape to) (sym is) in omega (arith, some)
+
+-- none is where nothing is under way and nothing ahead
+pub nothing-left : {B : Type 0} (array : RunningParts B) → is_reshaping array.parts.members.newest ≡ false → left_of array.parts.work array.parts.members ≡ 0 → phases_of array.ahead ≡ [] → running_left array ≡ 0
+nothing-left array still own none =
+    let planned : phases_steps (shape_of array.parts.members.newest) array.parts.members.newest.size (phases_of array.ahead) ≡ 0 = ap (λ (l : List Phase). phases_steps (shape_of array.parts.members.newest) array.parts.members.newest.size l) none in
+    left-still array still ∙ omega (arith, own, planned)

@@ -1,0 +1,39 @@
+-- What an array without a reshape and one in it tell of themselves.
+use Rattle.std.proofs.Common.{◌≡◌, ◌≢◌, ℕ, zero, suc, ◌<◌, ◌&&◌, ◌||◌, nat_lt, Bool, true, false, Some, refl, sym, ◌∙◌, subst, arith}
+use Rattle.std.specs.List.{list_any}
+use Rattle.std.proofs.lemmas.Bool.Decides.{nat_tests}
+use Rattle.bank.specs.Given.{Given}
+use Rattle.superblocks.specs.declared.members.Members.{Members}
+use Rattle.superblocks.specs.Reading.{Scope}
+use Rattle.superblocks.specs.Reads.{has_spare}
+use Rattle.superblocks.specs.Update.{is_held_by}
+use Rattle.shape_views.proofs.Headers.{backup-is}
+use Rattle.shape_changes.proofs.Without.{live-is}
+use Rattle.views.specs.Rebuilding.{Held}
+use Rattle.safe_updates.specs.Unused.{IsUnused}
+use Rattle.moving_kept.specs.Moving.{AreReshaping}
+
+pub some-of : (n : ℕ) → n ≢ 0 → 0 < n
+some-of zero none = absurd (none refl)
+some-of (suc n) none = omega arith
+
+-- the backup of a reshape is no spare
+spare-never : (m : Members) (s : ℕ) → s < 32 → IsUnused m s → has_spare m.spares s ≡ true → ⊥
+spare-never m s lt unused spare = live (nat_lt s 32) (list_any (is_held_by s) m.roles) (has_spare m.spares s) (small lt) spare (sym (live-is m false s) ∙ unused)
+  where
+    small : s < 32 → nat_lt s 32 ≡ true
+    small lt = grind (arith, nat_tests, lt)
+
+    live : (t a b : Bool) → t ≡ true → b ≡ true → (t && ((a || b) || false)) ≡ false → ⊥
+    live true true true t_is b_is none = absurd (cc)
+    live true false true t_is b_is none = absurd (cc)
+    live true a false t_is b_is none = absurd (cc)
+    live false a b t_is b_is none = absurd (cc)
+
+-- it has no part in the array
+pub aside-moving : (scope : Scope) (given : Given) (m : Members) → AreReshaping scope given m → (slot : ℕ) → scope.backup ≡ Some slot → (has_spare m.spares slot ≡ false) × ((role : ℕ) → Held m role slot → ⊥)
+aside-moving scope given m are slot is = (by (has_spare m.spares slot) refl, λ role held. are.backed.members_own role slot held is)
+  where
+    by : (b : Bool) → has_spare m.spares slot ≡ b → b ≡ false
+    by false apart = refl
+    by true spare = absurd (spare-never m slot (are.free slot spare).room.small (subst (λ (s : ℕ). IsUnused m s) (backup-is scope slot is) are.aside) spare)

@@ -1,0 +1,165 @@
+-- A step that is refused, and one that ends a reshape: what a reply may tell of it.
+use Rattle.std.proofs.Common.{◌≡◌, ◌≢◌, inl, inr, ℕ, ◌+◌, ◌-◌, nat_lt, Bool, true, false, Option, Some, None, Result, Ok, Err, List, [], ◌∷◌, refl, sym, ◌∙◌, ap, subst}
+use Rattle.std.specs.Prelude.{if◌then◌else◌, is_some, MatchBool, MatchOption}
+use Rattle.md_base.specs.declared.answers.Fault.{Fault}
+use Rattle.md_base.specs.declared.answers.Fault.TheVariants.{Refused as IsRefusedWith, NoMemory}
+use Rattle.md_base.specs.declared.answers.Refusal.{Refusal}
+use Rattle.md_base.specs.declared.answers.Who.{Who}
+use Rattle.md_base.specs.declared.places.Shape.{Shape}
+use Rattle.md_base.specs.declared.wishes.Phase.TheVariants.{Reshape}
+use Rattle.sb1.specs.declared.sb.Sb.{Sb}
+use Rattle.superblocks.specs.declared.members.Members.{Members}
+use Rattle.superblocks.specs.Reading.{is_reshaping, shape_of, final_shape, list_length, next_window}
+use Rattle.flat_history.specs.declared.events.Entry.{Entry}
+use Rattle.flat_history.specs.declared.events.StepKind.{StepKind}
+use Rattle.views.specs.declared.work.Work.{Work}
+use Rattle.shape_views.proofs.Alike.{for-both}
+use Rattle.views.specs.Placed.{IsInForce}
+use Rattle.views.specs.Lacking.{AreTooMany}
+use Rattle.region_mends.specs.declared.stripes.Stripe.{Stripe}
+use Rattle.region_mends.specs.Mends.{low_end, low_shape, high_shape, low_stripes, high_stripe, mend_shape, IsNotMended}
+use Rattle.array_kept.specs.Calls.{by_answer, IsCausedBy}
+use Rattle.grow_asked.specs.declared.window.PhasesLeft.{PhasesLeft}
+use Rattle.grow_asked.specs.declared.window.Window.{Window}
+use Rattle.grow_asked.specs.declared.window.Window.TheVariants.{Closed, Entered, Unsure}
+use Rattle.grow_asked.specs.Left.{phases_of, stripes_in, zeroed_by}
+use Rattle.moving_state.specs.Due.{due_in, due_of}
+use Rattle.moving_state.specs.declared.stepping.Due.{Due}
+use Rattle.moving_state.specs.declared.stepping.Due.TheVariants.{Copy, Record, Mend, EndResync, Enter, Zero, Finish}
+use Rattle.running_words.specs.Parts.{RunningParts, still_left}
+use Rattle.running_words.specs.Calls.{IsStepTaken}
+use Rattle.moving_laws.specs.Steps.{resync_behind, IsStepCaused}
+use Rattle.still_laws.specs.Steps.{IsEndedRight, RefusesBegin, MayEndNow, IsClosable}
+use Rattle.still_steps.specs.Resyncing.{is_at_end, IsUnmended}
+use Rattle.still_steps.specs.Stepping.{IsUndone, after_step}
+use Rattle.moving_steps.specs.Replies.{IsEndedInReshape}
+use Rattle.turning.specs.Begun.{IsBeginRefused}
+use Rattle.turning.specs.Ended.{IsEndedWith}
+use Rattle.running.specs.Calls.{MayEndSteps, IsRefusedInStep}
+use Rattle.running.proofs.Closed.{why-of, ended-closes}
+
+-- ---- by the state
+
+pub ends-still : {B : Type 0} (array : RunningParts B) (refusal : Refusal) → is_reshaping array.parts.members.newest ≡ false → MayEndNow array.parts.work array.parts.members array.ahead refusal → MayEndSteps array refusal
+ends-still array refusal still why =
+    subst (λ (b : Bool). MatchBool b (IsEndedInReshape array.parts.work array.parts.members refusal) (MayEndNow array.parts.work array.parts.members array.ahead refusal)) (sym still) why
+
+pub ends-moving : {B : Type 0} (array : RunningParts B) (refusal : Refusal) → is_reshaping array.parts.members.newest ≡ true → IsEndedInReshape array.parts.work array.parts.members refusal → MayEndSteps array refusal
+ends-moving array refusal active why =
+    subst (λ (b : Bool). MatchBool b (IsEndedInReshape array.parts.work array.parts.members refusal) (MayEndNow array.parts.work array.parts.members array.ahead refusal)) (sym active) why
+
+-- ---- a step without a reshape
+
+undone-ends : (old new : Work) (before after : Members) (ahead : PhasesLeft) (refusal : Refusal) → new ≡ old → IsUndone old before after refusal → MayEndNow new after ahead refusal
+undone-ends old new before after ahead refusal same why = inl (by old.resync refl why)
+  where
+    pending : {P : Type 0} (mended : ℕ) → old.resync ≡ Some mended → new.resync ≡ None → P
+    pending mended is none = absurd (let both : ◌≡◌ {A = Option ℕ} (Some mended) None = sym is ∙ (sym (ap (λ (w : Work). w.resync) same) ∙ none) in cc)
+
+    ended : (mended : ℕ) → old.resync ≡ Some mended → (b : Bool) → IsUnmended b after refusal → IsEndedRight new after refusal
+    ended mended is true many = (inl many, λ none. many)
+    ended mended is false lacked = (lacked, λ none. pending mended is none)
+
+    by : (o : Option ℕ) → old.resync ≡ o → MatchOption o (AreTooMany after refusal) (λ mended. IsUnmended (is_at_end old.resync before) after refusal) → IsEndedRight new after refusal
+    by None is many = (inl many, λ none. many)
+    by (Some mended) is lacked = ended mended is (is_at_end old.resync before) lacked
+
+pub own-refused : {B T : Type 0} (old new : RunningParts B) (result : Result T Fault) → is_reshaping new.parts.members.newest ≡ false → result ≢ Err NoMemory
+    → new.parts.work ≡ by_answer result (after_step old.parts.work old.parts.members) old.parts.work
+    → IsCausedBy (list_length old.parts.members.newest) 0 (IsUndone old.parts.work old.parts.members) old.parts.members new.parts.members result → IsRefusedInStep new result
+own-refused old new (Ok x) still memory work caused = tt
+own-refused old new (Err (IsRefusedWith refusal)) still memory work caused =
+    ends-still new refusal still
+    (undone-ends old.parts.work new.parts.work old.parts.members new.parts.members new.ahead refusal work
+    (why-of (list_length old.parts.members.newest) (IsUndone old.parts.work old.parts.members) old.parts.members new.parts.members refusal caused))
+own-refused old new (Err NoMemory) still memory work caused = memory refl
+
+-- ---- a step in one
+
+-- a stripe is mended only where a resync is pending
+mend-pending : (newest : Sb) (window : Window) (cleared : ℕ) (resync : Option ℕ) → due_in newest window cleared resync ≡ Mend → (mended : ℕ) × (resync ≡ Some mended)
+mend-pending newest window cleared (Some mended) is = (mended, refl)
+mend-pending newest window cleared None is = absurd (never window is)
+  where
+    between : (a b : Bool) → (if a then Enter else if b then Zero else Finish) ≡ Mend → ⊥
+    between true b e = absurd (cc)
+    between false true e = absurd (cc)
+    between false false e = absurd (cc)
+
+    entered : (b : Bool) → (if b then Copy else Record) ≡ Mend → ⊥
+    entered true e = absurd (cc)
+    entered false e = absurd (cc)
+
+    never : (window : Window) → due_in newest window cleared None ≡ Mend → ⊥
+    never Closed e = between (is_some (next_window newest)) (nat_lt cleared (zeroed_by newest)) e
+    never (Entered span copied sectioned) e = entered (nat_lt copied (stripes_in newest span)) e
+    never (Unsure span) e = between (is_some (next_window newest)) (nat_lt cleared (zeroed_by newest)) e
+
+-- its shape is one in force
+mend-force : (newest : Sb) (mended : ℕ) → IsInForce newest (mend_shape newest mended)
+mend-force newest mended = by (nat_lt mended (low_stripes newest))
+  where
+    by : (b : Bool) → let stripe : Stripe = if b then record { shape = low_shape newest; at = mended } else record { shape = high_shape newest; at = high_stripe newest + (mended - low_stripes newest) } in IsInForce newest stripe.shape
+    by true = for-both (λ s. IsInForce newest s) newest (inl refl) (inr refl) 0
+    by false = for-both (λ s. IsInForce newest s) newest (inl refl) (inr refl) (low_end newest)
+
+force-on : (old new : Sb) (shape : Shape) → shape_of new ≡ shape_of old → final_shape new ≡ final_shape old → IsInForce old shape → IsInForce new shape
+force-on old new shape first final (inl is) = inl (is ∙ sym first)
+force-on old new shape first final (inr is) = inr (is ∙ sym final)
+
+module _ {B : Type 0} (T : Type 0) (old new : RunningParts B) (shape : shape_of new.parts.members.newest ≡ shape_of old.parts.members.newest) (final : final_shape new.parts.members.newest ≡ final_shape old.parts.members.newest)
+    (f g : ℕ → ℕ) (refusal : Refusal) (resync : new.parts.work.resync ≡ old.parts.work.resync) where
+  due-ends : (due : Due) → due_of old.parts.members.newest old.course old.parts.work.resync ≡ due
+      → IsStepCaused {T = T} due old.parts.work.resync old.parts.backup old.parts.members new.parts.members f g (Err (IsRefusedWith refusal)) → IsEndedInReshape new.parts.work new.parts.members refusal
+  due-ends Enter is (inl many) = inl many
+  due-ends Enter is (inr fault) = inr (inr fault.0)
+  due-ends Mend is caused =
+      let pending = mend-pending old.parts.members.newest old.course.window old.course.zeroed old.parts.work.resync is in
+      of pending.0 pending.1 (why-of (list_length old.parts.members.newest) (IsNotMended (mend_shape old.parts.members.newest pending.0)) old.parts.members new.parts.members refusal (caused pending.0 pending.1))
+    where
+      of : (mended : ℕ) → old.parts.work.resync ≡ Some mended → IsNotMended (mend_shape old.parts.members.newest mended) new.parts.members refusal → IsEndedInReshape new.parts.work new.parts.members refusal
+      of mended waits (inl many) = inl many
+      of mended waits (inr (able, lacked)) =
+          inr (inl (
+            ap (λ (o : Option ℕ). is_some o) (resync ∙ waits),
+            mend_shape old.parts.members.newest mended,
+            force-on old.parts.members.newest new.parts.members.newest (mend_shape old.parts.members.newest mended) shape final (mend-force old.parts.members.newest mended),
+            lacked,
+          ))
+  due-ends Copy is caused = inl (why-of (list_length old.parts.members.newest) AreTooMany old.parts.members new.parts.members refusal caused)
+  due-ends Record is caused = inl (why-of (list_length old.parts.members.newest) AreTooMany old.parts.members new.parts.members refusal caused)
+  due-ends EndResync is caused = inl (why-of (list_length old.parts.members.newest) AreTooMany old.parts.members new.parts.members refusal caused)
+  due-ends Zero is caused = inl (why-of (list_length old.parts.members.newest) AreTooMany old.parts.members new.parts.members refusal caused)
+  due-ends Finish is caused = inl (why-of (list_length old.parts.members.newest) AreTooMany old.parts.members new.parts.members refusal caused)
+
+pub moved-refused : {B T : Type 0} (f g : ℕ → ℕ) (kind : StepKind) (old new : RunningParts B) (who : Who) (left : ℕ) (result : Result T Fault) → is_reshaping new.parts.members.newest ≡ true
+    → shape_of new.parts.members.newest ≡ shape_of old.parts.members.newest → final_shape new.parts.members.newest ≡ final_shape old.parts.members.newest
+    → new.parts.work ≡ record old.parts.work { resync = by_answer result (resync_behind (due_of old.parts.members.newest old.course old.parts.work.resync) old.parts.work.resync) old.parts.work.resync }
+    → IsStepTaken who old.parts.entries new.parts.entries kind left result
+    → IsStepCaused (due_of old.parts.members.newest old.course old.parts.work.resync) old.parts.work.resync old.parts.backup old.parts.members new.parts.members f g result → IsRefusedInStep new result
+moved-refused f g kind old new who left (Ok x) active shape final work entered caused = tt
+moved-refused {T = T} f g kind old new who left (Err (IsRefusedWith refusal)) active shape final work entered caused =
+    ends-moving new refusal active
+    (due-ends T old new shape final f g refusal (ap (λ (w : Work). w.resync) work) (due_of old.parts.members.newest old.course old.parts.work.resync) refl caused)
+moved-refused f g kind old new who left (Err NoMemory) active shape final work entered caused = entered
+
+-- ---- a reshape that doesn't begin
+
+pub begin-refused : {B : Type 0} (f g : ℕ → ℕ) (to : Shape) (old new : RunningParts B) (refusal : Refusal) → is_reshaping new.parts.members.newest ≡ false → new.ahead ≡ old.ahead → phases_of old.ahead ≡ Reshape to ∷ []
+    → IsBeginRefused f g to refusal old new → MayEndSteps new refusal
+begin-refused f g to old new refusal still ahead next why = ends-still new refusal still (inr (by why, some))
+  where
+    some : phases_of new.ahead ≢ []
+    some none = absurd (let e : [] ≡ Reshape to ∷ [] = sym none ∙ (ap phases_of ahead ∙ next) in cc)
+
+    by : IsBeginRefused f g to refusal old new → RefusesBegin refusal
+    by (inl (inl (role, lowest, told), bank)) = subst RefusesBegin (sym told) tt
+    by (inl (inr (whole, few, told), bank)) = subst RefusesBegin (sym told) tt
+    by (inr (can, told, fault)) = subst RefusesBegin (sym told) tt
+
+-- ---- a reshape that ended
+
+-- where none is left behind it, it closed the plans
+pub closable-ended : {B : Type 0} {who : Who} {before size : ℕ} {was later : Members} {old : List Entry} (new : RunningParts B)
+    → IsEndedWith who before size was later old new.parts.entries (still_left new.parts.work new.parts.members new.ahead) → IsClosable new
+closable-ended new is none = inl (ended-closes new is none)

@@ -1,0 +1,181 @@
+-- A running array keeps what it keeps over a request to grow, planned or refused.
+use Rattle.std.proofs.Common.{◌≡◌, inl, ◌*◌, ◌≤◌, ℕ, Bool, true, false, None, Ok, Err, List, [], ◌∷◌, refl, sym, ◌∙◌, ap, subst, arith}
+use Rattle.std.specs.Prelude.{if◌then◌else◌}
+use Rattle.md_base.specs.declared.answers.Fault.{Fault}
+use Rattle.md_base.specs.declared.answers.Fault.TheVariants.{Refused as IsRefusedWith, NoMemory}
+use Rattle.md_base.specs.declared.answers.Who.{Who}
+use Rattle.md_base.specs.declared.places.Shape.{Shape}
+use Rattle.md_base.specs.declared.wishes.Phase.{Phase}
+use Rattle.md_base.specs.declared.wishes.Phase.TheVariants.{Reshape}
+use Rattle.md_base.specs.declared.wishes.Wish.{Wish}
+use Rattle.bank.specs.Given.{Given}
+use Rattle.bank.specs.declared.bank.Operation.{Operation}
+use Rattle.grow_plan.specs.Plans.{AreSound, largest_window, target}
+use Rattle.superblocks.specs.declared.members.Members.{Members}
+use Rattle.superblocks.specs.Reading.{is_reshaping, shape_of, final_shape, list_length}
+use Rattle.superblocks.specs.Reads.{has_spare}
+use Rattle.flat_history.specs.declared.events.Entry.{Entry}
+use Rattle.flat_history.specs.declared.events.Event.{Event}
+use Rattle.flat_history.specs.declared.events.Event.TheVariants.{Planned, Refused}
+use Rattle.flat_history.specs.declared.events.Request.TheVariants.{Grow as AsksGrow}
+use Rattle.flat_history.specs.Flat.{next_number, visible_of}
+use Rattle.flat_history.specs.Plain.{entries_of}
+use Rattle.flat_history.specs.World.{World}
+use Rattle.views.specs.declared.work.Work.{Work}
+use Rattle.views.specs.Placed.{AreWhole}
+use Rattle.views.specs.Rebuilding.{Held}
+use Rattle.views.proofs.MovedLaws.{grows-none}
+use Rattle.grow_asked.specs.Asked.{Asked, grow_refusal}
+use Rattle.grow_asked.specs.Left.{phases_of}
+use Rattle.running_words.specs.Parts.{RunningParts, left_in, still_left}
+use Rattle.running_words.specs.Calls.{moving_world}
+use Rattle.running_replies.specs.Going.{HasRunOn}
+use Rattle.running_replies.specs.Replies.{IsAnsweredWith}
+use Rattle.still_laws.proofs.PlansKept.{AddNoPlan, add-nothing}
+use Rattle.growing.specs.Planned.{asked_in, HasWideBackup, IsAsBefore, IsGrowAnswered, IsGrowJudged, IsGrowPlanned}
+use Rattle.growing.specs.Plans.{GoesTo}
+use Rattle.growing.specs.Replied.{IsGrowReplied}
+use Rattle.growing.proofs.Idle.{planned-alone, planned-whole}
+use Rattle.growing.proofs.PlanLaws.{one-reshape}
+use Rattle.growing.proofs.Replied.{grow-replied, grow-went}
+use Rattle.growing.proofs.Windows.{reshape-backed}
+use Rattle.running.specs.Calls.{running_left}
+use Rattle.running.specs.State.{IsStillNow, IsOneReshape, CanBeNext, IsWithin, IsBackupAside, IsAtRest, IsInReshape}
+use Rattle.running.proofs.Closed.{closed-kept}
+use Rattle.running.proofs.Kept.{GoesOn, LeavesAhead, rest-kept, reshape-kept}
+
+-- a refusal is no plan
+add-refused : (T tells : Type 0) (world : World) (a : Asked) (wish : Wish) (who : Who) (old new : List Entry) (event : Event) (fault : Fault) → IsGrowAnswered {T = T} tells world a wish who old new event (Err fault) → AddNoPlan old new
+add-refused T tells world a wish who old new event (IsRefusedWith refusal) is = record { more = entries_of who is.end (Refused refusal ∷ []); grown = is.is; none = refl }
+add-refused T tells world a wish who old new event NoMemory is = add-nothing is
+
+refused-leaves : {B : Type 0} (old new : RunningParts B) → IsAsBefore old new → new.ahead ≡ old.ahead → LeavesAhead old new
+refused-leaves old new before ahead = record {
+  shape = ap (λ (m : Members). shape_of m.newest) before.members;
+  final = ap (λ (m : Members). final_shape m.newest) before.members;
+  size = ap (λ (m : Members). m.newest.size) before.members;
+  ahead = ahead;
+  held = λ role slot has. inl (subst (λ (m : Members). Held m role slot) before.members has);
+  spares = λ slot backup is. subst (λ (m : Members). has_spare m.spares slot ≡ true) before.members is;
+}
+
+module _ {B : Type 0} {tells : Type 0} (given : B → Given) (tape : B → List Operation) (old new : RunningParts B) (before : IsAsBefore old new) where
+  -- ---- refused
+
+  refused-on : AddNoPlan old.parts.entries new.parts.entries → GoesOn tells given tape old new
+  refused-on added = record {
+    given_is = ap given before.bank;
+    grows = grows-none (λ t. ap tape before.bank);
+    uuid = before.uuid;
+    slots = before.given;
+    first = before.first;
+    backup = before.backup;
+    added = added;
+  }
+
+  module _ (T : Type 0) (world : World) (a : Asked) (wish : Wish) (who : Who) (event : Event) (fault : Fault) (answered : IsGrowAnswered {T = T} tells world a wish who old.parts.entries new.parts.entries event (Err fault)) (ahead : new.ahead ≡ old.ahead) where
+    pub rest-refused : (window : ℕ) → IsStillNow new → IsWithin tells (tape new.parts.bank) new → IsAtRest tells (given old.parts.bank) (tape old.parts.bank) window old → IsAtRest tells (given new.parts.bank) (tape new.parts.bank) window new
+    rest-refused window now within was =
+        let added = add-refused T tells world a wish who old.parts.entries new.parts.entries event fault answered in
+        rest-kept given tape window old new (refused-on added) (refused-leaves old new before ahead) now within
+        (closed-kept old new (ap (λ (w : Work). w.resync) before.work) ahead (λ whole. subst AreWhole before.members whole) added was.closed) was
+
+    pub reshape-refused : is_reshaping new.parts.members.newest ≡ true → IsWithin tells (tape new.parts.bank) new → IsInReshape tells (given old.parts.bank) (tape old.parts.bank) old → IsInReshape tells (given new.parts.bank) (tape new.parts.bank) new
+    reshape-refused active within was =
+        reshape-kept given tape old new (refused-on (add-refused T tells world a wish who old.parts.entries new.parts.entries event fault answered)) (ap (λ (m : Members). shape_of m.newest) before.members) (ap (λ (m : Members). final_shape m.newest) before.members) ahead active within was
+
+  -- ---- planned
+
+  module _ (wish : Wish) (left window room : ℕ) (level : wish.level ≡ None) (none : grow_refusal (asked_in (given old.parts.bank) old) wish ≡ None)
+      (planned : IsGrowPlanned tells (given new.parts.bank) (moving_world (given new.parts.bank) (tape new.parts.bank) new) wish left new)
+      (goes : GoesTo tells (moving_world (given new.parts.bank) (tape new.parts.bank) new) old new)
+      (wide : 512 * largest_window (shape_of old.parts.members.newest) old.parts.members.newest.size (phases_of new.ahead) ≤ room) (was : IsAtRest tells (given old.parts.bank) (tape old.parts.bank) window old) where
+    abbrev shape : Shape
+    shape = shape_of new.parts.members.newest
+
+    abbrev size : ℕ
+    size = new.parts.members.newest.size
+
+    -- one reshape is ahead
+    ahead-is : phases_of new.ahead ≡ Reshape (target (shape_of new.parts.members.newest) wish) ∷ []
+    ahead-is = planned.ahead ∙ one-reshape (shape_of new.parts.members.newest) wish level
+
+    aside-still : IsBackupAside new
+    aside-still slot is =
+        let apart = was.aside slot (sym before.backup ∙ is) in (
+          subst (λ (m : Members). has_spare m.spares slot ≡ false) (sym before.members) apart.0,
+          λ role held. apart.1 role (subst (λ (m : Members). Held m role slot) before.members held),
+        )
+
+    -- which the backup serves, and for which the buffer is long enough
+    next-planned : (to : Shape) → phases_of new.ahead ≡ Reshape to ∷ [] → CanBeNext (given new.parts.bank) room new to
+    next-planned to is =
+        let sound : AreSound shape size (Reshape to ∷ []) = subst (λ (l : List Phase). AreSound shape size l) is planned.sound in
+        let backed : HasWideBackup (given new.parts.bank) new.parts.backup (largest_window shape size (Reshape to ∷ [])) =
+        subst (λ (l : List Phase). HasWideBackup (given new.parts.bank) new.parts.backup (largest_window shape size l)) is planned.backed in
+        let found = reshape-backed (given new.parts.bank) new.parts.backup shape to size sound.0 backed in
+        let long : 512 * largest_window shape size (phases_of new.ahead) ≤ room = subst (λ (m : Members). 512 * largest_window (shape_of m.newest) m.newest.size (phases_of new.ahead) ≤ room) (sym before.members) wide in
+        let enough : 512 * largest_window shape size (Reshape to ∷ []) ≤ room = subst (λ (l : List Phase). 512 * largest_window shape size l ≤ room) is long in
+        let apart = aside-still found.0 found.1 in
+        record {
+          slot = found.0;
+          backup = found.1;
+          serves = record { known = found.2; apart = apart.0; own = apart.1; room = found.3 };
+          wide = omega (arith, enough);
+        }
+
+    pub rest-planned : IsStillNow new → IsWithin tells (tape new.parts.bank) new → IsAtRest tells (given new.parts.bank) (tape new.parts.bank) room new
+    rest-planned now within =
+        let alone = planned-alone (asked_in (given old.parts.bank) old) wish (phases_of old.ahead) refl none in
+        record {
+          now = now;
+          within = within;
+          one = subst IsOneReshape (sym ahead-is) tt;
+          next = next-planned;
+          aside = aside-still;
+          plans = goes (was.closed alone.0 alone.1 (planned-whole (asked_in (given old.parts.bank) old) wish none));
+          closed = λ synced empty whole. absurd (let e : [] ≡ Reshape (target shape wish) ∷ [] = sym empty ∙ ahead-is in cc);
+        }
+
+-- ---- the reply
+
+-- an array at rest has no steps of a reshape left
+left-rest : {B : Type 0} (array : RunningParts B) → is_reshaping array.parts.members.newest ≡ false → running_left array ≡ still_left array.parts.work array.parts.members array.ahead
+left-rest array still =
+    ap (λ (b : Bool). if b then left_in array.parts.work array.parts.members array.course array.ahead else still_left array.parts.work array.parts.members array.ahead) still
+
+module _ {B : Type 0} (T tells : Type 0) (given : B → Given) (tape : B → List Operation) (faults : B → ℕ → ℕ) (old new : RunningParts B) (wish : Wish) (who : Who)
+    (number : who.number ≡ next_number who.caller old.parts.entries) (visible : visible_of (list_length old.parts.members.newest) old.parts.entries ≡ list_length old.parts.members.newest) where
+  abbrev asked : Asked
+  asked = asked_in (given old.parts.bank) old
+
+  abbrev world : World
+  world = moving_world (given old.parts.bank) (tape old.parts.bank) old
+
+  pub replied-planned : (plan : T) → is_reshaping new.parts.members.newest ≡ false
+      → IsGrowAnswered {T = T} tells (moving_world (given old.parts.bank) (tape old.parts.bank) old) (asked_in (given old.parts.bank) old) wish who old.parts.entries new.parts.entries
+      (Planned (still_left new.parts.work new.parts.members new.ahead) wish) (Ok plan)
+      → IsGrowJudged {T = T} (asked_in (given old.parts.bank) old) wish (Ok plan)
+      → IsAnsweredWith (list_length old.parts.members.newest) (AsksGrow wish) who old.parts.entries new.parts.entries (Planned (running_left new) wish)
+  replied-planned plan still answered judged =
+      subst (λ (n : ℕ). IsAnsweredWith (list_length old.parts.members.newest) (AsksGrow wish) who old.parts.entries new.parts.entries (Planned n wish)) (sym (left-rest new still))
+      (grow-replied tells world asked (list_length old.parts.members.newest) wish who old.parts.entries new.parts.entries (still_left new.parts.work new.parts.members new.ahead) (Ok plan) number refl visible answered judged)
+
+  module _ (U : Type 0) (event : Event) (left : ℕ) (fault : Fault)
+      (answered : IsGrowAnswered {T = T} tells (moving_world (given old.parts.bank) (tape old.parts.bank) old) (asked_in (given old.parts.bank) old) wish who old.parts.entries new.parts.entries event (Err fault))
+      (judged : IsGrowJudged {T = T} (asked_in (given old.parts.bank) old) wish (Err fault)) where
+    pub replied-refused : IsGrowReplied {T = U} (list_length old.parts.members.newest) wish who old.parts.entries new.parts.entries left (Err fault)
+    replied-refused = by fault answered judged
+      where
+        by : (fault : Fault) → IsGrowAnswered {T = T} tells world asked wish who old.parts.entries new.parts.entries event (Err fault) → IsGrowJudged {T = T} asked wish (Err fault)
+            → IsGrowReplied {T = U} (list_length old.parts.members.newest) wish who old.parts.entries new.parts.entries left (Err fault)
+        by (IsRefusedWith refusal) is because =
+            grow-replied {T = T} tells world asked (list_length old.parts.members.newest) wish who old.parts.entries new.parts.entries left (Err (IsRefusedWith refusal)) number refl visible is because
+        by NoMemory is because = is
+
+    pub went-refused : IsAsBefore old new → HasRunOn tells given tape faults old new
+    went-refused before = by fault answered judged
+      where
+        by : (fault : Fault) → IsGrowAnswered {T = T} tells world asked wish who old.parts.entries new.parts.entries event (Err fault) → IsGrowJudged {T = T} asked wish (Err fault) → HasRunOn tells given tape faults old new
+        by (IsRefusedWith refusal) is because = grow-went tells given tape faults old new before {T = T} world asked wish who left (Err (IsRefusedWith refusal)) is because
+        by NoMemory is because = grow-went tells given tape faults old new before {T = T} world asked wish who left (Err NoMemory) is because

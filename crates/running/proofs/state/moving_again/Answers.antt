@@ -1,0 +1,22 @@
+use Rattle.array_kept.specs.Kept.{scope_in}
+use Rattle.moving_laws.proofs.MendLaws.{left-some}
+use Rattle.running.proofs.Checked.{some-of, aside-moving}
+use Rattle.running.proofs.state.moving_again.Goals as goal
+
+pub returns-clause-some : goal.returns-clause-some
+returns-clause-some g c =
+    let was = c.take_apart-pieces.ensures.ready in
+    let p = c.take_apart-pieces.result.0 in
+    rw c.take_apart-pieces.ensures.same (some-of _ (left-some p.members p.work c.take_apart-pieces.result.1 p.ahead was.kept.members_are.active was.kept.course_is))
+
+pub returns-clause-within : goal.returns-clause-within
+returns-clause-within g c =
+    let was = c.take_apart-pieces.ensures.ready in
+    rw c.take_apart-pieces.ensures.same (record { begun = λ t. (was.kept.recorded t).begun; ends = λ t. (was.kept.recorded t).ends })
+
+pub returns-clause-aside : goal.returns-clause-aside
+returns-clause-aside g c =
+    let was = c.take_apart-pieces.ensures.ready in
+    let p = c.take_apart-pieces.result.0 in
+    let given = g.B.Bank.given p.bank in
+    rw c.take_apart-pieces.ensures.same (aside-moving (scope_in given p.epoch.uuid p.epoch.given p.backup) given p.members was.kept.members_are)

@@ -1,0 +1,65 @@
+//! The answer to a request for steps.
+
+ghost use Rattle.std.specs.Prelude.{◌≡◌, ◌≢◌, ◌+◌, ◌≤◌, ◌∷◌, [], false};
+ghost use Rattle.superblocks.specs.Reading.{is_reshaping};
+ghost use Rattle.array_kept.specs.Calls.{IsEntered};
+ghost use Rattle.kept_history.specs.Recorded.{IsCallGoing};
+ghost use Rattle.running_words.specs.Calls.{IsCalled};
+ghost use Rattle.still_laws.specs.Steps.{MayAnswer};
+ghost use Rattle.moving_steps.specs.Replies.{IsReplyInReshape};
+ghost use Rattle.running.specs.Calls.{IsReplyNow};
+
+use crate::state::{Running, State, check_moving, check_still};
+use bank::Bank;
+use core::mem::replace_with;
+use flat_history::Event;
+use md_base::Who;
+use moving::Moving;
+
+// Answers in an array in a reshape.
+fn answer_in<B: Bank>(moving: Moving<B>, reply: (Who, Event)) -> (Moving<B>, ())
+    requires open { IsCallGoing moving.parts.entries reply.0 }
+    requires caller { reply.0.caller ≢ 254 }
+    requires room { 1 ≤ moving.parts.steps }
+    requires reply { IsReplyInReshape moving.parts.work moving.parts.members moving.course moving.ahead reply.1 }
+    ensures entered { IsEntered B.tells (B.tape moving.parts.bank) reply.0 moving.parts.entries result.0.parts.entries (reply.1 ∷ []) }
+    ensures room { result.0.parts.steps + 1 ≡ moving.parts.steps }
+    ensures bank { result.0.parts.bank ≡ moving.parts.bank }
+    ensures members { result.0.parts.members ≡ moving.parts.members }
+    ensures course { result.0.course ≡ moving.course }
+    ensures called { IsCalled B.tells (B.given moving.parts.bank) (B.tape moving.parts.bank) (B.tape result.0.parts.bank) (B.faults_of moving.parts.bank) (B.faults_of result.0.parts.bank) moving result.0 }
+{
+    let (who, event) = reply;
+    (moving_steps::answer(moving, who, event), ())
+}
+
+impl<B: Bank> Running<B> {
+    /// Answers a request for steps: that nothing was left to do, or how many were done and what refused one. Without a reshape, and where none
+    /// is left and none was refused, what is missing is to be told by the superblocks, or no plan is open. It makes no device call, and takes
+    /// no memory.
+    pub fn answer(&mut self, who: Who, event: Event)
+        requires open { IsCallGoing self.old.parts.entries who }
+        requires caller { who.caller ≢ 254 }
+        requires room { 1 ≤ self.old.parts.steps }
+        requires reply { IsReplyNow self.old event }
+        requires closable { is_reshaping self.old.parts.members.newest ≡ false → MayAnswer self.old.parts.entries self.old.parts.work self.old.parts.members self.old.ahead event }
+        ensures entered { IsEntered B.tells (B.tape self.old.parts.bank) who self.old.parts.entries self.new.parts.entries (event ∷ []) }
+        ensures room { self.new.parts.steps + 1 ≡ self.old.parts.steps }
+        ensures bank { self.new.parts.bank ≡ self.old.parts.bank }
+        ensures members { self.new.parts.members ≡ self.old.parts.members }
+        ensures course { self.new.course ≡ self.old.course }
+        ensures called { IsCalled B.tells (B.given self.old.parts.bank) (B.tape self.old.parts.bank) (B.tape self.new.parts.bank) (B.faults_of self.old.parts.bank) (B.faults_of self.new.parts.bank) self.old self.new }
+    {
+        match &mut self.state {
+            State::Still(still) => {
+                still.answer(who, event);
+                check_still(still);
+            }
+            State::Moving(moving) => {
+                check_moving(moving);
+                replace_with(moving, (who, event), answer_in);
+                check_moving(moving);
+            }
+        }
+    }
+}

@@ -1,0 +1,100 @@
+//! What is next to do in a running array.
+
+ghost use Rattle.std.specs.Prelude.{◌≡◌, ◌≢◌, ◌<◌, ◌∷◌, [], true, IfSome, IfNone};
+ghost use Rattle.md_base.specs.declared.wishes.Phase.TheVariants.{Reshape};
+ghost use Rattle.superblocks.specs.Reading.{is_reshaping};
+ghost use Rattle.grow_asked.specs.Left.{phases_of};
+ghost use Rattle.running.specs.State.{IsStillNow, IsOneReshape};
+ghost use Rattle.running.specs.Calls.{running_left, IsNext};
+ghost use Rattle.running.specs.declared.state.choosing.Next.TheVariants.{Nothing as IsDone};
+
+use crate::state::{Running, State, check_moving, check_still};
+use array_state::asking::steps_left;
+use bank::Bank;
+use core::mem::replace_with;
+use grow_asked::PhasesLeft;
+use md_base::{Phase, Shape};
+use moving::Moving;
+use moving_state::stepping::{Due, due_step};
+use still::Still;
+
+/// What is next to do in a running array: nothing; a step of a resync or of a rebuild, without a reshape; the reshape to this shape
+/// begins, which is ahead; a step of the active reshape, or of a resync beside it; or the active reshape ends.
+#[derive(Clone, Copy, Debug, PartialEq, Eq)]
+pub enum Next {
+    Nothing,
+    Own,
+    Begin(Shape),
+    Move,
+    Finish,
+}
+
+// The reshape that is ahead, where there is one.
+fn reshape_ahead(ahead: &PhasesLeft) -> Option<Shape>
+    requires one { IsOneReshape (phases_of ahead.now) }
+    ensures some { IfSome result (λ to. phases_of ahead.now ≡ Reshape to ∷ []) }
+    ensures none { IfNone result (phases_of ahead.now ≡ []) }
+{
+    match (ahead.next, ahead.last) {
+        (Some(Phase::Reshape(to)), _) | (None, Some(Phase::Reshape(to))) => Some(to),
+        _ => None,
+    }
+}
+
+// What is next without a reshape.
+fn next_still<B: Bank>(still: Still<B>, _none: ()) -> (Still<B>, Next)
+    requires rest { IsStillNow still }
+    requires one { IsOneReshape (phases_of still.ahead) }
+    ensures same { result.0 ≡ still }
+    ensures next { IsNext still result.1 }
+    ensures some { result.1 ≢ IsDone → 0 < running_left still }
+{
+    let pieces = still.take_apart();
+    let next = if steps_left(&pieces.members, &pieces.work) > 0 {
+        Next::Own
+    } else {
+        match reshape_ahead(&pieces.ahead) {
+            Some(to) => Next::Begin(to),
+            None => Next::Nothing,
+        }
+    };
+    (Still::of_pieces(pieces), next)
+}
+
+// What is next in a reshape.
+fn next_moving<B: Bank>(moving: Moving<B>, _none: ()) -> (Moving<B>, Next)
+    requires active { is_reshaping moving.parts.members.newest ≡ true }
+    ensures same { result.0 ≡ moving }
+    ensures next { IsNext moving result.1 }
+    ensures some { result.1 ≢ IsDone → 0 < running_left moving }
+{
+    let (pieces, course, window) = moving.take_apart();
+    let Some(backup) = pieces.backup else {
+        unreachable!()
+    };
+    let next = match due_step(&pieces.members, &course, pieces.work.resync) {
+        Due::Finish => Next::Finish,
+        _ => Next::Move,
+    };
+    (Moving::of_pieces(pieces, backup, course, window), next)
+}
+
+impl<B: Bank> Running<B> {
+    /// What is next to do; the array is as it was.
+    pub fn next(&mut self) -> Next
+        ensures same { self.new ≡ self.old }
+        ensures next { IsNext self.old result }
+        ensures some { result ≢ IsDone → 0 < running_left self.old }
+    {
+        match &mut self.state {
+            State::Still(still) => {
+                check_still(still);
+                replace_with(still, (), next_still)
+            }
+            State::Moving(moving) => {
+                check_moving(moving);
+                replace_with(moving, (), next_moving)
+            }
+        }
+    }
+}

@@ -1,0 +1,167 @@
+-- A step by which the active reshape ends.
+use Rattle.std.proofs.Common.{◌≡◌, ◌⊎◌, inl, inr, ℕ, ◌*◌, ◌≤◌, ◌||◌, ◌++◌, min, Bool, true, false, List, [], ◌∷◌, refl, sym, ◌∙◌, arith}
+use Rattle.std.proofs.Math.Nat.{min-le_right}
+use Rattle.std.proofs.lemmas.Bool.Decides.{nat_tests}
+use Rattle.std.specs.Prelude.{nat_lt, if◌then◌else◌, IsTrue}
+use Rattle.std.specs.List.{list_any}
+use Rattle.md_base.specs.Shapes.{data_disks}
+use Rattle.md_base.specs.declared.answers.Who.{Who}
+use Rattle.bank.specs.declared.bank.Operation.{Operation}
+use Rattle.bank.specs.Given.{Given}
+use Rattle.sb1.specs.declared.sb.Sb.{Sb}
+use Rattle.superblocks.specs.declared.members.Members.{Members}
+use Rattle.superblocks.specs.Reading.{shape_of, final_shape, list_length}
+use Rattle.superblocks.specs.Reads.{has_spare}
+use Rattle.flat_history.specs.declared.events.Entry.{Entry}
+use Rattle.flat_history.specs.declared.events.Event.{Event}
+use Rattle.flat_history.specs.declared.events.Event.TheVariants.{Lost, SpareLost, Resized, Step}
+use Rattle.flat_history.specs.declared.events.LostCause.TheVariants.{Fault}
+use Rattle.flat_history.specs.declared.events.StepKind.TheVariants.{Finished}
+use Rattle.flat_history.specs.Flat.{length_of}
+use Rattle.flat_history.specs.Plain.{entries_of}
+use Rattle.call_entries.specs.Losing.{losses_of}
+use Rattle.call_entries.proofs.PlainLaws.{one}
+use Rattle.call_entries.proofs.CallLaws.{losses-are, length-losses}
+use Rattle.views.specs.Placed.{AreStillHeld}
+use Rattle.views.specs.Rebuilding.{Held}
+use Rattle.kept_history.specs.Recorded.{MayGoOn, IsCallGoing}
+use Rattle.running_words.specs.Parts.{RunningParts, still_left}
+use Rattle.still_laws.specs.Steps.{IsClosable}
+use Rattle.turning.specs.Ended.{ended_length, AreSparesOrDropped, IsReshapeEnded}
+use Rattle.running_replies.specs.Replies.{IsRefusalToldBy}
+use Rattle.running_replies.specs.Going.{is_finish, MayBeDropped, AreHeldBehind}
+use Rattle.running.specs.Calls.{running_left}
+use Rattle.running_steps.specs.Steps.{TellsLeft, IsStepDone}
+use Rattle.running_steps.proofs.Events.{EachOf, each-behind, each-losses, each-entry, each-own, count-one, IsNoStep, going-more}
+use Rattle.running_steps.proofs.Went.{epoch-itself, losses-along}
+use Rattle.running_steps.proofs.Plain.{still-runs}
+use Rattle.running_steps.proofs.Begun.{losses-long}
+
+-- ---- what is entered
+
+each-rest : (P : Event → Type 0) (roles spares before size : ℕ) → P (Resized size) → EachOf P (losses_of roles spares) → EachOf P (ended_length before size ++ losses_of roles spares)
+each-rest P roles spares before size resized losses = by (nat_lt before size)
+  where
+    by : (b : Bool) → EachOf P ((if b then Resized size ∷ [] else []) ++ losses_of roles spares)
+    by true = (resized, losses)
+    by false = losses
+
+-- an end is told among them
+finish-told : (who : Who) (end left : ℕ) (xs ys : List Event) → list_any (λ e. is_finish e.event) (entries_of who end (xs ++ Step Finished left ∷ ys)) ≡ true
+finish-told who end left [] ys = refl
+finish-told who end left (x ∷ xs) ys = right (is_finish x) (list_any (λ e. is_finish e.event) (entries_of who end (xs ++ Step Finished left ∷ ys))) (finish-told who end left xs ys)
+  where
+    right : (a b : Bool) → b ≡ true → (a || b) ≡ true
+    right true b is = refl
+    right false b is = is
+
+-- ---- the length of the list
+
+ended-length : (who : Who) (end left roles spares late late_spares n size : ℕ) → (nat_lt n size ≡ false → size ≡ n)
+    → size ≡ length_of n (entries_of who end (losses_of roles spares ++ Step Finished left ∷ (ended_length n size ++ losses_of late late_spares)))
+ended-length who end left roles spares late late_spares n size same =
+    by (nat_lt n size) same ∙ sym (length-losses who end (losses_of roles spares) (Step Finished left ∷ (ended_length n size ++ losses_of late late_spares)) (losses-are roles spares) n)
+  where
+    by : (b : Bool) → (b ≡ false → size ≡ n) → size ≡ length_of n (entries_of who end (Step Finished left ∷ ((if b then Resized size ∷ [] else []) ++ losses_of late late_spares)))
+    by true is = sym (losses-long who end late late_spares size)
+    by false is = is refl ∙ sym (losses-long who end late late_spares n)
+
+-- it is no shorter than before
+no-shorter : (old new : Sb) → list_length new ≡ data_disks (final_shape old) * old.size → nat_lt (list_length old) (list_length new) ≡ false → list_length new ≡ list_length old
+no-shorter old new is none = least (data_disks (shape_of old)) (data_disks (final_shape old)) old.size (list_length new) is none
+  where
+    least : (a b size n : ℕ) → n ≡ b * size → nat_lt (min a b * size) n ≡ false → n ≡ min a b * size
+    least a b size n long none =
+        let low : min a b ≤ b = min-le_right a b in
+        let within : min a b * size ≤ b * size = times (min a b) b size low in
+        let over : n ≤ min a b * size = not-less (min a b * size) n none in omega (arith, within, over, long)
+      where
+        times : (x y k : ℕ) → x ≤ y → x * k ≤ y * k
+        times x y k le = grind (arith, le)
+
+        not-less : (x y : ℕ) → nat_lt x y ≡ false → y ≤ x
+        not-less x y is = grind (arith, nat_tests, is)
+
+-- ---- it ends
+
+dropped-behind : (old new : Members) (entries : List Entry) → IsTrue (list_any (λ e. is_finish e.event) entries) → AreStillHeld old new → AreSparesOrDropped old new → AreHeldBehind old new entries
+dropped-behind old new entries told held spares = record { roles = λ role slot has. inl (inl (held role slot has)); spares = λ slot is. by slot (spares slot is) }
+  where
+    by : (slot : ℕ) → (has_spare old.spares slot ≡ true) ⊎ ((role : ℕ) × ((final_shape old.newest).disks ≤ role) × Held old role slot) → (has_spare old.spares slot ≡ true) ⊎ MayBeDropped old entries slot
+    by slot (inl was) = inl was
+    by slot (inr (role, past, had)) = inr (told, role, had)
+
+module _ {B : Type 0} (tells : Type 0) (given : B → Given) (tape : B → List Operation) (faults : B → ℕ → ℕ) (who : Who) (old new : RunningParts B) where
+  pub finish-done : IsCallGoing old.parts.entries who
+      → IsReshapeEnded tells (given old.parts.bank) (tape old.parts.bank) (tape new.parts.bank) (faults old.parts.bank) (faults new.parts.bank) who old new → given new.parts.bank ≡ given old.parts.bank
+      → IsClosable new → IsStepDone tells given tape faults who old new true
+  finish-done goes was given_is closes = record {
+    inner = inner;
+    is = was.entered.is;
+    own = each-own MayGoOn who end events (each MayGoOn (λ role. tt) (λ slot. tt) tt tt);
+    told = each-entry (TellsLeft (running_left new)) who end events (each (TellsLeft (running_left new)) (λ role. tt) (λ slot. tt) (sym (still-runs new was.over.still)) tt);
+    one = inl (count-one who end (losses_of roles spares) (Step Finished left) (ended_length before size ++ losses_of late late_spares) (each-losses IsNoStep (λ role. refl) (λ slot. refl) roles spares) refl
+        (each-rest IsNoStep late late_spares before size refl (each-losses IsNoStep (λ role. refl) (λ slot. refl) late late_spares)));
+    over_told = sym finished;
+    left = λ over. absurd (cc);
+    next_open = λ over some. absurd (cc);
+    going = going-more inner goes was.entered.is (each-own MayGoOn who end events (each MayGoOn (λ role. tt) (λ slot. tt) tt tt));
+    closable = λ none. closes;
+    went = record {
+      more = inner;
+      grown = was.entered.is;
+      sized = ended-length who end left roles spares late late_spares before size (no-shorter old.parts.members.newest new.parts.members.newest was.long);
+      held = dropped-behind old.parts.members new.parts.members inner finished was.held was.spares;
+      losses = losses-along old.parts.members (faults old.parts.bank) (faults new.parts.bank) (Held old.parts.members) (λ role slot has. inl has) old.parts.entries new.parts.entries inner was.entered.is was.losses;
+      refusals = record {
+        more = inner;
+        grown = was.entered.is;
+        told = each-entry told who end events (each told (λ role. tt) (λ slot. tt) tt tt);
+      };
+      grows = was.grows;
+      never_falls = was.never_falls;
+      given_is = given_is;
+      same = epoch-itself old new was.same;
+    };
+    ended = was.ended;
+  }
+    where
+      end : ℕ
+      end = was.entered.end
+
+      roles : ℕ
+      roles = was.entered.roles
+
+      spares : ℕ
+      spares = was.entered.spares
+
+      late : ℕ
+      late = was.entered.late
+
+      late_spares : ℕ
+      late_spares = was.entered.late_spares
+
+      before : ℕ
+      before = list_length old.parts.members.newest
+
+      size : ℕ
+      size = list_length new.parts.members.newest
+
+      left : ℕ
+      left = still_left new.parts.work new.parts.members new.ahead
+
+      events : List Event
+      events = losses_of roles spares ++ Step Finished left ∷ (ended_length before size ++ losses_of late late_spares)
+
+      inner : List Entry
+      inner = entries_of who end events
+
+      told : Event → Type 0
+      told = IsRefusalToldBy old.parts.backup (faults old.parts.bank) (faults new.parts.bank)
+
+      each : (P : Event → Type 0) → ((role : ℕ) → P (Lost role Fault)) → ((slot : ℕ) → P (SpareLost slot)) → P (Step Finished left) → P (Resized size) → EachOf P events
+      each P role spare step resized = each-behind P role spare roles spares (Step Finished left ∷ (ended_length before size ++ losses_of late late_spares))
+          (step, each-rest P late late_spares before size resized (each-losses P role spare late late_spares))
+
+      finished : list_any (λ e. is_finish e.event) inner ≡ true
+      finished = finish-told who end left (losses_of roles spares) (ended_length before size ++ losses_of late late_spares)

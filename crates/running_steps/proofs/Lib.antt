@@ -1,0 +1,10 @@
+mod Events
+mod Went
+mod Plain
+mod Refusals
+mod Own
+mod Moved
+mod Begun
+mod Ended
+mod StepsOf
+mod Replies

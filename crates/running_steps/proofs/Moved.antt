@@ -1,0 +1,84 @@
+-- The step of a reshape that is due, but for its end; and the end that is refused.
+use Rattle.std.proofs.Common.{◌≡◌, ◌≢◌, inl, ℕ, ◌+◌, true, false, List, refl, sym, ◌∙◌, subst, arith}
+use Rattle.md_base.specs.declared.answers.Refusal.{Refusal}
+use Rattle.md_base.specs.declared.answers.Who.{Who}
+use Rattle.bank.specs.declared.bank.Operation.{Operation}
+use Rattle.bank.specs.Given.{Given}
+use Rattle.superblocks.specs.Reading.{is_reshaping}
+use Rattle.flat_history.specs.declared.events.Event.TheVariants.{Step, Refused}
+use Rattle.call_entries.proofs.PlainLaws.{one}
+use Rattle.views.specs.Lacking.{AreTooMany}
+use Rattle.views.specs.Rebuilding.{Held}
+use Rattle.array_kept.specs.Calls.{IsBehind}
+use Rattle.kept_history.specs.Recorded.{IsCallGoing}
+use Rattle.moving_state.specs.declared.stepping.Due.{Due}
+use Rattle.moving_state.specs.declared.stepping.Due.TheVariants.{Finish}
+use Rattle.running_words.specs.Parts.{RunningParts, left_in}
+use Rattle.running_words.specs.Calls.{IsCalled}
+use Rattle.moving_laws.specs.Mending.{IsMendCalled}
+use Rattle.moving_laws.specs.Steps.{kind_of}
+use Rattle.running_replies.specs.Replies.{IsRefusalBy}
+use Rattle.running_replies.specs.Going.{is_finish}
+use Rattle.running.specs.Calls.{running_left, MayEndSteps}
+use Rattle.running_steps.specs.Steps.{IsStepDone, IsStepRefused}
+use Rattle.running_steps.proofs.Events.{IsStepEntries}
+use Rattle.running_steps.proofs.Went.{epoch-of, long-same, held-only}
+use Rattle.running_steps.proofs.Plain.{open-moving, active-runs, fewer-as, IsPlainStep, plain-done, plain-refused}
+use Rattle.running_steps.proofs.Refusals.{many-so, moved-ends}
+use Rattle.running_steps.proofs.Own.{step-entries}
+
+pub moved-did : {B : Type 0} (tells : Type 0) (given : B → Given) (tape : B → List Operation) (faults : B → ℕ → ℕ) (old new : RunningParts B)
+    → IsMendCalled tells (given old.parts.bank) (tape old.parts.bank) (tape new.parts.bank) (faults old.parts.bank) (faults new.parts.bank) old new → given new.parts.bank ≡ given old.parts.bank
+    → IsPlainStep tells given tape faults (Held old.parts.members) old new
+moved-did tells given tape faults old new was given_is = record {
+  long = long-same old (record new { parts = record new.parts { work = old.parts.work } }) was.same;
+  held = held-only old.parts.members new.parts.members was.held was.spares;
+  had = λ role slot has. inl has;
+  losses = was.losses;
+  grows = was.grows;
+  never_falls = was.never_falls;
+  given_is = given_is;
+  epoch = record { uuid = was.same.array.uuid; given = was.same.array.given; first = was.same.array.first; backup = was.same.array.backup };
+  ended = was.ended;
+}
+
+due-kind : (due : Due) (left : ℕ) → due ≢ Finish → is_finish (Step (kind_of due) left) ≡ false
+due-kind Finish left none = absurd (none refl)
+due-kind due left none = refl
+
+module _ {B : Type 0} (tells : Type 0) (given : B → Given) (tape : B → List Operation) (faults : B → ℕ → ℕ) (who : Who) (old new : RunningParts B) (goes : IsCallGoing old.parts.entries who)
+    (active : is_reshaping old.parts.members.newest ≡ true) (later : is_reshaping new.parts.members.newest ≡ true) where
+  pub moved-done : (due : Due) → due ≢ Finish → IsMendCalled tells (given old.parts.bank) (tape old.parts.bank) (tape new.parts.bank) (faults old.parts.bank) (faults new.parts.bank) old new → given new.parts.bank ≡ given old.parts.bank
+      → IsBehind who old.parts.entries new.parts.entries (Step (kind_of due) (left_in new.parts.work new.parts.members new.course new.ahead))
+      → left_in new.parts.work new.parts.members new.course new.ahead + 1 ≡ left_in old.parts.work old.parts.members old.course old.ahead → IsStepDone tells given tape faults who old new false
+  moved-done due ne was given_is behind one =
+      plain-done tells given tape faults who old new (Held old.parts.members) (moved-did tells given tape faults old new was given_is)
+      (subst (λ (n : ℕ). IsStepEntries who old.parts.entries new.parts.entries n) (sym (active-runs new later))
+      (step-entries who old.parts.entries new.parts.entries (kind_of due) (left_in new.parts.work new.parts.members new.course new.ahead) (due-kind due (left_in new.parts.work new.parts.members new.course new.ahead) ne) behind))
+      (open-moving old who active goes) (later ∙ sym active)
+      (fewer-as old.parts.entries new.parts.entries (left_in old.parts.work old.parts.members old.course old.ahead) (left_in new.parts.work new.parts.members new.course new.ahead) (running_left old) (running_left new) (active-runs old active) (active-runs new later)
+      (record { one = λ quiet. one; some = λ quiet. omega (arith, one) }))
+      (λ none. absurd (let both : true ≡ false = sym later ∙ none in cc))
+
+  pub moved-refused : (did : IsPlainStep tells given tape faults (Held old.parts.members) old new) (refusal : Refusal) → IsBehind who old.parts.entries new.parts.entries (Refused refusal)
+      → IsRefusalBy old.parts.backup (faults old.parts.bank) (faults new.parts.bank) refusal → MayEndSteps new refusal → IsStepRefused tells given tape faults who old new refusal
+  moved-refused did refusal behind cause right = plain-refused tells given tape faults who old new (Held old.parts.members) refusal did behind goes (moved-ends new refusal later right) cause right
+
+-- the end of the reshape is refused
+pub ended-refused : {B : Type 0} (tells : Type 0) (given : B → Given) (tape : B → List Operation) (faults : B → ℕ → ℕ) (who : Who) (old new : RunningParts B) → IsCallGoing old.parts.entries who → is_reshaping new.parts.members.newest ≡ true
+    → IsCalled tells (given old.parts.bank) (tape old.parts.bank) (tape new.parts.bank) (faults old.parts.bank) (faults new.parts.bank) old new → given new.parts.bank ≡ given old.parts.bank
+    → (refusal : Refusal) → IsBehind who old.parts.entries new.parts.entries (Refused refusal) → AreTooMany new.parts.members refusal → MayEndSteps new refusal → IsStepRefused tells given tape faults who old new refusal
+ended-refused tells given tape faults who old new goes later was given_is refusal behind many right =
+    plain-refused tells given tape faults who old new (Held old.parts.members) refusal
+    (record {
+      long = long-same old new was.same;
+      held = held-only old.parts.members new.parts.members was.held was.spares;
+      had = λ role slot has. inl has;
+      losses = was.losses;
+      grows = was.grows;
+      never_falls = was.never_falls;
+      given_is = given_is;
+      epoch = epoch-of old new was.same;
+      ended = was.ended;
+    })
+    behind goes (moved-ends new refusal later right) (many-so (IsRefusalBy old.parts.backup (faults old.parts.bank) (faults new.parts.bank)) (λ count most. tt) new.parts.members refusal many) right

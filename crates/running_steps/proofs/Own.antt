@@ -1,0 +1,121 @@
+-- The next step without a reshape: of a resync or a rebuild.
+use Rattle.std.proofs.Common.{◌≡◌, inl, inr, ℕ, Bool, true, false, cond, Option, Some, None, Ok, Err, List, [], ◌∷◌, refl, sym, ◌∙◌, subst}
+use Rattle.std.specs.Prelude.{nat_lt, MatchOption}
+use Rattle.std.specs.Option.{option_map_or}
+use Rattle.md_base.specs.declared.answers.Fault.TheVariants.{Refused as IsRefusedWith}
+use Rattle.md_base.specs.declared.answers.Refusal.{Refusal}
+use Rattle.md_base.specs.declared.answers.Who.{Who}
+use Rattle.bank.specs.declared.bank.Operation.{Operation}
+use Rattle.bank.specs.Given.{Given}
+use Rattle.superblocks.specs.declared.members.Members.{Members}
+use Rattle.superblocks.specs.Reading.{is_reshaping, list_length}
+use Rattle.flat_history.specs.declared.events.Entry.{Entry}
+use Rattle.flat_history.specs.declared.events.Event.TheVariants.{Rebuilt, Step, Refused}
+use Rattle.flat_history.specs.declared.events.StepKind.{StepKind}
+use Rattle.flat_history.specs.declared.events.StepKind.TheVariants.{Finished, RebuildTaken, RebuildStripe, RebuildEnded, ResyncStripe, ResyncEnded}
+use Rattle.views.specs.declared.work.Work.{Work}
+use Rattle.views.specs.Status.{stripes_of, rebuilt_of}
+use Rattle.array_kept.specs.Calls.{AreHeldOrSpare, AreStepsFewer, IsBehind, IsBehindAll, IsRebuildStepped, IsRefusedFor}
+use Rattle.running_words.specs.Parts.{RunningParts, still_left}
+use Rattle.running_words.specs.Calls.{IsStepTaken}
+use Rattle.still_laws.specs.Steps.{IsStepped, IsClosable}
+use Rattle.still_steps.specs.Rebuilding.{first_recovering, rebuilt_role, rebuild_kind, rebuild_events}
+use Rattle.still_steps.specs.Resyncing.{is_at_end}
+use Rattle.still_steps.specs.Resyncing as resync
+use Rattle.still_steps.specs.Stepping.{IsUndone, IsHeldOrDue, IsStepEntered}
+use Rattle.still_steps.proofs.NextLaws.{due-may}
+use Rattle.turning.specs.Begun.{HasKeptLength}
+use Rattle.running_replies.specs.Going.{is_finish}
+use Rattle.running.specs.Calls.{running_left, MayEndSteps}
+use Rattle.running_steps.specs.Steps.{IsStepDone, IsStepRefused}
+use Rattle.running_steps.proofs.Events.{IsOfStep, IsStepEntries, entries-behind, entries-lost}
+use Rattle.running_steps.proofs.Went.{epoch-of, long-same}
+use Rattle.running_steps.proofs.Plain.{open-still, still-runs, fewer-as, IsPlainStep, plain-done, plain-refused}
+use Rattle.running_steps.proofs.Refusals.{own-ends, own-cause}
+
+own-did : {B : Type 0} (tells : Type 0) (given : B → Given) (tape : B → List Operation) (faults : B → ℕ → ℕ) (old new : RunningParts B)
+    → IsStepped tells (given old.parts.bank) (tape old.parts.bank) (tape new.parts.bank) (IsHeldOrDue old.parts.work old.parts.members) (faults old.parts.bank) (faults new.parts.bank) old new
+    → AreHeldOrSpare old.parts.members new.parts.members → given new.parts.bank ≡ given old.parts.bank → IsPlainStep tells given tape faults (IsHeldOrDue old.parts.work old.parts.members) old new
+own-did tells given tape faults old new was held given_is = record {
+  long = long-same old new was.same;
+  held = held;
+  had = due-may old.parts.work old.parts.members;
+  losses = was.losses;
+  grows = was.grows;
+  never_falls = was.never_falls;
+  given_is = given_is;
+  epoch = epoch-of old new was.same;
+  ended = was.ended;
+}
+
+of-kind : (kind : StepKind) (left : ℕ) → is_finish (Step kind left) ≡ false → IsOfStep left (Step kind left)
+of-kind Finished left none = absurd (cc)
+of-kind kind left none = refl
+
+pub step-entries : (who : Who) (old new : List Entry) (kind : StepKind) (left : ℕ) → is_finish (Step kind left) ≡ false → IsBehind who old new (Step kind left) → IsStepEntries who old new left
+step-entries who old new kind left none was = entries-behind who old new left was.roles was.spares was.end (Step kind left) [] was.is (of-kind kind left none, tt) refl tt
+
+rebuild-entries : (who : Who) (old new : List Entry) (work : Work) (members : Members) (left : ℕ) → IsBehindAll who old new (rebuild_events (rebuild_kind work members) (rebuilt_role members) left) → IsStepEntries who old new left
+rebuild-entries who old new work members left was = by (first_recovering members) was
+  where
+    ended : IsBehindAll who old new (rebuild_events RebuildEnded (rebuilt_role members) left) → IsStepEntries who old new left
+    ended is = entries-behind who old new left is.0 is.1 is.2 (Step RebuildEnded left) (Rebuilt (rebuilt_role members) ∷ []) is.3 (refl, (tt, tt)) refl (refl, tt)
+
+    built : IsBehindAll who old new (rebuild_events RebuildStripe (rebuilt_role members) left) → IsStepEntries who old new left
+    built is = entries-behind who old new left is.0 is.1 is.2 (Step RebuildStripe left) [] is.3 (refl, tt) refl tt
+
+    taken : IsBehindAll who old new (rebuild_events RebuildTaken (rebuilt_role members) left) → IsStepEntries who old new left
+    taken is = entries-behind who old new left is.0 is.1 is.2 (Step RebuildTaken left) [] is.3 (refl, tt) refl tt
+
+    at : (b : Bool) → IsBehindAll who old new (rebuild_events (cond b RebuildStripe RebuildEnded) (rebuilt_role members) left) → IsStepEntries who old new left
+    at true is = built is
+    at false is = ended is
+
+    by : (o : Option ℕ) → IsBehindAll who old new (rebuild_events (option_map_or (λ role. cond (nat_lt (rebuilt_of work role) (stripes_of members)) RebuildStripe RebuildEnded) o RebuildTaken) (rebuilt_role members) left) → IsStepEntries who old new left
+    by None is = taken is
+    by (Some role) is = at (nat_lt (rebuilt_of work role) (stripes_of members)) is
+
+own-entries : {T : Type 0} (who : Who) (old new : List Entry) (work : Work) (members members' : Members) (left : ℕ) (x : T) → IsStepEntered {T = T} who old new work members members' left (Ok x) → IsStepEntries who old new left
+own-entries {T = T} who old new work members members' left x = by work.resync
+  where
+    rebuilt : IsRebuildStepped {T = T} who old new members' (rebuilt_role members) (rebuild_events (rebuild_kind work members) (rebuilt_role members) left) (Ok x) → IsStepEntries who old new left
+    rebuilt (inl done) = rebuild-entries who old new work members left done
+    rebuilt (inr lost) = entries-lost who old new left (rebuilt_role members) lost.0
+
+    mended : (b : Bool) → IsBehind who old new (Step (cond b ResyncEnded ResyncStripe) left) → IsStepEntries who old new left
+    mended true was = step-entries who old new ResyncEnded left refl was
+    mended false was = step-entries who old new ResyncStripe left refl was
+
+    by : (o : Option ℕ) → MatchOption o (IsRebuildStepped {T = T} who old new members' (rebuilt_role members) (rebuild_events (rebuild_kind work members) (rebuilt_role members) left) (Ok x))
+        (λ n. IsStepTaken {T = T} who old new (resync.next_kind work.resync members) left (Ok x)) → IsStepEntries who old new left
+    by None was = rebuilt was
+    by (Some n) was = mended (is_at_end work.resync members) was
+
+own-behind : (T : Type 0) (who : Who) (old new : List Entry) (work : Work) (members members' : Members) (left : ℕ) (refusal : Refusal)
+    → IsStepEntered {T = T} who old new work members members' left (Err (IsRefusedWith refusal)) → IsBehind who old new (Refused refusal)
+own-behind T who old new work members members' left refusal = by work.resync
+  where
+    by : (o : Option ℕ) → MatchOption o (IsBehind who old new (Refused refusal)) (λ n. IsBehind who old new (Refused refusal)) → IsBehind who old new (Refused refusal)
+    by None was = was
+    by (Some n) was = was
+
+module _ {B : Type 0} (tells : Type 0) (given : B → Given) (tape : B → List Operation) (faults : B → ℕ → ℕ) (who : Who) (old new : RunningParts B) (open_ : HasKeptLength old.parts.entries who)
+    (still : is_reshaping old.parts.members.newest ≡ false) (later : is_reshaping new.parts.members.newest ≡ false)
+    (was : IsStepped tells (given old.parts.bank) (tape old.parts.bank) (tape new.parts.bank) (IsHeldOrDue old.parts.work old.parts.members) (faults old.parts.bank) (faults new.parts.bank) old new)
+    (held : AreHeldOrSpare old.parts.members new.parts.members) (given_is : given new.parts.bank ≡ given old.parts.bank) where
+  pub own-done : {T : Type 0} (x : T) → IsStepEntered {T = T} who old.parts.entries new.parts.entries old.parts.work old.parts.members new.parts.members (still_left new.parts.work new.parts.members new.ahead) (Ok x)
+      → AreStepsFewer old.parts.entries new.parts.entries (still_left old.parts.work old.parts.members old.ahead) (still_left new.parts.work new.parts.members new.ahead) → IsClosable new → IsStepDone tells given tape faults who old new false
+  own-done x entered fewer closes =
+      plain-done tells given tape faults who old new (IsHeldOrDue old.parts.work old.parts.members) (own-did tells given tape faults old new was held given_is)
+      (subst (λ (n : ℕ). IsStepEntries who old.parts.entries new.parts.entries n) (sym (still-runs new later))
+      (own-entries who old.parts.entries new.parts.entries old.parts.work old.parts.members new.parts.members (still_left new.parts.work new.parts.members new.ahead) x entered))
+      (open-still old who still open_) (later ∙ sym still)
+      (fewer-as old.parts.entries new.parts.entries (still_left old.parts.work old.parts.members old.ahead) (still_left new.parts.work new.parts.members new.ahead) (running_left old) (running_left new) (still-runs old still) (still-runs new later) fewer) (λ none. closes)
+
+  pub own-refused : (T : Type 0) (refusal : Refusal) → IsStepEntered {T = T} who old.parts.entries new.parts.entries old.parts.work old.parts.members new.parts.members (still_left new.parts.work new.parts.members new.ahead) (Err (IsRefusedWith refusal))
+      → IsRefusedFor (list_length old.parts.members.newest) 0 (IsUndone old.parts.work old.parts.members) old.parts.members new.parts.members refusal → MayEndSteps new refusal → IsStepRefused tells given tape faults who old new refusal
+  own-refused T refusal entered caused right =
+      plain-refused tells given tape faults who old new (IsHeldOrDue old.parts.work old.parts.members) refusal (own-did tells given tape faults old new was held given_is)
+      (own-behind T who old.parts.entries new.parts.entries old.parts.work old.parts.members new.parts.members (still_left new.parts.work new.parts.members new.ahead) refusal entered) open_.goes
+      (own-ends (list_length old.parts.members.newest) old.parts.work old.parts.members new.parts.members refusal caused)
+      (own-cause (list_length old.parts.members.newest) old.parts.work old.parts.members new.parts.members refusal old.parts.backup (faults old.parts.bank) (faults new.parts.bank) caused) right

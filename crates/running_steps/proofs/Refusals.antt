@@ -1,0 +1,125 @@
+-- Why a step is refused: each refusal may end a request for steps, and has its cause.
+use Rattle.std.proofs.Common.{◌≡◌, inl, inr, ℕ, Bool, true, false, cond, Option, Some, None, Err, MatchBool, refl, sym, subst, arith}
+use Rattle.std.specs.Prelude.{nat_lt, is_some, IfSome, IsSome, MatchOption}
+use Rattle.md_base.specs.declared.answers.Fault.TheVariants.{Refused as IsRefusedWith}
+use Rattle.md_base.specs.declared.answers.Refusal.{Refusal}
+use Rattle.md_base.specs.declared.answers.Refusal.TheVariants.{PastEnd, TooManyMissing, NotResynced, BackupFault}
+use Rattle.md_base.specs.declared.places.Shape.{Shape}
+use Rattle.bank.specs.Given.{IsFaulted}
+use Rattle.sb1.specs.declared.sb.Sb.{Sb}
+use Rattle.superblocks.specs.declared.members.Members.{Members}
+use Rattle.superblocks.specs.Reading.{is_reshaping, shape_of, next_window}
+use Rattle.views.specs.declared.work.Work.{Work}
+use Rattle.views.specs.Lacking.{AreTooMany, IsNotResynced}
+use Rattle.array_kept.specs.Calls.{IsRefusedFor, IsUnmendable}
+use Rattle.grow_asked.specs.declared.window.Window.{Window}
+use Rattle.grow_asked.specs.declared.window.Window.TheVariants.{Closed, Entered, Unsure}
+use Rattle.grow_asked.specs.Left.{stripes_in, zeroed_by}
+use Rattle.region_mends.specs.Mends.{mend_shape, IsNotMended}
+use Rattle.course_kept.specs.declared.course.Course.{Course}
+use Rattle.moving_state.specs.Due.{due_in, due_of}
+use Rattle.moving_state.specs.declared.stepping.Due.{Due}
+use Rattle.moving_state.specs.declared.stepping.Due.TheVariants.{Copy, Record, Mend, Enter, Zero, Finish}
+use Rattle.running_words.specs.Parts.{RunningParts}
+use Rattle.moving_laws.specs.Steps.{IsStepCaused}
+use Rattle.still_steps.specs.Stepping.{IsUndone}
+use Rattle.still_steps.proofs.NextLaws.{undone-unwritten}
+use Rattle.running_replies.specs.Replies.{EndsRunningSteps, IsRefusalBy}
+use Rattle.moving_steps.specs.Replies.{IsEndedInReshape}
+use Rattle.running.specs.Calls.{MayEndSteps}
+
+-- a fact of each refusal that tells what is missing holds of one for too many roles
+pub many-so : (P : Refusal → Type 0) → ((count most : ℕ) → P (TooManyMissing count most)) → (m : Members) (refusal : Refusal) → AreTooMany m refusal → P refusal
+many-so P so m refusal (inl many) = subst P (sym many.told) (so _ _)
+many-so P so m refusal (inr many) = subst P (sym many.1.told) (so _ _)
+
+unsynced-so : (P : Refusal → Type 0) → ((role : ℕ) → P (NotResynced role)) → (shape : Shape) (synced : Bool) (m : Members) (refusal : Refusal) → IsNotResynced shape synced m refusal → P refusal
+unsynced-so P so shape synced m refusal was = subst P (sym was.1) (so was.0)
+
+-- what may refuse a step without a reshape that is no begin
+unmendable-so : (P : Refusal → Type 0) → ((count most : ℕ) → P (TooManyMissing count most)) → ((role : ℕ) → P (NotResynced role)) → (m : Members) (refusal : Refusal) → IsUnmendable m refusal → P refusal
+unmendable-so P many unsynced m refusal (inl is) = many-so P many m refusal is
+unmendable-so P many unsynced m refusal (inr is) = unsynced-so P unsynced (shape_of m.newest) false m refusal is
+
+caused-why : (why : Members → Refusal → Type 0) (visible : ℕ) (old new : Members) (refusal : Refusal) → IsRefusedFor visible 0 why old new refusal → why new refusal
+caused-why why visible old new (PastEnd told) was = absurd (omega (arith, was.1))
+caused-why why visible old new refusal was = was.1
+
+pub own-ends : (visible : ℕ) (work : Work) (old new : Members) (refusal : Refusal) → IsRefusedFor visible 0 (IsUndone work old) old new refusal → EndsRunningSteps refusal
+own-ends visible work old new refusal was =
+    unmendable-so EndsRunningSteps (λ count most. tt) (λ role. tt) new refusal (undone-unwritten work old new refusal (caused-why (IsUndone work old) visible old new refusal was))
+
+pub own-cause : (visible : ℕ) (work : Work) (old new : Members) (refusal : Refusal) (backup : Option ℕ) (before now : ℕ → ℕ) → IsRefusedFor visible 0 (IsUndone work old) old new refusal → IsRefusalBy backup before now refusal
+own-cause visible work old new refusal backup before now was =
+    unmendable-so (IsRefusalBy backup before now) (λ count most. tt) (λ role. tt) new refusal (undone-unwritten work old new refusal (caused-why (IsUndone work old) visible old new refusal was))
+
+-- what may refuse a step in a reshape
+reshape-so : (P : Refusal → Type 0) → ((count most : ℕ) → P (TooManyMissing count most)) → ((role : ℕ) → P (NotResynced role)) → P BackupFault → (work : Work) (m : Members) (refusal : Refusal) → IsEndedInReshape work m refusal → P refusal
+reshape-so P many unsynced backup work m refusal (inl is) = many-so P many m refusal is
+reshape-so P many unsynced backup work m refusal (inr (inl is)) = unsynced-so P unsynced is.1 false m refusal is.3
+reshape-so P many unsynced backup work m refusal (inr (inr is)) = subst P (sym is) backup
+
+chosen : (b : Bool) (A C : Type 0) → b ≡ true → MatchBool b A C → A
+chosen true A C is fact = fact
+chosen false A C is fact = absurd (cc)
+
+ended-in : {B : Type 0} (array : RunningParts B) (refusal : Refusal) → is_reshaping array.parts.members.newest ≡ true → MayEndSteps array refusal → IsEndedInReshape array.parts.work array.parts.members refusal
+ended-in array refusal active may = chosen (is_reshaping array.parts.members.newest) (IsEndedInReshape array.parts.work array.parts.members refusal) _ active may
+
+pub moved-ends : {B : Type 0} (array : RunningParts B) (refusal : Refusal) → is_reshaping array.parts.members.newest ≡ true → MayEndSteps array refusal → EndsRunningSteps refusal
+moved-ends array refusal active may = reshape-so EndsRunningSteps (λ count most. tt) (λ role. tt) tt array.parts.work array.parts.members refusal (ended-in array refusal active may)
+
+-- a resync is pending where its next step is due
+not-mend : (newest : Sb) (cleared : ℕ) → due_in newest Closed cleared None ≡ Mend → ⊥
+not-mend newest cleared is = by (is_some (next_window newest)) (nat_lt cleared (zeroed_by newest)) is
+  where
+    by : (a b : Bool) → cond a Enter (cond b Zero Finish) ≡ Mend → ⊥
+    by true b e = absurd (cc)
+    by false true e = absurd (cc)
+    by false false e = absurd (cc)
+
+mend-pending : (newest : Sb) (window : Window) (cleared : ℕ) (resync : Option ℕ) → due_in newest window cleared resync ≡ Mend → IsSome resync
+mend-pending newest window cleared (Some mended) is = refl
+mend-pending newest Closed cleared None is = absurd (not-mend newest cleared is)
+mend-pending newest (Entered span copied sectioned) cleared None is = absurd (by (nat_lt copied (stripes_in newest span)) is)
+  where
+    by : (b : Bool) → cond b Copy Record ≡ Mend → ⊥
+    by true e = absurd (cc)
+    by false e = absurd (cc)
+mend-pending newest (Unsure span) cleared None is = absurd (not-mend newest cleared is)
+
+pub faulted-in : (backup : Option ℕ) (before now : ℕ → ℕ) → IsSome backup → IfSome backup (λ slot. IsFaulted slot before now) → MatchOption backup ⊥ (λ slot. IsFaulted slot before now)
+faulted-in None before now some was = absurd (cc)
+faulted-in (Some slot) before now some was = was
+
+no-many : (m : Members) (Fact : Type 0) → AreTooMany m BackupFault → Fact
+no-many m Fact (inl many) = absurd (let e = many.told in cc)
+no-many m Fact (inr many) = absurd (let e = many.1.told in cc)
+
+-- a step that is refused for the backup is so only where that failed
+backup-failed : (T : Type 0) (due : Due) (resync backup : Option ℕ) (old new : Members) (before now : ℕ → ℕ) → (due ≡ Mend → IsSome resync) → IsStepCaused {T = T} due resync backup old new before now (Err (IsRefusedWith BackupFault))
+    → IfSome backup (λ slot. IsFaulted slot before now)
+backup-failed T Enter resync backup old new before now pending (inl many) = no-many new (IfSome backup (λ slot. IsFaulted slot before now)) many
+backup-failed T Enter resync backup old new before now pending (inr failed) = failed.1
+backup-failed T Mend resync backup old new before now pending was = by resync (pending refl) was
+  where
+    none : (shape : Shape) → IsNotMended shape new BackupFault → IfSome backup (λ slot. IsFaulted slot before now)
+    none shape (inl many) = no-many new (IfSome backup (λ slot. IsFaulted slot before now)) many
+    none shape (inr lacks) = absurd (let e = lacks.1.1 in cc)
+
+    by : (o : Option ℕ) → IsSome o → IsStepCaused {T = T} Mend o backup old new before now (Err (IsRefusedWith BackupFault)) → IfSome backup (λ slot. IsFaulted slot before now)
+    by None some was = absurd (cc)
+    by (Some mended) some was = none (mend_shape old.newest mended) (was mended refl).1
+backup-failed T due resync backup old new before now pending was = no-many new (IfSome backup (λ slot. IsFaulted slot before now)) was.1
+
+moved-cause : (T : Type 0) (newest : Sb) (course : Course) (work : Work) (resync backup : Option ℕ) (old new : Members) (before now : ℕ → ℕ) (refusal : Refusal) → IsSome backup
+    → IsStepCaused {T = T} (due_of newest course resync) resync backup old new before now (Err (IsRefusedWith refusal)) → IsEndedInReshape work new refusal → IsRefusalBy backup before now refusal
+moved-cause T newest course work resync backup old new before now refusal some caused ended =
+    reshape-so (λ r. IsStepCaused {T = T} (due_of newest course resync) resync backup old new before now (Err (IsRefusedWith r)) → IsRefusalBy backup before now r) (λ count most was. tt) (λ role was. tt)
+    (λ was. faulted-in backup before now some (backup-failed T (due_of newest course resync) resync backup old new before now (mend-pending newest course.window course.zeroed resync) was))
+    work new refusal ended caused
+
+pub moved-by : {B : Type 0} (T : Type 0) (newest : Sb) (course : Course) (resync backup : Option ℕ) (old : Members) (new : RunningParts B) (before now : ℕ → ℕ) (refusal : Refusal) → IsSome backup → is_reshaping new.parts.members.newest ≡ true
+    → IsStepCaused {T = T} (due_of newest course resync) resync backup old new.parts.members before now (Err (IsRefusedWith refusal)) → MayEndSteps new refusal → IsRefusalBy backup before now refusal
+moved-by T newest course resync backup old new before now refusal some active caused may =
+    moved-cause T newest course new.parts.work resync backup old new.parts.members before now refusal some caused (ended-in new refusal active may)

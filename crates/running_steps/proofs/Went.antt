@@ -1,0 +1,69 @@
+-- What steps leave, from what each kind of them says.
+use Rattle.std.proofs.Common.{◌≡◌, inl, ℕ, ◌*◌, ◌++◌, min, true, List, [], ◌∷◌, subst}
+use Rattle.std.proofs.lemmas.List.Elements.{All-head, All-tail}
+use Rattle.std.specs.List.{All}
+use Rattle.md_base.specs.Shapes.{data_disks}
+use Rattle.superblocks.specs.declared.members.Members.{Members}
+use Rattle.superblocks.specs.Reading.{list_length}
+use Rattle.superblocks.specs.Reads.{has_spare}
+use Rattle.flat_history.specs.declared.events.Entry.{Entry}
+use Rattle.flat_history.specs.declared.events.Event.{Event}
+use Rattle.flat_history.specs.declared.events.Event.TheVariants.{Lost}
+use Rattle.flat_history.specs.declared.events.LostCause.TheVariants.{Fault, Command}
+use Rattle.flat_history.specs.World.{World}
+use Rattle.views.specs.Placed.{AreStillHeld}
+use Rattle.views.specs.Rebuilding.{Held, MayHold}
+use Rattle.array_kept.specs.Calls.{AreHeldOrSpare, AreSparesFewer, IsLossBy, AreLossesBy}
+use Rattle.running_words.specs.Parts.{RunningParts}
+use Rattle.running_words.specs.Calls.{IsSameReshape}
+use Rattle.turning.specs.Begun.{StaysItself}
+use Rattle.running_replies.specs.Going.{MayHoldBehind, AreHeldBehind, AreLossesAlong, IsSameEpoch}
+use Rattle.running_steps.proofs.Events.{same-rest}
+
+-- ---- the same array
+
+pub epoch-of : {B tells : Type 0} {before after : World} (old new : RunningParts B) → IsSameReshape tells old new before after → IsSameEpoch old new
+epoch-of old new same = record { uuid = same.array.uuid; given = same.array.given; first = same.array.first; backup = same.array.backup }
+
+pub epoch-itself : {B : Type 0} (old new : RunningParts B) → StaysItself old new → IsSameEpoch old new
+epoch-itself old new same = record { uuid = same.uuid; given = same.given; first = same.first; backup = same.backup }
+
+-- the list is as long as the shapes and the size say
+pub long-same : {B tells : Type 0} {before after : World} (old new : RunningParts B) → IsSameReshape tells old new before after → list_length new.parts.members.newest ≡ list_length old.parts.members.newest
+long-same old new same i = min (data_disks (same.array.shape i)) (data_disks (same.final i)) * same.array.size i
+
+-- ---- who had roles
+
+pub held-behind : (old new : Members) (entries : List Entry) → AreHeldOrSpare old new → AreHeldBehind old new entries
+held-behind old new entries held = record { roles = λ role slot has. inl (held.roles role slot has); spares = λ slot spare. inl (held.spares slot spare) }
+
+pub held-only : (old new : Members) → AreStillHeld old new → AreSparesFewer old new → AreHeldOrSpare old new
+held-only old new held fewer = record { roles = λ role slot has. inl (held role slot has); spares = fewer }
+
+pub held-same : (old new : Members) → new ≡ old → AreHeldOrSpare old new
+held-same old new same = record {
+  roles = λ role slot has. inl (subst (λ (m : Members). Held m role slot) same has);
+  spares = λ slot spare. subst (λ (m : Members). has_spare m.spares slot ≡ true) same spare;
+}
+
+-- ---- losses
+
+loss-more : (Had More : ℕ → ℕ → Type 0) → ((role slot : ℕ) → Had role slot → More role slot) → (before after : ℕ → ℕ) (event : Event) → IsLossBy Had before after event → IsLossBy More before after event
+loss-more Had More more before after (Lost role Fault) is = (is.0, more role is.0 is.1, is.2)
+loss-more Had More more before after (Lost role Command) is = (is.0, more role is.0 is.1)
+loss-more Had More more before after (Lost role cause) is = absurd is
+loss-more Had More more before after event is = is
+
+along-all : (members : Members) (before after : ℕ → ℕ) (Had : ℕ → ℕ → Type 0) → ((role slot : ℕ) → Had role slot → MayHold members role slot) → (done xs : List Entry) → All (λ e. IsLossBy Had before after e.event) xs
+    → AreLossesAlong members before after done xs
+along-all members before after Had had done [] all = tt
+along-all members before after Had had done (x ∷ xs) all = (
+  loss-more Had (MayHoldBehind members done) (λ role slot has. inl (had role slot has)) before after x.event (All-head (λ e. IsLossBy Had before after e.event) x xs all),
+  along-all members before after Had had (done ++ x ∷ []) xs (All-tail (λ e. IsLossBy Had before after e.event) x xs all),
+)
+
+-- those of a call, by the slots that had the roles before it, or were spares
+pub losses-along : (members : Members) (before after : ℕ → ℕ) (Had : ℕ → ℕ → Type 0) → ((role slot : ℕ) → Had role slot → MayHold members role slot) → (old new inner : List Entry) → new ≡ old ++ inner → AreLossesBy Had before after old new
+    → AreLossesAlong members before after [] inner
+losses-along members before after Had had old new inner is was =
+    along-all members before after Had had [] inner (subst (λ (l : List Entry). All (λ e. IsLossBy Had before after e.event) l) (same-rest old was.more inner new was.grown is) was.failed)

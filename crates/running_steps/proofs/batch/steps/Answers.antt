@@ -1,0 +1,64 @@
+use Rattle.std.proofs.Common.{◌≡◌, ◌⊎◌, ℕ, min, inl, inr, refl, ap, subst, arith}
+use Rattle.std.proofs.lemmas.Bool.{cases_lt}
+use Rattle.std.specs.Prelude.{IfSome}
+use Rattle.flat_history.specs.declared.events.Event.TheVariants.{Stepped}
+use Rattle.superblocks.specs.Reading.{list_length}
+use Rattle.running_replies.specs.Replies.{IsRefusalBy}
+use Rattle.running_replies.proofs.GoneOn.{gone-none}
+use Rattle.running.specs.Calls.{running_left}
+use Rattle.running_steps.proofs.Went.{epoch-of}
+use Rattle.running_steps.proofs.Plain.{open-begins}
+use Rattle.running_steps.proofs.Replies.{answered-nothing, answered-stepped, gone-behind, gone-answered, may-answer}
+use Rattle.running_steps.proofs.batch.steps.Goals as goal
+
+least-is : (count most start : ℕ) → count ≡ min most start → (count ≡ most) ⊎ (count ≡ start)
+least-is count most start is = elim (cases_lt most start) [
+  | inl less ↦ inl (omega (arith, is, less))
+  | inr more ↦ inr (omega (arith, is, more))
+]
+
+pub answer-requires-2-clause-closable : goal.answer-requires-2-clause-closable
+answer-requires-2-clause-closable g c = λ still.
+    let at = c.take_steps-done.new.array in
+    may-answer at.parts.entries at.parts.work at.parts.members at.ahead c.take_steps-done.result.done c.left-left.result c.take_steps-done.result.ended (λ none. c.take_steps-done.ensures.closable none still)
+
+pub returns-in_default-clause-went : goal.returns-in_default-clause-went
+returns-in_default-clause-went g c = gone-none g.B.Bank.tells g.B.Bank.given g.B.Bank.tape g.B.Bank.faults_of c.args.array.now
+
+pub returns-in-Err-clause-went : goal.returns-in-Err-clause-went
+returns-in-Err-clause-went g c = rw c.in-Err.ensures.unchanged (gone-none g.B.Bank.tells g.B.Bank.given g.B.Bank.tape g.B.Bank.faults_of c.args.array.now)
+
+pub take_steps-done-requires-clause-open : goal.take_steps-done-requires-clause-open
+take_steps-done-requires-clause-open g c = rw c.in-Ok.ensures.room (open-begins c.args.array.now c.args.who c.requires.next)
+
+pub returns-then-count-eq0-clause-replied : goal.returns-then-count-eq0-clause-replied
+returns-then-count-eq0-clause-replied g c =
+    answered-nothing (list_length c.args.array.now.parts.members.newest) c.args.most (ap (λ a. a.parts.entries) c.in-Ok.ensures.room) c.requires.next c.answer.ensures.entered
+
+pub returns-clause-replied : goal.returns-clause-replied
+returns-clause-replied g c =
+    let s = c.take_steps-done.ensures in
+    let same = ap (λ a. a.parts.entries) c.in-Ok.ensures.room in
+    let start = ap (λ a. running_left a) c.in-Ok.ensures.room in
+    answered-stepped (list_length c.args.array.now.parts.members.newest) c.args.most c.left.result c.min-count.result same c.requires.next s.entered c.answer-2.ensures.entered
+    (record {
+      few = omega (arith, c.min-count.ensures);
+      all = least-is c.min-count.result c.args.most c.left.result c.min-count.ensures;
+      within = s.done;
+      until = rw (← c.left-left.ensures) at s.all;
+      begun = s.some;
+    })
+    (λ quiet none unrefused. let falls = s.fewer quiet none unrefused in omega (arith, falls, c.left-left.ensures, c.left.ensures, start)) s.why
+
+pub returns-clause-went : goal.returns-clause-went
+returns-clause-went g c =
+    let s = c.take_steps-done.ensures in
+    let old = c.args.array.now in
+    let begun = c.make_room.new.self in
+    let mid = c.take_steps-done.new.array in
+    let new = c.answer-2.new.self in
+    let a = c.answer-2.ensures in
+    gone-answered g.B.Bank.tells g.B.Bank.given g.B.Bank.tape g.B.Bank.faults_of old mid new c.args.who (Stepped c.take_steps-done.result.done c.left-left.result c.take_steps-done.result.ended) a.entered.end
+    (gone-behind g.B.Bank.tells g.B.Bank.given g.B.Bank.tape g.B.Bank.faults_of old begun mid c.in-Some.room c.in-Ok.ensures.room s.went)
+    a.entered.is a.bank a.members (epoch-of mid new a.called.same) (λ n. refl) (λ Had before now. tt)
+    (subst (λ b. IfSome c.take_steps-done.result.ended (IsRefusalBy b.parts.backup (g.B.Bank.faults_of b.parts.bank) (g.B.Bank.faults_of mid.parts.bank))) c.in-Ok.ensures.room s.cause)

@@ -1,0 +1,23 @@
+use Rattle.md_base.specs.declared.answers.Refusal.TheVariants.{Nothing}
+use Rattle.flat_history.specs.declared.events.Event.TheVariants.{Refused}
+use Rattle.array_kept.proofs.LossLaws.{behind-alone}
+use Rattle.running_replies.proofs.GoneOn.{gone-none}
+use Rattle.std.proofs.Common.{ap}
+use Rattle.running_steps.proofs.Replies.{done-behind, answered-refused}
+use Rattle.running_steps.proofs.stepping.step.Goals as goal
+
+pub returns-in-Err-clause-went : goal.returns-in-Err-clause-went
+returns-in-Err-clause-went g c = rw c.in-Err.ensures.unchanged (gone-none g.B.Bank.tells g.B.Bank.given g.B.Bank.tape g.B.Bank.faults_of c.args.array.now)
+
+pub returns-then-left-eq0-clause-answered : goal.returns-then-left-eq0-clause-answered
+returns-then-left-eq0-clause-answered g c = behind-alone c.args.who c.answer.ensures.entered.end (Refused Nothing) (ap (λ a. a.parts.entries) c.in-Ok.ensures.room) c.answer.ensures.entered.is
+
+pub returns-in-Ok-take_step-clause-answered : goal.returns-in-Ok-take_step-clause-answered
+returns-in-Ok-take_step-clause-answered g c = (
+  c.in-Ok-take_step.field-0,
+  done-behind g.B.Bank.tells g.B.Bank.given g.B.Bank.tape g.B.Bank.faults_of c.args.array.now c.make_room.new.self c.take_step.new.array 2 c.in-Ok.ensures.room c.args.who c.in-Ok-take_step.field-0 c.in-Ok-take_step.ensures.taken,
+)
+
+pub returns-in-Err-take_step-clause-answered : goal.returns-in-Err-take_step-clause-answered
+returns-in-Err-take_step-clause-answered g c =
+    answered-refused g.B.Bank.tells g.B.Bank.given g.B.Bank.tape g.B.Bank.faults_of c.args.array.now c.make_room.new.self c.take_step.new.array 2 c.in-Ok.ensures.room c.args.who c.in-Err-take_step.refusal c.in-Err-take_step.ensures.taken

@@ -1,0 +1,107 @@
+-- The background steps of an array that may be in a reshape: one of them, and as many as a caller asks for.
+use Rattle.std.specs.Prelude.{◌≡◌, ◌⊎◌, ℕ, ◌+◌, ◌<◌, ◌≤◌, ◌++◌, Bool, false, List, length, drop, count_by, None, MatchBool, Result, Ok, Err, ⊤}
+use Rattle.std.specs.List.{list_any, All}
+use Rattle.md_base.specs.declared.answers.Fault.{Fault}
+use Rattle.md_base.specs.declared.answers.Fault.TheVariants.{Refused as IsRefusedWith, NoMemory}
+use Rattle.md_base.specs.declared.answers.Refusal.{Refusal}
+use Rattle.md_base.specs.declared.answers.Refusal.TheVariants.{Nothing}
+use Rattle.md_base.specs.declared.answers.Who.{Who}
+use Rattle.bank.specs.declared.bank.Operation.{Operation}
+use Rattle.bank.specs.Given.{Given}
+use Rattle.superblocks.specs.Reading.{is_reshaping}
+use Rattle.flat_history.specs.declared.events.Entry.{Entry}
+use Rattle.flat_history.specs.declared.events.Event.{Event}
+use Rattle.flat_history.specs.declared.events.Event.TheVariants.{Step, Stepped, Refused}
+use Rattle.flat_history.specs.Fits.{is_step_event, is_lost_event}
+use Rattle.flat_history.specs.OneShape.{IsOfCall}
+use Rattle.array_kept.specs.Calls.{IsBehind, IsEndOf, AreStepsFewer, TellNoLoss}
+use Rattle.kept_history.specs.Recorded.{MayGoOn, IsCallGoing}
+use Rattle.running_words.specs.Parts.{RunningParts}
+use Rattle.running_replies.specs.Replies.{EndsRunningSteps, IsRefusalBy}
+use Rattle.running_replies.specs.Going.{is_finish, HasRunOn}
+use Rattle.still_laws.specs.Steps.{IsClosable}
+use Rattle.turning.specs.Begun.{HasKeptLength}
+use Rattle.running.specs.Calls.{running_left, MayEndSteps}
+
+-- ---- what is asked
+
+-- The call goes on; and where no reshape is active, it has changed no length so far and told of steps that are left wherever it told of steps, so that a reshape may begin in it.
+abbrev pub IsOpenFor : {B : Type 0} → RunningParts B → Who → Type 0
+IsOpenFor array who = MatchBool (is_reshaping array.parts.members.newest) (IsCallGoing array.parts.entries who) (HasKeptLength array.parts.entries who)
+
+-- ---- one step
+
+-- a step tells that so many are left
+abbrev pub TellsLeft : ℕ → Event → Type 0
+TellsLeft left (Step kind told) = told ≡ left
+TellsLeft left event = ⊤
+
+-- one entry tells a step; or none does, and the loss of a role is told
+abbrev pub TellOneStep : List Entry → Type 0
+TellOneStep entries = (count_by (λ e. is_step_event e.event) entries ≡ 1)
+    ⊎ ((count_by (λ e. is_step_event e.event) entries ≡ 0) × (1 ≤ count_by (λ e. is_lost_event e.event) entries))
+
+-- What a step leaves that is done, whether a reshape ended by it (`over`) or not: what it entered, with the steps that are left, which are one fewer, that the call goes on, and that a reply may close its plans.
+pub record IsStepDone {B : Type 0} (tells : Type 0) (given : B → Given) (tape : B → List Operation) (faults : B → ℕ → ℕ) (who : Who) (old new : RunningParts B) (over : Bool) : Type 0 where
+  pub inner : List Entry
+  pub is : new.parts.entries ≡ old.parts.entries ++ inner
+  pub own : All (λ e. IsOfCall who e × MayGoOn e.event) inner
+  pub told : All (λ e. TellsLeft (running_left new) e.event) inner
+  pub one : TellOneStep inner
+  pub over_told : over ≡ list_any (λ e. is_finish e.event) inner
+  pub left : over ≡ false → AreStepsFewer old.parts.entries new.parts.entries (running_left old) (running_left new)
+  pub next_open : over ≡ false → 0 < running_left new → IsOpenFor new who
+  pub going : IsCallGoing new.parts.entries who
+  pub closable : is_reshaping new.parts.members.newest ≡ false → IsClosable new
+  pub went : HasRunOn tells given tape faults old new
+  pub ended : IsEndOf tells new.parts.first new.parts.entries (tape new.parts.bank)
+
+-- What a step leaves that is refused: the refusal is its last entry, for a slot or the backup only where that failed.
+pub record IsStepRefused {B : Type 0} (tells : Type 0) (given : B → Given) (tape : B → List Operation) (faults : B → ℕ → ℕ) (who : Who) (old new : RunningParts B) (refusal : Refusal) : Type 0 where
+  pub behind : IsBehind who old.parts.entries new.parts.entries (Refused refusal)
+  pub why : EndsRunningSteps refusal
+  pub cause : IsRefusalBy old.parts.backup (faults old.parts.bank) (faults new.parts.bank) refusal
+  pub right : MayEndSteps new refusal
+  pub going : IsCallGoing new.parts.entries who
+  pub went : HasRunOn tells given tape faults old new
+  pub ended : IsEndOf tells new.parts.first new.parts.entries (tape new.parts.bank)
+
+-- what a step leaves
+abbrev pub IsStepTaken : {B : Type 0} → Type 0 → (B → Given) → (B → List Operation) → (B → ℕ → ℕ) → Who → RunningParts B → RunningParts B → Result Bool Refusal → Type 0
+IsStepTaken tells given tape faults who old new (Ok over) = IsStepDone tells given tape faults who old new over
+IsStepTaken tells given tape faults who old new (Err refusal) = IsStepRefused tells given tape faults who old new refusal
+
+-- the same of the next step, which may also be refused because none is left; want of memory has done nothing
+abbrev pub IsStepAnswered : {B T : Type 0} → Type 0 → (B → Given) → (B → List Operation) → (B → ℕ → ℕ) → Who → RunningParts B → RunningParts B → Result T Fault → Type 0
+IsStepAnswered tells given tape faults who old new (Ok x) = (over : Bool) × IsStepDone tells given tape faults who old new over
+IsStepAnswered tells given tape faults who old new (Err (IsRefusedWith Nothing)) = IsBehind who old.parts.entries new.parts.entries (Refused Nothing)
+IsStepAnswered tells given tape faults who old new (Err (IsRefusedWith refusal)) = IsStepRefused tells given tape faults who old new refusal
+IsStepAnswered tells given tape faults who old new (Err NoMemory) = new ≡ old
+
+-- a step is refused with Nothing exactly where none is left
+abbrev pub IsNothingRight : {T : Type 0} → ℕ → Result T Fault → Type 0
+IsNothingRight left (Ok x) = 0 < left
+IsNothingRight left (Err (IsRefusedWith Nothing)) = left ≡ 0
+IsNothingRight left (Err (IsRefusedWith refusal)) = 0 < left
+IsNothingRight left (Err NoMemory) = ⊤
+
+-- ---- some steps
+
+-- one of the entries behind the old ones tells that a reshape ended
+abbrev pub has_finished : List Entry → List Entry → Bool
+has_finished old new = list_any (λ e. is_finish e.event) (drop (length old) new)
+
+-- So many steps of a call were done, each of which it entered, but for one for each role that it lost, at most.
+pub record AreStepsOf (who : Who) (old new : List Entry) (done : ℕ) : Type 0 where
+  pub inner : List Entry
+  pub is : new ≡ old ++ inner
+  pub own : All (λ e. IsOfCall who e × MayGoOn e.event) inner
+  pub counted : count_by (λ e. is_step_event e.event) inner ≤ done
+  pub not_more : done ≤ count_by (λ e. is_step_event e.event) inner + count_by (λ e. is_lost_event e.event) inner
+
+-- The answer tells how many steps were done, and how many are left after; as many as were left before, where no loss was told, no reshape ended and none was refused. It is Nothing exactly
+-- where none was left.
+abbrev pub IsStepCount : List Entry → List Entry → ℕ → ℕ → Event → Type 0
+IsStepCount old new before after (Stepped done left ended) = (left ≡ after) × (TellNoLoss old new → has_finished old new ≡ false → ended ≡ None → after + done ≡ before) × (0 < before)
+IsStepCount old new before after (Refused Nothing) = (before ≡ 0) × (after ≡ 0)
+IsStepCount old new before after event = ⊥

@@ -1,0 +1,105 @@
+//! As many background steps as a caller asks for.
+
+ghost use Rattle.std.specs.Prelude.{◌≡◌, ◌≢◌, ◌⊎◌, ◌+◌, ◌<◌, ◌≤◌, true, false, None, IfOk, IfErr, IfSome, MatchOption, ⊤};
+ghost use Rattle.superblocks.specs.Reading.{is_reshaping, list_length};
+ghost use Rattle.flat_history.specs.Flat.{next_number};
+ghost use Rattle.flat_history.specs.declared.events.Request.TheVariants.{Steps as AsksSteps};
+ghost use Rattle.array_kept.specs.Calls.{IsEndOf, TellNoLoss, TellNoRoleLoss};
+ghost use Rattle.kept_history.specs.Recorded.{IsCallGoing};
+ghost use Rattle.still_laws.specs.Steps.{IsClosable};
+ghost use Rattle.running_replies.specs.Replies.{IsAnsweredWith, EndsRunningSteps, IsRefusalBy};
+ghost use Rattle.running_replies.specs.Going.{HasRunOn};
+ghost use Rattle.running.specs.Calls.{running_left, MayEndSteps};
+ghost use Rattle.running_steps.specs.Steps.{IsOpenFor, AreStepsOf, IsStepCount, has_finished};
+
+use crate::stepping::take_step;
+use bank::Bank;
+use flat_history::Event;
+use md_base::{NoMemory, Refusal, Who};
+use running::Running;
+
+// How many steps were done, and what refused the next one.
+#[derive(Clone, Copy)]
+struct Batch {
+    done: u64,
+    ended: Option<Refusal>,
+}
+
+// So many steps, unless none is left, one is refused, or a reshape ends; there is room for them, for one more at the end of a
+// reshape, and for one more entry.
+fn take_steps<B: Bank>(array: &mut Running<B>, who: Who, count: u64) -> Batch
+    requires open { IsOpenFor array.old who }
+    requires caller { who.caller ≢ 254 }
+    requires room { count + 2 ≤ array.old.parts.steps }
+    requires some { 0 < count }
+    requires pending { 0 < running_left array.old }
+    ensures entered { AreStepsOf who array.old.parts.entries array.new.parts.entries result.done }
+    ensures done { result.done ≤ count }
+    ensures all { MatchOption result.ended ((result.done ≡ count) ⊎ (running_left array.new ≡ 0) ⊎ (has_finished array.old.parts.entries array.new.parts.entries ≡ true)) (λ refusal. result.done < count) }
+    ensures some { MatchOption result.ended (1 ≤ result.done) (λ refusal. ⊤) }
+    ensures why { IfSome result.ended EndsRunningSteps }
+    ensures cause { IfSome result.ended (IsRefusalBy array.old.parts.backup (B.faults_of array.old.parts.bank) (B.faults_of array.new.parts.bank)) }
+    ensures right { IfSome result.ended (MayEndSteps array.new) }
+    ensures left { TellNoLoss array.old.parts.entries array.new.parts.entries → has_finished array.old.parts.entries array.new.parts.entries ≡ false → result.ended ≡ None
+        → running_left array.new + result.done ≡ running_left array.old }
+    ensures fewer { TellNoRoleLoss array.old.parts.entries array.new.parts.entries → has_finished array.old.parts.entries array.new.parts.entries ≡ false → result.ended ≡ None
+        → running_left array.new + result.done ≤ running_left array.old }
+    ensures going { IsCallGoing array.new.parts.entries who }
+    ensures closable { result.ended ≡ None → is_reshaping array.new.parts.members.newest ≡ false → IsClosable array.new }
+    ensures room { 1 ≤ array.new.parts.steps }
+    ensures ended { IsEndOf B.tells array.new.parts.first array.new.parts.entries (B.tape array.new.parts.bank) }
+    ensures went { HasRunOn B.tells B.given B.tape B.faults_of array.old array.new }
+{
+    for done in 0..count {
+        if array.left() == 0 {
+            return Batch { done, ended: None };
+        }
+        match take_step(array, who) {
+            Ok(false) => {}
+            Ok(true) => {
+                let done = done + 1;
+                return Batch { done, ended: None };
+            }
+            Err(refusal) => {
+                let ended = Some(refusal);
+                return Batch { done, ended };
+            }
+        }
+    }
+    Batch {
+        done: count,
+        ended: None,
+    }
+}
+
+/// Answers the request for at most so many background steps: does them until so many are done, or as many as were left at its start;
+/// until none is left, one is refused, or a reshape has ended. Ok is a copy of the reply's event, which tells `Nothing` where
+/// none was left. Memory is wanted before the first step alone.
+pub fn steps<B: Bank>(array: &mut Running<B>, who: Who, most: u64) -> Result<Event, NoMemory>
+    requires next { who.number ≡ next_number who.caller array.old.parts.entries }
+    requires caller { who.caller ≢ 254 }
+    requires some { 1 ≤ most }
+    ensures replied { IfOk result (λ event. IsAnsweredWith (list_length array.old.parts.members.newest) (AsksSteps most) who array.old.parts.entries array.new.parts.entries event) }
+    ensures counted { IfOk result (λ event. IsStepCount array.old.parts.entries array.new.parts.entries (running_left array.old) (running_left array.new) event) }
+    ensures unchanged { IfErr result (λ none. array.new ≡ array.old) }
+    ensures ended { IfOk result (λ event. IsEndOf B.tells array.new.parts.first array.new.parts.entries (B.tape array.new.parts.bank)) }
+    ensures went { HasRunOn B.tells B.given B.tape B.faults_of array.old array.new }
+{
+    let count = most.min(array.left());
+    let Some(room) = count.checked_add(2) else {
+        return Err(NoMemory {});
+    };
+    match array.make_room(room) {
+        Ok(()) => {}
+        Err(none) => return Err(none),
+    }
+    if count == 0 {
+        let refusal = Refusal::Nothing;
+        array.answer(who, Event::Refused { refusal });
+        return Ok(Event::Refused { refusal });
+    }
+    let Batch { done, ended } = take_steps(array, who, count);
+    let left = array.left();
+    array.answer(who, Event::Stepped { done, left, ended });
+    Ok(Event::Stepped { done, left, ended })
+}

@@ -1,0 +1,88 @@
+//! The kinds of background steps, each by what it leaves: without a reshape, a reshape begins, in it, and it ends.
+
+ghost use Rattle.std.specs.Prelude.{◌≡◌, ◌≢◌, ◌+◌, ◌<◌, ◌≤◌, ◌∷◌, [], true, false, Ok};
+ghost use Rattle.md_base.specs.declared.wishes.Phase.TheVariants.{Reshape};
+ghost use Rattle.superblocks.specs.Reading.{is_reshaping};
+ghost use Rattle.views.specs.Status.{left_of};
+ghost use Rattle.grow_asked.specs.Left.{phases_of};
+ghost use Rattle.kept_history.specs.Recorded.{IsCallGoing};
+ghost use Rattle.moving_state.specs.Due.{due_of};
+ghost use Rattle.moving_state.specs.declared.stepping.Due.TheVariants.{Finish as EndsReshape};
+ghost use Rattle.turning.specs.Begun.{HasKeptLength};
+ghost use Rattle.running_steps.specs.Steps.{IsStepTaken};
+
+use bank::Bank;
+use md_base::{Fault, Refusal, Shape, Who};
+use running::Running;
+
+// The next step without a reshape.
+pub(crate) fn own_step<B: Bank>(array: &mut Running<B>, who: Who) -> Result<bool, Refusal>
+    requires open { HasKeptLength array.old.parts.entries who }
+    requires caller { who.caller ≢ 254 }
+    requires still { is_reshaping array.old.parts.members.newest ≡ false }
+    requires pending { 0 < left_of array.old.parts.work array.old.parts.members }
+    requires room { 1 ≤ array.old.parts.steps }
+    ensures taken { IsStepTaken B.tells B.given B.tape B.faults_of who array.old array.new result }
+    ensures room { array.new.parts.steps + 1 ≡ array.old.parts.steps }
+{
+    match array.mend_or_rebuild(who) {
+        Ok(()) => Ok(false),
+        Err(Fault::Refused(refusal)) => Err(refusal),
+        Err(Fault::NoMemory) => unreachable!(),
+    }
+}
+
+// The reshape to this shape begins, which is ahead.
+pub(crate) fn begin<B: Bank>(
+    array: Running<B>,
+    begin: (Who, Shape),
+) -> (Running<B>, Result<bool, Refusal>)
+    requires open { HasKeptLength array.parts.entries begin.0 }
+    requires caller { begin.0.caller ≢ 254 }
+    requires room { 1 ≤ array.parts.steps }
+    requires still { is_reshaping array.parts.members.newest ≡ false }
+    requires done { left_of array.parts.work array.parts.members ≡ 0 }
+    requires next { phases_of array.ahead ≡ Reshape begin.1 ∷ [] }
+    ensures taken { IsStepTaken B.tells B.given B.tape B.faults_of begin.0 array result.0 result.1 }
+    ensures room { result.0.parts.steps + 1 ≡ array.parts.steps }
+{
+    let (who, to) = begin;
+    match array.begin(who, to) {
+        Ok(array) => (array, Ok(false)),
+        Err((array, refusal)) => (array, Err(refusal)),
+    }
+}
+
+// The step of the active reshape that is due, but for its end.
+pub(crate) fn move_step<B: Bank>(array: &mut Running<B>, who: Who) -> Result<bool, Refusal>
+    requires open { IsCallGoing array.old.parts.entries who }
+    requires caller { who.caller ≢ 254 }
+    requires active { is_reshaping array.old.parts.members.newest ≡ true }
+    requires due { due_of array.old.parts.members.newest array.old.course array.old.parts.work.resync ≢ EndsReshape }
+    requires room { 1 ≤ array.old.parts.steps }
+    ensures taken { IsStepTaken B.tells B.given B.tape B.faults_of who array.old array.new result }
+    ensures room { array.new.parts.steps + 1 ≡ array.old.parts.steps }
+{
+    match array.move_on(who) {
+        Ok(()) => Ok(false),
+        Err(Fault::Refused(refusal)) => Err(refusal),
+        Err(Fault::NoMemory) => unreachable!(),
+    }
+}
+
+// The active reshape ends.
+pub(crate) fn finish<B: Bank>(array: Running<B>, who: Who) -> (Running<B>, Result<bool, Refusal>)
+    requires open { IsCallGoing array.parts.entries who }
+    requires caller { who.caller ≢ 254 }
+    requires active { is_reshaping array.parts.members.newest ≡ true }
+    requires due { due_of array.parts.members.newest array.course array.parts.work.resync ≡ EndsReshape }
+    requires room { 2 ≤ array.parts.steps }
+    ensures taken { IsStepTaken B.tells B.given B.tape B.faults_of who array result.0 result.1 }
+    ensures over { result.1 ≢ Ok false }
+    ensures room { result.0.parts.steps + 2 ≡ array.parts.steps }
+{
+    match array.finish(who) {
+        Ok(array) => (array, Ok(true)),
+        Err((array, refusal)) => (array, Err(refusal)),
+    }
+}

@@ -1,0 +1,43 @@
+-- What an array keeps besides as long as its history keeps its shape: what a history of one shape says of it, which tells more of an epoch without a reshape.
+use Rattle.std.specs.Prelude.{◌≡◌, ℕ, List, length, Option, IfSome, ⊤}
+use Rattle.std.specs.List.{All}
+use Rattle.md_base.specs.Shapes.{tolerance}
+use Rattle.md_base.specs.declared.answers.Refusal.TheVariants.{BackupFault}
+use Rattle.bank.specs.declared.bank.Operation.{Operation}
+use Rattle.bank.specs.Given.{Given}
+use Rattle.superblocks.specs.declared.members.Members.{Members}
+use Rattle.superblocks.specs.Reading.{shape_of}
+use Rattle.flat_history.specs.declared.events.Entry.{Entry}
+use Rattle.flat_history.specs.declared.events.Epoch.{Epoch}
+use Rattle.flat_history.specs.declared.events.Event.{Event}
+use Rattle.flat_history.specs.declared.events.Event.TheVariants.{Refused, Stepped}
+use Rattle.flat_history.specs.Epochs.{world_of}
+use Rattle.flat_history.specs.OneShape.{opening_in, IsOneShapeLegal, EndsIdleSteps}
+use Rattle.flat_history.specs.Sound.{FillsRight}
+use Rattle.flat_history.specs.World.{World}
+use Rattle.array_kept.specs.Kept.{AreTold, AreOnlyTold, AreUsed}
+
+-- The event tells no refusal that a reshape alone can have: nothing for a backup that failed, and no end of steps but for what is missing or not synced.
+abbrev pub MayTellPlainly : Event → Type 0
+MayTellPlainly (Refused BackupFault) = ⊥
+MayTellPlainly (Stepped done left ended) = IfSome ended EndsIdleSteps
+MayTellPlainly event = ⊤
+
+abbrev pub AreToldPlainly : List Entry → Type 0
+AreToldPlainly entries = All (λ e. MayTellPlainly e.event) entries
+
+-- Of an array whose history kept its shape: each missing role is told gone, and no other; a slot that is told to be a spare is one; each slot that holds a role or is a spare did so at the opening, or was
+-- added since; the shape is that of the opening; and where what was filled in is right, the history is legal as one of one shape.
+pub record IsPlainKept (world : World) (members : Members) (entries : List Entry) : Type 0 where
+  pub told : AreTold members entries
+  pub only : AreOnlyTold members entries
+  pub used : AreUsed world members entries
+  pub disks : (opening_in world).disks ≡ (shape_of members.newest).disks
+  pub tolerated : (opening_in world).tolerance ≡ tolerance (shape_of members.newest)
+  pub legal : FillsRight world entries → IsOneShapeLegal (opening_in world) (length world.tape) entries
+
+-- The epoch that is handed out of such an array: its history is legal as one of one shape, where no role is told lost in it or it opened sound, and it tells no refusal of a reshape.
+pub record IsPlainEpoch (given : Given) (tape : List Operation) (backup : Option ℕ) (epoch : Epoch) : Type 0 where
+  pub legal : FillsRight (world_of given tape backup epoch) epoch.entries.items
+      → IsOneShapeLegal (opening_in (world_of given tape backup epoch)) (length tape) epoch.entries.items
+  pub plainly : AreToldPlainly epoch.entries.items
