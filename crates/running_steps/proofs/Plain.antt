@@ -15,7 +15,6 @@ use Rattle.flat_history.specs.OneShape.{IsOfCall}
 use Rattle.flat_history.specs.Plain.{entries_of}
 use Rattle.flat_history.specs.Reshaped.{is_done}
 use Rattle.call_entries.specs.Losing.{losses_of}
-use Rattle.call_entries.proofs.PlainLaws.{one}
 use Rattle.views.specs.Moving.{Grows}
 use Rattle.views.specs.Rebuilding.{MayHold}
 use Rattle.array_kept.specs.Calls.{AreHeldOrSpare, AreLossesBy, AreStepsFewer, IsBehind, IsEndOf}
