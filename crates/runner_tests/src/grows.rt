@@ -11,7 +11,7 @@ const LARGE: Row = Row {
     ..PLAIN
 };
 
-const GROWN: [Row; 9] = [
+const GROWN: [Row; 10] = [
     // two windows with a read between them, and then the others
     Row {
         lines: "create 6ba7b810-9dad-11d1-80b4-00c04fd430c8 level=5 disks=4 chunk=8 size=128 offset=16\nadd 4\nwrite 94 4 5\nwrite 380 4 9\ngrow disks=5\nstep 6\nread 94 4\nwait\nread 380 6\n",
@@ -55,6 +55,14 @@ const GROWN: [Row; 9] = [
         lines: "create 6ba7b810-9dad-11d1-80b4-00c04fd430c8 level=5 disks=4 chunk=8 size=128 offset=16\ngrow disks=5\nadd 4\ngrow disks=4\ngrow disks=17\ngrow disks=6\ngrow disks=3\ngrow disks=5\ngrow disks=5\nstep 1\ngrow disks=6\nstep 5\ndetail\nmdstat\nwait\nmdstat\nadd 5\nfail 1\ngrow disks=6\n",
         status: 1,
         output: b"created\nrefused 15 NeedSpares 0 1\nadded 4\nrefused 12 SameShape\nrefused 13 BadShape disks\nrefused 15 NeedSpares 1 2\nrefused 18 ArraySizeFirst 384 256\nplanned 26\nrefused 10 Busy plan\nstepped 1 left 25\nrefused 10 Busy reshape\nstepped 5 left 20\nlevel 5\nlayout left-symmetric\nchunk 8\ndisks 4\nsize 128\nvisible 384\nstate clean\nevents 4\nreshape 96/384 to layout left-symmetric chunk 8 disks 5\nrole 0 slot 0 whole\nrole 1 slot 1 whole\nrole 2 slot 2 whole\nrole 3 slot 3 whole\nrole 4 slot 4 whole\nleft 20\nmd: raid5 [5/5] [UUUUU] 384 sectors reshape 96/384 left 20\nwaited left 0\nmd: raid5 [5/5] [UUUUU] 512 sectors\nadded 5\nfailed 1\nrefused 10 Busy rebuild\n",
+        ..LARGE
+    },
+    // the flush behind the first section's header fails: that window is not written to any more, and the reshape stays where it is
+    Row {
+        lines: "create 6ba7b810-9dad-11d1-80b4-00c04fd430c8 level=5 disks=4 chunk=8 size=128 offset=16\nadd 4\nwrite 0 96 3\nflush\ngrow disks=5\nstep 2\nwrite 0 1 5\nread 0 1\nwrite 96 1 5\nstep 1\n",
+        calls: &[946],
+        status: 1,
+        output: b"created\nadded 4\nwrote 0 96\nflushed\nplanned 26\nstepped 1 left 25 refused 4 BackupFault\nrefused 4 BackupFault\nread 0 1: seed 3 x1\nwrote 96 1\nstepped 0 left 25 refused 4 BackupFault\n",
         ..LARGE
     },
     // no backup is there
