@@ -156,6 +156,7 @@ module _ {B : Type 0} (tells : Type 0) (given : B → Given) (tape : B → List 
     left = λ none. record { one = λ quiet. fewer; some = λ quiet. let one = fewer in omega (arith, one) };
     next_open = λ none some. open-moving new who was.start.active going;
     going = going;
+    closable = λ none. absurd (let active = was.start.active in let both : true ≡ false = sym active ∙ none in cc);
     went = record {
       more = inner;
       grown = was.entered.is;

@@ -26,6 +26,7 @@ use Rattle.views.specs.Placed.{AreStillHeld}
 use Rattle.views.specs.Rebuilding.{Held}
 use Rattle.kept_history.specs.Recorded.{MayGoOn, IsCallGoing}
 use Rattle.running_words.specs.Parts.{RunningParts, still_left}
+use Rattle.still_laws.specs.Steps.{IsClosable}
 use Rattle.turning.specs.Ended.{ended_length, AreSparesOrDropped, IsReshapeEnded}
 use Rattle.running_replies.specs.Replies.{IsRefusalToldBy}
 use Rattle.running_replies.specs.Going.{is_finish, MayBeDropped, AreHeldBehind}
@@ -93,8 +94,8 @@ dropped-behind old new entries told held spares = record { roles = λ role slot 
 module _ {B : Type 0} (tells : Type 0) (given : B → Given) (tape : B → List Operation) (faults : B → ℕ → ℕ) (who : Who) (old new : RunningParts B) where
   pub finish-done : IsCallGoing old.parts.entries who
       → IsReshapeEnded tells (given old.parts.bank) (tape old.parts.bank) (tape new.parts.bank) (faults old.parts.bank) (faults new.parts.bank) who old new → given new.parts.bank ≡ given old.parts.bank
-      → IsStepDone tells given tape faults who old new true
-  finish-done goes was given_is = record {
+      → IsClosable new → IsStepDone tells given tape faults who old new true
+  finish-done goes was given_is closes = record {
     inner = inner;
     is = was.entered.is;
     own = each-own MayGoOn who end events (each MayGoOn (λ role. tt) (λ slot. tt) tt tt);
@@ -105,6 +106,7 @@ module _ {B : Type 0} (tells : Type 0) (given : B → Given) (tape : B → List 
     left = λ over. absurd (cc);
     next_open = λ over some. absurd (cc);
     going = going-more inner goes was.entered.is (each-own MayGoOn who end events (each MayGoOn (λ role. tt) (λ slot. tt) tt tt));
+    closable = λ none. closes;
     went = record {
       more = inner;
       grown = was.entered.is;

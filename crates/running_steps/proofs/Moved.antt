@@ -58,6 +58,7 @@ module _ {B : Type 0} (tells : Type 0) (given : B → Given) (tape : B → List 
       (open-moving old who active goes) (later ∙ sym active)
       (fewer-as old.parts.entries new.parts.entries (left_in old.parts.work old.parts.members old.course old.ahead) (left_in new.parts.work new.parts.members new.course new.ahead) (running_left old) (running_left new) (active-runs old active) (active-runs new later)
       (record { one = λ quiet. one; some = λ quiet. omega (arith, one) }))
+      (λ none. absurd (let both : true ≡ false = sym later ∙ none in cc))
 
   pub moved-refused : (did : IsPlainStep tells given tape faults (Held old.parts.members) old new) (refusal : Refusal) → IsBehind who old.parts.entries new.parts.entries (Refused refusal)
       → IsRefusalBy old.parts.backup (faults old.parts.bank) (faults new.parts.bank) refusal → MayEndSteps new refusal → IsStepRefused tells given tape faults who old new refusal

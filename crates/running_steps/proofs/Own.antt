@@ -18,7 +18,7 @@ use Rattle.views.specs.Status.{stripes_of, rebuilt_of}
 use Rattle.array_kept.specs.Calls.{AreHeldOrSpare, AreStepsFewer, IsBehind, IsBehindAll, IsRebuildStepped, IsRefusedFor}
 use Rattle.running_words.specs.Parts.{RunningParts, still_left}
 use Rattle.running_words.specs.Calls.{IsStepTaken}
-use Rattle.still_laws.specs.Steps.{IsStepped}
+use Rattle.still_laws.specs.Steps.{IsStepped, IsClosable}
 use Rattle.still_steps.specs.Rebuilding.{first_recovering, rebuilt_role, rebuild_kind, rebuild_events}
 use Rattle.still_steps.specs.Resyncing.{is_at_end}
 use Rattle.still_steps.specs.Resyncing as resync
@@ -104,13 +104,13 @@ module _ {B : Type 0} (tells : Type 0) (given : B → Given) (tape : B → List 
     (was : IsStepped tells (given old.parts.bank) (tape old.parts.bank) (tape new.parts.bank) (IsHeldOrDue old.parts.work old.parts.members) (faults old.parts.bank) (faults new.parts.bank) old new)
     (held : AreHeldOrSpare old.parts.members new.parts.members) (given_is : given new.parts.bank ≡ given old.parts.bank) where
   pub own-done : {T : Type 0} (x : T) → IsStepEntered {T = T} who old.parts.entries new.parts.entries old.parts.work old.parts.members new.parts.members (still_left new.parts.work new.parts.members new.ahead) (Ok x)
-      → AreStepsFewer old.parts.entries new.parts.entries (still_left old.parts.work old.parts.members old.ahead) (still_left new.parts.work new.parts.members new.ahead) → IsStepDone tells given tape faults who old new false
-  own-done x entered fewer =
+      → AreStepsFewer old.parts.entries new.parts.entries (still_left old.parts.work old.parts.members old.ahead) (still_left new.parts.work new.parts.members new.ahead) → IsClosable new → IsStepDone tells given tape faults who old new false
+  own-done x entered fewer closes =
       plain-done tells given tape faults who old new (IsHeldOrDue old.parts.work old.parts.members) (own-did tells given tape faults old new was held given_is)
       (subst (λ (n : ℕ). IsStepEntries who old.parts.entries new.parts.entries n) (sym (still-runs new later))
       (own-entries who old.parts.entries new.parts.entries old.parts.work old.parts.members new.parts.members (still_left new.parts.work new.parts.members new.ahead) x entered))
       (open-still old who still open_) (later ∙ sym still)
-      (fewer-as old.parts.entries new.parts.entries (still_left old.parts.work old.parts.members old.ahead) (still_left new.parts.work new.parts.members new.ahead) (running_left old) (running_left new) (still-runs old still) (still-runs new later) fewer)
+      (fewer-as old.parts.entries new.parts.entries (still_left old.parts.work old.parts.members old.ahead) (still_left new.parts.work new.parts.members new.ahead) (running_left old) (running_left new) (still-runs old still) (still-runs new later) fewer) (λ none. closes)
 
   pub own-refused : (T : Type 0) (refusal : Refusal) → IsStepEntered {T = T} who old.parts.entries new.parts.entries old.parts.work old.parts.members new.parts.members (still_left new.parts.work new.parts.members new.ahead) (Err (IsRefusedWith refusal))
       → IsRefusedFor (list_length old.parts.members.newest) 0 (IsUndone old.parts.work old.parts.members) old.parts.members new.parts.members refusal → MayEndSteps new refusal → IsStepRefused tells given tape faults who old new refusal

@@ -21,6 +21,7 @@ use Rattle.views.specs.Rebuilding.{MayHold}
 use Rattle.array_kept.specs.Calls.{AreHeldOrSpare, AreLossesBy, AreStepsFewer, IsBehind, IsEndOf}
 use Rattle.kept_history.specs.Recorded.{MayGoOn, IsCallGoing}
 use Rattle.running_words.specs.Parts.{RunningParts, left_in, still_left}
+use Rattle.still_laws.specs.Steps.{IsClosable}
 use Rattle.turning.specs.Begun.{is_resize, HasKeptLength}
 use Rattle.running_replies.specs.Replies.{EndsRunningSteps, IsRefusalBy, IsRefusalToldBy}
 use Rattle.running_replies.specs.Going.{is_finish, IsSameEpoch}
@@ -89,8 +90,8 @@ pub record IsPlainStep {B : Type 0} (tells : Type 0) (given : B → Given) (tape
 module _ {B : Type 0} (tells : Type 0) (given : B → Given) (tape : B → List Operation) (faults : B → ℕ → ℕ) (who : Who) (old new : RunningParts B) where
   pub plain-done : (Had : ℕ → ℕ → Type 0) → IsPlainStep tells given tape faults Had old new → IsStepEntries who old.parts.entries new.parts.entries (running_left new) → IsOpenFor old who
       → is_reshaping new.parts.members.newest ≡ is_reshaping old.parts.members.newest → AreStepsFewer old.parts.entries new.parts.entries (running_left old) (running_left new)
-      → IsStepDone tells given tape faults who old new false
-  plain-done Had did so open_ same fewer = record {
+      → (is_reshaping new.parts.members.newest ≡ false → IsClosable new) → IsStepDone tells given tape faults who old new false
+  plain-done Had did so open_ same fewer closable = record {
     inner = so.inner;
     is = so.is;
     own = own;
@@ -100,6 +101,7 @@ module _ {B : Type 0} (tells : Type 0) (given : B → Given) (tape : B → List 
     left = λ still. fewer;
     next_open = λ still some. subst (λ (b : Bool). MatchBool b (IsCallGoing new.parts.entries who) (HasKeptLength new.parts.entries who)) (sym same) (by (is_reshaping old.parts.members.newest) open_ some);
     going = going;
+    closable = closable;
     went = record {
       more = so.inner;
       grown = so.is;

@@ -30,13 +30,16 @@ use Rattle.flat_history.specs.OneShape.{IsOfCall}
 use Rattle.flat_history.specs.Plain.{entries_of}
 use Rattle.call_entries.proofs.PlainLaws.{one}
 use Rattle.call_entries.proofs.CallLaws.{torn-reverse}
+use Rattle.views.specs.declared.work.Work.{Work}
 use Rattle.views.specs.Moving.{Grows}
 use Rattle.views.specs.Rebuilding.{Held}
 use Rattle.array_kept.specs.Calls.{IsEntered, IsLossBy, AreStepsFewer, IsBehind, TellNoRoleLoss}
 use Rattle.array_kept.proofs.ReplyLaws.{none_before}
+use Rattle.grow_asked.specs.declared.window.PhasesLeft.{PhasesLeft}
 use Rattle.kept_history.specs.Recorded.{MayGoOn}
 use Rattle.running_words.specs.Parts.{RunningParts}
 use Rattle.running_words.specs.Calls.{IsCalled}
+use Rattle.still_laws.specs.Steps.{MayAnswer}
 use Rattle.running_replies.specs.Replies.{may_end_early, DidRunningSteps, EndsRunningSteps, IsRefusalBy, IsRefusalToldBy, HasToldBy, IsAnsweredWith}
 use Rattle.running_replies.specs.Going.{is_finish, MayHoldBehind, AreLossesAlong, HasRunOn, IsSameEpoch}
 use Rattle.running_replies.proofs.GoneOn.{refusal-wider, told-then, along-append, may-then, spares-then, gone-then}
@@ -289,6 +292,12 @@ pub left-answered : {B tells : Type 0} {given : Given} {tape tape' : List Operat
     → running_left new ≡ running_left mid
 left-answered mid new called members course i = running_left (record mid { parts = record mid.parts { work = called.work i; members = members i }; course = course i; ahead = called.same.ahead i })
 
+-- the reply may close the plans that are open
+pub may-answer : (entries : List Entry) (work : Work) (members : Members) (ahead : PhasesLeft) (done left : ℕ) (ended : Option Refusal) → (ended ≡ None → MayAnswer entries work members ahead (Stepped done left None))
+    → MayAnswer entries work members ahead (Stepped done left ended)
+may-answer entries work members ahead done left None closes = closes refl
+may-answer entries work members ahead done left (Some refusal) closes = tt
+
 -- a refusal's cause in some of the steps is one in all of them
 pub cause-later : {B : Type 0} (tells : Type 0) (given : B → Given) (tape : B → List Operation) (faults : B → ℕ → ℕ) (old mid new : RunningParts B) → HasRunOn tells given tape faults old mid → HasRunOn tells given tape faults mid new → (refusal : Refusal)
     → IsRefusalBy mid.parts.backup (faults mid.parts.bank) (faults new.parts.bank) refusal → IsRefusalBy old.parts.backup (faults old.parts.bank) (faults new.parts.bank) refusal
@@ -313,6 +322,7 @@ module _ {B : Type 0} (tells : Type 0) (given : B → Given) (tape : B → List 
     left = λ none. subst (λ (a : RunningParts B). AreStepsFewer a.parts.entries new.parts.entries (running_left a) (running_left new)) room (was.left none);
     next_open = was.next_open;
     going = was.going;
+    closable = was.closable;
     went = gone-behind was.went;
     ended = was.ended;
   }

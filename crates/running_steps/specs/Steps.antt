@@ -19,6 +19,7 @@ use Rattle.kept_history.specs.Recorded.{MayGoOn, IsCallGoing}
 use Rattle.running_words.specs.Parts.{RunningParts}
 use Rattle.running_replies.specs.Replies.{EndsRunningSteps, IsRefusalBy}
 use Rattle.running_replies.specs.Going.{is_finish, HasRunOn}
+use Rattle.still_laws.specs.Steps.{IsClosable}
 use Rattle.turning.specs.Begun.{HasKeptLength}
 use Rattle.running.specs.Calls.{running_left, MayEndSteps}
 
@@ -40,7 +41,7 @@ abbrev pub TellOneStep : List Entry → Type 0
 TellOneStep entries = (count_by (λ e. is_step_event e.event) entries ≡ 1)
     ⊎ ((count_by (λ e. is_step_event e.event) entries ≡ 0) × (1 ≤ count_by (λ e. is_lost_event e.event) entries))
 
--- What a step leaves that is done, whether a reshape ended by it (`over`) or not: what it entered, with the steps that are left, which are one fewer, and that the call goes on.
+-- What a step leaves that is done, whether a reshape ended by it (`over`) or not: what it entered, with the steps that are left, which are one fewer, that the call goes on, and that a reply may close its plans.
 pub record IsStepDone {B : Type 0} (tells : Type 0) (given : B → Given) (tape : B → List Operation) (faults : B → ℕ → ℕ) (who : Who) (old new : RunningParts B) (over : Bool) : Type 0 where
   pub inner : List Entry
   pub is : new.parts.entries ≡ old.parts.entries ++ inner
@@ -51,6 +52,7 @@ pub record IsStepDone {B : Type 0} (tells : Type 0) (given : B → Given) (tape 
   pub left : over ≡ false → AreStepsFewer old.parts.entries new.parts.entries (running_left old) (running_left new)
   pub next_open : over ≡ false → 0 < running_left new → IsOpenFor new who
   pub going : IsCallGoing new.parts.entries who
+  pub closable : is_reshaping new.parts.members.newest ≡ false → IsClosable new
   pub went : HasRunOn tells given tape faults old new
   pub ended : IsEndOf tells new.parts.first new.parts.entries (tape new.parts.bank)
 

@@ -1,11 +1,12 @@
 //! As many background steps as a caller asks for.
 
 ghost use Rattle.std.specs.Prelude.{◌≡◌, ◌≢◌, ◌⊎◌, ◌+◌, ◌<◌, ◌≤◌, true, false, None, IfOk, IfErr, IfSome, MatchOption, ⊤};
-ghost use Rattle.superblocks.specs.Reading.{list_length};
+ghost use Rattle.superblocks.specs.Reading.{is_reshaping, list_length};
 ghost use Rattle.flat_history.specs.Flat.{next_number};
 ghost use Rattle.flat_history.specs.declared.events.Request.TheVariants.{Steps as AsksSteps};
 ghost use Rattle.array_kept.specs.Calls.{IsEndOf, TellNoLoss, TellNoRoleLoss};
 ghost use Rattle.kept_history.specs.Recorded.{IsCallGoing};
+ghost use Rattle.still_laws.specs.Steps.{IsClosable};
 ghost use Rattle.running_replies.specs.Replies.{IsAnsweredWith, EndsRunningSteps, IsRefusalBy};
 ghost use Rattle.running_replies.specs.Going.{HasRunOn};
 ghost use Rattle.running.specs.Calls.{running_left, MayEndSteps};
@@ -44,6 +45,7 @@ fn take_steps<B: Bank>(array: &mut Running<B>, who: Who, count: u64) -> Batch
     ensures fewer { TellNoRoleLoss array.old.parts.entries array.new.parts.entries → has_finished array.old.parts.entries array.new.parts.entries ≡ false → result.ended ≡ None
         → running_left array.new + result.done ≤ running_left array.old }
     ensures going { IsCallGoing array.new.parts.entries who }
+    ensures closable { result.ended ≡ None → is_reshaping array.new.parts.members.newest ≡ false → IsClosable array.new }
     ensures room { 1 ≤ array.new.parts.steps }
     ensures ended { IsEndOf B.tells array.new.parts.first array.new.parts.entries (B.tape array.new.parts.bank) }
     ensures went { HasRunOn B.tells B.given B.tape B.faults_of array.old array.new }

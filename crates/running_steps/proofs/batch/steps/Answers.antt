@@ -10,7 +10,7 @@ use Rattle.running.specs.Calls.{running_left}
 use Rattle.running_steps.specs.Steps.{IsOpenFor}
 use Rattle.running_steps.proofs.Went.{epoch-of}
 use Rattle.running_steps.proofs.Plain.{open-begins}
-use Rattle.running_steps.proofs.Replies.{answered-nothing, answered-stepped, gone-room, gone-behind, gone-answered, left-answered}
+use Rattle.running_steps.proofs.Replies.{answered-nothing, answered-stepped, gone-room, gone-behind, gone-answered, left-answered, may-answer}
 use Rattle.running_steps.proofs.batch.steps.Goals as goal
 
 least-is : (count most start : ℕ) → count ≡ min most start → (count ≡ most) ⊎ (count ≡ start)
@@ -18,6 +18,11 @@ least-is count most start is = elim (cases_lt most start) [
   | inl less ↦ inl (omega (arith, is, less))
   | inr more ↦ inr (omega (arith, is, more))
 ]
+
+pub answer-requires-2-clause-closable : goal.answer-requires-2-clause-closable
+answer-requires-2-clause-closable g c = λ still.
+    let at = c.take_steps-done.new.array in
+    may-answer at.parts.entries at.parts.work at.parts.members at.ahead c.take_steps-done.result.done c.left-left.result c.take_steps-done.result.ended (λ none. c.take_steps-done.ensures.closable none still)
 
 pub returns-in_default-clause-went : goal.returns-in_default-clause-went
 returns-in_default-clause-went g c = gone-none g.B.Bank.tells g.B.Bank.given g.B.Bank.tape g.B.Bank.faults_of c.args.array.now

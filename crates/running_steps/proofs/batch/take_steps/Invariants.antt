@@ -1,6 +1,8 @@
-use Rattle.std.proofs.Common.{◌≡◌, ◌≢◌, ◌+◌, ◌<◌, ◌≤◌}
+use Rattle.std.proofs.Common.{◌≡◌, ◌≢◌, ◌+◌, ◌<◌, ◌≤◌, false}
+use Rattle.superblocks.specs.Reading.{is_reshaping}
 use Rattle.array_kept.specs.Calls.{IsEndOf, TellNoLoss, TellNoRoleLoss}
 use Rattle.kept_history.specs.Recorded.{IsCallGoing}
+use Rattle.still_laws.specs.Steps.{IsClosable}
 use Rattle.running_replies.specs.Going.{HasRunOn}
 use Rattle.running.specs.Calls.{running_left}
 use Rattle.running_steps.specs.Steps.{IsOpenFor, AreStepsOf}
@@ -11,6 +13,7 @@ invariant-loop-done g l = record {
   entered : AreStepsOf l.who l.fn.array.parts.entries l.array.parts.entries l.done;
   next_open : 0 < running_left l.array → IsOpenFor l.array l.who;
   going : IsCallGoing l.array.parts.entries l.who;
+  closable : l.done ≢ 0 → is_reshaping l.array.parts.members.newest ≡ false → IsClosable l.array;
   begun : l.done ≡ 0 → running_left l.array ≡ running_left l.fn.array;
   left : TellNoLoss l.fn.array.parts.entries l.array.parts.entries → running_left l.array + l.done ≡ running_left l.fn.array;
   fewer : TellNoRoleLoss l.fn.array.parts.entries l.array.parts.entries → running_left l.array + l.done ≤ running_left l.fn.array;
