@@ -1,5 +1,5 @@
 -- What is kept of plans as a plan is entered, and what the backup has room for.
-use Rattle.std.proofs.Common.{None, ◌≡◌, ℕ, ◌+◌, ◌<◌, ◌≤◌, ◌==◌, true, cond, Option, Some, List, [], ◌∷◌, ◌++◌, length, sym, ◌∙◌, ap, subst, arith, unwrap_or}
+use Rattle.std.proofs.Common.{None, ◌≡◌, Bool, ℕ, ◌+◌, ◌<◌, ◌≤◌, ◌==◌, true, cond, Option, Some, List, [], ◌∷◌, ◌++◌, length, sym, ◌∙◌, ap, subst, arith, unwrap_or}
 use Rattle.std.specs.Prelude.{option_map}
 use Rattle.std.specs.List.{All}
 use Rattle.std.proofs.lemmas.Bool.Decides.{nat_tests}
@@ -20,7 +20,7 @@ use Rattle.flat_history.specs.declared.events.Entry.{Entry}
 use Rattle.flat_history.specs.declared.events.Event.TheVariants.{Planned}
 use Rattle.flat_history.specs.Plain.{entries_of}
 use Rattle.flat_history.specs.Reshaped.{plans_after, open_plans, planned_shape}
-use Rattle.flat_history.specs.World.{World, reading_at}
+use Rattle.flat_history.specs.World.{reading_at}
 use Rattle.views.specs.declared.work.Work.{Work}
 use Rattle.kept_history.specs.Recorded.{entry_of}
 use Rattle.kept_history.specs.Safe.{world_in}

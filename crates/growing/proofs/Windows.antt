@@ -1,12 +1,12 @@
 -- The window of a reshape has some sectors, so that its plan has a backup.
-use Rattle.std.proofs.Common.{◌≡◌, ℕ, ◌+◌, ◌*◌, ◌<◌, ◌≤◌, true, nat_le, min, Option, Some, List, [], ◌∷◌, arith}
+use Rattle.std.proofs.Common.{◌≡◌, ℕ, ◌+◌, ◌*◌, ◌<◌, ◌≤◌, true, min, Option, Some, [], ◌∷◌, arith}
 use Rattle.std.proofs.lemmas.Bool.{and_parts, leb-true}
 use Rattle.std.proofs.lemmas.Nat.{mul-le}
 use Rattle.md_base.specs.Shapes.{data_disks}
 use Rattle.md_base.specs.declared.places.Shape.{Shape}
 use Rattle.md_base.specs.declared.wishes.Phase.TheVariants.{Reshape}
 use Rattle.bank.specs.Given.{Given}
-use Rattle.geometry.specs.Geometry.{AreInForce, is_size, list_end}
+use Rattle.geometry.specs.Geometry.{AreInForce, is_size}
 use Rattle.geometry.proofs.Valid.{bounded, bounded_pair}
 use Rattle.grow_plan.specs.Plans.{phase_window, largest_window}
 use Rattle.growing.specs.Planned.{HasWideBackup}
