@@ -1,22 +1,18 @@
 -- What the end of a reshape leaves, from what `finish` of `reshape_ends` says of it: the array keeps its record without a reshape.
-use Rattle.std.proofs.Common.{◌≡◌, ◌⊎◌, inl, inr, ℕ, ◌+◌, ◌*◌, ◌<◌, ◌≤◌, ◌&&◌, ◌||◌, nat_lt, ◌==◌, min, max, Bool, true, false, not, cond, Option, Some, None, List, [], ◌∷◌, ◌++◌, length, fold, refl, sym, ◌∙◌, ap, subst, arith, append-nil}
+use Rattle.std.proofs.Common.{◌≡◌, ◌⊎◌, inl, inr, ℕ, ◌*◌, ◌<◌, ◌≤◌, ◌&&◌, ◌||◌, nat_lt, ◌==◌, min, max, Bool, true, false, not, cond, Option, Some, None, List, [], ◌∷◌, ◌++◌, length, fold, refl, sym, ◌∙◌, ap, subst, arith, append-nil}
 use Rattle.std.proofs.Math.Nat.{mul-le-mul_right}
 use Rattle.std.specs.Prelude.{IfSome, IsFalse}
-use Rattle.std.specs.List.{list_any, All}
+use Rattle.std.specs.List.{list_any}
 use Rattle.std.proofs.lemmas.Bool.{and_parts}
 use Rattle.std.proofs.lemmas.Bool.Decides.{nat_tests}
-use Rattle.std.proofs.lemmas.List.Elements.{All-head, All-tail}
 use Rattle.std.proofs.lemmas.List.Folds.{list_any-append}
 use Rattle.std.proofs.lemmas.List.Sums.{fold-append}
 use Rattle.md_base.specs.Sectors.{Sector}
 use Rattle.md_base.specs.Shapes.{has_slot, data_disks}
 use Rattle.md_base.specs.declared.answers.Who.{Who}
 use Rattle.md_base.specs.declared.places.Shape.{Shape}
-use Rattle.md_base.specs.declared.wishes.Phase.{Phase}
-use Rattle.md_base.specs.declared.wishes.Phase.TheVariants.{Reshape, UpTo6, DownTo5}
 use Rattle.bank.specs.declared.bank.Operation.{Operation}
 use Rattle.bank.specs.Given.{Given, NeverFalls}
-use Rattle.grow_plan.specs.Plans.{phases_steps, phase_steps}
 use Rattle.superblocks.specs.declared.members.Members.{Members}
 use Rattle.superblocks.specs.Reading.{Scope, shape_of, final_shape, list_length, role_count, role_state, holder, data_offset_of}
 use Rattle.superblocks.proofs.ValidFields.{few-roles}
@@ -30,7 +26,6 @@ use Rattle.flat_history.specs.Flat.{length_of, length_after, limit_after}
 use Rattle.flat_history.specs.Legal.{left_after, told_left}
 use Rattle.flat_history.specs.Losses.{is_resync_end, is_unsynced, loses}
 use Rattle.flat_history.specs.Plain.{entries_of}
-use Rattle.flat_history.specs.Reshaped.{planned_shape}
 use Rattle.flat_history.specs.Sound.{OpensFit}
 use Rattle.flat_history.specs.World.{World}
 use Rattle.shape_views.specs.Regions.{ArePlaced}
@@ -66,7 +61,6 @@ use Rattle.still.specs.moving_kept_Moving.{IsMoving, IsStillKept}
 use Rattle.moving_ends.proofs.Ended.{IsPlannedTo, IsStepped}
 use Rattle.moving_ends.proofs.EndedCall.{IsEndedBy, ended-since}
 use Rattle.moving_ends.proofs.EndedMembers.{array-ends}
-use Rattle.history_calls.proofs.Plans.{ArePlannedTo}
 use Rattle.moving_ends.proofs.Ending.{length_by, grown_to, ending_events, ending-length, ending-lost, ending-late}
 use Rattle.still.specs.still_kept_Still.{IsStill, AreNoneMissing}
 use Rattle.still.proofs.still_kept_Bridges.{kept-again}
