@@ -1,5 +1,5 @@
 -- What is kept of plans as a plan is entered, and what the backup has room for.
-use Rattle.std.proofs.Common.{None, ◌≡◌, Bool, ℕ, ◌+◌, ◌<◌, ◌≤◌, ◌==◌, true, cond, Option, Some, List, [], ◌∷◌, ◌++◌, length, sym, ◌∙◌, ap, subst, arith, unwrap_or}
+use Rattle.std.proofs.Common.{Bool, None, ◌≡◌, ℕ, ◌+◌, ◌<◌, ◌≤◌, ◌==◌, true, cond, Option, Some, List, [], ◌∷◌, ◌++◌, length, sym, ◌∙◌, ap, subst, arith, unwrap_or}
 use Rattle.std.specs.Prelude.{option_map}
 use Rattle.std.specs.List.{All}
 use Rattle.std.proofs.lemmas.Bool.Decides.{nat_tests}

@@ -1,6 +1,7 @@
 use Rattle.std.proofs.Common.{[], ◌∷◌, refl, arith}
 use Rattle.flat_history.specs.declared.events.Event.TheVariants.{Refused}
 use Rattle.flat_history.specs.Plain.{entries_of}
+use Rattle.array_kept.specs.Kept.{scope_in}
 use Rattle.array_kept.proofs.ReadyLaws.{scope-same}
 use Rattle.still.proofs.running_words_Lengths.{alone-keeps}
 use Rattle.still.proofs.still_laws_Kept.{ready, rows-same}
@@ -15,7 +16,7 @@ of_pieces-requires g c =
     let given = g.B.Bank.given a.bank in
     let end = c.ops-end.result in
     record {
-      ready = ready (entries_of c.args.who end (Refused c.args.refusal ∷ [])) was (rows-same a.members.newest)
+      ready = ready {scope' = scope_in given c.enter.new.epoch.uuid c.enter.new.epoch.given a.backup} (entries_of c.args.who end (Refused c.args.refusal ∷ [])) was (rows-same a.members.newest)
           (plain-stands c.args.who end c.args.refusal was.kept c.requires.open c.requires.caller c.ops-end.ensures.count c.requires.why)
           (turned-plain (turns-first a.epoch.entries.items (entries_of c.args.who end (Refused c.args.refusal ∷ [])) c.requires.told))
           (λ slot. omega arith) (alone-keeps c.args.who end (Refused c.args.refusal) (λ n. refl) refl) refl (scope-same given a.backup refl c.enter.ensures.uuid c.enter.ensures.given) c.enter.ensures.first refl c.enter.ensures.items
