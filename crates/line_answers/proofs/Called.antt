@@ -1,13 +1,38 @@
 -- Calls of the script, which go on with none of the former ones.
-use Rattle.std.proofs.Common.{◌≡◌, ◌⊎◌, inl, inr, ℕ, ◌+◌, ◌<◌, ◌≤◌, ◌==◌, ◌&&◌, Bool, false, List, [], ◌∷◌, ◌++◌, refl, sym, ◌∙◌, ap, subst, arith, append_assoc, append-nil}
+use Rattle.std.proofs.Common.{◌≡◌, ◌≢◌, ◌⊎◌, inl, inr, ℕ, ◌+◌, ◌*◌, min, ◌<◌, ◌≤◌, ◌==◌, ◌&&◌, Bool, false, Option, None, List, [], ◌∷◌, ◌++◌, refl, sym, ◌∙◌, ap, subst, arith, append_assoc, append-nil}
 use Rattle.std.proofs.lemmas.List.Sums.{fold-append}
 use Rattle.std.proofs.lemmas.Bool.Decides.{nat_tests}
 use Rattle.std.proofs.lemmas.List.Elements.{All-nil, All-cons, All-append, All-head, All-weaker}
 use Rattle.std.specs.Prelude.{if◌then◌else◌}
 use Rattle.std.specs.List.{All}
+use Rattle.std.specs.Option.{option_map_or}
 use Rattle.flat_history.specs.declared.events.Entry.{Entry}
-use Rattle.flat_history.specs.Flat.{rest_of_call, next_number, number_after}
+use Rattle.flat_history.specs.Flat.{rest_of_call, next_number, number_after, length_of, limit_of, visible_of}
 use Rattle.flat_history.specs.OneShape.{IsOfCall}
+use Rattle.md_base.specs.Shapes.{data_disks}
+use Rattle.bank.specs.declared.bank.Operation.{Operation}
+use Rattle.bank.specs.Given.{Given}
+use Rattle.superblocks.specs.Reading.{list_length}
+use Rattle.flat_history.specs.World.{World}
+use Rattle.running_words.specs.Parts.{RunningParts}
+use Rattle.running_words.specs.Calls.{IsCalled, IsSameReshape}
+use Rattle.running_words.specs.Adding.{IsAddCalled}
+use Rattle.running_replies.specs.Going.{IsSameEpoch, HasRunOn}
+use Rattle.running_replies.specs.Replies.{IsAnsweredWith, HasToldBy}
+use Rattle.md_base.specs.declared.answers.NoMemory.{NoMemory}
+use Rattle.md_base.specs.declared.answers.Fault.{Fault}
+use Rattle.md_base.specs.declared.answers.Fault.TheVariants.{Refused as IsRefusedWith, NoMemory as WantsMemory}
+use Rattle.md_base.specs.declared.answers.Who.{Who}
+use Rattle.md_base.specs.declared.wishes.Wish.{Wish}
+use Rattle.flat_history.specs.declared.events.Event.{Event}
+use Rattle.flat_history.specs.declared.events.Event.TheVariants.{Planned, Refused}
+use Rattle.flat_history.specs.declared.events.Request.TheVariants.{Grow as AsksGrow}
+use Rattle.growing.specs.Replied.{IsGrowReplied}
+use Rattle.std.specs.Prelude.{Result, Ok, Err, IfErr}
+use Rattle.array_kept.specs.Calls.{AreLossesBy}
+use Rattle.run_laws.specs.Asked.{IsSizedBy}
+use Rattle.run_laws.specs.States.{running_history}
+use Rattle.run_laws.proofs.Losses.{IsSameOpening, IsHistoryLater, AreHeldOn, on-steps}
 use Rattle.script.specs.declared.lines.Line.{Line}
 use Rattle.run_laws.specs.Asked.{script_who, IsAskedAt}
 use Rattle.run_laws.specs.Histories.{History}
@@ -96,3 +121,69 @@ called_own {old = old} {new = new} called was =
 
 pub called_grown : (old new : History) → HasCalled old.entries new.entries → new.uuid ≡ old.uuid → new.given ≡ old.given → new.first ≡ old.first → IsByScript old → IsGrown old new
 called_grown old new called uuid given first was = record { uuid = uuid; given = given; first = first; more = called.more; grown = called.grown; later = called_apart called was }
+
+-- ---- the length of the list
+
+-- the same array in the same reshape has a list of the same length
+pub reshape-length : {B tells : Type 0} {before after : World} {old new : RunningParts B} → IsSameReshape tells old new before after → list_length new.parts.members.newest ≡ list_length old.parts.members.newest
+reshape-length same = λ i. min (data_disks (same.array.shape i)) (data_disks (same.final i)) * same.array.size i
+
+pub called-length : {B tells : Type 0} {given : Given} {tape tape' : List Operation} {before after : ℕ → ℕ} {old new : RunningParts B} → IsCalled tells given tape tape' before after old new
+    → list_length new.parts.members.newest ≡ list_length old.parts.members.newest
+called-length called = reshape-length called.same
+
+pub added-length : {B tells : Type 0} {given : Given} {tape tape' : List Operation} {before after : ℕ → ℕ} {slot : ℕ} {old new : RunningParts B} → IsAddCalled tells given tape tape' before after slot old new
+    → list_length new.parts.members.newest ≡ list_length old.parts.members.newest
+added-length called = reshape-length called.same
+
+-- and it is of the same epoch
+pub same-epoch : {B tells : Type 0} {before after : World} {old new : RunningParts B} → IsSameReshape tells old new before after → IsSameEpoch old new
+same-epoch same = record { uuid = same.array.uuid; given = same.array.given; first = same.array.first; backup = same.array.backup }
+
+pub epoch-opening : {B : Type 0} {old new : RunningParts B} → IsSameEpoch old new → IsSameOpening (running_history old.parts) (running_history new.parts)
+epoch-opening same = record { uuid = same.uuid; given = same.given; first = same.first }
+
+pub epoch-later : {B : Type 0} {Had : ℕ → ℕ → Type 0} {f g : ℕ → ℕ} {old new : RunningParts B} → IsSameEpoch old new → AreLossesBy Had f g old.parts.entries new.parts.entries
+    → IsHistoryLater (running_history old.parts) (running_history new.parts)
+epoch-later same lost = record { same = epoch-opening same; more = lost.more; grown = lost.grown }
+
+-- ---- steps
+
+pub ran-later : {B tells : Type 0} {given : B → Given} {tape : B → List Operation} {faults : B → ℕ → ℕ} {old new : RunningParts B} → HasRunOn tells given tape faults old new → IsHistoryLater (running_history old.parts) (running_history new.parts)
+ran-later went = record { same = epoch-opening went.same; more = went.more; grown = went.grown }
+
+pub ran-sized : {B tells : Type 0} {given : B → Given} {tape : B → List Operation} {faults : B → ℕ → ℕ} {old new : RunningParts B} → HasRunOn tells given tape faults old new
+    → IsSizedBy (list_length old.parts.members.newest) (list_length new.parts.members.newest) old.parts.entries new.parts.entries
+ran-sized went = record { more = went.more; grown = went.grown; sized = went.sized }
+
+pub ran-on : {B tells : Type 0} {given : B → Given} {tape : B → List Operation} {faults : B → ℕ → ℕ} {old new : RunningParts B} → HasRunOn tells given tape faults old new → AreHeldOn old.parts.members new.parts.members new.parts.entries
+ran-on {old = old} {new = new} went =
+    subst (λ (l : List Entry). AreHeldOn old.parts.members new.parts.members l) (sym went.grown) (on-steps old.parts.entries went.more went.held)
+
+-- what is unchanged where memory was short
+pub parts-unchanged : {B : Type 0} (old new : RunningParts B) (r : Result ℕ NoMemory) → IfErr r (λ none. new ≡ old) → IfErr r (λ none. new.parts ≡ old.parts)
+parts-unchanged old new (Ok place) same = tt
+parts-unchanged {B = B} old new (Err none) same = ap (λ (a : RunningParts B). a.parts) same
+
+-- what is told by a backup that is the run's
+pub told-backup : {backup other : Option ℕ} {before now : ℕ → ℕ} {old new : List Entry} → backup ≡ other → HasToldBy backup before now old new → HasToldBy other before now old new
+told-backup {before = before} {now = now} {old = old} {new = new} same told = subst (λ (b : Option ℕ). HasToldBy b before now old new) same told
+
+-- the script's next call has the next number
+pub script-numbered : (entries : List Entry) (who : Who) → who ≡ script_who entries → who.number ≡ next_number who.caller entries
+script-numbered entries who is = ap (λ (w : Who). w.number) is ∙ ap (λ (w : Who). next_number w.caller entries) (sym is)
+
+-- all of a list that is limited nowhere can be read and written
+pub all-visible : (size : ℕ) (entries : List Entry) → length_of size entries ≡ size → limit_of entries ≡ None → visible_of size entries ≡ size
+all-visible size entries sized unlimited = ap (λ (o : Option ℕ). option_map_or (λ limit. min limit (length_of size entries)) o (length_of size entries)) unlimited ∙ sized
+
+-- ---- a grow
+
+-- its answer is a reply, unless memory was short
+pub grown-reply : {T : Type 0} (size : ℕ) (wish : Wish) (who : Who) (old new : List Entry) (left : ℕ) (r : Result T Fault) → IsGrowReplied size wish who old new left r → r ≢ Err WantsMemory → (e : Event) × IsAnsweredWith size (AsksGrow wish) who old new e
+grown-reply size wish who old new left (Ok x) was some = (Planned left wish, was)
+grown-reply size wish who old new left (Err (IsRefusedWith refusal)) was some = (Refused refusal, was)
+grown-reply size wish who old new left (Err WantsMemory) was some = absurd (some refl)
+
+pub grown-none : {T : Type 0} (size : ℕ) (wish : Wish) (who : Who) (old new : List Entry) (left : ℕ) (r : Result T Fault) → IsGrowReplied size wish who old new left r → r ≡ Err WantsMemory → new ≡ old
+grown-none {T = T} size wish who old new left r was is = subst (λ (x : Result T Fault). IsGrowReplied size wish who old new left x) is was

@@ -5,13 +5,13 @@ use Rattle.std.specs.Prelude.{IsTrue, IsFalse}
 use Rattle.flat_history.specs.declared.events.Entry.{Entry}
 use Rattle.flat_history.specs.declared.events.Event.{Event}
 use Rattle.flat_history.specs.declared.events.Event.TheVariants.{Stopped, Halted}
-use Rattle.array_kept.specs.Calls.{StandsInside}
+use Rattle.flat_history.specs.Legal.{MayBeInner}
 use Rattle.script.specs.declared.lines.Line.{Line}
 use Rattle.run_laws.specs.Asked.{script_who, IsAskedAt}
 use Rattle.run_laws.specs.Histories.{is_end, AreGoing, EndsOnce}
 use Rattle.run_laws.proofs.AskLaws.{one, with_reply}
 
-inside_goes : (event : Event) → StandsInside event → is_end event ≡ false
+inside_goes : (event : Event) → MayBeInner event → is_end event ≡ false
 inside_goes Stopped is = absurd is
 inside_goes Halted is = absurd is
 inside_goes event is = refl
@@ -20,7 +20,7 @@ inside_goes event is = refl
 before_goes : {size place : ℕ} {line : Line} {old new : List Entry} (asked : IsAskedAt size line old new place) → AreGoing old → AreGoing (old ++ asked.inner)
 before_goes {old = old} asked was =
     All-append (λ e. IsFalse (is_end e.event)) old asked.inner was
-    (All-weaker (λ e. StandsInside e.event) (λ e. IsFalse (is_end e.event)) (λ e is. inside_goes e.event is) asked.inner asked.inside)
+    (All-weaker (λ e. MayBeInner e.event) (λ e. IsFalse (is_end e.event)) (λ e is. inside_goes e.event is) asked.inner asked.inside)
 
 -- a call whose reply doesn't end it
 pub gone_once : {size place : ℕ} {line : Line} {old new : List Entry} (asked : IsAskedAt size line old new place) → is_end asked.event ≡ false → AreGoing old → AreGoing new

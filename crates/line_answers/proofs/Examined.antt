@@ -13,6 +13,7 @@ use Rattle.sb1.specs.Superblock.{superblock_in}
 use Rattle.flat_history.specs.declared.events.Epoch.{Epoch}
 use Rattle.flat_history.specs.Reopened.{OpensAccepted}
 use Rattle.views.specs.Moving.{Grows}
+use Rattle.running_words.specs.Parts.{RunningParts}
 use Rattle.views.specs.Parts.{Parts}
 use Rattle.script.specs.declared.lines.Line.TheVariants.{Examine}
 use Rattle.run_laws.specs.declared.report.Answered.TheVariants.{Outside as IsOutside}
@@ -89,31 +90,31 @@ module _ {B : Type 0} (setting : Setting) (bank left : B) (epochs : Vec Epoch) (
 
 -- ---- and while one runs
 
-module _ {B : Type 0} (setting : Setting) (array : Parts B) (epochs : Vec Epoch) (own : RunsOwn (Running array epochs)) (longer : setting.tells → setting.began ≤ length setting.tape) (slot : ℕ) where
+module _ {B : Type 0} (setting : Setting) (array : RunningParts B) (epochs : Vec Epoch) (own : RunsOwn (Running array epochs)) (longer : setting.tells → setting.began ≤ length setting.tape) (slot : ℕ) where
   pub unexamined_running : (refusal : Refusal) → IsUnexamined setting slot refusal → IsTurn setting (Running array epochs) (Running array epochs) (Examine slot) (IsOutside (Refused refusal))
   unexamined_running refusal is = record {
     own = own;
-    losses = losses-kept setting (histories_of epochs.items ++ running_history array ∷ []);
-    grown = grown_kept (histories_of epochs.items ++ running_history array ∷ []);
+    losses = losses-kept setting (histories_of epochs.items ++ running_history array.parts ∷ []);
+    grown = grown_kept (histories_of epochs.items ++ running_history array.parts ∷ []);
     ends = longer;
     answer = is;
     course = refl;
   }
 
   pub examined_running : (left : B) (r : Result (Option Sb) BankFault) → IfOk r (λ found. IsExamined setting (length setting.tape) slot found) → OnErr r (IsFaulted slot setting.before setting.now)
-      → IsTurn setting (Running array epochs) (Running (record array { bank = left }) epochs) (Examine slot) (told_of slot r)
+      → IsTurn setting (Running array epochs) (Running (record array { parts = record array.parts { bank = left } }) epochs) (Examine slot) (told_of slot r)
   examined_running left (Ok found) is faulted = record {
     own = own;
-    losses = losses-kept setting (histories_of epochs.items ++ running_history array ∷ []);
-    grown = grown_kept (histories_of epochs.items ++ running_history array ∷ []);
+    losses = losses-kept setting (histories_of epochs.items ++ running_history array.parts ∷ []);
+    grown = grown_kept (histories_of epochs.items ++ running_history array.parts ∷ []);
     ends = longer;
     answer = (refl, is);
     course = refl;
   }
   examined_running left (Err fault) is faulted = record {
     own = own;
-    losses = losses-kept setting (histories_of epochs.items ++ running_history array ∷ []);
-    grown = grown_kept (histories_of epochs.items ++ running_history array ∷ []);
+    losses = losses-kept setting (histories_of epochs.items ++ running_history array.parts ∷ []);
+    grown = grown_kept (histories_of epochs.items ++ running_history array.parts ∷ []);
     ends = longer;
     answer = (refl, faulted);
     course = refl;

@@ -1,3 +1,4 @@
+pub mod Barred
 pub mod Called
 pub mod Ending
 pub mod Examined

@@ -1,5 +1,5 @@
 -- What one line does to a run, by the answer that it got.
-use Rattle.std.proofs.Common.{◌≡◌, ℕ, ◌+◌, ◌*◌, ◌^◌, ◌<◌, fold, Bool, true, false, Option, Some, None, List, [], ◌∷◌, ◌++◌, length, length-append, refl, sym, ◌∙◌, ap, subst, arith, append-nil, Result, Ok, Err, inl, inr, ◌≤◌}
+use Rattle.std.proofs.Common.{◌≡◌, ℕ, ◌+◌, ◌*◌, ◌^◌, ◌<◌, fold, Bool, true, false, Option, Some, None, List, [], ◌∷◌, ◌++◌, length, length-append, refl, sym, ◌∙◌, ap, subst, arith, append-nil, take, take_all, Result, Ok, Err, inl, inr, ◌≤◌}
 use Rattle.std.proofs.lemmas.List.Sums.{fold-append}
 use Rattle.std.proofs.lemmas.List.{map-append, length-map}
 use Rattle.std.proofs.lemmas.List.Elements.{All-nil, All-cons, All-append, All-push}
@@ -12,17 +12,20 @@ use Rattle.md_base.specs.declared.answers.NoMemory.{NoMemory}
 use Rattle.md_base.specs.declared.answers.Refusal.{Refusal}
 use Rattle.md_base.specs.declared.answers.Refusal.TheVariants.{Running as IsRunning}
 use Rattle.md_base.specs.declared.status.Status.{Status}
+use Rattle.md_base.specs.declared.wishes.Wish.{Wish}
 use Rattle.md_base.specs.Shapes.{data_disks}
-use Rattle.views.specs.Parts.{Parts}
-use Rattle.views.specs.Status.{IsStatusFor}
-use Rattle.views.specs.Whole.{list_size}
-use Rattle.views.specs.Placed.{places_of}
+use Rattle.superblocks.specs.Reading.{list_length}
+use Rattle.running_words.specs.Parts.{RunningParts}
+use Rattle.running_replies.specs.Replies.{RunningAnswers}
+use Rattle.running.specs.Calls.{IsShownAs}
+use Rattle.run_laws.proofs.Limits.{LeavesLimit, leave-all, asked-unlimited, waiting-unlimited}
+use Rattle.run_laws.proofs.Sizes.{leaves-all, sized-now}
 use Rattle.flat_history.specs.declared.events.Entry.{Entry}
 use Rattle.flat_history.specs.declared.events.Epoch.{Epoch}
 use Rattle.flat_history.specs.declared.events.Event.{Event}
 use Rattle.flat_history.specs.declared.events.Event.TheVariants.{Shown, Stopped, Halted}
-use Rattle.flat_history.specs.declared.events.Request.TheVariants.{Read as AsksRead, Write as AsksWrite, Flush as AsksFlush, Fail as AsksFail, Add as AsksAdd, Steps as AsksSteps}
-use Rattle.flat_history.specs.Flat.{rest_of_call, next_number, number_after}
+use Rattle.flat_history.specs.declared.events.Request.TheVariants.{Read as AsksRead, Write as AsksWrite, Flush as AsksFlush, Fail as AsksFail, Add as AsksAdd, Grow as AsksGrow, Steps as AsksSteps}
+use Rattle.flat_history.specs.Flat.{rest_of_call, next_number, number_after, length_after, length_of, limit_of}
 use Rattle.flat_history.specs.Legal.{call_before}
 use Rattle.flat_history.specs.Plain.{entries_of}
 use Rattle.flat_history.specs.OneShape.{OneShapeAnswers}
@@ -34,32 +37,30 @@ use Rattle.flat_history.specs.Epochs.{OpensAlike}
 use Rattle.flat_history.specs.Opened.{OpensSound}
 use Rattle.bank.specs.Given.{sizes}
 use Rattle.superblocks.specs.declared.members.Members.{Members}
-use Rattle.row_io.specs.Rows.{reading_of}
-use Rattle.array_kept.specs.Adopting.{opener, found_losses}
+use Rattle.array_kept.specs.Adopting.{opener, absent_losses}
 use Rattle.array_kept.specs.Calls.{IsEndOf, IsEntered, world_for}
 use Rattle.assemble.specs.Creating.{create_refusal}
 use Rattle.assemble.specs.Opening.{AreGiven, array_of, scope_of}
 use Rattle.assemble.specs.Made.{used_slot}
-use Rattle.assemble.specs.Running.{IsCreated, IsAssembled, OpensWithZeros}
+use Rattle.assemble.specs.Running.{IsCreated, OpensWithZeros}
 use Rattle.script.specs.declared.lines.CreateLine.{CreateLine}
 use Rattle.script.specs.declared.lines.Line.{Line}
-use Rattle.script.specs.declared.lines.Line.TheVariants.{Create, Read, Write, Flush, Fail, Add, Step, Wait, Assemble}
+use Rattle.script.specs.declared.lines.Line.TheVariants.{Create, Read, Write, Flush, Fail, Add, Grow, Step, Wait, Assemble}
 use Rattle.run_laws.specs.declared.report.Outside.TheVariants.{Created, Assembled, Refused}
 use Rattle.run_laws.specs.declared.report.Answered.TheVariants.{Inside, Outside as IsOutside}
 use Rattle.run_laws.specs.declared.states.State.TheVariants.{Idle, Running}
-use Rattle.run_laws.specs.Asked.{script_who, IsAskedAt, IsAsked, IsStillWaiting, IsWaited}
+use Rattle.run_laws.specs.Asked.{script_who, IsAskedAt, IsAsked, IsStillWaiting, IsWaited, IsSizedBy}
 use Rattle.run_laws.specs.Histories.{History, history_of, histories_of, entry_at, is_end, AreGoing}
 use Rattle.run_laws.specs.Making.{Setting, held_at, history_world, MissingAtFirst, IsStoredNew, IsStoredAs}
-use Rattle.run_laws.specs.Replies.{Course, at_rest, begun, with_calls, course_behind, course_after, steps_at_once, IsRepliedAt, IsAnsweredInside, IsRefusedOutside, spec_of}
-use Rattle.superblocks.specs.Reading.{shape_of}
+use Rattle.run_laws.specs.Replies.{Course, at_rest, begun, gone_on, course_behind, entries_to, course_after, steps_at_once, IsRepliedAt, IsAnsweredInside, IsRefusedOutside, spec_of}
 use Rattle.script.specs.Seeds.{seeded}
 use Rattle.run_laws.specs.States.{EndsBetween, AreLossesBehind, AreLossesFrom, running_history, course_with, answer_at, IsGrown, AreGrown, AreLossesSince, IsTurn, IsNoTurn, IsTurnOrNone, RunsOwn, IsOwnEntry, AreByScript, IsByScript, IsOfScript, AreOfScript}
 use Rattle.run_laws.proofs.AskLaws.{one, with_reply, entry_there, replied_at}
 use Rattle.line_answers.proofs.Ending.{gone_once, ended_once}
 use Rattle.line_answers.proofs.Called.{HasCalled, called_none, called_once, called_own, called_grown, number_more}
-use Rattle.line_answers.proofs.Waits.{size_same, waiting_at, waiting_called, waited_called, waited_reply}
+use Rattle.line_answers.proofs.Waits.{waiting_at, waiting_called, waited_called, waited_reply}
 use Rattle.run_laws.proofs.Losses.{losses-kept, losses-last, losses-same, losses-came, losses-found, each-absent}
-use Rattle.line_answers.proofs.Found.{found_world, found_history, opened_missing, stored_made, stored_found}
+use Rattle.line_answers.proofs.Found.{IsFoundHere, found_world, found_history, still-length, stored_made}
 
 -- its entries end where it began
 pub opening_end : (first : ℕ) (events : List Event) → last_end_from first (entries_of opener first events) ≡ first
@@ -112,9 +113,14 @@ module _ {size : ℕ} {last : Line} {place : ℕ} {mid : List Entry} (hs : List 
   pub entry_last : entry_at (hs ++ new ∷ []) (length hs) place ≡ Some (one (script_who mid) asked.end asked.event)
   entry_last = ap (λ (o : Option History). option_and_then (λ h. slice_get h.entries place) o) (get_last hs new) ∙ entry_there asked
 
+  -- all entries stand up to it
+  all_last : entries_to (hs ++ new ∷ []) (length hs) place ≡ new.entries
+  all_last = ap (λ (o : Option History). option_map_or (λ h. take (place + 1) h.entries) o []) (get_last hs new) ∙ take_all (place + 1) new.entries (omega (arith, asked.at_end))
+
   -- where the run stands behind it
-  pub course_last : (course : Course) (line : Line) → course_after (hs ++ new ∷ []) course line (Inside (length hs) place) ≡ course_behind course (one (script_who mid) asked.end asked.event)
-  course_last course line = ap (λ (o : Option Entry). option_map_or (course_behind course) o course) entry_last
+  pub course_last : (course : Course) (line : Line) → course_after (hs ++ new ∷ []) course line (Inside (length hs) place) ≡ course_behind course new.entries (one (script_who mid) asked.end asked.event)
+  course_last course line = ap (λ (o : Option Entry). option_map_or (course_behind course (entries_to (hs ++ new ∷ []) (length hs) place)) o course) entry_last
+      ∙ ap (λ (l : List Entry). course_behind course l (one (script_who mid) asked.end asked.event)) all_last
 
   -- and when it ended
   pub between_last : (low high : ℕ) → low ≤ asked.end → asked.end ≤ high → EndsBetween low high (hs ++ new ∷ []) (Inside (length hs) place)
@@ -126,7 +132,7 @@ goes_read size before call at count Stopped is = absurd is
 goes_read size before call at count Halted is = absurd is
 goes_read size before call at count event is = refl
 
-goes_write : (size : ℕ) (before call : List Entry) (at : ℕ) (body : List (List ℕ)) (event : Event) → OneShapeAnswers size before call (AsksWrite at body) event → is_end event ≡ false
+goes_write : (size : ℕ) (before call : List Entry) (at : ℕ) (body : List (List ℕ)) (event : Event) → RunningAnswers size before call (AsksWrite at body) event → is_end event ≡ false
 goes_write size before call at body Stopped is = absurd is
 goes_write size before call at body Halted is = absurd is
 goes_write size before call at body event is = refl
@@ -146,7 +152,12 @@ goes_add size before call slot Stopped is = absurd is
 goes_add size before call slot Halted is = absurd is
 goes_add size before call slot event is = refl
 
-goes_steps : (size : ℕ) (before call : List Entry) (most : ℕ) (event : Event) → OneShapeAnswers size before call (AsksSteps most) event → is_end event ≡ false
+goes_grow : (size : ℕ) (before call : List Entry) (wish : Wish) (event : Event) → RunningAnswers size before call (AsksGrow wish) event → is_end event ≡ false
+goes_grow size before call wish Stopped is = absurd is
+goes_grow size before call wish Halted is = absurd is
+goes_grow size before call wish event is = refl
+
+goes_steps : (size : ℕ) (before call : List Entry) (most : ℕ) (event : Event) → RunningAnswers size before call (AsksSteps most) event → is_end event ≡ false
 goes_steps size before call most Stopped is = absurd is
 goes_steps size before call most Halted is = absurd is
 goes_steps size before call most event is = refl
@@ -169,6 +180,9 @@ going_fail {size = size} {old = old} role asked = goes_fail size (old ++ asked.i
 
 pub going_add : {size place : ℕ} {old new : List Entry} (slot : ℕ) (asked : IsAskedAt size (Add slot) old new place) → is_end asked.event ≡ false
 going_add {size = size} {old = old} slot asked = goes_add size (old ++ asked.inner) (call_of asked) slot asked.event asked.fits.answers
+
+pub going_grow : {size place : ℕ} {old new : List Entry} (wish : Wish) (asked : IsAskedAt size (Grow wish) old new place) → is_end asked.event ≡ false
+going_grow {size = size} {old = old} wish asked = goes_grow size (old ++ asked.inner) (call_of asked) wish asked.event asked.fits.answers
 
 pub going_steps : {size place : ℕ} {old new : List Entry} (most : ℕ) (asked : IsAskedAt size (Step most) old new place) → is_end asked.event ≡ false
 going_steps {size = size} {old = old} most asked = goes_steps size (old ++ asked.inner) (call_of asked) most asked.event asked.fits.answers
@@ -195,8 +209,8 @@ at_the_end setting old new asked first t longer ended =
     last_end-snoc : (first : ℕ) (xs : List Entry) (e : Entry) → last_end_from first (xs ++ e ∷ []) ≡ e.end
     last_end-snoc first xs e = ap (λ (o : Option Entry). option_map_or (λ (x : Entry). x.end) o first) (last-snoc xs e)
 
-module _ {B : Type 0} (setting : Setting) (old new : Parts B) (epochs : Vec Epoch) (own : RunsOwn (Running old epochs)) (lost : AreLossesSince setting old.entries (running_history new)) (uuid : new.uuid ≡ old.uuid) (given : new.given ≡ old.given)
-    (first : new.first ≡ old.first) (shape : shape_of new.members.newest ≡ shape_of old.members.newest) (rows : new.members.newest.size ≡ old.members.newest.size) where
+module _ {B : Type 0} (setting : Setting) (old new : RunningParts B) (epochs : Vec Epoch) (own : RunsOwn (Running old epochs)) (lost : AreLossesSince setting old.parts.entries (running_history new.parts)) (uuid : new.parts.uuid ≡ old.parts.uuid) (given : new.parts.given ≡ old.parts.given)
+    (first : new.parts.first ≡ old.parts.first) (sized : IsSizedBy (list_length old.parts.members.newest) (list_length new.parts.members.newest) old.parts.entries new.parts.entries) where
   abbrev hs : List History
   hs = histories_of epochs.items
 
@@ -206,97 +220,102 @@ module _ {B : Type 0} (setting : Setting) (old new : Parts B) (epochs : Vec Epoc
   len : length hs ≡ k
   len = length-map epochs.items history_of
 
-  same_size : list_size (places_of new.members) ≡ list_size (places_of old.members)
-  same_size = size_same old.members new.members shape rows
+  now_sized : (length_of (list_length old.parts.members.newest) new.parts.entries ≡ list_length new.parts.members.newest) × (length_of (list_length new.parts.members.newest) new.parts.entries ≡ list_length new.parts.members.newest)
+  now_sized = sized-now own.sized sized
 
   -- it was called, and goes on
-  called_own_still : HasCalled old.entries new.entries → AreGoing new.entries → RunsOwn (Running new epochs)
-  called_own_still called going = record { former = own.former; script = called_own called own.script; going = going; room = own.room; few = own.few }
+  called_own_still : HasCalled old.parts.entries new.parts.entries → AreGoing new.parts.entries → limit_of new.parts.entries ≡ None → RunsOwn (Running new epochs)
+  called_own_still called going unlimited = record { former = own.former; script = called_own called own.script; going = going; sized = now_sized.1; unlimited = unlimited; room = own.room; few = own.few }
 
-  called_grown_still : HasCalled old.entries new.entries → AreGrown (hs ++ running_history old ∷ []) (hs ++ running_history new ∷ [])
-  called_grown_still called = grown_last hs (running_history old) (running_history new) (called_grown (running_history old) (running_history new) called uuid given first own.script)
+  called_grown_still : HasCalled old.parts.entries new.parts.entries → AreGrown (hs ++ running_history old.parts ∷ []) (hs ++ running_history new.parts ∷ [])
+  called_grown_still called = grown_last hs (running_history old.parts) (running_history new.parts) (called_grown (running_history old.parts) (running_history new.parts) called uuid given first own.script)
 
   -- where the run stands behind its last call
-  course_asked : {last : Line} {mid : List Entry} {place : ℕ} (line : Line) (asked : IsAskedAt (list_size (places_of old.members)) last mid new.entries place) → is_end asked.event ≡ false
-      → course_with k new ≡ course_after (hs ++ running_history new ∷ []) (course_with k old) line (Inside k place)
+  course_asked : {last : Line} {mid : List Entry} {place : ℕ} (line : Line) (asked : IsAskedAt (list_length old.parts.members.newest) last mid new.parts.entries place) → is_end asked.event ≡ false
+      → course_with k new ≡ course_after (hs ++ running_history new.parts ∷ []) (course_with k old) line (Inside k place)
   course_asked {mid = mid} {place = place} line asked goes =
-      ap (λ (n : ℕ). record { opened = k + 1; running = true; calls = n; size = list_size (places_of new.members) }) (number_more asked)
-      ∙ ap (λ (n : ℕ). record { opened = k + 1; running = true; calls = next_number 0 mid + 1; size = n }) same_size
-      ∙ sym (ap (λ (n : ℕ). course_after (hs ++ running_history new ∷ []) (course_with k old) line (Inside n place)) (sym len)
-      ∙ course_last hs (running_history new) asked (course_with k old) line
-      ∙ ap (λ (b : Bool). if b then at_rest (k + 1) else with_calls (next_number 0 mid + 1) (course_with k old)) goes)
+      ap (λ (n : ℕ). record { opened = k + 1; running = true; calls = n; size = list_length new.parts.members.newest }) (number_more asked)
+      ∙ ap (λ (n : ℕ). record { opened = k + 1; running = true; calls = next_number 0 mid + 1; size = n }) (sym now_sized.0)
+      ∙ sym (ap (λ (n : ℕ). course_after (hs ++ running_history new.parts ∷ []) (course_with k old) line (Inside n place)) (sym len)
+      ∙ course_last hs (running_history new.parts) asked (course_with k old) line
+      ∙ ap (λ (b : Bool). if b then at_rest (k + 1) else gone_on (next_number 0 mid + 1) (length_of (list_length old.parts.members.newest) new.parts.entries) (course_with k old)) goes)
 
   -- it answered
-  pub turn_called : {last : Line} {mid : List Entry} (line : Line) (place : ℕ) (asked : IsAskedAt (list_size (places_of old.members)) last mid new.entries place) → HasCalled old.entries new.entries → AreGoing new.entries
-      → IsRepliedAt (list_size (places_of old.members)) new.entries place (next_number 0 old.entries) line → (setting.tells → EndsWithin setting asked.end) → is_end asked.event ≡ false
+  pub turn_called : {last : Line} {mid : List Entry} (line : Line) (place : ℕ) (asked : IsAskedAt (list_length old.parts.members.newest) last mid new.parts.entries place) → HasCalled old.parts.entries new.parts.entries → AreGoing new.parts.entries → limit_of new.parts.entries ≡ None
+      → IsRepliedAt (list_length old.parts.members.newest) new.parts.entries place (next_number 0 old.parts.entries) line → (setting.tells → EndsWithin setting asked.end) → is_end asked.event ≡ false
       → IsTurn setting (Running old epochs) (Running new epochs) line (Inside k place)
-  turn_called line place asked called going replied ended goes = record {
-    own = called_own_still called going;
-    losses = losses-last setting hs (running_history old) (running_history new) lost;
+  turn_called line place asked called going unlimited replied ended goes = record {
+    own = called_own_still called going unlimited;
+    losses = losses-last setting hs (running_history old.parts) (running_history new.parts) lost;
     grown = called_grown_still called;
-    ends = λ t. subst (λ (n : ℕ). EndsBetween setting.began (length setting.tape) (hs ++ running_history new ∷ []) (Inside n place)) len
-        (between_last hs (running_history new) asked setting.began (length setting.tape) (ended t).0 (ended t).1);
-    answer = subst (λ (n : ℕ). IsAnsweredInside (hs ++ running_history new ∷ []) (record { opened = n + 1; running = true; calls = next_number 0 old.entries; size = list_size (places_of old.members) }) n place line) len
-        (answered_last hs (running_history old) (running_history new) asked replied);
+    ends = λ t. subst (λ (n : ℕ). EndsBetween setting.began (length setting.tape) (hs ++ running_history new.parts ∷ []) (Inside n place)) len
+        (between_last hs (running_history new.parts) asked setting.began (length setting.tape) (ended t).0 (ended t).1);
+    answer = subst (λ (n : ℕ). IsAnsweredInside (hs ++ running_history new.parts ∷ []) (record { opened = n + 1; running = true; calls = next_number 0 old.parts.entries; size = list_length old.parts.members.newest }) n place line) len
+        (answered_last hs (running_history old.parts) (running_history new.parts) asked replied);
     course = course_asked line asked goes;
   }
 
-  pub turn_asked : (line : Line) (place : ℕ) (asked : IsAskedAt (list_size (places_of old.members)) line old.entries new.entries place) → (setting.tells → EndsWithin setting asked.end) → is_end asked.event ≡ false
+  pub turn_asked : (line : Line) (place : ℕ) (asked : IsAskedAt (list_length old.parts.members.newest) line old.parts.entries new.parts.entries place) → (setting.tells → EndsWithin setting asked.end) → is_end asked.event ≡ false
       → IsTurn setting (Running old epochs) (Running new epochs) line (Inside k place)
-  turn_asked line place asked ended goes = turn_called line place asked (called_once asked) (gone_once asked goes own.going) (replied_at line asked) ended goes
+  turn_asked line place asked ended goes = turn_called line place asked (called_once asked) (gone_once asked goes own.going) (asked-unlimited asked own.unlimited) (replied_at line asked) ended goes
 
   -- memory was short for it
-  pub no_turn : (line : Line) → new.entries ≡ old.entries → IsNoTurn setting (Running old epochs) (Running new epochs) line
+  pub no_turn : (line : Line) → new.parts.entries ≡ old.parts.entries → IsNoTurn setting (Running old epochs) (Running new epochs) line
   no_turn line same = record {
-    own = called_own_still (called_none same) (subst (λ (l : List Entry). AreGoing l) (sym same) own.going);
-    losses = losses-last setting hs (running_history old) (running_history new) lost;
+    own = called_own_still (called_none same) (subst (λ (l : List Entry). AreGoing l) (sym same) own.going) (ap (λ (l : List Entry). limit_of l) same ∙ own.unlimited);
+    losses = losses-last setting hs (running_history old.parts) (running_history new.parts) lost;
     grown = called_grown_still (called_none same);
     course = inl (course_same same);
   }
     where
-      course_same : new.entries ≡ old.entries → course_with k new ≡ course_with k old
-      course_same same = ap (λ (l : List Entry). record { opened = k + 1; running = true; calls = next_number 0 l; size = list_size (places_of new.members) }) same
-          ∙ ap (λ (n : ℕ). record { opened = k + 1; running = true; calls = next_number 0 old.entries; size = n }) same_size
+      course_same : new.parts.entries ≡ old.parts.entries → course_with k new ≡ course_with k old
+      course_same same = ap (λ (l : List Entry). record { opened = k + 1; running = true; calls = next_number 0 l; size = list_length new.parts.members.newest }) same
+          ∙ ap (λ (n : ℕ). record { opened = k + 1; running = true; calls = next_number 0 old.parts.entries; size = n }) (sym now_sized.0 ∙ ap (λ (l : List Entry). length_of (list_length old.parts.members.newest) l) same ∙ own.sized)
 
-  pub turn_of_ask : (line : Line) (r : Result ℕ NoMemory) → ((place : ℕ) (asked : IsAskedAt (list_size (places_of old.members)) line old.entries new.entries place) → is_end asked.event ≡ false)
-      → (setting.tells → setting.began ≤ length setting.tape) → IfOk r (λ place. IsEndOf setting.tells new.first new.entries setting.tape)
-      → IsAsked (list_size (places_of old.members)) line old.entries new.entries r → IsTurnOrNone setting (Running old epochs) (Running new epochs) line (answer_at k r)
-  turn_of_ask line (Ok place) going longer ended asked = turn_asked line place asked (λ t. at_the_end setting old.entries new.entries asked new.first t (longer t) ended) (going place asked)
+  pub turn_of_ask : (line : Line) (r : Result ℕ NoMemory) → ((place : ℕ) (asked : IsAskedAt (list_length old.parts.members.newest) line old.parts.entries new.parts.entries place) → is_end asked.event ≡ false)
+      → (setting.tells → setting.began ≤ length setting.tape) → IfOk r (λ place. IsEndOf setting.tells new.parts.first new.parts.entries setting.tape)
+      → IsAsked (list_length old.parts.members.newest) line old.parts.entries new.parts.entries r → IsTurnOrNone setting (Running old epochs) (Running new epochs) line (answer_at k r)
+  turn_of_ask line (Ok place) going longer ended asked = turn_asked line place asked (λ t. at_the_end setting old.parts.entries new.parts.entries asked new.parts.first t (longer t) ended) (going place asked)
   turn_of_ask line (Err fault) going longer ended asked = no_turn line asked
 
   -- memory was short for one of the calls of a wait
-  no_turn_waiting : (earlier : List ℕ) → IsStillWaiting (list_size (places_of old.members)) old.entries earlier new.entries → IsNoTurn setting (Running old epochs) (Running new epochs) Wait
+  no_turn_waiting : (earlier : List ℕ) → IsStillWaiting (list_length old.parts.members.newest) old.parts.entries earlier new.parts.entries → IsNoTurn setting (Running old epochs) (Running new epochs) Wait
   no_turn_waiting earlier was = record {
-    own = called_own_still (waiting_called (list_size (places_of old.members)) old.entries new.entries earlier was) (gone_waiting (list_size (places_of old.members)) old.entries new.entries earlier was own.going);
-    losses = losses-last setting hs (running_history old) (running_history new) lost;
-    grown = called_grown_still (waiting_called (list_size (places_of old.members)) old.entries new.entries earlier was);
+    own = called_own_still (waiting_called (list_length old.parts.members.newest) old.parts.entries new.parts.entries earlier was) (gone_waiting (list_length old.parts.members.newest) old.parts.entries new.parts.entries earlier was own.going)
+        (waiting-unlimited (list_length old.parts.members.newest) old.parts.entries new.parts.entries earlier was own.unlimited);
+    losses = losses-last setting hs (running_history old.parts) (running_history new.parts) lost;
+    grown = called_grown_still (waiting_called (list_length old.parts.members.newest) old.parts.entries new.parts.entries earlier was);
     course = inr record {
       running = refl;
       place = k;
       latest = refl;
-      history = running_history new;
-      there = subst (λ (n : ℕ). slice_get (hs ++ running_history new ∷ []) n ≡ Some (running_history new)) len (get_last hs (running_history new));
+      history = running_history new.parts;
+      there = subst (λ (n : ℕ). slice_get (hs ++ running_history new.parts ∷ []) n ≡ Some (running_history new.parts)) len (get_last hs (running_history new.parts));
       earlier = earlier;
-      next = next_number 0 new.entries;
-      waiting = waiting_at (list_size (places_of old.members)) old.entries new.entries earlier own.script was;
-      now = ap (λ (n : ℕ). record { opened = k + 1; running = true; calls = next_number 0 new.entries; size = n }) same_size;
+      next = next_number 0 new.parts.entries;
+      waiting = waiting_at (list_length old.parts.members.newest) old.parts.entries new.parts.entries earlier own.script was;
+      upto = length new.parts.entries;
+      within = omega arith;
+      now = ap (λ (n : ℕ). gone_on (next_number 0 new.parts.entries) n (course_with k old))
+          (sym now_sized.0 ∙ ap (λ (l : List Entry). length_of (list_length old.parts.members.newest) l) (sym (take_all (length new.parts.entries) new.parts.entries (omega arith))));
     };
   }
 
-  pub turn_of_wait : (r : Result ℕ NoMemory) → (setting.tells → setting.began ≤ length setting.tape) → IsEndOf setting.tells new.first new.entries setting.tape
-      → IsWaited (list_size (places_of old.members)) old.entries new.entries r → IsTurnOrNone setting (Running old epochs) (Running new epochs) Wait (answer_at k r)
+  pub turn_of_wait : (r : Result ℕ NoMemory) → (setting.tells → setting.began ≤ length setting.tape) → IsEndOf setting.tells new.parts.first new.parts.entries setting.tape
+      → IsWaited (list_length old.parts.members.newest) old.parts.entries new.parts.entries r → IsTurnOrNone setting (Running old epochs) (Running new epochs) Wait (answer_at k r)
   turn_of_wait (Ok place) longer ended was =
       turn_called Wait place was.asked (waited_called was)
-      (gone_once was.asked (going_steps steps_at_once was.asked) (gone_waiting (list_size (places_of old.members)) old.entries was.between was.earlier was.waiting own.going)) (waited_reply own.script was) (λ t. at_the_end setting was.between new.entries was.asked new.first t (longer t) ended) (going_steps steps_at_once was.asked)
+      (gone_once was.asked (going_steps steps_at_once was.asked) (gone_waiting (list_length old.parts.members.newest) old.parts.entries was.between was.earlier was.waiting own.going))
+      (asked-unlimited was.asked (waiting-unlimited (list_length old.parts.members.newest) old.parts.entries was.between was.earlier was.waiting own.unlimited)) (waited_reply own.script was) (λ t. at_the_end setting was.between new.parts.entries was.asked new.parts.first t (longer t) ended) (going_steps steps_at_once was.asked)
   turn_of_wait (Err fault) longer ended (earlier, was) = no_turn_waiting earlier was
 
 -- it was not called, and goes on
-pub turn_refused : {B : Type 0} (setting : Setting) (array : Parts B) (epochs : Vec Epoch) (line : Line) → RunsOwn (Running array epochs) → (setting.tells → setting.began ≤ length setting.tape) → IsRefusedOutside setting true (length setting.tape) line IsRunning
+pub turn_refused : {B : Type 0} (setting : Setting) (array : RunningParts B) (epochs : Vec Epoch) (line : Line) → RunsOwn (Running array epochs) → (setting.tells → setting.began ≤ length setting.tape) → IsRefusedOutside setting true (length setting.tape) line IsRunning
     → IsTurn setting (Running array epochs) (Running array epochs) line (IsOutside (Refused IsRunning))
 turn_refused setting array epochs line own longer refused = record {
   own = own;
-  losses = losses-kept setting (histories_of epochs.items ++ running_history array ∷ []);
-  grown = grown_kept (histories_of epochs.items ++ running_history array ∷ []);
+  losses = losses-kept setting (histories_of epochs.items ++ running_history array.parts ∷ []);
+  grown = grown_kept (histories_of epochs.items ++ running_history array.parts ∷ []);
   ends = longer;
   answer = refused;
   course = refl;
@@ -304,8 +323,8 @@ turn_refused setting array epochs line own longer refused = record {
 
 -- ---- the array that ran has ended
 
-module _ {B : Type 0} (setting : Setting) (old : Parts B) (epoch : Epoch) (bank : B) (epochs ended : Vec Epoch) (items : ended.items ≡ epochs.items ++ epoch ∷ []) (own : RunsOwn (Running old epochs))
-    (lost : AreLossesSince setting old.entries (history_of epoch)) (uuid : epoch.uuid ≡ old.uuid) (given : epoch.given ≡ old.given) (first : epoch.first ≡ old.first) where
+module _ {B : Type 0} (setting : Setting) (old : RunningParts B) (epoch : Epoch) (bank : B) (epochs ended : Vec Epoch) (items : ended.items ≡ epochs.items ++ epoch ∷ []) (own : RunsOwn (Running old epochs))
+    (lost : AreLossesSince setting old.parts.entries (history_of epoch)) (uuid : epoch.uuid ≡ old.parts.uuid) (given : epoch.given ≡ old.parts.given) (first : epoch.first ≡ old.parts.first) where
   abbrev before : List History
   before = histories_of epochs.items
 
@@ -321,27 +340,27 @@ module _ {B : Type 0} (setting : Setting) (old : Parts B) (epoch : Epoch) (bank 
   now_many : length ended.items ≡ count + 1
   now_many = ap (λ (l : List Epoch). length l) items ∙ length-append epochs.items (epoch ∷ [])
 
-  pub turn_ended : (line : Line) (place : ℕ) (asked : IsAskedAt (list_size (places_of old.members)) line old.entries epoch.entries.items place) → (setting.tells → EndsWithin setting asked.end) → is_end asked.event ≡ true
+  pub turn_ended : (line : Line) (place : ℕ) (asked : IsAskedAt (list_length old.parts.members.newest) line old.parts.entries epoch.entries.items place) → (setting.tells → EndsWithin setting asked.end) → is_end asked.event ≡ true
       → IsTurn setting (Running old epochs) (Idle bank ended) line (Inside count place)
   turn_ended line place asked within ends =
       let now = history_of epoch in
       let called = called_once asked in
       record {
         own = subst (λ (l : List History). AreOfScript l) (sym now_are) (All-push IsOfScript before now own.former (record { script = called_own called own.script; once = ended_once asked own.going }));
-        losses = subst (λ (l : List History). AreLossesFrom setting (before ++ running_history old ∷ []) l) (sym now_are) (losses-last setting before (running_history old) now lost);
-        grown = subst (λ (l : List History). AreGrown (before ++ running_history old ∷ []) l) (sym now_are)
-            (grown_last before (running_history old) now (called_grown (running_history old) now called uuid given first own.script));
+        losses = subst (λ (l : List History). AreLossesFrom setting (before ++ running_history old.parts ∷ []) l) (sym now_are) (losses-last setting before (running_history old.parts) now lost);
+        grown = subst (λ (l : List History). AreGrown (before ++ running_history old.parts ∷ []) l) (sym now_are)
+            (grown_last before (running_history old.parts) now (called_grown (running_history old.parts) now called uuid given first own.script));
         ends = λ t. subst (λ (l : List History). EndsBetween setting.began (length setting.tape) l (Inside count place)) (sym now_are)
             (subst (λ (n : ℕ). EndsBetween setting.began (length setting.tape) (before ++ now ∷ []) (Inside n place)) counted
             (between_last before now asked setting.began (length setting.tape) (within t).0 (within t).1));
         answer = subst (λ (l : List History). IsAnsweredInside l (course_with count old) count place line) (sym now_are)
-            (subst (λ (n : ℕ). IsAnsweredInside (before ++ now ∷ []) (record { opened = n + 1; running = true; calls = next_number 0 old.entries; size = list_size (places_of old.members) }) n place line) counted
-            (answered_last before (running_history old) now asked (replied_at line asked)));
+            (subst (λ (n : ℕ). IsAnsweredInside (before ++ now ∷ []) (record { opened = n + 1; running = true; calls = next_number 0 old.parts.entries; size = list_length old.parts.members.newest }) n place line) counted
+            (answered_last before (running_history old.parts) now asked (replied_at line asked)));
         course = ap (λ (n : ℕ). at_rest n) now_many
             ∙ sym (ap (λ (l : List History). course_after l (course_with count old) line (Inside count place)) now_are
             ∙ ap (λ (n : ℕ). course_after (before ++ now ∷ []) (course_with count old) line (Inside n place)) (sym counted)
             ∙ course_last before now asked (course_with count old) line
-            ∙ ap (λ (b : Bool). if b then at_rest (count + 1) else with_calls (next_number 0 old.entries + 1) (course_with count old)) ends);
+            ∙ ap (λ (b : Bool). if b then at_rest (count + 1) else gone_on (next_number 0 old.parts.entries + 1) (length_of (list_length old.parts.members.newest) now.entries) (course_with count old)) ends);
       }
 
 -- ---- no array ran
@@ -368,98 +387,114 @@ module _ {B : Type 0} (setting : Setting) (bank : B) (olds epochs : Vec Epoch) (
   }
 
   -- an array was opened
-  module _ (array : Parts B) (room : length epochs.items < vec_capacity epochs) (few : length epochs.items < 2 ^ 32) (longer : setting.tells → setting.began ≤ length setting.tape) where
-    opened_own : IsByScript (running_history array) → AreGoing array.entries → RunsOwn (Running array epochs)
-    opened_own script going = record {
+  module _ (array : RunningParts B) (room : length epochs.items < vec_capacity epochs) (few : length epochs.items < 2 ^ 32) (longer : setting.tells → setting.began ≤ length setting.tape) where
+    opened_own : IsByScript (running_history array.parts) → AreGoing array.parts.entries → length_of (list_length array.parts.members.newest) array.parts.entries ≡ list_length array.parts.members.newest → limit_of array.parts.entries ≡ None → RunsOwn (Running array epochs)
+    opened_own script going sized unlimited = record {
       former = subst (λ (l : List Epoch). AreOfScript (histories_of l)) (sym same) own;
       script = script;
       going = going;
+      sized = sized;
+      unlimited = unlimited;
       room = room;
       few = few;
     }
 
-    opened_losses : AreLossesSince setting [] (running_history array) → AreLossesFrom setting (histories_of olds.items) (histories_of epochs.items ++ running_history array ∷ [])
-    opened_losses lost = subst (λ (l : List Epoch). AreLossesFrom setting (histories_of l) (histories_of epochs.items ++ running_history array ∷ [])) same
-        (losses-came setting (histories_of epochs.items) (running_history array) lost)
+    opened_losses : AreLossesSince setting [] (running_history array.parts) → AreLossesFrom setting (histories_of olds.items) (histories_of epochs.items ++ running_history array.parts ∷ [])
+    opened_losses lost = subst (λ (l : List Epoch). AreLossesFrom setting (histories_of l) (histories_of epochs.items ++ running_history array.parts ∷ [])) same
+        (losses-came setting (histories_of epochs.items) (running_history array.parts) lost)
 
-    opened_grown : AreGrown (histories_of olds.items) (histories_of epochs.items ++ running_history array ∷ [])
-    opened_grown = subst (λ (l : List Epoch). AreGrown (histories_of l) (histories_of epochs.items ++ running_history array ∷ [])) same (grown_came (histories_of epochs.items) (running_history array))
+    opened_grown : AreGrown (histories_of olds.items) (histories_of epochs.items ++ running_history array.parts ∷ [])
+    opened_grown = subst (λ (l : List Epoch). AreGrown (histories_of l) (histories_of epochs.items ++ running_history array.parts ∷ [])) same (grown_came (histories_of epochs.items) (running_history array.parts))
 
-    opened_there : slice_get (histories_of epochs.items ++ running_history array ∷ []) (length olds.items) ≡ Some (running_history array)
-    opened_there = ap (λ (n : ℕ). slice_get (histories_of epochs.items ++ running_history array ∷ []) n) (ap (λ (l : List Epoch). length l) (sym same) ∙ sym (length-map epochs.items history_of))
-        ∙ get_last (histories_of epochs.items) (running_history array)
+    opened_there : slice_get (histories_of epochs.items ++ running_history array.parts ∷ []) (length olds.items) ≡ Some (running_history array.parts)
+    opened_there = ap (λ (n : ℕ). slice_get (histories_of epochs.items ++ running_history array.parts ∷ []) n) (ap (λ (l : List Epoch). length l) (sym same) ∙ sym (length-map epochs.items history_of))
+        ∙ get_last (histories_of epochs.items) (running_history array.parts)
 
-    opened_course : (calls size : ℕ) → next_number 0 array.entries ≡ calls → list_size (places_of array.members) ≡ size → course_with (length epochs.items) array ≡ begun (length olds.items) calls size
-    opened_course calls size numbered sized = ap (λ (l : List Epoch). record { opened = length l + 1; running = true; calls = next_number 0 array.entries; size = list_size (places_of array.members) }) same
-        ∙ ap (λ (n : ℕ). record { opened = length olds.items + 1; running = true; calls = n; size = list_size (places_of array.members) }) numbered
+    opened_course : (calls size : ℕ) → next_number 0 array.parts.entries ≡ calls → list_length array.parts.members.newest ≡ size → course_with (length epochs.items) array ≡ begun (length olds.items) calls size
+    opened_course calls size numbered sized = ap (λ (l : List Epoch). record { opened = length l + 1; running = true; calls = next_number 0 array.parts.entries; size = list_length array.parts.members.newest }) same
+        ∙ ap (λ (n : ℕ). record { opened = length olds.items + 1; running = true; calls = n; size = list_length array.parts.members.newest }) numbered
         ∙ ap (λ (n : ℕ). record { opened = length olds.items + 1; running = true; calls = calls; size = n }) sized
 
-    no_entries : array.entries ≡ [] → IsByScript (running_history array)
+    no_entries : array.parts.entries ≡ [] → IsByScript (running_history array.parts)
     no_entries none = subst (λ (l : List Entry). AreByScript (next_number 0 l) l) (sym none) (All-nil (λ e. IsOwnEntry 0 e))
 
-    pub turn_created : (line : CreateLine) → create_refusal setting.given setting.backup (spec_of line) ≡ None → IsCreated setting.tells setting.given setting.tape setting.backup (spec_of line) array
-        → (setting.tells → used_slot (scope_of setting.given setting.backup array.given line.uuid) (held_at setting (length setting.tape)) line.shape.disks ≡ None)
+    pub turn_created : (line : CreateLine) → create_refusal setting.given setting.backup (spec_of line) ≡ None → IsCreated setting.tells setting.given setting.tape setting.backup (spec_of line) array.parts
+        → (setting.tells → used_slot (scope_of setting.given setting.backup array.parts.given line.uuid) (held_at setting (length setting.tape)) line.shape.disks ≡ None)
         → IsTurn setting (Idle bank olds) (Running array epochs) (Create line) (IsOutside Created)
     turn_created line unrefused made free = record {
-      own = opened_own (no_entries made.quiet) (subst (λ (l : List Entry). AreGoing l) (sym made.quiet) (All-nil (λ e. IsFalse (is_end e.event))));
-      losses = opened_losses (losses-same setting [] (running_history array) made.quiet);
+      own = opened_own (no_entries made.quiet) (subst (λ (l : List Entry). AreGoing l) (sym made.quiet) (All-nil (λ e. IsFalse (is_end e.event)))) (ap (λ (l : List Entry). length_of (list_length array.parts.members.newest) l) made.quiet) (ap (λ (l : List Entry). limit_of l) made.quiet);
+      losses = opened_losses (losses-same setting [] (running_history array.parts) made.quiet);
       grown = opened_grown;
       ends = longer;
       answer = (
         refl,
         record {
           unrefused = unrefused;
-          history = running_history array;
+          history = running_history array.parts;
           there = opened_there;
           named = made.begun.uuid ∙ made.new.uuid;
           given = made.new.given;
           first = made.begun.first;
           zeros = λ t. subst (λ (w : World). OpensWithZeros (data_disks line.shape * line.size) (opening_list w)) (world_is made.begun.backup_is) (made.zeros t);
           free = free;
-          stored = λ t. subst (λ (w : World). IsStoredNew w (spec_of line)) (found_history setting array (running_history array) (sym made.begun.uuid) refl (sym (made.begun.first t)))
-              (stored_made setting.given setting.tape setting.backup (spec_of line) array made t);
+          stored = λ t. subst (λ (w : World). IsStoredNew w (spec_of line)) (found_history setting array.parts (running_history array.parts) (sym made.begun.uuid) refl (sym (made.begun.first t)))
+              (stored_made setting.given setting.tape setting.backup (spec_of line) array.parts made t);
           alike = λ t. subst OpensAlike (world_is made.begun.backup_is) (made.alike t);
           sound = λ t. subst OpensSound (world_is made.begun.backup_is) (made.sound t);
         },
       );
       course = opened_course 0 (data_disks line.shape * line.size) (ap (λ (l : List Entry). next_number 0 l) made.quiet)
-          (ap (λ (s : Shape). data_disks s * array.members.newest.size) made.new.shape ∙ ap (λ (n : ℕ). data_disks line.shape * n) made.new.size);
+          (still-length array.parts.members.newest made.opened.still ∙ ap (λ (s : Shape). data_disks s * array.parts.members.newest.size) made.new.shape ∙ ap (λ (n : ℕ). data_disks line.shape * n) made.new.size);
     }
       where
-        world_is : array.backup ≡ setting.backup → world_for setting.given setting.tape array ≡ history_world setting (running_history array)
-        world_is is = ap (λ (b : Option ℕ). record { start = setting.given.start; tape = setting.tape; scope = record { uuid = array.uuid; given = array.given; backup = b; sizes = sizes setting.given }; first = array.first }) is
+        world_is : array.parts.backup ≡ setting.backup → world_for setting.given setting.tape array.parts ≡ history_world setting (running_history array.parts)
+        world_is is = ap (λ (b : Option ℕ). record { start = setting.given.start; tape = setting.tape; scope = record { uuid = array.parts.uuid; given = array.parts.given; backup = b; sizes = sizes setting.given }; first = array.parts.first }) is
 
     -- it was found, and its opening told what was missing
-    module _ (found : Parts B) (asked : Option (List ℕ)) (is : IsAssembled setting.tells setting.given setting.tape setting.backup asked setting.before setting.now found) (uuid : array.uuid ≡ found.uuid) (given : array.given ≡ found.given) (first : array.first ≡ found.first) where
+    module _ (found : RunningParts B) (asked : Option (List ℕ)) (is : IsFoundHere setting.tells setting.given setting.tape setting.backup asked setting.before setting.now found) (uuid : array.parts.uuid ≡ found.parts.uuid) (given : array.parts.given ≡ found.parts.given) (first : array.parts.first ≡ found.parts.first) where
       abbrev losses : List Event
-      losses = found_losses (reading_of found.members)
+      losses = absent_losses is.r is.n
 
-      found_entries : found.entries ≡ entries_of opener array.first losses
-      found_entries = is.begun.entries ∙ ap (λ (n : ℕ). entries_of opener n losses) (sym first)
+      found_entries : found.parts.entries ≡ entries_of opener array.parts.first losses
+      found_entries = is.entries ∙ ap (λ (n : ℕ). entries_of opener n losses) (sym first)
 
-      found_number : next_number 0 found.entries ≡ 0
-      found_number = ap (λ (l : List Entry). next_number 0 l) found_entries ∙ opening_number array.first losses 0
+      found_number : next_number 0 found.parts.entries ≡ 0
+      found_number = ap (λ (l : List Entry). next_number 0 l) found_entries ∙ opening_number array.parts.first losses 0
 
-      losses_own : (number : ℕ) → AreByScript number (entries_of opener array.first losses)
-      losses_own number = each-absent (λ e. IsOwnEntry number e) opener array.first (reading_of found.members) (shape_of found.members.newest).disks (λ role lt missing. (inr (refl, refl, tt), inr (refl, refl, tt)))
+      losses_own : (number : ℕ) → AreByScript number (entries_of opener array.parts.first losses)
+      losses_own number = each-absent (λ e. IsOwnEntry number e) opener array.parts.first is.r is.n (λ role lt missing. (inr (refl, refl, tt), inr (refl, refl, tt)))
 
-      losses_go : AreGoing (entries_of opener array.first losses)
-      losses_go = each-absent (λ e. IsFalse (is_end e.event)) opener array.first (reading_of found.members) (shape_of found.members.newest).disks (λ role lt missing. (refl, refl))
+      losses_go : AreGoing (entries_of opener array.parts.first losses)
+      losses_go = each-absent (λ e. IsFalse (is_end e.event)) opener array.parts.first is.r is.n (λ role lt missing. (refl, refl))
 
-      found_lost : (more : List Entry) → AreLossesBehind setting (running_history array) (entries_of opener array.first losses) more → array.entries ≡ entries_of opener array.first losses ++ more → AreLossesSince setting [] (running_history array)
-      found_lost more others entries = losses-found setting (running_history array) (reading_of found.members) array.first more
-          (λ role lt missing t. subst (λ (w : World). MissingAtFirst w role) (same_world t) (opened_missing setting.given setting.tape setting.backup asked found is.begun is.opened t role lt missing)) others entries
+      -- nor does what an opening tells change the length
+      losses_leave : (size : ℕ) {status : Status} {end : ℕ} (e : Entry) → e ≡ record { caller = 0; number = 0; end = end; event = Shown status } → length_of size (entries_of opener array.parts.first losses ++ e ∷ []) ≡ size
+      losses_leave size e is_shown = fold-append (λ (n : ℕ) (e : Entry). length_after n e.event) size (entries_of opener array.parts.first losses) (e ∷ [])
+          ∙ ap (λ (x : Entry). length_after (length_of size (entries_of opener array.parts.first losses)) x.event) is_shown
+          ∙ leaves-all (entries_of opener array.parts.first losses) (each-absent (λ e. (n : ℕ) → length_after n e.event ≡ n) opener array.parts.first is.r is.n (λ role lt missing. (λ n. refl, λ n. refl))) size
+
+      -- or limits it
+      losses_unlimited : (status : Status) (end : ℕ) → limit_of (entries_of opener array.parts.first losses ++ record { caller = 0; number = 0; end = end; event = Shown status } ∷ []) ≡ None
+      losses_unlimited status end =
+          leave-all (entries_of opener array.parts.first losses ++ record { caller = 0; number = 0; end = end; event = Shown status } ∷ [])
+          (All-push (λ e. LeavesLimit e.event) (entries_of opener array.parts.first losses) (record { caller = 0; number = 0; end = end; event = Shown status })
+          (each-absent (λ e. LeavesLimit e.event) opener array.parts.first is.r is.n (λ role lt missing. (λ limit. refl, λ limit. refl))) (λ limit. refl)) None
+
+      found_lost : (more : List Entry) → AreLossesBehind setting (running_history array.parts) (entries_of opener array.parts.first losses) more → array.parts.entries ≡ entries_of opener array.parts.first losses ++ more → AreLossesSince setting [] (running_history array.parts)
+      found_lost more others entries = losses-found setting (running_history array.parts) is.r is.n array.parts.first more
+          (λ role lt missing t. subst (λ (w : World). MissingAtFirst w role) (same_world t) (is.missing role lt missing t)) others entries
         where
-          same_world : (t : setting.tells) → found_world setting.given setting.tape setting.backup found ≡ history_world setting (running_history array)
-          same_world t = found_history setting found (running_history array) (sym is.begun.uuid ∙ sym uuid) (sym given) (sym (first ∙ is.begun.first t))
+          same_world : (t : setting.tells) → found_world setting.given setting.tape setting.backup found.parts ≡ history_world setting (running_history array.parts)
+          same_world t = found_history setting found.parts (running_history array.parts) (sym is.uuid ∙ sym uuid) (sym given) (sym (first ∙ is.first t))
 
       -- it was asked for its status
-      pub turn_found : (status : Status) → IsStatusFor found status → IsEntered setting.tells setting.tape (script_who found.entries) found.entries array.entries (Shown status ∷ []) → array.members ≡ found.members
+      pub turn_found : (status : Status) → IsShownAs found status → IsEntered setting.tells setting.tape (script_who found.parts.entries) found.parts.entries array.parts.entries (Shown status ∷ []) → array.parts.members ≡ found.parts.members
           → IsTurn setting (Idle bank olds) (Running array epochs) (Assemble asked) (IsOutside (Assembled (length epochs.items) status))
       turn_found status told entered members = record {
-        own = opened_own (subst (λ (l : List Entry). AreByScript (next_number 0 l) l) (sym entries) (subst (λ (n : ℕ). AreByScript n (entries_of opener array.first losses ++ first_entry ∷ [])) (sym one_call)
-            (All-append (λ e. IsOwnEntry 1 e) (entries_of opener array.first losses) (first_entry ∷ []) (losses_own 1) (All-cons (λ e. IsOwnEntry 1 e) first_entry [] (inl (refl, omega arith)) (All-nil (λ e. IsOwnEntry 1 e))))))
-            (subst (λ (l : List Entry). AreGoing l) (sym entries) (All-push (λ e. IsFalse (is_end e.event)) (entries_of opener array.first losses) first_entry losses_go refl));
+        own = opened_own (subst (λ (l : List Entry). AreByScript (next_number 0 l) l) (sym entries) (subst (λ (n : ℕ). AreByScript n (entries_of opener array.parts.first losses ++ first_entry ∷ [])) (sym one_call)
+            (All-append (λ e. IsOwnEntry 1 e) (entries_of opener array.parts.first losses) (first_entry ∷ []) (losses_own 1) (All-cons (λ e. IsOwnEntry 1 e) first_entry [] (inl (refl, omega arith)) (All-nil (λ e. IsOwnEntry 1 e))))))
+            (subst (λ (l : List Entry). AreGoing l) (sym entries) (All-push (λ e. IsFalse (is_end e.event)) (entries_of opener array.parts.first losses) first_entry losses_go refl))
+            (ap (λ (l : List Entry). length_of (list_length array.parts.members.newest) l) entries ∙ losses_leave (list_length array.parts.members.newest) first_entry refl) (ap (λ (l : List Entry). limit_of l) entries ∙ losses_unlimited status entered.end);
         losses = opened_losses (found_lost (first_entry ∷ []) (tt, tt) entries);
         grown = opened_grown;
         ends = longer;
@@ -467,25 +502,25 @@ module _ {B : Type 0} (setting : Setting) (bank : B) (olds epochs : Vec Epoch) (
           refl,
           ap (λ (l : List Epoch). length l) same,
           record {
-            history = running_history array;
+            history = running_history array.parts;
             there = opened_there;
             named = subst (λ (u : List ℕ). IfSome asked (λ asked. u ≡ asked)) (sym uuid) is.named;
-            given = subst (λ (n : ℕ). AreGiven setting.given n setting.before setting.now) (sym given) is.given;
+            given = subst (λ (n : ℕ). AreGiven setting.given n setting.before setting.now) (sym given) is.given_are;
             shown = record { losses = losses; end = entered.end; more = []; is = entries };
             at_end = entered.at_end;
-            first = λ t. first ∙ is.begun.first t;
-            elected = λ t. uuid ∙ is.begun.uuid ∙ is.opened.array t ∙ ap (λ (n : ℕ). array_of setting.given setting.backup n asked (held_at setting (length setting.tape))) (sym given);
-            stored = λ t. subst (λ (w : World). IsStoredAs w status losses) (found_history setting found (running_history array) (sym is.begun.uuid ∙ sym uuid) (sym given) (sym (first ∙ is.begun.first t))) (stored_found setting.given setting.tape setting.backup asked status found is told t);
+            first = λ t. first ∙ is.first t;
+            elected = λ t. uuid ∙ is.uuid ∙ is.elected t ∙ ap (λ (n : ℕ). array_of setting.given setting.backup n asked (held_at setting (length setting.tape))) (sym given);
+            stored = λ t. subst (λ (w : World). IsStoredAs w status losses) (found_history setting found.parts (running_history array.parts) (sym is.uuid ∙ sym uuid) (sym given) (sym (first ∙ is.first t))) (is.stored status told t);
           },
         );
-        course = opened_course 1 status.length (ap (λ (l : List Entry). next_number 0 l) entries ∙ one_call) (ap (λ (m : Members). list_size (places_of m)) members ∙ sym told.length);
+        course = opened_course 1 status.length (ap (λ (l : List Entry). next_number 0 l) entries ∙ one_call) (ap (λ (m : Members). list_length m.newest) members ∙ is.shown status told);
       }
         where
           first_entry : Entry
           first_entry = record { caller = 0; number = 0; end = entered.end; event = Shown status }
 
-          entries : array.entries ≡ entries_of opener array.first losses ++ first_entry ∷ []
-          entries = entered.is ∙ ap (λ (n : ℕ). found.entries ++ record { caller = 0; number = n; end = entered.end; event = Shown status } ∷ []) found_number ∙ ap (λ (l : List Entry). l ++ first_entry ∷ []) found_entries
+          entries : array.parts.entries ≡ entries_of opener array.parts.first losses ++ first_entry ∷ []
+          entries = entered.is ∙ ap (λ (n : ℕ). found.parts.entries ++ record { caller = 0; number = n; end = entered.end; event = Shown status } ∷ []) found_number ∙ ap (λ (l : List Entry). l ++ first_entry ∷ []) found_entries
 
-          one_call : next_number 0 (entries_of opener array.first losses ++ first_entry ∷ []) ≡ 1
-          one_call = fold-append (number_after 0) 0 (entries_of opener array.first losses) (first_entry ∷ [])
+          one_call : next_number 0 (entries_of opener array.parts.first losses ++ first_entry ∷ []) ≡ 1
+          one_call = fold-append (number_after 0) 0 (entries_of opener array.parts.first losses) (first_entry ∷ [])

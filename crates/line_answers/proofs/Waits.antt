@@ -1,20 +1,15 @@
 -- The calls of a wait, one after another.
-use Rattle.std.proofs.Common.{◌≡◌, ℕ, ◌*◌, Bool, true, false, Option, List, [], ◌∷◌, ◌++◌, refl, sym, ◌∙◌, ap, subst}
+use Rattle.std.proofs.Common.{◌≡◌, ℕ, Bool, true, false, Option, List, [], ◌∷◌, ◌++◌, refl, sym, ◌∙◌, ap, subst}
 use Rattle.std.specs.Prelude.{IsTrue, IsFalse}
 use Rattle.std.specs.Option.{option_map_or}
-use Rattle.md_base.specs.declared.places.Shape.{Shape}
-use Rattle.md_base.specs.Shapes.{data_disks}
-use Rattle.superblocks.specs.declared.members.Members.{Members}
-use Rattle.superblocks.specs.Reading.{shape_of}
 use Rattle.flat_history.specs.declared.events.Entry.{Entry}
 use Rattle.flat_history.specs.Flat.{next_number}
-use Rattle.views.specs.Whole.{list_size}
-use Rattle.views.specs.Placed.{places_of}
 use Rattle.script.specs.declared.lines.Line.TheVariants.{Step, Wait}
-use Rattle.run_laws.specs.Asked.{IsAskedAt, IsStillWaiting, IsWaitedFor}
+use Rattle.running_replies.proofs.Fitting.{fits-steps}
+use Rattle.run_laws.specs.Asked.{script_who, IsAskedAt, IsStillWaiting, IsWaitedFor}
 use Rattle.run_laws.specs.Replies.{steps_at_once, leaves_more, leaves_more_at, IsReplyAt, IsWaitedAt, IsRepliedAt}
 use Rattle.run_laws.specs.States.{AreByScript, IsWaitingAt}
-use Rattle.run_laws.proofs.AskLaws.{entry_there, reply_at}
+use Rattle.run_laws.proofs.AskLaws.{one, entry_there, reply_at}
 use Rattle.line_answers.proofs.Called.{HasCalled, called_none, called_then, called_once, called_apart, called_own, number_more}
 use Rattle.run_laws.proofs.Growth.{reply_longer, leaves_longer}
 
@@ -68,14 +63,19 @@ waited_reply {old = old} own was = (was.earlier, waited_at old was.earlier own w
 
 -- ---- the array that is waited for
 
--- its list keeps its size
-pub size_same : (old new : Members) → shape_of new.newest ≡ shape_of old.newest → new.newest.size ≡ old.newest.size → list_size (places_of new) ≡ list_size (places_of old)
-size_same old new shape rows = ap (λ (s : Shape). data_disks s * new.newest.size) shape ∙ ap (λ (n : ℕ). data_disks (shape_of old.newest) * n) rows
-
--- a call ended the wait, or didn't
-module _ {size now place : ℕ} {old mid new : List Entry} (same : now ≡ size) (so_far : (earlier : List ℕ) × IsStillWaiting size old earlier mid) (was : IsAskedAt now (Step steps_at_once) mid new place) where
+-- a call ended the wait, or didn't; how long the list was when it began doesn't matter
+module _ {size now place : ℕ} {old mid new : List Entry} (so_far : (earlier : List ℕ) × IsStillWaiting size old earlier mid) (was : IsAskedAt now (Step steps_at_once) mid new place) where
   asked : IsAskedAt size (Step steps_at_once) mid new place
-  asked = subst (λ (n : ℕ). IsAskedAt n (Step steps_at_once) mid new place) same was
+  asked = record {
+    inner = was.inner;
+    event = was.event;
+    end = was.end;
+    own = was.own;
+    inside = was.inside;
+    is = was.is;
+    fits = fits-steps now size (mid ++ was.inner) (one (script_who mid) was.end was.event) steps_at_once was.fits;
+    at_end = was.at_end;
+  }
 
   pub waited_done : leaves_more_at new place ≡ false → IsWaitedFor size old new place
   waited_done done = record { earlier = so_far.0; between = mid; waiting = so_far.1; asked = asked; done = sym (leaves_at asked) ∙ done }

@@ -3,8 +3,6 @@
 ghost use Rattle.std.specs.Prelude.{◌≡◌, ◌<◌, ◌≤◌, ◌^◌, ℕ, List, length, vec_capacity, Some, Ok, IfOk, IsTrue, IsSome};
 ghost use Rattle.bank.specs.Given.{NeverFalls};
 ghost use Rattle.views.specs.Moving.{Grows};
-ghost use Rattle.views.specs.Whole.{list_size};
-ghost use Rattle.views.specs.Placed.{places_of};
 ghost use Rattle.script.specs.Script.{is_within_limits};
 ghost use Rattle.script.specs.declared.lines.Line.TheVariants.{Create as AsksCreate, Stop as AsksStop, Halt as AsksHalt, Assemble as AsksAssemble};
 ghost use Rattle.run_laws.specs.Ended.{IsRunKept};
@@ -17,16 +15,17 @@ ghost use Rattle.run_laws.specs.declared.report.Outside.TheVariants.{Refused as 
 ghost use Rattle.run_laws.specs.declared.states.State.TheVariants.{Idle as IsIdle, Running as IsRunning};
 
 use crate::asks::{
-    ask_add, ask_fail, ask_flush, ask_read, ask_steps, ask_wait, ask_write, last_place, script_call,
+    ask_add, ask_fail, ask_flush, ask_grow, ask_read, ask_steps, ask_wait, ask_write, last_place, script_call,
 };
 use crate::examines::{examine_idle, examine_running};
 use crate::shows::ask_show;
-use array::{Array, CreateSpec};
-use assemble::{assemble, create};
+use array::CreateSpec;
 use bank::Bank;
 use flat_history::{Entry, Epoch};
 use md_base::{Fault, NoMemory, Refusal};
+use openings::open_running;
 use run_laws::{Answered, Outside, State};
+use running::Running;
 use script::{CreateLine, Line};
 use std::alloc::Global;
 
@@ -57,7 +56,7 @@ fn inside(epochs: &Vec<Epoch>, at: u64) -> Answered
 // The answer of an array that goes on.
 fn goes_on<B: Bank>(
     place: Result<u64, NoMemory>,
-    array: Array<B>,
+    array: Running<B>,
     epochs: Vec<Epoch>,
 ) -> (State<B>, Result<Answered, NoMemory>)
     requires few { length epochs.items < 2 ^ 32 }
@@ -75,18 +74,18 @@ fn goes_on<B: Bank>(
 
 // Stops the array that runs.
 fn stop_array<B: Bank>(
-    array: Array<B>,
+    array: Running<B>,
     mut epochs: Vec<Epoch>,
     backup: Option<u32>,
 ) -> (State<B>, Result<Answered, NoMemory>)
     requires own { RunsOwn (IsRunning array epochs) }
-    requires former { IsRunKept B.tells (B.given array.bank) (B.tape array.bank) backup (IsRunning array epochs) }
-    ensures answered { IsTurnOrNone (setting_of B.tells (B.given array.bank) (B.tape array.bank) (B.tape (bank_in result.0)) backup (B.faults_of array.bank) (B.faults_of (bank_in result.0))) (IsRunning array epochs) result.0 AsksStop result.1 }
-    ensures written { B.tells → IsWrittenBy (setting_of B.tells (B.given array.bank) (B.tape array.bank) (B.tape (bank_in result.0)) backup (B.faults_of array.bank) (B.faults_of (bank_in result.0))) (histories_in (IsRunning array epochs)) (histories_in result.0) AsksStop result.1 }
-    ensures former { IsRunKept B.tells (B.given array.bank) (B.tape (bank_in result.0)) backup result.0 }
-    ensures never_falls { NeverFalls (B.faults_of array.bank) (B.faults_of (bank_in result.0)) }
-    ensures grows { Grows B.tells (B.tape array.bank) (B.tape (bank_in result.0)) }
-    ensures given { B.given (bank_in result.0) ≡ B.given array.bank }
+    requires former { IsRunKept B.tells (B.given array.parts.bank) (B.tape array.parts.bank) backup (IsRunning array epochs) }
+    ensures answered { IsTurnOrNone (setting_of B.tells (B.given array.parts.bank) (B.tape array.parts.bank) (B.tape (bank_in result.0)) backup (B.faults_of array.parts.bank) (B.faults_of (bank_in result.0))) (IsRunning array epochs) result.0 AsksStop result.1 }
+    ensures written { B.tells → IsWrittenBy (setting_of B.tells (B.given array.parts.bank) (B.tape array.parts.bank) (B.tape (bank_in result.0)) backup (B.faults_of array.parts.bank) (B.faults_of (bank_in result.0))) (histories_in (IsRunning array epochs)) (histories_in result.0) AsksStop result.1 }
+    ensures former { IsRunKept B.tells (B.given array.parts.bank) (B.tape (bank_in result.0)) backup result.0 }
+    ensures never_falls { NeverFalls (B.faults_of array.parts.bank) (B.faults_of (bank_in result.0)) }
+    ensures grows { Grows B.tells (B.tape array.parts.bank) (B.tape (bank_in result.0)) }
+    ensures given { B.given (bank_in result.0) ≡ B.given array.parts.bank }
 {
     let _ = backup;
     let who = script_call(&array);
@@ -111,16 +110,16 @@ fn stop_array<B: Bank>(
 
 // Halts the array that runs.
 fn halt_array<B: Bank>(
-    array: Array<B>,
+    array: Running<B>,
     mut epochs: Vec<Epoch>,
     backup: Option<u32>,
 ) -> (State<B>, Result<Answered, NoMemory>)
     requires own { RunsOwn (IsRunning array epochs) }
-    requires former { IsRunKept B.tells (B.given array.bank) (B.tape array.bank) backup (IsRunning array epochs) }
-    ensures answered { IsTurnOrNone (setting_of B.tells (B.given array.bank) (B.tape array.bank) (B.tape (bank_in result.0)) backup (B.faults_of array.bank) (B.faults_of (bank_in result.0))) (IsRunning array epochs) result.0 AsksHalt result.1 }
-    ensures written { B.tells → IsWrittenBy (setting_of B.tells (B.given array.bank) (B.tape array.bank) (B.tape (bank_in result.0)) backup (B.faults_of array.bank) (B.faults_of (bank_in result.0))) (histories_in (IsRunning array epochs)) (histories_in result.0) AsksHalt result.1 }
-    ensures former { IsRunKept B.tells (B.given array.bank) (B.tape (bank_in result.0)) backup result.0 }
-    ensures bank { bank_in result.0 ≡ array.bank }
+    requires former { IsRunKept B.tells (B.given array.parts.bank) (B.tape array.parts.bank) backup (IsRunning array epochs) }
+    ensures answered { IsTurnOrNone (setting_of B.tells (B.given array.parts.bank) (B.tape array.parts.bank) (B.tape (bank_in result.0)) backup (B.faults_of array.parts.bank) (B.faults_of (bank_in result.0))) (IsRunning array epochs) result.0 AsksHalt result.1 }
+    ensures written { B.tells → IsWrittenBy (setting_of B.tells (B.given array.parts.bank) (B.tape array.parts.bank) (B.tape (bank_in result.0)) backup (B.faults_of array.parts.bank) (B.faults_of (bank_in result.0))) (histories_in (IsRunning array epochs)) (histories_in result.0) AsksHalt result.1 }
+    ensures former { IsRunKept B.tells (B.given array.parts.bank) (B.tape (bank_in result.0)) backup result.0 }
+    ensures bank { bank_in result.0 ≡ array.parts.bank }
 {
     let _ = backup;
     let who = script_call(&array);
@@ -133,20 +132,20 @@ fn halt_array<B: Bank>(
 // The answer of the array that runs.
 fn answer_running<B: Bank>(
     alloc: Global,
-    array: Array<B>,
+    array: Running<B>,
     epochs: Vec<Epoch>,
     backup: Option<u32>,
     line: Line,
 ) -> (State<B>, Result<Answered, NoMemory>)
     requires limits { IsTrue (is_within_limits line) }
     requires own { RunsOwn (IsRunning array epochs) }
-    requires former { IsRunKept B.tells (B.given array.bank) (B.tape array.bank) backup (IsRunning array epochs) }
-    ensures answered { IsTurnOrNone (setting_of B.tells (B.given array.bank) (B.tape array.bank) (B.tape (bank_in result.0)) backup (B.faults_of array.bank) (B.faults_of (bank_in result.0))) (IsRunning array epochs) result.0 line result.1 }
-    ensures written { B.tells → IsWrittenBy (setting_of B.tells (B.given array.bank) (B.tape array.bank) (B.tape (bank_in result.0)) backup (B.faults_of array.bank) (B.faults_of (bank_in result.0))) (histories_in (IsRunning array epochs)) (histories_in result.0) line result.1 }
-    ensures former { IsRunKept B.tells (B.given array.bank) (B.tape (bank_in result.0)) backup result.0 }
-    ensures never_falls { NeverFalls (B.faults_of array.bank) (B.faults_of (bank_in result.0)) }
-    ensures grows { Grows B.tells (B.tape array.bank) (B.tape (bank_in result.0)) }
-    ensures given { B.given (bank_in result.0) ≡ B.given array.bank }
+    requires former { IsRunKept B.tells (B.given array.parts.bank) (B.tape array.parts.bank) backup (IsRunning array epochs) }
+    ensures answered { IsTurnOrNone (setting_of B.tells (B.given array.parts.bank) (B.tape array.parts.bank) (B.tape (bank_in result.0)) backup (B.faults_of array.parts.bank) (B.faults_of (bank_in result.0))) (IsRunning array epochs) result.0 line result.1 }
+    ensures written { B.tells → IsWrittenBy (setting_of B.tells (B.given array.parts.bank) (B.tape array.parts.bank) (B.tape (bank_in result.0)) backup (B.faults_of array.parts.bank) (B.faults_of (bank_in result.0))) (histories_in (IsRunning array epochs)) (histories_in result.0) line result.1 }
+    ensures former { IsRunKept B.tells (B.given array.parts.bank) (B.tape (bank_in result.0)) backup result.0 }
+    ensures never_falls { NeverFalls (B.faults_of array.parts.bank) (B.faults_of (bank_in result.0)) }
+    ensures grows { Grows B.tells (B.tape array.parts.bank) (B.tape (bank_in result.0)) }
+    ensures given { B.given (bank_in result.0) ≡ B.given array.parts.bank }
 {
     let mut array = array;
     match line {
@@ -159,6 +158,7 @@ fn answer_running<B: Bank>(
         Line::Flush => goes_on(ask_flush(&mut array), array, epochs),
         Line::Fail { role } => goes_on(ask_fail(&mut array, role), array, epochs),
         Line::Add { slot } => goes_on(ask_add(&mut array, slot), array, epochs),
+        Line::Grow(wish) => goes_on(ask_grow(&mut array, wish), array, epochs),
         Line::Step { most } => goes_on(ask_steps(&mut array, most), array, epochs),
         Line::Wait => goes_on(ask_wait(&mut array), array, epochs),
         Line::Stop => stop_array(array, epochs, backup),
@@ -211,7 +211,7 @@ fn create_array<B: Bank>(
         size: line.size,
         offset: line.offset,
     };
-    let left = match create(alloc, bank, backup, spec) {
+    let left = match openings::create_array(alloc, bank, backup, spec) {
         Ok(array) => {
             return (
                 State::Running(array, epochs),
@@ -248,7 +248,7 @@ fn assemble_array<B: Bank>(
     if !has_room(&mut epochs) {
         return (State::Idle(bank, epochs), Err(NoMemory {}));
     }
-    let left = match assemble(alloc, bank, backup, uuid) {
+    let left = match open_running(alloc, bank, backup, uuid) {
         Ok(array) => {
             let mut array = array;
             let epoch = next_epoch(&epochs);
@@ -299,6 +299,7 @@ fn answer_idle<B: Bank>(
         Line::Flush => (State::Idle(bank, epochs), Ok(refused(Refusal::NotRunning))),
         Line::Fail { .. } => (State::Idle(bank, epochs), Ok(refused(Refusal::NotRunning))),
         Line::Add { .. } => (State::Idle(bank, epochs), Ok(refused(Refusal::NotRunning))),
+        Line::Grow(_) => (State::Idle(bank, epochs), Ok(refused(Refusal::NotRunning))),
         Line::Step { .. } => (State::Idle(bank, epochs), Ok(refused(Refusal::NotRunning))),
         Line::Wait => (State::Idle(bank, epochs), Ok(refused(Refusal::NotRunning))),
         Line::Stop => (State::Idle(bank, epochs), Ok(refused(Refusal::NotRunning))),

@@ -1,79 +1,83 @@
 //! One request of the script to a running array.
 
-ghost use Rattle.std.specs.Prelude.{◌≡◌, ◌≢◌, ◌⊎◌, ◌+◌, ◌*◌, ◌/◌, ◌<◌, ◌≤◌, ◌^◌, ℕ, true, length, slice_get, Err, IfOk, IfErr, IsTrue, IsFalse, IsSome};
+ghost use Rattle.std.specs.Prelude.{◌≡◌, ◌≢◌, ◌⊎◌, ◌+◌, ◌*◌, ◌/◌, ◌<◌, ◌≤◌, ◌^◌, ℕ, true, length, slice_get, Err, IfOk, IfErr, IsTrue, IsFalse, IsSome, None};
 ghost use Rattle.md_base.specs.declared.answers.Fault.TheVariants.{NoMemory as WantsMemory};
 ghost use Rattle.bank.specs.Given.{NeverFalls};
 ghost use Rattle.md_base.specs.Sectors.{IsWhole};
 ghost use Rattle.std.specs.List.{list_any};
 ghost use Rattle.superblocks.specs.Reads.{has_spare};
-ghost use Rattle.views.specs.Whole.{list_size};
-ghost use Rattle.views.specs.Placed.{places_of, AreStillHeld};
-ghost use Rattle.array_kept.specs.Calls.{IsSameArray, AreSparesFewer, AreLossesOf, IsEndOf, world_for};
+ghost use Rattle.superblocks.specs.Reading.{list_length};
+ghost use Rattle.flat_history.specs.Flat.{length_of, limit_of};
+ghost use Rattle.views.specs.Placed.{AreStillHeld};
+ghost use Rattle.array_kept.specs.Calls.{AreSparesFewer, AreLossesOf, IsEndOf};
 ghost use Rattle.views.specs.Moving.{Grows};
-ghost use Rattle.shared_array.specs.Steps.{HasGoneOn};
+ghost use Rattle.running_replies.specs.Going.{IsSameEpoch, HasRunOn};
+ghost use Rattle.running_replies.specs.Replies.{HasToldBy};
 ghost use Rattle.run_laws.specs.Making.{is_added};
-ghost use Rattle.run_laws.specs.Asked.{IsAsked, IsFaultTold, IsWaited, script_who};
+ghost use Rattle.run_laws.specs.Asked.{IsAsked, IsSizedBy, IsWaited, script_who};
 ghost use Rattle.run_laws.specs.Replies.{leaves_more_at};
-ghost use Rattle.script.specs.declared.lines.Line.TheVariants.{Read as ReadLine, Write as WriteLine, Flush as FlushLine, Fail as FailLine, Add as AddLine, Step as StepLine};
+ghost use Rattle.script.specs.declared.lines.Line.TheVariants.{Read as ReadLine, Write as WriteLine, Flush as FlushLine, Fail as FailLine, Add as AddLine, Grow as GrowLine, Step as StepLine};
 
-use array::Array;
 use bank::Bank;
 use flat_history::Event;
-use md_base::{Fault, NoMemory, Who};
+use md_base::{Fault, NoMemory, Who, Wish};
+use running::Running;
+use running_steps::steps;
 use script::seed_sectors;
-use shared_array::steps;
 use std::alloc::Global;
 
 // How many steps a wait asks for at a time.
 const STEPS_AT_ONCE: u32 = 4_096;
 
 // The script's next call.
-pub fn script_call<B: Bank>(array: &Array<B>) -> Who
-    ensures { result ≡ script_who array.now.entries }
+pub fn script_call<B: Bank>(array: &Running<B>) -> Who
+    ensures { result ≡ script_who array.now.parts.entries }
 {
     let number = array.next_number(0);
     Who { caller: 0, number }
 }
 
 // The place of the last entry.
-pub fn last_place<B: Bank>(array: &Array<B>) -> u64
-    requires { 1 ≤ length array.now.entries }
-    ensures { result + 1 ≡ length array.now.entries }
+pub fn last_place<B: Bank>(array: &Running<B>) -> u64
+    requires { 1 ≤ length array.now.parts.entries }
+    ensures { result + 1 ≡ length array.now.parts.entries }
 {
     array.epoch().entries.len() as u64 - 1
 }
 
 // Whether a call was answered want of memory.
-fn wants_memory(answer: &Result<(), Fault>) -> bool
+fn wants_memory<T>(answer: &Result<T, Fault>) -> bool
     ensures yes { IsTrue result → answer.now ≡ Err WantsMemory }
     ensures no { IsFalse result → answer.now ≢ Err WantsMemory }
 {
     match answer {
         Err(Fault::NoMemory) => true,
         Err(Fault::Refused(_)) => false,
-        Ok(()) => false,
+        Ok(_) => false,
     }
 }
 
 /// Reads so many sectors. Ok is the place of the reply entry.
 pub fn ask_read<B: Bank>(
     alloc: Global,
-    array: &mut Array<B>,
+    array: &mut Running<B>,
     at: u64,
     count: u32,
 ) -> Result<u64, NoMemory>
     requires few { count ≤ 128 }
     requires short { at + count < 2 ^ 63 }
-    ensures asked { IsAsked (list_size (places_of array.old.members)) (ReadLine at count) array.old.entries array.new.entries result }
-    ensures ended { IfOk result (λ place. IsEndOf B.tells array.new.first array.new.entries (B.tape array.new.bank)) }
+    ensures asked { IsAsked (list_length array.old.parts.members.newest) (ReadLine at count) array.old.parts.entries array.new.parts.entries result }
+    ensures ended { IfOk result (λ place. IsEndOf B.tells array.new.parts.first array.new.parts.entries (B.tape array.new.parts.bank)) }
     ensures unchanged { IfErr result (λ none. array.new ≡ array.old) }
-    ensures grows { Grows B.tells (B.tape array.old.bank) (B.tape array.new.bank) }
-    ensures held { AreStillHeld array.old.members array.new.members }
-    ensures spares { AreSparesFewer array.old.members array.new.members }
-    ensures losses { AreLossesOf array.old.members (B.faults_of array.old.bank) (B.faults_of array.new.bank) array.old.entries array.new.entries }
-    ensures never_falls { NeverFalls (B.faults_of array.old.bank) (B.faults_of array.new.bank) }
-    ensures given { B.given array.new.bank ≡ B.given array.old.bank }
-    ensures same { IsSameArray B.tells array.old array.new (world_for (B.given array.old.bank) (B.tape array.old.bank) array.old) (world_for (B.given array.new.bank) (B.tape array.new.bank) array.new) }
+    ensures grows { Grows B.tells (B.tape array.old.parts.bank) (B.tape array.new.parts.bank) }
+    ensures held { AreStillHeld array.old.parts.members array.new.parts.members }
+    ensures spares { AreSparesFewer array.old.parts.members array.new.parts.members }
+    ensures losses { AreLossesOf array.old.parts.members (B.faults_of array.old.parts.bank) (B.faults_of array.new.parts.bank) array.old.parts.entries array.new.parts.entries }
+    ensures never_falls { NeverFalls (B.faults_of array.old.parts.bank) (B.faults_of array.new.parts.bank) }
+    ensures given { B.given array.new.parts.bank ≡ B.given array.old.parts.bank }
+    ensures same { IsSameEpoch array.old array.new }
+    ensures sized { IsSizedBy (list_length array.old.parts.members.newest) (list_length array.new.parts.members.newest) array.old.parts.entries array.new.parts.entries }
+    ensures told { HasToldBy array.old.parts.backup (B.faults_of array.old.parts.bank) (B.faults_of array.new.parts.bank) array.old.parts.entries array.new.parts.entries }
 {
     let mut into = match vec![in alloc; 0u8; count as usize * 512] {
         Ok(into) => into,
@@ -90,23 +94,28 @@ pub fn ask_read<B: Bank>(
 /// Writes what a seed gives so many sectors. Ok is the place of the reply entry.
 pub fn ask_write<B: Bank>(
     alloc: Global,
-    array: &mut Array<B>,
+    array: &mut Running<B>,
     at: u64,
     count: u32,
     seed: u32,
 ) -> Result<u64, NoMemory>
+    requires sized { length_of (list_length array.old.parts.members.newest) array.old.parts.entries ≡ list_length array.old.parts.members.newest }
+    requires unlimited { limit_of array.old.parts.entries ≡ None }
+    requires some { 1 ≤ count }
     requires few { count ≤ 128 }
     requires short { at + count < 2 ^ 63 }
-    ensures asked { IsAsked (list_size (places_of array.old.members)) (WriteLine at count seed) array.old.entries array.new.entries result }
-    ensures ended { IfOk result (λ place. IsEndOf B.tells array.new.first array.new.entries (B.tape array.new.bank)) }
+    ensures asked { IsAsked (list_length array.old.parts.members.newest) (WriteLine at count seed) array.old.parts.entries array.new.parts.entries result }
+    ensures ended { IfOk result (λ place. IsEndOf B.tells array.new.parts.first array.new.parts.entries (B.tape array.new.parts.bank)) }
     ensures unchanged { IfErr result (λ none. array.new ≡ array.old) }
-    ensures grows { Grows B.tells (B.tape array.old.bank) (B.tape array.new.bank) }
-    ensures held { AreStillHeld array.old.members array.new.members }
-    ensures spares { AreSparesFewer array.old.members array.new.members }
-    ensures losses { AreLossesOf array.old.members (B.faults_of array.old.bank) (B.faults_of array.new.bank) array.old.entries array.new.entries }
-    ensures never_falls { NeverFalls (B.faults_of array.old.bank) (B.faults_of array.new.bank) }
-    ensures given { B.given array.new.bank ≡ B.given array.old.bank }
-    ensures same { IsSameArray B.tells array.old array.new (world_for (B.given array.old.bank) (B.tape array.old.bank) array.old) (world_for (B.given array.new.bank) (B.tape array.new.bank) array.new) }
+    ensures grows { Grows B.tells (B.tape array.old.parts.bank) (B.tape array.new.parts.bank) }
+    ensures held { AreStillHeld array.old.parts.members array.new.parts.members }
+    ensures spares { AreSparesFewer array.old.parts.members array.new.parts.members }
+    ensures losses { AreLossesOf array.old.parts.members (B.faults_of array.old.parts.bank) (B.faults_of array.new.parts.bank) array.old.parts.entries array.new.parts.entries }
+    ensures never_falls { NeverFalls (B.faults_of array.old.parts.bank) (B.faults_of array.new.parts.bank) }
+    ensures given { B.given array.new.parts.bank ≡ B.given array.old.parts.bank }
+    ensures same { IsSameEpoch array.old array.new }
+    ensures sized { IsSizedBy (list_length array.old.parts.members.newest) (list_length array.new.parts.members.newest) array.old.parts.entries array.new.parts.entries }
+    ensures told { HasToldBy array.old.parts.backup (B.faults_of array.old.parts.bank) (B.faults_of array.new.parts.bank) array.old.parts.entries array.new.parts.entries }
 {
     let body = match seed_sectors(alloc, at, count, seed) {
         Ok(body) => body,
@@ -121,17 +130,19 @@ pub fn ask_write<B: Bank>(
 }
 
 /// Makes what was written durable. Ok is the place of the reply entry.
-pub fn ask_flush<B: Bank>(array: &mut Array<B>) -> Result<u64, NoMemory>
-    ensures asked { IsAsked (list_size (places_of array.old.members)) FlushLine array.old.entries array.new.entries result }
-    ensures ended { IfOk result (λ place. IsEndOf B.tells array.new.first array.new.entries (B.tape array.new.bank)) }
+pub fn ask_flush<B: Bank>(array: &mut Running<B>) -> Result<u64, NoMemory>
+    ensures asked { IsAsked (list_length array.old.parts.members.newest) FlushLine array.old.parts.entries array.new.parts.entries result }
+    ensures ended { IfOk result (λ place. IsEndOf B.tells array.new.parts.first array.new.parts.entries (B.tape array.new.parts.bank)) }
     ensures unchanged { IfErr result (λ none. array.new ≡ array.old) }
-    ensures grows { Grows B.tells (B.tape array.old.bank) (B.tape array.new.bank) }
-    ensures held { AreStillHeld array.old.members array.new.members }
-    ensures spares { AreSparesFewer array.old.members array.new.members }
-    ensures losses { AreLossesOf array.old.members (B.faults_of array.old.bank) (B.faults_of array.new.bank) array.old.entries array.new.entries }
-    ensures never_falls { NeverFalls (B.faults_of array.old.bank) (B.faults_of array.new.bank) }
-    ensures given { B.given array.new.bank ≡ B.given array.old.bank }
-    ensures same { IsSameArray B.tells array.old array.new (world_for (B.given array.old.bank) (B.tape array.old.bank) array.old) (world_for (B.given array.new.bank) (B.tape array.new.bank) array.new) }
+    ensures grows { Grows B.tells (B.tape array.old.parts.bank) (B.tape array.new.parts.bank) }
+    ensures held { AreStillHeld array.old.parts.members array.new.parts.members }
+    ensures spares { AreSparesFewer array.old.parts.members array.new.parts.members }
+    ensures losses { AreLossesOf array.old.parts.members (B.faults_of array.old.parts.bank) (B.faults_of array.new.parts.bank) array.old.parts.entries array.new.parts.entries }
+    ensures never_falls { NeverFalls (B.faults_of array.old.parts.bank) (B.faults_of array.new.parts.bank) }
+    ensures given { B.given array.new.parts.bank ≡ B.given array.old.parts.bank }
+    ensures same { IsSameEpoch array.old array.new }
+    ensures sized { IsSizedBy (list_length array.old.parts.members.newest) (list_length array.new.parts.members.newest) array.old.parts.entries array.new.parts.entries }
+    ensures told { HasToldBy array.old.parts.backup (B.faults_of array.old.parts.bank) (B.faults_of array.new.parts.bank) array.old.parts.entries array.new.parts.entries }
 {
     let who = script_call(array);
     let answer = array.flush(who);
@@ -142,17 +153,19 @@ pub fn ask_flush<B: Bank>(array: &mut Array<B>) -> Result<u64, NoMemory>
 }
 
 /// Fails a role. Ok is the place of the reply entry.
-pub fn ask_fail<B: Bank>(array: &mut Array<B>, role: u32) -> Result<u64, NoMemory>
-    ensures asked { IsAsked (list_size (places_of array.old.members)) (FailLine role) array.old.entries array.new.entries result }
-    ensures ended { IfOk result (λ place. IsEndOf B.tells array.new.first array.new.entries (B.tape array.new.bank)) }
+pub fn ask_fail<B: Bank>(array: &mut Running<B>, role: u32) -> Result<u64, NoMemory>
+    ensures asked { IsAsked (list_length array.old.parts.members.newest) (FailLine role) array.old.parts.entries array.new.parts.entries result }
+    ensures ended { IfOk result (λ place. IsEndOf B.tells array.new.parts.first array.new.parts.entries (B.tape array.new.parts.bank)) }
     ensures unchanged { IfErr result (λ none. array.new ≡ array.old) }
-    ensures grows { Grows B.tells (B.tape array.old.bank) (B.tape array.new.bank) }
-    ensures held { AreStillHeld array.old.members array.new.members }
-    ensures spares { AreSparesFewer array.old.members array.new.members }
-    ensures losses { AreLossesOf array.old.members (B.faults_of array.old.bank) (B.faults_of array.new.bank) array.old.entries array.new.entries }
-    ensures never_falls { NeverFalls (B.faults_of array.old.bank) (B.faults_of array.new.bank) }
-    ensures given { B.given array.new.bank ≡ B.given array.old.bank }
-    ensures same { IsSameArray B.tells array.old array.new (world_for (B.given array.old.bank) (B.tape array.old.bank) array.old) (world_for (B.given array.new.bank) (B.tape array.new.bank) array.new) }
+    ensures grows { Grows B.tells (B.tape array.old.parts.bank) (B.tape array.new.parts.bank) }
+    ensures held { AreStillHeld array.old.parts.members array.new.parts.members }
+    ensures spares { AreSparesFewer array.old.parts.members array.new.parts.members }
+    ensures losses { AreLossesOf array.old.parts.members (B.faults_of array.old.parts.bank) (B.faults_of array.new.parts.bank) array.old.parts.entries array.new.parts.entries }
+    ensures never_falls { NeverFalls (B.faults_of array.old.parts.bank) (B.faults_of array.new.parts.bank) }
+    ensures given { B.given array.new.parts.bank ≡ B.given array.old.parts.bank }
+    ensures same { IsSameEpoch array.old array.new }
+    ensures sized { IsSizedBy (list_length array.old.parts.members.newest) (list_length array.new.parts.members.newest) array.old.parts.entries array.new.parts.entries }
+    ensures told { HasToldBy array.old.parts.backup (B.faults_of array.old.parts.bank) (B.faults_of array.new.parts.bank) array.old.parts.entries array.new.parts.entries }
 {
     let who = script_call(array);
     let answer = array.fail(who, role);
@@ -163,18 +176,19 @@ pub fn ask_fail<B: Bank>(array: &mut Array<B>, role: u32) -> Result<u64, NoMemor
 }
 
 /// Makes a slot a spare. Ok is the place of the reply entry.
-pub fn ask_add<B: Bank>(array: &mut Array<B>, slot: u32) -> Result<u64, NoMemory>
-    ensures asked { IsAsked (list_size (places_of array.old.members)) (AddLine slot) array.old.entries array.new.entries result }
-    ensures faulted { IfOk result (λ place. IsFaultTold (B.faults_of array.old.bank) (B.faults_of array.new.bank) array.new.entries place) }
-    ensures ended { IfOk result (λ place. IsEndOf B.tells array.new.first array.new.entries (B.tape array.new.bank)) }
+pub fn ask_add<B: Bank>(array: &mut Running<B>, slot: u32) -> Result<u64, NoMemory>
+    ensures asked { IsAsked (list_length array.old.parts.members.newest) (AddLine slot) array.old.parts.entries array.new.parts.entries result }
+    ensures ended { IfOk result (λ place. IsEndOf B.tells array.new.parts.first array.new.parts.entries (B.tape array.new.parts.bank)) }
     ensures unchanged { IfErr result (λ none. array.new ≡ array.old) }
-    ensures grows { Grows B.tells (B.tape array.old.bank) (B.tape array.new.bank) }
-    ensures held { AreStillHeld array.old.members array.new.members }
-    ensures spares { (s : ℕ) → has_spare array.new.members.spares s ≡ true → (has_spare array.old.members.spares s ≡ true) ⊎ IsTrue (list_any (λ e. is_added s e.event) array.new.entries) }
-    ensures losses { AreLossesOf array.old.members (B.faults_of array.old.bank) (B.faults_of array.new.bank) array.old.entries array.new.entries }
-    ensures never_falls { NeverFalls (B.faults_of array.old.bank) (B.faults_of array.new.bank) }
-    ensures given { B.given array.new.bank ≡ B.given array.old.bank }
-    ensures same { IsSameArray B.tells array.old array.new (world_for (B.given array.old.bank) (B.tape array.old.bank) array.old) (world_for (B.given array.new.bank) (B.tape array.new.bank) array.new) }
+    ensures grows { Grows B.tells (B.tape array.old.parts.bank) (B.tape array.new.parts.bank) }
+    ensures held { AreStillHeld array.old.parts.members array.new.parts.members }
+    ensures spares { (s : ℕ) → has_spare array.new.parts.members.spares s ≡ true → (has_spare array.old.parts.members.spares s ≡ true) ⊎ IsTrue (list_any (λ e. is_added s e.event) array.new.parts.entries) }
+    ensures losses { AreLossesOf array.old.parts.members (B.faults_of array.old.parts.bank) (B.faults_of array.new.parts.bank) array.old.parts.entries array.new.parts.entries }
+    ensures never_falls { NeverFalls (B.faults_of array.old.parts.bank) (B.faults_of array.new.parts.bank) }
+    ensures given { B.given array.new.parts.bank ≡ B.given array.old.parts.bank }
+    ensures same { IsSameEpoch array.old array.new }
+    ensures sized { IsSizedBy (list_length array.old.parts.members.newest) (list_length array.new.parts.members.newest) array.old.parts.entries array.new.parts.entries }
+    ensures told { HasToldBy array.old.parts.backup (B.faults_of array.old.parts.bank) (B.faults_of array.new.parts.bank) array.old.parts.entries array.new.parts.entries }
 {
     let who = script_call(array);
     let answer = array.add(who, slot);
@@ -184,14 +198,30 @@ pub fn ask_add<B: Bank>(array: &mut Array<B>, slot: u32) -> Result<u64, NoMemory
     Ok(last_place(array))
 }
 
-/// Asks for at most so many steps. Ok is the place of the reply entry.
-pub fn ask_steps<B: Bank>(array: &mut Array<B>, most: u32) -> Result<u64, NoMemory>
-    requires some { 1 ≤ most }
-    ensures asked { IsAsked (list_size (places_of array.old.members)) (StepLine most) array.old.entries array.new.entries result }
-    ensures more { IfOk result (λ place. length array.old.entries < length array.new.entries) }
-    ensures ended { IfOk result (λ place. IsEndOf B.tells array.new.first array.new.entries (B.tape array.new.bank)) }
+/// Plans a grow. Ok is the place of the reply entry. It makes no device call.
+pub fn ask_grow<B: Bank>(array: &mut Running<B>, wish: Wish) -> Result<u64, NoMemory>
+    requires level { wish.level ≡ None }
+    ensures asked { IsAsked (list_length array.old.parts.members.newest) (GrowLine wish) array.old.parts.entries array.new.parts.entries result }
+    ensures ended { IfOk result (λ place. IsEndOf B.tells array.new.parts.first array.new.parts.entries (B.tape array.new.parts.bank)) }
     ensures unchanged { IfErr result (λ none. array.new ≡ array.old) }
-    ensures went { HasGoneOn B.tells B.given B.tape B.faults_of array.old array.new }
+    ensures went { HasRunOn B.tells B.given B.tape B.faults_of array.old array.new }
+{
+    let who = script_call(array);
+    let answer = array.plan_grow(who, wish);
+    if wants_memory(&answer) {
+        return Err(NoMemory {});
+    }
+    Ok(last_place(array))
+}
+
+/// Asks for at most so many steps. Ok is the place of the reply entry.
+pub fn ask_steps<B: Bank>(array: &mut Running<B>, most: u32) -> Result<u64, NoMemory>
+    requires some { 1 ≤ most }
+    ensures asked { IsAsked (list_length array.old.parts.members.newest) (StepLine most) array.old.parts.entries array.new.parts.entries result }
+    ensures more { IfOk result (λ place. length array.old.parts.entries < length array.new.parts.entries) }
+    ensures ended { IfOk result (λ place. IsEndOf B.tells array.new.parts.first array.new.parts.entries (B.tape array.new.parts.bank)) }
+    ensures unchanged { IfErr result (λ none. array.new ≡ array.old) }
+    ensures went { HasRunOn B.tells B.given B.tape B.faults_of array.old array.new }
 {
     let who = script_call(array);
     match steps(array, who, u64::from(most)) {
@@ -201,9 +231,9 @@ pub fn ask_steps<B: Bank>(array: &mut Array<B>, most: u32) -> Result<u64, NoMemo
 }
 
 // Whether the reply at this place leaves steps to do, of which none was refused.
-fn leaves_more<B: Bank>(array: &Array<B>, at: u64) -> bool
-    requires there { IsSome (slice_get array.now.entries at) }
-    ensures { result ≡ leaves_more_at array.now.entries at }
+fn leaves_more<B: Bank>(array: &Running<B>, at: u64) -> bool
+    requires there { IsSome (slice_get array.now.parts.entries at) }
+    ensures { result ≡ leaves_more_at array.now.parts.entries at }
 {
     match &array.epoch().entries.get(at as usize).event {
         Event::Stepped {
@@ -216,11 +246,11 @@ fn leaves_more<B: Bank>(array: &Array<B>, at: u64) -> bool
 }
 
 /// Asks for steps again and again, until none is left or one is refused. Ok is the place of the last reply entry.
-pub fn ask_wait<B: Bank>(array: &mut Array<B>) -> Result<u64, NoMemory>
-    requires ended { IsEndOf B.tells array.old.first array.old.entries (B.tape array.old.bank) }
-    ensures asked { IsWaited (list_size (places_of array.old.members)) array.old.entries array.new.entries result }
-    ensures ended { IsEndOf B.tells array.new.first array.new.entries (B.tape array.new.bank) }
-    ensures went { HasGoneOn B.tells B.given B.tape B.faults_of array.old array.new }
+pub fn ask_wait<B: Bank>(array: &mut Running<B>) -> Result<u64, NoMemory>
+    requires ended { IsEndOf B.tells array.old.parts.first array.old.parts.entries (B.tape array.old.parts.bank) }
+    ensures asked { IsWaited (list_length array.old.parts.members.newest) array.old.parts.entries array.new.parts.entries result }
+    ensures ended { IsEndOf B.tells array.new.parts.first array.new.parts.entries (B.tape array.new.parts.bank) }
+    ensures went { HasRunOn B.tells B.given B.tape B.faults_of array.old array.new }
 {
     loop {
         let at = match ask_steps(array, STEPS_AT_ONCE) {

@@ -14,12 +14,12 @@ ghost use Rattle.run_laws.specs.declared.report.Answered.TheVariants.{Outside as
 ghost use Rattle.run_laws.specs.declared.report.Outside.TheVariants.{Refused as IsRefused};
 ghost use Rattle.run_laws.specs.declared.states.State.TheVariants.{Idle as IsIdle, Running as IsRunning};
 
-use array::Array;
 use bank::{Bank, BankFault};
 use election::reads::read_superblock;
 use flat_history::Epoch;
 use md_base::{NoMemory, Refusal};
 use run_laws::{Answered, Outside, State};
+use running::Running;
 use sb1::Sb;
 
 // What is answered where the slot was looked at.
@@ -70,19 +70,19 @@ pub fn examine_idle<B: Bank>(
 
 /// Looks at a slot's superblock while an array runs.
 pub fn examine_running<B: Bank>(
-    mut array: Array<B>,
+    mut array: Running<B>,
     epochs: Vec<Epoch>,
     backup: Option<u32>,
     slot: u32,
 ) -> (State<B>, Result<Answered, NoMemory>)
     requires own { RunsOwn (IsRunning array epochs) }
-    requires former { IsRunKept B.tells (B.given array.bank) (B.tape array.bank) backup (IsRunning array epochs) }
-    ensures answered { IsTurnOrNone (setting_of B.tells (B.given array.bank) (B.tape array.bank) (B.tape (bank_in result.0)) backup (B.faults_of array.bank) (B.faults_of (bank_in result.0))) (IsRunning array epochs) result.0 (AsksExamine slot) result.1 }
-    ensures written { B.tells → IsWrittenBy (setting_of B.tells (B.given array.bank) (B.tape array.bank) (B.tape (bank_in result.0)) backup (B.faults_of array.bank) (B.faults_of (bank_in result.0))) (histories_in (IsRunning array epochs)) (histories_in result.0) (AsksExamine slot) result.1 }
-    ensures former { IsRunKept B.tells (B.given array.bank) (B.tape (bank_in result.0)) backup result.0 }
-    ensures never_falls { NeverFalls (B.faults_of array.bank) (B.faults_of (bank_in result.0)) }
-    ensures grows { Grows B.tells (B.tape array.bank) (B.tape (bank_in result.0)) }
-    ensures given { B.given (bank_in result.0) ≡ B.given array.bank }
+    requires former { IsRunKept B.tells (B.given array.parts.bank) (B.tape array.parts.bank) backup (IsRunning array epochs) }
+    ensures answered { IsTurnOrNone (setting_of B.tells (B.given array.parts.bank) (B.tape array.parts.bank) (B.tape (bank_in result.0)) backup (B.faults_of array.parts.bank) (B.faults_of (bank_in result.0))) (IsRunning array epochs) result.0 (AsksExamine slot) result.1 }
+    ensures written { B.tells → IsWrittenBy (setting_of B.tells (B.given array.parts.bank) (B.tape array.parts.bank) (B.tape (bank_in result.0)) backup (B.faults_of array.parts.bank) (B.faults_of (bank_in result.0))) (histories_in (IsRunning array epochs)) (histories_in result.0) (AsksExamine slot) result.1 }
+    ensures former { IsRunKept B.tells (B.given array.parts.bank) (B.tape (bank_in result.0)) backup result.0 }
+    ensures never_falls { NeverFalls (B.faults_of array.parts.bank) (B.faults_of (bank_in result.0)) }
+    ensures grows { Grows B.tells (B.tape array.parts.bank) (B.tape (bank_in result.0)) }
+    ensures given { B.given (bank_in result.0) ≡ B.given array.parts.bank }
 {
     let _ = backup;
     if slot >= array.slots() {

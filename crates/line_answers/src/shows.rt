@@ -2,33 +2,37 @@
 
 ghost use Rattle.std.specs.Prelude.{◌≡◌, ◌+◌, ◌≤◌, length, IfOk, IfErr};
 ghost use Rattle.bank.specs.Given.{NeverFalls};
-ghost use Rattle.views.specs.Whole.{list_size};
-ghost use Rattle.views.specs.Placed.{places_of, AreStillHeld};
+ghost use Rattle.superblocks.specs.Reading.{list_length};
+ghost use Rattle.views.specs.Placed.{AreStillHeld};
 ghost use Rattle.views.specs.Moving.{Grows};
-ghost use Rattle.array_kept.specs.Calls.{IsSameArray, AreSparesFewer, AreLossesOf, IsEndOf, world_for};
-ghost use Rattle.run_laws.specs.Asked.{IsAsked};
+ghost use Rattle.array_kept.specs.Calls.{AreSparesFewer, AreLossesOf, IsEndOf};
+ghost use Rattle.running_replies.specs.Going.{IsSameEpoch};
+ghost use Rattle.running_replies.specs.Replies.{HasToldBy};
+ghost use Rattle.run_laws.specs.Asked.{IsAsked, IsSizedBy};
 ghost use Rattle.run_laws.specs.Showing.{IsToldAt};
 ghost use Rattle.script.specs.declared.lines.Line.TheVariants.{Detail as DetailLine, Mdstat as MdstatLine};
 
 use crate::asks::{last_place, script_call};
-use array::Array;
 use bank::Bank;
 use md_base::NoMemory;
+use running::Running;
 
 /// Asks what the array tells of itself. Ok is the place of the reply entry. It makes no device call.
-pub fn ask_show<B: Bank>(array: &mut Array<B>) -> Result<u64, NoMemory>
-    ensures asked { IsAsked (list_size (places_of array.old.members)) DetailLine array.old.entries array.new.entries result }
-    ensures asked_brief { IsAsked (list_size (places_of array.old.members)) MdstatLine array.old.entries array.new.entries result }
-    ensures told { IfOk result (λ place. IsToldAt array.old array.new.entries place) }
-    ensures ended { IfOk result (λ place. IsEndOf B.tells array.new.first array.new.entries (B.tape array.new.bank)) }
+pub fn ask_show<B: Bank>(array: &mut Running<B>) -> Result<u64, NoMemory>
+    ensures asked { IsAsked (list_length array.old.parts.members.newest) DetailLine array.old.parts.entries array.new.parts.entries result }
+    ensures asked_brief { IsAsked (list_length array.old.parts.members.newest) MdstatLine array.old.parts.entries array.new.parts.entries result }
+    ensures shown { IfOk result (λ place. IsToldAt array.old array.new.parts.entries place) }
+    ensures ended { IfOk result (λ place. IsEndOf B.tells array.new.parts.first array.new.parts.entries (B.tape array.new.parts.bank)) }
     ensures unchanged { IfErr result (λ none. array.new ≡ array.old) }
-    ensures grows { Grows B.tells (B.tape array.old.bank) (B.tape array.new.bank) }
-    ensures held { AreStillHeld array.old.members array.new.members }
-    ensures spares { AreSparesFewer array.old.members array.new.members }
-    ensures losses { AreLossesOf array.old.members (B.faults_of array.old.bank) (B.faults_of array.new.bank) array.old.entries array.new.entries }
-    ensures never_falls { NeverFalls (B.faults_of array.old.bank) (B.faults_of array.new.bank) }
-    ensures given { B.given array.new.bank ≡ B.given array.old.bank }
-    ensures same { IsSameArray B.tells array.old array.new (world_for (B.given array.old.bank) (B.tape array.old.bank) array.old) (world_for (B.given array.new.bank) (B.tape array.new.bank) array.new) }
+    ensures grows { Grows B.tells (B.tape array.old.parts.bank) (B.tape array.new.parts.bank) }
+    ensures held { AreStillHeld array.old.parts.members array.new.parts.members }
+    ensures spares { AreSparesFewer array.old.parts.members array.new.parts.members }
+    ensures losses { AreLossesOf array.old.parts.members (B.faults_of array.old.parts.bank) (B.faults_of array.new.parts.bank) array.old.parts.entries array.new.parts.entries }
+    ensures never_falls { NeverFalls (B.faults_of array.old.parts.bank) (B.faults_of array.new.parts.bank) }
+    ensures given { B.given array.new.parts.bank ≡ B.given array.old.parts.bank }
+    ensures same { IsSameEpoch array.old array.new }
+    ensures sized { IsSizedBy (list_length array.old.parts.members.newest) (list_length array.new.parts.members.newest) array.old.parts.entries array.new.parts.entries }
+    ensures told { HasToldBy array.old.parts.backup (B.faults_of array.old.parts.bank) (B.faults_of array.new.parts.bank) array.old.parts.entries array.new.parts.entries }
 {
     let who = script_call(array);
     let _status = match array.status(who) {

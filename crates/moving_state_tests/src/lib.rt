@@ -9,6 +9,6 @@ mod members;
 #[cfg(test)]
 mod mends;
 #[cfg(test)]
-mod openings;
-#[cfg(test)]
 mod rows;
+#[cfg(test)]
+mod windows;

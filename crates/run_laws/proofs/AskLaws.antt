@@ -1,10 +1,10 @@
 -- A line that was answered by an array, and the place of its reply in the history.
-use Rattle.std.proofs.Common.{◌≡◌, ◌≢◌, ◌⊎◌, inl, inr, ℕ, zero, suc, ◌+◌, ◌/◌, ◌≤◌, ◌||◌, ◌==◌, Bool, true, false, Option, Some, List, [], ◌∷◌, ◌++◌, length, take, drop, Result, Ok, Err, refl, sym, ◌∙◌, ap, subst, arith, append_assoc, length-append}
+use Rattle.std.proofs.Common.{◌≡◌, ◌≢◌, ◌⊎◌, inl, inr, ℕ, zero, suc, ◌+◌, ◌/◌, ◌≤◌, ◌||◌, ◌==◌, Bool, true, false, Option, Some, List, [], ◌∷◌, ◌++◌, length, take, drop, Result, Ok, Err, refl, sym, ◌∙◌, ap, subst, arith, append_assoc, append-nil, length-append}
 use Rattle.std.proofs.lemmas.List.{take_at}
 use Rattle.std.proofs.lemmas.List.Elements.{All-nil, All-cons, All-weaker}
 use Rattle.std.proofs.lemmas.Bool.Decides.{nat_tests}
 use Rattle.std.proofs.lemmas.List.Folds.{list_any-append}
-use Rattle.std.specs.Prelude.{slice_get, IsTrue}
+use Rattle.std.specs.Prelude.{slice_get, IsTrue, MatchBool, nat_lt}
 use Rattle.std.specs.List.{All, list_any}
 use Rattle.md_base.specs.declared.answers.Who.{Who}
 use Rattle.md_base.specs.declared.answers.Fault.{Fault}
@@ -15,28 +15,29 @@ use Rattle.md_base.proofs.Tabulated.{length-tabulate}
 use Rattle.flat_history.specs.declared.events.Entry.{Entry}
 use Rattle.flat_history.specs.declared.events.Event.{Event}
 use Rattle.flat_history.specs.declared.events.Event.TheVariants.{Wrote, Added, Stopped, Halted, Refused}
-use Rattle.flat_history.specs.Fits.{FitsStop}
+use Rattle.flat_history.specs.Fits.{FitsStop, IsWriteRefused, AreTornOf}
+use Rattle.flat_history.specs.Transfers.{IsPastEnd}
 use Rattle.bank.specs.declared.bank.Operation.{Operation}
 use Rattle.md_base.specs.declared.answers.Refusal.{Refusal}
-use Rattle.md_base.specs.declared.answers.Refusal.TheVariants.{PastEnd, SlotFault}
+use Rattle.md_base.specs.declared.answers.Refusal.TheVariants.{PastEnd, SlotFault, BackupFault}
 use Rattle.superblocks.specs.declared.members.Members.{Members}
 use Rattle.superblocks.specs.Reads.{has_spare}
 use Rattle.bank.specs.Given.{Given}
 use Rattle.views.specs.Parts.{Parts}
 use Rattle.call_entries.specs.Losing.{losses_of}
 use Rattle.call_entries.proofs.CallLaws.{losses-are}
-use Rattle.array_kept.proofs.ReplyLaws.{inside-losses, none-inside}
+use Rattle.array_kept.proofs.ReplyLaws.{inside-losses, none-inside, none_before}
 use Rattle.flat_history.specs.declared.events.Request.{Request}
 use Rattle.flat_history.specs.declared.events.Request.TheVariants.{Write as AsksWrite, Add as AsksAdd}
-use Rattle.moving_laws.specs.Writing.{IsRepliedBehind, IsWriteAnswered}
-use Rattle.flat_history.specs.Flat.{rest_of_call, next_number}
+use Rattle.moving_laws.specs.Writing.{IsRepliedBehind, IsWriteReplied}
+use Rattle.flat_history.specs.Flat.{rest_of_call, next_number, visible_of}
 use Rattle.flat_history.specs.Plain.{entries_of}
 use Rattle.flat_history.specs.OneShape.{IsOfCall, OneShapeFits}
 use Rattle.views.specs.Lacking.{AreTooMany}
 use Rattle.flat_history.specs.Legal.{MayBeInner}
 use Rattle.running_replies.specs.Replies.{RunningFits, IsAnsweredWith}
-use Rattle.running_replies.proofs.Fitting.{inside-inner}
-use Rattle.array_kept.specs.Calls.{OnNoMemory, StandsInside, IsReplied, IsAnswered, IsAddedFor, IsEntered, IsBehind, IsRefusedFor}
+use Rattle.running_replies.proofs.Fitting.{inside-inner, fits-write}
+use Rattle.array_kept.specs.Calls.{OnNoMemory, StandsInside, IsReplied, IsAnswered, IsAddedFor, IsCausedBy, IsEntered, IsBehind, IsRefusedFor}
 use Rattle.script.specs.declared.lines.Line.TheVariants.{Wait, Stop, Halt}
 use Rattle.script.specs.declared.lines.Line.{Line}
 use Rattle.script.specs.Seeds.{seeded, seed_sector}
@@ -99,33 +100,52 @@ asked_with {size = size} {request = request} {old = old} {new = new} {event = ev
 pub with-grew : {size : ℕ} {request : Request} {who : Who} {old new : List Entry} {event : Event} → IsAnsweredWith size request who old new event → 1 ≤ length new
 with-grew {who = who} {old = old} {event = event} was = longer old was.inner (one who was.end event) was.is
 
--- a write that was answered, which may finish a window first, is a line that was
-pub asked_behind : {size : ℕ} {request : Request} {who : Who} {old new : List Entry} {event : Event} (line : Line) (place : ℕ) → IsRepliedBehind size request who old new event
-    → ((before : List Entry) (e : Entry) → OneShapeFits size before e request → FitsLine size before e line) → who ≡ script_who old → place + 1 ≡ length new → IsAskedAt size line old new place
-asked_behind {size = size} {request = request} {old = old} {new = new} {event = event} line place was fits script at_end =
-    let now = subst (λ (w : Who). IsRepliedBehind size request w old new event) script was in record {
-      inner = now.call;
-      event = event;
-      end = now.end;
-      own = All-weaker (λ e. IsOfCall (script_who old) e × StandsInside e.event) (λ e. IsOfCall (script_who old) e) (λ e is. is.0) now.call now.own;
-      inside = All-weaker (λ e. IsOfCall (script_who old) e × StandsInside e.event) (λ e. MayBeInner e.event) (λ e is. inside-inner e.event is.1) now.call now.own;
-      is = now.is;
-      fits = fits (old ++ now.call) (one (script_who old) now.end event) now.fits;
-      at_end = at_end;
-    }
+-- ---- a write, which may finish a window first, or is refused for the backup
 
-pub repeated-grew : {size : ℕ} {request : Request} {who : Who} {old new : List Entry} {event : Event} → IsRepliedBehind size request who old new event → 1 ≤ length new
-repeated-grew {who = who} {old = old} {event = event} was = longer old was.call (one who was.end event) was.is
+-- a reply behind such entries is one of a running array
+behind_with : {size : ℕ} {at : ℕ} {body : List (List ℕ)} {who : Who} {old new : List Entry} {event : Event} → IsRepliedBehind size (AsksWrite at body) who old new event → IsAnsweredWith size (AsksWrite at body) who old new event
+behind_with {size = size} {at = at} {body = body} {who = who} {old = old} {event = event} was = record {
+  inner = was.call;
+  end = was.end;
+  own = All-weaker (λ e. IsOfCall who e × StandsInside e.event) (λ e. IsOfCall who e) (λ e is. is.0) was.call was.own;
+  inside = All-weaker (λ e. IsOfCall who e × StandsInside e.event) (λ e. MayBeInner e.event) (λ e is. inside-inner e.event is.1) was.call was.own;
+  is = was.is;
+  fits = fits-write size (old ++ was.call) (one who was.end event) at body was.fits;
+}
+
+-- and so is a refusal for the backup, which stands alone, where the write doesn't go past the end
+barred_with : {size : ℕ} {at : ℕ} {body : List (List ℕ)} {who : Who} {old new : List Entry} (end : ℕ) → who.number ≡ next_number who.caller old → at + length body ≤ visible_of size old → new ≡ old ++ one who end (Refused BackupFault) ∷ []
+    → IsAnsweredWith size (AsksWrite at body) who old new (Refused BackupFault)
+barred_with {size = size} {at = at} {body = body} {who = who} {old = old} end number within is = record {
+  inner = [];
+  end = end;
+  own = All-nil (λ e. IsOfCall who e);
+  inside = All-nil (λ e. MayBeInner e.event);
+  is = is;
+  fits = subst (λ (l : List Entry). RunningFits size l (one who end (Refused BackupFault)) (AsksWrite at body)) (sym (append-nil old)) (record {
+    answers = by (nat_lt (visible_of size old) (at + length body)) (grind (arith, nat_tests, within));
+    torn = subst (λ (call : List Entry). AreTornOf (AsksWrite at body) call) (sym (none_before old who end (Refused BackupFault) number)) tt;
+  });
+}
+  where
+    by : (b : Bool) → b ≡ false → MatchBool b (IsPastEnd BackupFault) (IsWriteRefused BackupFault × (IsPastEnd BackupFault → ⊥))
+    by true is = absurd (cc)
+    by false is = (tt, λ past. past)
 
 -- its answer is a reply, unless memory was short
-pub written_reply : (size at : ℕ) (body : List (List ℕ)) (who : Who) (old new : List Entry) (r : Result (Unit {0}) Fault) → IsWriteAnswered size at body who old new r → r ≢ Err NoMemory
-    → (e : Event) × IsRepliedBehind size (AsksWrite at body) who old new e
-written_reply size at body who old new (Ok x) was some = (Wrote at body, was)
-written_reply size at body who old new (Err (IsRefusedWith refusal)) was some = (Refused refusal, was)
-written_reply size at body who old new (Err NoMemory) was some = absurd (some refl)
+pub written_reply : (size at : ℕ) (body : List (List ℕ)) (who : Who) (old new : List Entry) (r : Result (Unit {0}) Fault) → who.number ≡ next_number who.caller old
+    → (r ≡ Err (IsRefusedWith BackupFault) → at + length body ≤ visible_of size old) → IsWriteReplied size at body who old new r → r ≢ Err NoMemory → (e : Event) × IsAnsweredWith size (AsksWrite at body) who old new e
+written_reply size at body who old new (Ok x) number within was some = (Wrote at body, behind_with was)
+written_reply size at body who old new (Err (IsRefusedWith BackupFault)) number within was some = (Refused BackupFault, barred_with (was.0) number (within refl) (was.1))
+written_reply size at body who old new (Err (IsRefusedWith refusal)) number within was some = (Refused refusal, behind_with was)
+written_reply size at body who old new (Err NoMemory) number within was some = absurd (some refl)
 
-pub written_none : (size at : ℕ) (body : List (List ℕ)) (who : Who) (old new : List Entry) (r : Result (Unit {0}) Fault) → IsWriteAnswered size at body who old new r → r ≡ Err NoMemory → new ≡ old
-written_none size at body who old new r was is = subst (λ (x : Result (Unit {0}) Fault). IsWriteAnswered size at body who old new x) is was
+pub written_none : (size at : ℕ) (body : List (List ℕ)) (who : Who) (old new : List Entry) (r : Result (Unit {0}) Fault) → IsWriteReplied size at body who old new r → r ≡ Err NoMemory → new ≡ old
+written_none size at body who old new r was is = subst (λ (x : Result (Unit {0}) Fault). IsWriteReplied size at body who old new x) is was
+
+-- what a write that was refused for the backup says of its end
+pub barred_within : {T : Type 0} (size to : ℕ) (why : Members → Refusal → Type 0) (members after : Members) (r : Result T Fault) → IsCausedBy size to why members after r → r ≡ Err (IsRefusedWith BackupFault) → to ≤ size
+barred_within {T = T} size to why members after r caused is = (subst (λ (x : Result T Fault). IsCausedBy size to why members after x) is caused).0
 
 -- a request that was answered is a line that was
 pub asked_at : {size : ℕ} {request : Request} {who : Who} {old new : List Entry} {event : Event} (line : Line) (place : ℕ) → IsReplied size request who old new event
@@ -310,5 +330,5 @@ pub halt_grew : {tells : Type 0} {tape : List Operation} {old new : List Entry} 
 halt_grew {old = old} who was = longer old [] (one who was.end Halted) was.is
 
 -- what holds where memory was short
-pub on_no_memory : {fact : Type 0} (r : Result (Unit {0}) Fault) → OnNoMemory r fact → r ≡ Err NoMemory → fact
-on_no_memory {fact = fact} r was is = subst (λ (x : Result (Unit {0}) Fault). OnNoMemory x fact) is was
+pub on_no_memory : {fact T : Type 0} (r : Result T Fault) → OnNoMemory r fact → r ≡ Err NoMemory → fact
+on_no_memory {fact = fact} {T = T} r was is = subst (λ (x : Result T Fault). OnNoMemory x fact) is was

@@ -28,12 +28,12 @@ use Rattle.assemble.specs.Running.{OpensWithZeros}
 use Rattle.std.specs.List.{All}
 use Rattle.std.proofs.lemmas.List.Elements.{All-head, All-tail}
 use Rattle.array.specs.declared.spec.CreateSpec.{CreateSpec}
-use Rattle.script.specs.declared.lines.Line.TheVariants.{Create, Read, Write, Flush, Fail, Add, Step, Wait, Stop, Halt, Detail, Mdstat, Examine, Assemble}
+use Rattle.script.specs.declared.lines.Line.TheVariants.{Create, Read, Write, Flush, Fail, Add, Grow, Step, Wait, Stop, Halt, Detail, Mdstat, Examine, Assemble}
 use Rattle.flat_history.specs.declared.events.Entry.{Entry}
 use Rattle.flat_history.specs.declared.events.Event.TheVariants.{Shown}
 use Rattle.flat_history.specs.Plain.{entries_of}
 use Rattle.array_kept.specs.Adopting.{opener}
-use Rattle.flat_history.specs.Flat.{rest_of_call, is_same_call}
+use Rattle.flat_history.specs.Flat.{rest_of_call, is_same_call, length_of}
 use Rattle.script.specs.declared.lines.Line.{Line}
 use Rattle.script.specs.declared.lines.Numbered.{Numbered}
 use Rattle.run_laws.specs.declared.report.Outside.TheVariants.{Created, Assembled, Examined, Refused}
@@ -43,7 +43,7 @@ use Rattle.run_laws.specs.declared.report.LineReply.{LineReply}
 use Rattle.run_laws.specs.Histories.{History, entry_at}
 use Rattle.run_laws.specs.Examining.{IsExaminedBy, IsUnexamined}
 use Rattle.run_laws.specs.Making.{Setting, held_at, history_world, IsUncreated, IsUnassembled, IsStoredNew, IsStoredAs, BeginsShown}
-use Rattle.run_laws.specs.Replies.{Course, spec_of, FitsLine, IsMadeBy, IsFoundBy, IsRefusedOutside, course_behind, entries_to, course_after, course_of, leaves_more, leaves_more_at, IsReplyAt, IsWaitedAt, IsRepliedAt, IsAnsweredInside, IsAnswer, IsEnd, IsReplyTo, AreReplies}
+use Rattle.run_laws.specs.Replies.{Course, spec_of, FitsLine, IsMadeBy, IsFoundBy, IsRefusedOutside, gone_on, course_behind, entries_to, course_after, course_of, leaves_more, leaves_more_at, IsReplyAt, IsWaitedAt, IsRepliedAt, IsAnsweredInside, IsAnswer, IsEnd, IsReplyTo, AreReplies}
 use Rattle.run_laws.specs.States.{IsGrown, AreGrown, IsNamed, IsWaitingAt, IsCutShort}
 use Rattle.run_laws.proofs.Causes.{faulted-wider, given-wider, create-later, assemble-later}
 use Rattle.run_laws.proofs.Worlds.{list-same, alike-later, sound-later, new-later, stored-later}
@@ -165,8 +165,10 @@ cut_stays olds news old Wait new grown was =
       next = was.next;
       waiting = subst (λ (l : List Entry). IsWaitingAt old.size l was.earlier old.calls was.next) (sym now.2.grown)
           (waiting_longer old.size was.history.entries now.2.more now.2.later was.earlier old.calls was.next was.waiting);
-      size = was.size;
-      now = was.now;
+      upto = was.upto;
+      within = let more = ap (λ (l : List Entry). length l) now.2.grown in let long = length-append was.history.entries now.2.more in omega (arith, was.within, more, long);
+      now = was.now ∙ ap (λ (l : List Entry). gone_on was.next (length_of old.size l) old)
+          (sym (ap (λ (l : List Entry). take was.upto l) now.2.grown ∙ take-append-le was.upto was.history.entries now.2.more was.within));
     }
 cut_stays olds news old line new grown was = absurd was
 
@@ -247,6 +249,7 @@ module _ (was now : Setting) (wider : IsWider was now) (end later : ℕ) (moved 
   refused_stays true Flush refusal is = is
   refused_stays true (Fail role) refusal is = is
   refused_stays true (Add slot) refusal is = is
+  refused_stays true (Grow wish) refusal is = is
   refused_stays true (Step most) refusal is = is
   refused_stays true Wait refusal is = is
   refused_stays true Stop refusal is = is
@@ -261,6 +264,7 @@ module _ (was now : Setting) (wider : IsWider was now) (end later : ℕ) (moved 
   refused_stays false Flush refusal is = is
   refused_stays false (Fail role) refusal is = is
   refused_stays false (Add slot) refusal is = is
+  refused_stays false (Grow wish) refusal is = is
   refused_stays false (Step most) refusal is = is
   refused_stays false Wait refusal is = is
   refused_stays false Stop refusal is = is
@@ -297,6 +301,7 @@ module _ (was now : Setting) (wider : IsWider was now) (end later : ℕ) (moved 
   made_wider histories epoch Flush is = is
   made_wider histories epoch (Fail role) is = is
   made_wider histories epoch (Add slot) is = is
+  made_wider histories epoch (Grow wish) is = is
   made_wider histories epoch (Step most) is = is
   made_wider histories epoch Wait is = is
   made_wider histories epoch Stop is = is
@@ -313,6 +318,7 @@ module _ (was now : Setting) (wider : IsWider was now) (end later : ℕ) (moved 
   found_wider histories epoch Flush status is = is
   found_wider histories epoch (Fail role) status is = is
   found_wider histories epoch (Add slot) status is = is
+  found_wider histories epoch (Grow wish) status is = is
   found_wider histories epoch (Step most) status is = is
   found_wider histories epoch Wait status is = is
   found_wider histories epoch Stop status is = is
@@ -372,6 +378,7 @@ made_stays setting olds news grown epoch end (Write at count seed) is = is
 made_stays setting olds news grown epoch end Flush is = is
 made_stays setting olds news grown epoch end (Fail role) is = is
 made_stays setting olds news grown epoch end (Add slot) is = is
+made_stays setting olds news grown epoch end (Grow wish) is = is
 made_stays setting olds news grown epoch end (Step most) is = is
 made_stays setting olds news grown epoch end Wait is = is
 made_stays setting olds news grown epoch end Stop is = is
@@ -400,6 +407,7 @@ found_stays setting olds news grown epoch end (Write at count seed) status is = 
 found_stays setting olds news grown epoch end Flush status is = is
 found_stays setting olds news grown epoch end (Fail role) status is = is
 found_stays setting olds news grown epoch end (Add slot) status is = is
+found_stays setting olds news grown epoch end (Grow wish) status is = is
 found_stays setting olds news grown epoch end (Step most) status is = is
 found_stays setting olds news grown epoch end Wait status is = is
 found_stays setting olds news grown epoch end Stop status is = is

@@ -6,13 +6,17 @@ use Rattle.bank.specs.declared.bank.Operation.{Operation}
 use Rattle.flat_history.specs.declared.events.Entry.{Entry}
 use Rattle.flat_history.specs.declared.events.Epoch.{Epoch}
 use Rattle.flat_history.specs.Epochs.{world_of}
+use Rattle.flat_history.specs.OneShape.{ShapeOpening, opening_in, IsOneShapeLegal}
 use Rattle.flat_history.proofs.LegalLaws.{histories-stay-legal}
+use Rattle.flat_history.proofs.OneShapeLegal.{opening-grown}
+use Rattle.history_laws.proofs.OneShapeGrowing.{one_shape-later}
 use Rattle.flat_history.proofs.SoundLaws.{fit-before}
 use Rattle.history_laws.proofs.ReshapedLaws.{reshapes-stay-right}
 use Rattle.kept_history.proofs.Turned.{filled-before}
 use Rattle.kept_history.specs.Safe.{IsFilledRight}
 use Rattle.history_calls.specs.Reliable.{IsReliable}
 use Rattle.running_words.specs.Calls.{IsEpochKept}
+use Rattle.still_laws.specs.Plain.{IsPlainEpoch}
 use Rattle.array_kept.specs.Calls.{IsEndOf}
 use Rattle.views.specs.Moving.{Grows}
 use Rattle.views.specs.Parts.{Parts}
@@ -29,8 +33,8 @@ use Rattle.run_laws.specs.Histories.{History, history_of, histories_of}
 use Rattle.run_laws.specs.Making.{world_at, AreHeldSince}
 use Rattle.run_laws.specs.States.{running_history}
 use Rattle.run_laws.proofs.Losses.{IsSameOpening, IsHistoryLater, AreHeldOn, world_same, held-later, held-on}
-use Rattle.run_laws.proofs.Worlds.{room-before, alike-before, accepted-later, safe-longer, sound-longer}
-use Rattle.run_laws.specs.Ended.{IsLegalEpoch, AreLegal, IfReliable, IsSafeEpoch, AreSafe, next_mark, AreRising, AreFormer, IsGoing}
+use Rattle.run_laws.proofs.Worlds.{room-before, alike-before, fills-before, keeps-before, accepted-later, safe-longer, sound-longer}
+use Rattle.run_laws.specs.Ended.{IsLegalEpoch, AreLegal, IfReliable, IfShapeKept, IsSafeEpoch, AreSafe, next_mark, AreRising, AreFormer, IsGoing}
 
 ends_later : (a b : ℕ) (entries : List Entry) → a ≤ b → EndBy a entries → EndBy b entries
 ends_later a b [] le was = tt
@@ -54,6 +58,13 @@ legal_longer given tape more backup epoch was =
       ends = ends_later (length tape) (length (tape ++ more)) epoch.entries.items longer was.ends;
       legal = λ relied. histories-stay-legal world epoch.entries.items more was.ends (was.legal (reliable-before world more epoch.entries.items was.begun was.ends relied));
       reshaped = λ relied opens. reshapes-stay-right world epoch.entries.items more was.ends (was.reshaped (reliable-before world more epoch.entries.items was.begun was.ends relied) (fit-before world more was.begun opens));
+      plain = λ keeps.
+          let plain = was.plain (keeps-before world more was.begun epoch.entries.items keeps) in
+          record {
+            legal = λ fills. subst (λ (opening : ShapeOpening). IsOneShapeLegal opening (length (tape ++ more)) epoch.entries.items) (sym (opening-grown world more was.begun))
+                (one_shape-later (opening_in world) (length tape) (length (tape ++ more)) [] epoch.entries.items longer (plain.legal (fills-before world more was.begun epoch.entries.items fills)));
+            plainly = plain.plainly;
+          };
     }
 
 -- what is safe and sound goes on to be
@@ -168,14 +179,15 @@ going_begun {before = before} {after = after} given backup olds news array same 
 -- the history of an array that ran
 pub legal_epoch : {B tells : Type 0} {before after : List Operation} (given : Given) (backup : Option ℕ) (array : Parts B) (epochs : List Epoch) (epoch : Epoch) → Grows tells before after → IsSameOpening (running_history array) (history_of epoch) → IsGoing tells given before backup array epochs
     → (tells → EndBy (length after) epoch.entries.items)
-    → (tells → IfReliable given after backup epoch (IsEpochKept given after backup epoch))
+    → (tells → IfReliable given after backup epoch (IsEpochKept given after backup epoch)) → (tells → IfShapeKept given after backup epoch (IsPlainEpoch given after backup epoch))
     → tells → IsLegalEpoch given after backup epoch
-legal_epoch given backup array epochs epoch grows same was ends right told = record {
+legal_epoch given backup array epochs epoch grows same was ends right plain told = record {
   begun = omega (arith, same.first, was.begun told, grows_longer grows told);
   accepted = accepted-grown given backup (running_history array) (history_of epoch) grows same was.begun was.accepted told;
   ends = ends told;
   legal = λ relied. (right told relied).legal;
   reshaped = λ relied. (right told relied).reshaped;
+  plain = plain told;
 }
 
 -- the array that ran has ended
@@ -198,14 +210,17 @@ former_more {after = after} given backup array epochs ended epoch items grows fi
 pub former_halted : {B : Type 0} (tells : Type 0) (given : B → Given) (tape : B → List Operation) (backup : Option ℕ) (array : Parts B) (bank : B) (epoch : Epoch) (epochs ended : List Epoch) → ended ≡ epochs ++ epoch ∷ [] → bank ≡ array.bank
     → epoch.uuid ≡ array.uuid → epoch.given ≡ array.given → epoch.first ≡ array.first → (tells → EndBy (length (tape array.bank)) epoch.entries.items)
     → (tells → epoch.last ≡ length (tape array.bank))
-    → (tells → IfReliable (given bank) (tape bank) array.backup epoch (IsEpochKept (given bank) (tape bank) array.backup epoch)) → IsGoing tells (given array.bank) (tape array.bank) backup array epochs
+    → (tells → IfReliable (given bank) (tape bank) array.backup epoch (IsEpochKept (given bank) (tape bank) array.backup epoch))
+    → (tells → IfShapeKept (given bank) (tape bank) array.backup epoch (IsPlainEpoch (given bank) (tape bank) array.backup epoch)) → IsGoing tells (given array.bank) (tape array.bank) backup array epochs
     → tells → AreFormer (given array.bank) (tape bank) backup (length (tape bank)) ended
-former_halted {B = B} tells given tape backup array bank epoch epochs ended items same uuid slots first ends last right was =
+former_halted {B = B} tells given tape backup array bank epoch epochs ended items same uuid slots first ends last right plain was =
     let known = given array.bank in
     let now = tape array.bank in
     let right_here : tells → IfReliable known now backup epoch (IsEpochKept known now backup epoch) = λ t. subst (λ (o : Option ℕ). IfReliable known now o epoch (IsEpochKept known now o epoch)) was.backup_is
     (subst (λ (b : B). IfReliable (given b) (tape b) array.backup epoch (IsEpochKept (given b) (tape b) array.backup epoch)) same (right t)) in
+    let plain_here : tells → IfShapeKept known now backup epoch (IsPlainEpoch known now backup epoch) = λ t. subst (λ (o : Option ℕ). IfShapeKept known now o epoch (IsPlainEpoch known now o epoch)) was.backup_is
+    (subst (λ (b : B). IfShapeKept (given b) (tape b) array.backup epoch (IsPlainEpoch (given b) (tape b) array.backup epoch)) same (plain t)) in
     subst (λ (b : B). tells → AreFormer known (tape b) backup (length (tape b)) ended) (sym same)
     (former_more known backup array epochs ended epoch items (record { more = λ t. ([], sym (append-nil now)) }) first was
-    (legal_epoch known backup array epochs epoch (record { more = λ t. ([], sym (append-nil now)) }) (record { uuid = uuid; given = slots; first = first }) was ends right_here)
+    (legal_epoch known backup array epochs epoch (record { more = λ t. ([], sym (append-nil now)) }) (record { uuid = uuid; given = slots; first = first }) was ends right_here plain_here)
     last right_here)

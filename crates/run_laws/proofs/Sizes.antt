@@ -6,10 +6,11 @@ use Rattle.std.specs.List.{All}
 use Rattle.md_base.specs.declared.answers.Who.{Who}
 use Rattle.md_base.specs.declared.answers.Fault.{Fault}
 use Rattle.md_base.specs.declared.answers.Fault.TheVariants.{Refused as IsRefusedWith, NoMemory}
+use Rattle.md_base.specs.declared.answers.Refusal.TheVariants.{BackupFault}
 use Rattle.bank.specs.declared.bank.Operation.{Operation}
 use Rattle.flat_history.specs.declared.events.Entry.{Entry}
 use Rattle.flat_history.specs.declared.events.Event.{Event}
-use Rattle.flat_history.specs.declared.events.Event.TheVariants.{Resized}
+use Rattle.flat_history.specs.declared.events.Event.TheVariants.{Resized, Refused}
 use Rattle.flat_history.specs.declared.events.Request.{Request}
 use Rattle.flat_history.specs.Flat.{length_after, length_of}
 use Rattle.flat_history.specs.OneShape.{IsOfCall}
@@ -19,7 +20,7 @@ use Rattle.call_entries.proofs.CallLaws.{losses-are}
 use Rattle.array_kept.specs.Calls.{StandsInside, IsReplied, IsAnswered, IsBehind, IsEntered}
 use Rattle.array_kept.proofs.ReplyLaws.{inside-losses}
 use Rattle.kept_history.specs.Recorded.{entry_of}
-use Rattle.moving_laws.specs.Writing.{IsRepliedBehind, IsWriteAnswered}
+use Rattle.moving_laws.specs.Writing.{IsRepliedBehind, IsWriteReplied}
 use Rattle.run_laws.specs.Asked.{IsSizedBy}
 use Rattle.run_laws.proofs.AskLaws.{one, entries_of-append}
 
@@ -99,7 +100,8 @@ sized-repeated : {a b size : ℕ} {request : Request} {who : Who} {old new : Lis
 sized-repeated {who = who} {event = event} same leaves was =
     sized-last was.call (entry_of who was.end event) same (All-weaker (λ e. IsOfCall who e × StandsInside e.event) (λ e. StandsInside e.event) (λ e is. is.1) was.call was.own) leaves was.is
 
-pub sized-written : {a b : ℕ} (size at : ℕ) (body : List (List ℕ)) (who : Who) {old new : List Entry} (r : Result (Unit {0}) Fault) → b ≡ a → IsWriteAnswered size at body who old new r → IsSizedBy a b old new
+pub sized-written : {a b : ℕ} (size at : ℕ) (body : List (List ℕ)) (who : Who) {old new : List Entry} (r : Result (Unit {0}) Fault) → b ≡ a → IsWriteReplied size at body who old new r → IsSizedBy a b old new
 sized-written size at body who (Ok x) same was = sized-repeated same (λ n. refl) was
+sized-written size at body who (Err (IsRefusedWith BackupFault)) same was = record { more = entry_of who (was.0) (Refused BackupFault) ∷ []; grown = was.1; sized = same }
 sized-written size at body who (Err (IsRefusedWith refusal)) same was = sized-repeated same (λ n. refl) was
 sized-written size at body who (Err NoMemory) same was = sized-none same was

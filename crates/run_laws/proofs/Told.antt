@@ -27,7 +27,7 @@ use Rattle.call_entries.proofs.CallLaws.{losses-are}
 use Rattle.array_kept.proofs.ReplyLaws.{inside-losses}
 use Rattle.array_kept.specs.Calls.{StandsInside, IsReplied, IsAnswered, IsAddedFor, IsBehind, IsEntered}
 use Rattle.kept_history.specs.Recorded.{entry_of}
-use Rattle.moving_laws.specs.Writing.{IsRepliedBehind, IsWriteAnswered}
+use Rattle.moving_laws.specs.Writing.{IsRepliedBehind, IsWriteReplied}
 use Rattle.flat_history.specs.Legal.{call_before}
 use Rattle.running_replies.specs.Replies.{IsRefusalBy, IsRefusalToldBy, HasToldBy}
 use Rattle.run_laws.specs.Making.{Setting}
@@ -152,10 +152,13 @@ module _ (backup : Option ℕ) (before now : ℕ → ℕ) where
         (write_told at body size (old ++ was.call) (call_before (old ++ was.call) (entry_of who was.end event)) event was.fits.answers);
   }
 
-  pub write_told_by : (size at : ℕ) (body : List (List ℕ)) (who : Who) {old new : List Entry} (r : Result (Unit {0}) Fault) → IsWriteAnswered size at body who old new r → HasToldBy backup before now old new
-  write_told_by size at body who (Ok x) was = told_written was
-  write_told_by size at body who (Err (IsRefusedWith refusal)) was = told_written was
-  write_told_by size at body who (Err WantsMemory) was = told_none was
+  pub write_told_by : (size at : ℕ) (body : List (List ℕ)) (who : Who) {old new : List Entry} (r : Result (Unit {0}) Fault) → (r ≡ Err (IsRefusedWith BackupFault) → IsRefusalBy backup before now BackupFault) → IsWriteReplied size at body who old new r
+      → HasToldBy backup before now old new
+  write_told_by size at body who (Ok x) failed was = told_written was
+  write_told_by size at body who (Err (IsRefusedWith BackupFault)) failed was =
+      record { more = entry_of who (was.0) (Refused BackupFault) ∷ []; grown = was.1; told = All-cons Told (entry_of who (was.0) (Refused BackupFault)) [] (failed refl) (All-nil Told) }
+  write_told_by size at body who (Err (IsRefusedWith refusal)) failed was = told_written was
+  write_told_by size at body who (Err WantsMemory) failed was = told_none was
 
   -- ---- a slot that was to be made a spare
 

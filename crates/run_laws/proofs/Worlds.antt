@@ -1,11 +1,11 @@
 -- A history's world as the tape grows: what it opened with, and the marks that are safe.
-use Rattle.std.proofs.Common.{◌≡◌, ℕ, zero, suc, ◌+◌, ◌-◌, ◌^◌, ◌<◌, ◌≤◌, inl, inr, Bool, true, Option, Some, None, unwrap_or, List, [], ◌∷◌, ◌++◌, length, take, drop, slice_range, refl, sym, ◌∙◌, ap, ap₂, subst, arith, append_assoc, append-nil, length-append, length-drop, take_all}
+use Rattle.std.proofs.Common.{◌≡◌, ℕ, zero, suc, ◌+◌, ◌-◌, ◌^◌, ◌<◌, ◌≤◌, inl, inr, Bool, true, false, Option, Some, None, unwrap_or, List, [], ◌∷◌, ◌++◌, length, take, drop, slice_range, refl, sym, ◌∙◌, ap, ap₂, subst, arith, append_assoc, append-nil, length-append, length-drop, take_all}
 use Rattle.std.proofs.lemmas.List.{take-append-drop, drop-append-le, length-take-le}
 use Rattle.std.proofs.lemmas.Bool.{cases_lt}
 use Rattle.std.proofs.lemmas.Bool.Decides.{nat_tests}
 use Rattle.std.proofs.Math.Seq.{take-append-add}
 use Rattle.std.specs.Option.{option_map_or}
-use Rattle.std.specs.Prelude.{IfSome, MatchOption, if◌then◌else◌, nat_le, IsFalse}
+use Rattle.std.specs.Prelude.{IfSome, MatchOption, if◌then◌else◌, nat_le, IsFalse, ⊤}
 use Rattle.md_base.specs.Sectors.{Sector}
 use Rattle.bank.specs.declared.bank.Operation.{Operation}
 use Rattle.bank.specs.declared.bank.Operation.TheVariants.{Write, Flush}
@@ -40,6 +40,7 @@ use Rattle.history_laws.proofs.GrowingLaws.{marks-stay-safe}
 use Rattle.flat_history.proofs.SoundLaws.{fit-before, leaves-later, leaves-flushed}
 use Rattle.flat_history.proofs.StretchLaws.{bounds-serve}
 use Rattle.array.specs.declared.spec.CreateSpec.{CreateSpec}
+use Rattle.running_words.specs.Plans.{KeepsShape}
 use Rattle.run_laws.specs.Making.{IsStored, IsStoredNew, IsStoredAs, HeldAtFirst, MissingAtFirst, SpareAtFirst, found_members, found_left}
 
 -- ---- the opening
@@ -86,6 +87,10 @@ module _ (world : World) (more : List Operation) (begun : world.first ≤ length
   pub fills-before : (entries : List Entry) → FillsRight (grown world more) entries → FillsRight world entries
   fills-before entries (inl none) = inl none
   fills-before entries (inr fit) = inr (fit-before world more begun fit)
+
+  -- an array kept its shape over a longer tape only where it did over the former one
+  pub keeps-before : (entries : List Entry) → KeepsShape (grown world more) entries → KeepsShape world entries
+  keeps-before entries was = record { found = subst (λ (o : Option Reading). MatchOption o ⊤ (λ r. is_reshaping r.newest ≡ false)) reading-same was.found; none = was.none }
 
   -- what was refused for nothing is so over a longer tape
   pub accepted-later : OpensAccepted world → OpensAccepted (grown world more)

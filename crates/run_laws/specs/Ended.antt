@@ -4,15 +4,17 @@ use Rattle.std.specs.List.{All}
 use Rattle.bank.specs.Given.{Given}
 use Rattle.bank.specs.declared.bank.Operation.{Operation}
 use Rattle.flat_history.specs.declared.events.Epoch.{Epoch}
-use Rattle.flat_history.specs.Epochs.{world_of}
+use Rattle.flat_history.specs.Epochs.{world_of, IsEpochRight, HasRoomForEvents, OpensAlike}
 use Rattle.flat_history.specs.Legal.{IsLegal}
 use Rattle.flat_history.specs.CrashSafe.{IsCrashSafe}
 use Rattle.flat_history.specs.Growing.{EndBy}
 use Rattle.flat_history.specs.Reopened.{OpensAccepted}
 use Rattle.flat_history.specs.Reshaped.{IsReshaped}
-use Rattle.flat_history.specs.Sound.{OpensFit, StaysSound}
+use Rattle.flat_history.specs.Sound.{OpensFit, FillsRight, StaysSound}
 use Rattle.history_calls.specs.Reliable.{IsReliable}
 use Rattle.running_words.specs.Calls.{IsEpochKept}
+use Rattle.running_words.specs.Plans.{KeepsShape}
+use Rattle.still_laws.specs.Plain.{IsPlainEpoch}
 use Rattle.array_kept.specs.Calls.{IsEndOf}
 use Rattle.views.specs.Parts.{Parts}
 use Rattle.run_laws.specs.declared.states.State.{State}
@@ -26,22 +28,39 @@ use Rattle.run_laws.specs.States.{running_history}
 abbrev pub IfReliable : Given → List Operation → Option ℕ → Epoch → Type 0 → Type 0
 IfReliable given tape backup epoch fact = IsReliable (world_of given tape backup epoch) epoch.entries.items → fact
 
+-- A fact of an epoch of an array that kept its shape: its opening found no reshape, and its entries tell neither a plan nor a reshape.
+abbrev pub IfShapeKept : Given → List Operation → Option ℕ → Epoch → Type 0 → Type 0
+IfShapeKept given tape backup epoch fact = KeepsShape (world_of given tape backup epoch) epoch.entries.items → fact
+
+-- A fact of an epoch in which no role is told lost, or which opened sound, so that what is filled in for a missing role is right, and which
+-- had room for its events and opened with superblocks that are alike.
+abbrev pub IfFilledRight : Given → List Operation → Option ℕ → Epoch → Type 0 → Type 0
+IfFilledRight given tape backup epoch fact =
+    FillsRight (world_of given tape backup epoch) epoch.entries.items → HasRoomForEvents (world_of given tape backup epoch)
+    → OpensAlike (world_of given tape backup epoch) → fact
+
 -- The epoch begins, and each of its entries ends, within the tape, and what its opening found was refused for nothing. Where its history can be relied
--- on, it is legal, and if it opened sound, each reshape of it ends right.
+-- on, it is legal, and if it opened sound, each reshape of it ends right. Where the array kept its shape, its history is legal as one of one shape, if no role is
+-- told lost in it or it opened sound, and no refusal of a reshape is told.
 pub record IsLegalEpoch (given : Given) (tape : List Operation) (backup : Option ℕ) (epoch : Epoch) : Type 0 where
   pub begun : epoch.first ≤ length tape
   pub accepted : OpensAccepted (world_of given tape backup epoch)
   pub ends : EndBy (length tape) epoch.entries.items
   pub legal : IfReliable given tape backup epoch (IsLegal (world_of given tape backup epoch) epoch.entries.items)
   pub reshaped : IfReliable given tape backup epoch (OpensFit (world_of given tape backup epoch) → IsReshaped (world_of given tape backup epoch) epoch.entries.items)
+  pub plain : IfShapeKept given tape backup epoch (IsPlainEpoch given tape backup epoch)
 
 abbrev pub AreLegal : Given → List Operation → Option ℕ → List Epoch → Type 0
 AreLegal given tape backup epochs = All (λ epoch. IsLegalEpoch given tape backup epoch) epochs
 
--- Such an epoch is right, also where members were lost in it: it lies within the tape, is legal, safe at each of its marks, stays sound,
--- and, if it opened sound, each reshape of it ends right.
+-- Where its history can be relied on, an epoch is right, also where members were lost in it: it lies within the tape, is legal, safe at each of its marks, stays sound,
+-- and, if it opened sound, each reshape of it ends right. Where the array kept its shape, it is so, and no reshape ends wrong, if what was filled in is right.
+pub record IsRightEpoch (given : Given) (tape : List Operation) (backup : Option ℕ) (epoch : Epoch) : Type 0 where
+  pub kept : IfReliable given tape backup epoch (IsEpochKept given tape backup epoch)
+  pub plain : IfShapeKept given tape backup epoch (IfFilledRight given tape backup epoch (IsEpochRight given tape backup epoch))
+
 abbrev pub AreRight : Given → List Operation → Option ℕ → List Epoch → Type 0
-AreRight given tape backup epochs = All (λ epoch. IfReliable given tape backup epoch (IsEpochKept given tape backup epoch)) epochs
+AreRight given tape backup epochs = All (λ epoch. IsRightEpoch given tape backup epoch) epochs
 
 -- Such an epoch is safe at each mark up to the tape's end, and stays sound, as far as nothing but flushes was done behind it.
 abbrev pub IsSafeEpoch : Given → List Operation → Option ℕ → Epoch → Type 0

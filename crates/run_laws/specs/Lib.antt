@@ -3,6 +3,7 @@ pub mod Ended
 pub mod Examining
 pub mod Histories
 pub mod Making
+pub mod Plain
 pub mod Replies
 pub mod Showing
 pub mod States

@@ -1,5 +1,5 @@
 -- The bank of a run with or without an array on it, and what a line does to it.
-use Rattle.std.specs.Prelude.{◌≡◌, ◌⊎◌, ℕ, ◌+◌, ◌<◌, ◌≤◌, ◌^◌, ◌++◌, true, List, [], ◌∷◌, length, slice_get, vec_capacity, Option, Some, MatchOption, Result, Ok, Err, IfSome, IsSome, IsTrue, ⊤}
+use Rattle.std.specs.Prelude.{◌≡◌, ◌⊎◌, ℕ, ◌+◌, ◌<◌, ◌≤◌, ◌^◌, ◌++◌, true, List, [], ◌∷◌, length, take, slice_get, vec_capacity, Option, Some, None, MatchOption, Result, Ok, Err, IfSome, IsSome, IsTrue, ⊤}
 use Rattle.std.specs.List.{All}
 use Rattle.md_base.specs.declared.answers.NoMemory.{NoMemory}
 use Rattle.md_base.specs.declared.answers.Refusal.{Refusal}
@@ -9,7 +9,7 @@ use Rattle.flat_history.specs.declared.events.Event.{Event}
 use Rattle.flat_history.specs.declared.events.Event.TheVariants.{Lost, SpareLost, Stepped, Refused}
 use Rattle.flat_history.specs.declared.events.LostCause.{LostCause}
 use Rattle.flat_history.specs.declared.events.LostCause.TheVariants.{Absent, Recovering, Command, Fault}
-use Rattle.flat_history.specs.Flat.{rest_of_call, next_number, length_of}
+use Rattle.flat_history.specs.Flat.{rest_of_call, next_number, length_of, limit_of}
 use Rattle.views.specs.Parts.{Parts}
 use Rattle.superblocks.specs.Reading.{list_length}
 use Rattle.running_words.specs.Parts.{RunningParts}
@@ -72,12 +72,13 @@ pub record IsOfScript (history : History) : Type 0 where
 abbrev pub AreOfScript : List History → Type 0
 AreOfScript histories = All IsOfScript histories
 
--- the histories are of the script alone, and that of the array that runs is not ended, and tells no other length than that of its list; and there is room for it
+-- the histories are of the script alone, and that of the array that runs is not ended, tells no other length than that of its list, and limits it nowhere; and there is room for it
 pub record IsOwn (before : List History) (running : History) (size count capacity : ℕ) : Type 0 where
   pub former : AreOfScript before
   pub script : IsByScript running
   pub going : AreGoing running.entries
   pub sized : length_of size running.entries ≡ size
+  pub unlimited : limit_of running.entries ≡ None
   pub room : count < capacity
   pub few : count < 2 ^ 32
 
@@ -158,7 +159,7 @@ IsWaitingAt size entries [] number next = next ≡ number
 IsWaitingAt size entries (first ∷ others) number next =
     IsReplyAt size entries first number (Step steps_at_once) × IsTrue (leaves_more_at entries first) × IsWaitingAt size entries others (number + 1) next
 
--- the array that runs was asked by a wait, for which memory was short after so many of its calls, when its list had this length
+-- the array that runs was asked by a wait, for which memory was short after so many of its calls, when its list had the length that the entries so far tell
 pub record IsWaitCut (histories : List History) (old new : Course) : Type 0 where
   pub running : IsTrue old.running
   pub place : ℕ
@@ -168,8 +169,9 @@ pub record IsWaitCut (histories : List History) (old new : Course) : Type 0 wher
   pub earlier : List ℕ
   pub next : ℕ
   pub waiting : IsWaitingAt old.size history.entries earlier old.calls next
-  pub size : ℕ
-  pub now : new ≡ gone_on next size old
+  pub upto : ℕ
+  pub within : upto ≤ length history.entries
+  pub now : new ≡ gone_on next (length_of old.size (take upto history.entries)) old
 
 -- a line that was cut short is a wait
 abbrev pub IsCutShort : List History → Course → Line → Course → Type 0

@@ -2,6 +2,7 @@
 //! between two lines.
 #![tactic(auto)]
 
+pub mod laws;
 mod report;
 mod states;
 

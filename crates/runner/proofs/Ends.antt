@@ -11,9 +11,8 @@ use Rattle.flat_history.specs.declared.events.Event.TheVariants.{Halted}
 use Rattle.flat_history.specs.Flat.{next_number, last_of}
 use Rattle.md_base.specs.declared.answers.Who.{Who}
 use Rattle.array_kept.specs.Calls.{IsEntered}
-use Rattle.views.specs.Parts.{Parts}
-use Rattle.views.specs.Whole.{list_size}
-use Rattle.views.specs.Placed.{places_of}
+use Rattle.running_words.specs.Parts.{RunningParts}
+use Rattle.superblocks.specs.Reading.{list_length}
 use Rattle.script.specs.declared.lines.Line.TheVariants.{Halt}
 use Rattle.script.specs.declared.lines.Numbered.{Numbered}
 use Rattle.runner.specs.declared.sessions.Session.{Session}
@@ -46,14 +45,14 @@ last-snoc [] e = refl
 last-snoc (x ∷ xs) e = ap (λ (o : Option Entry). Some (unwrap_or o x)) (last-snoc xs e)
 
 -- the array that ran was halted
-pub ended_running : {B tells : Type 0} {tape : List Operation} {place : ℕ} (setting : Setting) (who : Who) (array : Parts B) (epoch : Epoch) (epochs ended : Vec Epoch) → ended.items ≡ epochs.items ++ epoch ∷ [] → RunsOwn (Running array epochs)
-    → IsEntered tells tape who array.entries epoch.entries.items (Halted ∷ []) → epoch.uuid ≡ array.uuid → epoch.given ≡ array.given → epoch.first ≡ array.first
-    → (asked : IsAskedAt (list_size (places_of array.members)) Halt array.entries epoch.entries.items place) → asked.event ≡ Halted
-    → IsEnded setting (Running array epochs) array.bank ended.items
+pub ended_running : {B tells : Type 0} {tape : List Operation} {place : ℕ} (setting : Setting) (who : Who) (array : RunningParts B) (epoch : Epoch) (epochs ended : Vec Epoch) → ended.items ≡ epochs.items ++ epoch ∷ [] → RunsOwn (Running array epochs)
+    → IsEntered tells tape who array.parts.entries epoch.entries.items (Halted ∷ []) → epoch.uuid ≡ array.parts.uuid → epoch.given ≡ array.parts.given → epoch.first ≡ array.parts.first
+    → (asked : IsAskedAt (list_length array.parts.members.newest) Halt array.parts.entries epoch.entries.items place) → asked.event ≡ Halted
+    → IsEnded setting (Running array epochs) array.parts.bank ended.items
 ended_running {place = place} setting who array epoch epochs ended items own entered uuid given first asked halts =
     let still : Setting = record { tells = ⊥; given = record { slots = 0; sectors = λ s. 0; start = λ s k. [] }; tape = []; backup = None; began = 0; before = λ s. 0; now = λ s. 0 } in
-    let turn = turn_ended still array epoch array.bank epochs ended items own (losses-halted still who (history_of epoch) entered) uuid given first Halt place asked (λ t. absurd t) (ap is_end halts) in
-    let are = now_are still array epoch array.bank epochs ended items own (losses-halted still who (history_of epoch) entered) uuid given first in
+    let turn = turn_ended still array epoch array.parts.bank epochs ended items own (losses-halted still who (history_of epoch) entered) uuid given first Halt place asked (λ t. absurd t) (ap is_end halts) in
+    let are = now_are still array epoch array.parts.bank epochs ended items own (losses-halted still who (history_of epoch) entered) uuid given first in
     let many : length (histories_of ended.items) ≡ length (histories_of epochs.items) + 1 =
     ap (λ (l : List History). length l) are ∙ length-append (histories_of epochs.items) (history_of epoch ∷ []) in
     record {
@@ -61,16 +60,16 @@ ended_running {place = place} setting who array epoch epochs ended items own ent
       grown = turn.grown;
       halted = record {
         count = many ∙ ap (λ (n : ℕ). n + 1) (length-map epochs.items history_of);
-        halted = λ _. subst (λ (o : Option History). MatchOption o ⊥ (λ history. IsHalted (next_number 0 array.entries) history))
+        halted = λ _. subst (λ (o : Option History). MatchOption o ⊥ (λ history. IsHalted (next_number 0 array.parts.entries) history))
             (sym (ap (λ (l : List History). slice_get l (length (histories_of ended.items) - 1)) are
             ∙ ap (λ (n : ℕ). slice_get (histories_of epochs.items ++ history_of epoch ∷ []) n) {y = length (histories_of epochs.items)} (omega (arith, many)) ∙ get_last (histories_of epochs.items) (history_of epoch)))
-            (subst (λ (o : Option Entry). MatchOption o ⊥ (λ e. (e.caller ≡ 0) × (e.number ≡ next_number 0 array.entries) × (e.event ≡ Halted)))
-            (sym (ap (λ (l : List Entry). last_of l) (with_reply asked) ∙ last-snoc (array.entries ++ asked.inner) (one (script_who array.entries) asked.end asked.event)))
+            (subst (λ (o : Option Entry). MatchOption o ⊥ (λ e. (e.caller ≡ 0) × (e.number ≡ next_number 0 array.parts.entries) × (e.event ≡ Halted)))
+            (sym (ap (λ (l : List Entry). last_of l) (with_reply asked) ∙ last-snoc (array.parts.entries ++ asked.inner) (one (script_who array.parts.entries) asked.end asked.event)))
             (refl, refl, halts));
       };
       script = turn.own;
-      losses = subst (λ (l : List History). AreLossesFrom setting (histories_of epochs.items ++ running_history array ∷ []) l) (sym are)
-          (losses-last setting (histories_of epochs.items) (running_history array) (history_of epoch) (losses-halted setting who (history_of epoch) entered));
+      losses = subst (λ (l : List History). AreLossesFrom setting (histories_of epochs.items ++ running_history array.parts ∷ []) l) (sym are)
+          (losses-last setting (histories_of epochs.items) (running_history array.parts) (history_of epoch) (losses-halted setting who (history_of epoch) entered));
     }
 
 -- nothing ran

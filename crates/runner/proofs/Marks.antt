@@ -7,19 +7,25 @@ use Rattle.flat_history.specs.declared.events.Epoch.{Epoch}
 use Rattle.run_laws.specs.Histories.{History, history_of, histories_of}
 use Rattle.bank.specs.Given.{Given, sizes}
 use Rattle.bank.specs.declared.bank.Operation.{Operation}
+use Rattle.flat_history.specs.Legal.{IsLegal}
+use Rattle.flat_history.specs.Reshaped.{IsReshaped}
+use Rattle.history_calls.specs.Reliable.{IsReliable}
+use Rattle.running_words.specs.Plans.{KeepsShape}
+use Rattle.still_laws.specs.Plain.{AreToldPlainly}
+use Rattle.flat_history.specs.Epochs.{world_of}
 use Rattle.flat_history.specs.OneShape.{opening_in, IsOneShapeLegal}
+use Rattle.flat_history.proofs.OneShapeLegal.{found-in, one_shape-legal}
+use Rattle.run_laws.proofs.Plain.{kept-fills}
 use Rattle.run_laws.specs.declared.states.State.{State}
 use Rattle.flat_history.specs.World.{World}
 use Rattle.flat_history.specs.CrashSafe.{IsCrashSafe}
-use Rattle.flat_history.specs.Epochs.{HasRoomForEvents, OpensAlike, world_of, IsEpochRight}
 use Rattle.flat_history.specs.Growing.{EndBy}
 use Rattle.flat_history.specs.Reopened.{OpensAccepted}
-use Rattle.flat_history.specs.Sound.{FillsRight, StaysSound}
+use Rattle.flat_history.specs.Sound.{OpensFit, FillsRight, StaysSound}
 use Rattle.run_laws.specs.Making.{Setting}
-use Rattle.run_laws.specs.Ended.{IsLegalEpoch, AreLegal, IsSafeEpoch, AreSafe, AreRising, AreFormer, IfFilledRight, AreRight, next_mark}
+use Rattle.run_laws.specs.Ended.{IsLegalEpoch, AreLegal, IsSafeEpoch, AreSafe, AreRising, AreFormer, IsRightEpoch, AreRight, next_mark}
 use Rattle.runner.specs.Runs.{AreHalted, IsEnded, mark_behind, AreEndedBelow, AreEndedAt}
 use Rattle.run_laws.specs.States.{histories_in, course_in, AreOfScript, AreGrown, AreLossesFrom}
-use Rattle.flat_history.proofs.OneShapeLegal.{found-in, one_shape-legal}
 use Rattle.std.specs.Option.{option_map_or}
 use Rattle.run_laws.proofs.Legal.{next_within}
 
@@ -58,7 +64,14 @@ legal_same given tape backup old new same was = record {
   begun = omega (arith, was.begun, ap (λ (h : History). h.first) same);
   accepted = subst (λ (h : History). OpensAccepted (over given tape backup h)) (sym same) was.accepted;
   ends = subst (λ (h : History). EndBy (length tape) h.entries) (sym same) was.ends;
-  legal = subst (λ (h : History). FillsRight (over given tape backup h) h.entries → IsOneShapeLegal (opening_in (over given tape backup h)) (length tape) h.entries) (sym same) was.legal;
+  legal = subst (λ (h : History). IsReliable (over given tape backup h) h.entries → IsLegal (over given tape backup h) h.entries) (sym same) was.legal;
+  reshaped = subst (λ (h : History). IsReliable (over given tape backup h) h.entries → OpensFit (over given tape backup h) → IsReshaped (over given tape backup h) h.entries) (sym same) was.reshaped;
+  plain = λ keeps.
+      let plain = was.plain (subst (λ (h : History). KeepsShape (over given tape backup h) h.entries) same keeps) in
+      record {
+        legal = subst (λ (h : History). FillsRight (over given tape backup h) h.entries → IsOneShapeLegal (opening_in (over given tape backup h)) (length tape) h.entries) (sym same) plain.legal;
+        plainly = subst (λ (h : History). AreToldPlainly h.entries) (sym same) plain.plainly;
+      };
 }
 
 legal_kept : (given : Given) (tape : List Operation) (backup : Option ℕ) (olds news : List Epoch) → histories_of news ≡ histories_of olds → AreLegal given tape backup olds → AreLegal given tape backup news
@@ -77,7 +90,7 @@ legal_kept given tape backup (old ∷ olds) (new ∷ news) same was =
 
 abbrev sound_of : Given → List Operation → Option ℕ → History → Type 0
 sound_of given tape backup h =
-    FillsRight (over given tape backup h) h.entries → HasRoomForEvents (over given tape backup h) → OpensAlike (over given tape backup h)
+    IsReliable (over given tape backup h) h.entries
     → IsCrashSafe (over given tape backup h) (length tape) h.entries × StaysSound (over given tape backup h) (length tape) h.entries
 
 safe_same : (given : Given) (tape : List Operation) (backup : Option ℕ) (old new : Epoch) → history_of new ≡ history_of old
@@ -120,24 +133,39 @@ ended_to ops (e ∷ f ∷ epochs) ended = (ended 0 e (omega arith), ended_to ops
     behind : (h : History) (hs : List History) (k : ℕ) → mark_behind ops (h ∷ hs) (suc k) ≡ mark_behind ops hs k
     behind h hs k = ap (λ (n : ℕ). option_map_or (λ (history : History). history.first) (slice_get (h ∷ hs) n) ops) {x = suc k + 1} {y = suc (k + 1)} (omega arith)
 
--- where what was filled in is right, such a history is
+-- where an epoch can be relied on, it is right; and one that kept its shape, where what was filled in is
+right_epoch : (given : Given) (tape : List Operation) (backup : Option ℕ) (epoch : Epoch) → IsLegalEpoch given tape backup epoch → IsSafeEpoch given tape backup epoch → epoch.first ≤ epoch.last → epoch.last ≤ length tape
+    → IsRightEpoch given tape backup epoch
+right_epoch given tape backup epoch legal safe begun within = record {
+  kept = λ relied. record {
+    begins = begun;
+    ends = within;
+    legal = legal.legal relied;
+    safe = λ mark low high only. (safe relied).0 mark low (omega (arith, high, within)) only;
+    sound = λ opens mark low high only. (safe relied).1 opens mark low (omega (arith, high, within)) only;
+    reshaped = legal.reshaped relied;
+  };
+  plain = λ keeps fills room alike.
+      let world = world_of given tape backup epoch in
+      let relied : IsReliable world epoch.entries.items = record { fills = kept-fills world epoch.entries.items keeps fills; room = room; alike = alike } in
+      let right = one_shape-legal world (opening_in world) epoch.entries.items (found-in world) ((legal.plain keeps).legal fills) in
+      record {
+        begins = begun;
+        ends = within;
+        legal = right.0;
+        safe = λ mark low high only. (safe relied).0 mark low (omega (arith, high, within)) only;
+        sound = λ opens mark low high only. (safe relied).1 opens mark low (omega (arith, high, within)) only;
+        reshaped = right.1;
+      };
+}
+
 pub all_right : (given : Given) (tape : List Operation) (backup : Option ℕ) (epochs : List Epoch) → AreFormer given tape backup (length tape) epochs → AreEndedTo (length tape) epochs → AreRight given tape backup epochs
-all_right given tape backup [] was ended = All-nil (λ e. IfFilledRight given tape backup e (IsEpochRight given tape backup e))
+all_right given tape backup [] was ended = All-nil (λ e. IsRightEpoch given tape backup e)
 all_right given tape backup (e ∷ epochs) was (last, ended) =
-    let legal = All-head (λ e. IsLegalEpoch given tape backup e) e epochs was.legal in
-    let world = world_of given tape backup e in
-    All-cons (λ e. IfFilledRight given tape backup e (IsEpochRight given tape backup e)) e epochs
-    (λ fills room alike. let right = one_shape-legal world (opening_in world) e.entries.items (found-in world) (legal.legal fills) in
     let within = next_within tape epochs was.rising.1 in
-    let fine = All-head (λ e. IsSafeEpoch given tape backup e) e epochs was.safe fills room alike in
-    record {
-      begins = omega (arith, last, was.rising.0.0);
-      ends = omega (arith, last, within);
-      legal = right.0;
-      safe = λ mark low high only. fine.0 mark low (omega (arith, high, last, within)) only;
-      sound = λ opens mark low high only. fine.1 opens mark low (omega (arith, high, last, within)) only;
-      reshaped = right.1;
-    })
+    All-cons (λ e. IsRightEpoch given tape backup e) e epochs
+    (right_epoch given tape backup e (All-head (λ e. IsLegalEpoch given tape backup e) e epochs was.legal) (All-head (λ e. IsSafeEpoch given tape backup e) e epochs was.safe)
+    (omega (arith, last, was.rising.0.0)) (omega (arith, last, within)))
     (all_right given tape backup epochs (record {
       legal = All-tail (λ e. IsLegalEpoch given tape backup e) e epochs was.legal;
       safe = All-tail (λ e. IsSafeEpoch given tape backup e) e epochs was.safe;

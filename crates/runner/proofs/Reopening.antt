@@ -14,13 +14,16 @@ use Rattle.flat_history.specs.Epochs.{world_of}
 use Rattle.flat_history.specs.Flat.{rest_of_call}
 use Rattle.flat_history.specs.Growing.{EndBy}
 use Rattle.flat_history.specs.OneShape.{ShapeOpening, opening_in, IsOneShapeEvent, AreOneShape}
+use Rattle.flat_history.specs.Reopened.{IsFoundLater}
 use Rattle.flat_history.proofs.ReopenedLaws.{settled-found}
+use Rattle.reopened_laws.proofs.Settled.{settled-found-later}
 use Rattle.run_laws.specs.Ended.{IsLegalEpoch, IsSafeEpoch, AreFormer}
-use Rattle.runner.specs.Kept.{IsListKept, IsSoundKept, AreKept}
+use Rattle.run_laws.proofs.Plain.{kept-fills}
+use Rattle.runner.specs.Kept.{IsFoundAgain, IsListKept, IsSoundKept, AreKept}
 use Rattle.reopened_laws.proofs.FewerSound.{sound-found-later}
 use Rattle.run_laws.proofs.Legal.{next_within}
 
--- ---- an idle array's history
+-- ---- an array that keeps its shape
 
 -- no event of it changes the length
 event_keeps : (opening : ShapeOpening) (before : List Entry) (e : Entry) (rest : List Entry) (event : Event) → IsOneShapeEvent opening before e rest event → is_resized event ≡ false
@@ -38,16 +41,21 @@ entries_keep opening ops before (e ∷ entries) plain =
 
 one_kept : (given : Given) (tape : List Operation) (backup : Option ℕ) (former next : Epoch) → IsLegalEpoch given tape backup former → IsLegalEpoch given tape backup next → IsSafeEpoch given tape backup former
     → former.first ≤ next.first → EndBy next.first former.entries.items → next.first ≤ length tape → IsListKept given tape backup former next
-one_kept given tape backup former next legal opened safe later made within fills room alike again =
-    let world = world_of given tape backup former in
-    let keeps = entries_keep (opening_in world) (length tape) [] former.entries.items (legal.legal fills) in
-    settled-found world (world_of given tape backup next) former.entries.items (length tape) keeps (safe fills room alike).0 within
-    (record { start = refl; tape = refl; array = again.again.array; later = later; within = within; made = made; flushes = again.again.flushes }) opened.accepted again.settled
+one_kept given tape backup former next legal opened safe later made within = record {
+  relied = λ relied kept again. settled-found-later (world_of given tape backup former) (world_of given tape backup next) former.entries.items (length tape) kept (safe relied).0 within (later_found again) opened.accepted again.settled;
+  plain = λ keeps fills room alike again.
+      settled-found (world_of given tape backup former) (world_of given tape backup next) former.entries.items (length tape)
+      (entries_keep (opening_in (world_of given tape backup former)) (length tape) [] former.entries.items ((legal.plain keeps).legal fills))
+      (safe (record { fills = kept-fills (world_of given tape backup former) former.entries.items keeps fills; room = room; alike = alike })).0 within (later_found again) opened.accepted again.settled;
+}
+  where
+    later_found : IsFoundAgain given tape backup former next → IsFoundLater (world_of given tape backup former) former.entries.items (world_of given tape backup next)
+    later_found again = record { start = refl; tape = refl; array = again.again.array; later = later; within = within; made = made; flushes = again.again.flushes }
 
 sound_kept : (given : Given) (tape : List Operation) (backup : Option ℕ) (former next : Epoch) → IsLegalEpoch given tape backup next → IsSafeEpoch given tape backup former
     → former.first ≤ next.first → EndBy next.first former.entries.items → next.first ≤ length tape → IsSoundKept given tape backup former next
 sound_kept given tape backup former next opened safe later made within fit room alike again =
-    let kept = safe (inr fit) room alike in
+    let kept = safe (record { fills = inr fit; room = room; alike = alike }) in
     sound-found-later (world_of given tape backup former) (world_of given tape backup next) former.entries.items (length tape) fit kept.0 kept.1 within
     (record { start = refl; tape = refl; array = again.array; later = later; within = within; made = made; flushes = again.flushes }) opened.accepted
 

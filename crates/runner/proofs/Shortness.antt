@@ -6,14 +6,16 @@ use Rattle.std.specs.Option.{option_and_then}
 use Rattle.flat_history.specs.declared.events.Entry.{Entry}
 use Rattle.flat_history.specs.declared.events.Event.{Event}
 use Rattle.flat_history.specs.declared.events.Event.TheVariants.{Read as IsRead, Shown}
-use Rattle.flat_history.specs.declared.events.Request.TheVariants.{Read as AsksRead, Write as AsksWrite, Flush as AsksFlush, Fail as AsksFail, Add as AsksAdd, Steps as AsksSteps}
+use Rattle.flat_history.specs.declared.events.Request.TheVariants.{Read as AsksRead, Write as AsksWrite, Flush as AsksFlush, Fail as AsksFail, Add as AsksAdd, Grow as AsksGrow, Steps as AsksSteps}
 use Rattle.flat_history.specs.Fits.{FitsStop, FitsHalt}
 use Rattle.flat_history.specs.Legal.{call_before}
 use Rattle.flat_history.specs.OneShape.{OneShapeAnswers}
+use Rattle.running_replies.specs.Replies.{RunningAnswers}
+use Rattle.md_base.specs.declared.wishes.Wish.{Wish}
 use Rattle.script.specs.Script.{is_within_limits}
 use Rattle.script.specs.Seeds.{seeded}
 use Rattle.script.specs.declared.lines.Line.{Line}
-use Rattle.script.specs.declared.lines.Line.TheVariants.{Create, Read, Write, Flush, Fail, Add, Step, Wait, Stop, Halt, Detail, Mdstat, Examine, Assemble}
+use Rattle.script.specs.declared.lines.Line.TheVariants.{Create, Read, Write, Flush, Fail, Add, Grow, Step, Wait, Stop, Halt, Detail, Mdstat, Examine, Assemble}
 use Rattle.run_laws.specs.declared.report.Answered.{Answered}
 use Rattle.run_laws.specs.declared.report.Answered.TheVariants.{Inside, Outside as IsOutside}
 use Rattle.run_laws.specs.Histories.{History}
@@ -27,7 +29,7 @@ short_read size before call at count (IsRead a body) few is = omega (arith, few,
 short_read size before call at count (Shown status) few is = absurd is
 short_read size before call at count event few is = tt
 
-short_write : (size : ℕ) (before call : List Entry) (at : ℕ) (body : List (List ℕ)) (event : Event) → OneShapeAnswers size before call (AsksWrite at body) event → IsShort event
+short_write : (size : ℕ) (before call : List Entry) (at : ℕ) (body : List (List ℕ)) (event : Event) → RunningAnswers size before call (AsksWrite at body) event → IsShort event
 short_write size before call at body (IsRead a b) is = absurd is
 short_write size before call at body (Shown status) is = absurd is
 short_write size before call at body event is = tt
@@ -47,7 +49,12 @@ short_add size before call slot (IsRead a b) is = absurd is
 short_add size before call slot (Shown status) is = absurd is
 short_add size before call slot event is = tt
 
-short_steps : (size : ℕ) (before call : List Entry) (most : ℕ) (event : Event) → OneShapeAnswers size before call (AsksSteps most) event → IsShort event
+short_grow : (size : ℕ) (before call : List Entry) (wish : Wish) (event : Event) → RunningAnswers size before call (AsksGrow wish) event → IsShort event
+short_grow size before call wish (IsRead a b) is = absurd is
+short_grow size before call wish (Shown status) is = absurd is
+short_grow size before call wish event is = tt
+
+short_steps : (size : ℕ) (before call : List Entry) (most : ℕ) (event : Event) → RunningAnswers size before call (AsksSteps most) event → IsShort event
 short_steps size before call most (IsRead a b) is = absurd is
 short_steps size before call most (Shown status) is = absurd is
 short_steps size before call most event is = tt
@@ -77,6 +84,7 @@ short_line size before e (Write at count seed) limits is = short_write size befo
 short_line size before e Flush limits is = short_flush size before (call_before before e) e.event is.answers
 short_line size before e (Fail role) limits is = short_fail size before (call_before before e) role e.event is.answers
 short_line size before e (Add slot) limits is = short_add size before (call_before before e) slot e.event is.answers
+short_line size before e (Grow wish) limits is = short_grow size before (call_before before e) wish e.event is.answers
 short_line size before e (Step most) limits is = short_steps size before (call_before before e) most e.event is.answers
 short_line size before e Wait limits is = absurd is
 short_line size before e Stop limits is = short_stop e.event is

@@ -10,7 +10,8 @@ use Rattle.flat_history.specs.Reopened.{EndsSettled, OpensWith, IsSameArray}
 use Rattle.flat_history.specs.Sound.{OpensFit}
 use Rattle.flat_history.specs.Transfers.{last_end_from}
 use Rattle.flat_history.specs.World.{opening_list}
-use Rattle.run_laws.specs.Ended.{IfFilledRight}
+use Rattle.run_laws.specs.Ended.{IfReliable, IfShapeKept, IfFilledRight}
+use Rattle.reopened_laws.specs.Later.{IsLengthKept}
 
 -- The next epoch is of the same array, behind nothing but flushes: in the same slots, or in fewer, where by what they hold those that lack, as
 -- failed ones do, have no part in it any more.
@@ -23,12 +24,16 @@ pub record IsFoundAgain (given : Given) (tape : List Operation) (backup : Option
   pub settled : EndsSettled former.entries.items
   pub again : IsOpenedAgain given tape backup former next
 
--- Where what the former epoch filled in is right and it is found again, the next one opens with the list that the former left, sector by
--- sector, also where members were lost.
-abbrev pub IsListKept : Given → List Operation → Option ℕ → Epoch → Epoch → Type 0
-IsListKept given tape backup former next =
-    IfFilledRight given tape backup former (IsFoundAgain given tape backup former next
-    → OpensWith (world_of given tape backup next) (opening_list (world_of given tape backup former)) former.entries.items)
+-- the next one opens with the list that the former left, sector by sector
+abbrev pub OpensAsLeft : Given → List Operation → Option ℕ → Epoch → Epoch → Type 0
+OpensAsLeft given tape backup former next =
+    IsFoundAgain given tape backup former next → OpensWith (world_of given tape backup next) (opening_list (world_of given tape backup former)) former.entries.items
+
+-- Where the former epoch can be relied on, and some slot kept the last change of its list's length, if there was one, the next one that finds it again opens as it left it, also where members were
+-- lost. Where the former kept its shape, it is enough that what it filled in is right.
+pub record IsListKept (given : Given) (tape : List Operation) (backup : Option ℕ) (former next : Epoch) : Type 0 where
+  pub relied : IfReliable given tape backup former (IsLengthKept (world_of given tape backup former) former.entries.items → OpensAsLeft given tape backup former next)
+  pub plain : IfShapeKept given tape backup former (IfFilledRight given tape backup former (OpensAsLeft given tape backup former next))
 
 -- Where the former epoch opened fit, with room for its events and superblocks that are alike, and is opened again, perhaps in fewer slots, the
 -- next one opens sound, however the former ended.

@@ -2,6 +2,8 @@
 #![tactic(auto)]
 
 #[cfg(test)]
+mod grows;
+#[cfg(test)]
 mod parts;
 #[cfg(test)]
 mod runs;

@@ -16,24 +16,29 @@ use text_io::{MemorySink, MemorySource};
 const CREATE: &str =
     "create 6ba7b810-9dad-11d1-80b4-00c04fd430c8 level=5 disks=3 chunk=8 size=40 offset=16\n";
 
-/// A run: its words, whether the line above stands first, the lines behind it, and the numbers of the calls of bank, source
-/// and sink that fail; and then the status, the first bad line and the replies.
-struct Row {
-    words: &'static [&'static str],
-    create: bool,
-    lines: &'static str,
-    calls: &'static [u64],
-    pulls: &'static [u64],
-    pushes: &'static [u64],
-    status: u8,
-    bad_line: u64,
-    output: &'static [u8],
+/// A run: its words, whether the line above stands first, the lines behind it, the length of a slot and how many operations
+/// the bank has room for, and the numbers of the calls of bank, source and sink that fail; and then the status, the first bad
+/// line and the replies.
+pub struct Row {
+    pub words: &'static [&'static str],
+    pub create: bool,
+    pub lines: &'static str,
+    pub length: u64,
+    pub room: u64,
+    pub calls: &'static [u64],
+    pub pulls: &'static [u64],
+    pub pushes: &'static [u64],
+    pub status: u8,
+    pub bad_line: u64,
+    pub output: &'static [u8],
 }
 
-const PLAIN: Row = Row {
+pub const PLAIN: Row = Row {
     words: &["memory"],
     create: true,
     lines: "",
+    length: 64,
+    room: 800,
     calls: &[],
     pulls: &[],
     pushes: &[],
@@ -88,12 +93,12 @@ fn bank_of(alloc: Global, row: &Row, slots: usize) -> Result<MemoryBank, Fail>
     if slots > 32 {
         return Err(Fail::from("too many slots"));
     }
-    let mut lengths = vec![in alloc; 64; slots]?;
+    let mut lengths = vec![in alloc; row.length; slots]?;
     if slots > 6 {
         lengths[6] = 48;
     }
     let calls = Vec::from_slice(alloc, row.calls)?;
-    Ok(MemoryBank::new(alloc, lengths, 800, calls)?)
+    Ok(MemoryBank::new(alloc, lengths, row.room, calls)?)
 }
 
 fn steps(_turn: u64, left: u64) -> u64
@@ -120,7 +125,7 @@ fn ran<R: Threads + Wait + Sync>(
     Ok((report, taken))
 }
 
-fn compare<R: Threads + Wait + Sync + Abort>(
+pub fn compare<R: Threads + Wait + Sync + Abort>(
     rt: &R,
     alloc: Global,
     rows: &[Row],

@@ -40,7 +40,7 @@ abbrev pub EachOf : (Event → Type 0) → List Event → Type 0
 EachOf P [] = ⊤
 EachOf P (x ∷ xs) = P x × EachOf P xs
 
-pub each-append : (P : Event → Type 0) (xs ys : List Event) → EachOf P xs → EachOf P ys → EachOf P (xs ++ ys)
+each-append : (P : Event → Type 0) (xs ys : List Event) → EachOf P xs → EachOf P ys → EachOf P (xs ++ ys)
 each-append P [] ys first second = second
 each-append P (x ∷ xs) ys first second = (first.0, each-append P xs ys first.1 second)
 

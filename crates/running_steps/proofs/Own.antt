@@ -48,7 +48,7 @@ own-did tells given tape faults old new was held given_is = record {
   ended = was.ended;
 }
 
-pub of-kind : (kind : StepKind) (left : ℕ) → is_finish (Step kind left) ≡ false → IsOfStep left (Step kind left)
+of-kind : (kind : StepKind) (left : ℕ) → is_finish (Step kind left) ≡ false → IsOfStep left (Step kind left)
 of-kind Finished left none = absurd (cc)
 of-kind kind left none = refl
 

@@ -32,15 +32,12 @@ use Rattle.running_steps.proofs.Went.{held-behind, losses-along}
 
 -- ---- a call that goes on
 
-pub open-going : (entries : List Entry) (who : Who) (b : Bool) → MatchBool b (IsCallGoing entries who) (HasKeptLength entries who) → IsCallGoing entries who
+open-going : (entries : List Entry) (who : Who) (b : Bool) → MatchBool b (IsCallGoing entries who) (HasKeptLength entries who) → IsCallGoing entries who
 open-going entries who true was = was
 open-going entries who false was = was.goes
 
 pub going-of : {B : Type 0} (array : RunningParts B) (who : Who) → IsOpenFor array who → IsCallGoing array.parts.entries who
 going-of array who was = open-going array.parts.entries who (is_reshaping array.parts.members.newest) was
-
-pub kept-of : {B : Type 0} (array : RunningParts B) (who : Who) → is_reshaping array.parts.members.newest ≡ false → IsOpenFor array who → HasKeptLength array.parts.entries who
-kept-of array who still was = subst (λ (b : Bool). MatchBool b (IsCallGoing array.parts.entries who) (HasKeptLength array.parts.entries who)) still was
 
 pub open-moving : {B : Type 0} (array : RunningParts B) (who : Who) → is_reshaping array.parts.members.newest ≡ true → IsCallGoing array.parts.entries who → IsOpenFor array who
 open-moving array who active goes = subst (λ (b : Bool). MatchBool b (IsCallGoing array.parts.entries who) (HasKeptLength array.parts.entries who)) (sym active) goes

@@ -112,7 +112,7 @@ backup-failed T Mend resync backup old new before now pending was = by resync (p
     by (Some mended) some was = none (mend_shape old.newest mended) (was mended refl).1
 backup-failed T due resync backup old new before now pending was = no-many new (IfSome backup (λ slot. IsFaulted slot before now)) was.1
 
-pub moved-cause : (T : Type 0) (newest : Sb) (course : Course) (work : Work) (resync backup : Option ℕ) (old new : Members) (before now : ℕ → ℕ) (refusal : Refusal) → IsSome backup
+moved-cause : (T : Type 0) (newest : Sb) (course : Course) (work : Work) (resync backup : Option ℕ) (old new : Members) (before now : ℕ → ℕ) (refusal : Refusal) → IsSome backup
     → IsStepCaused {T = T} (due_of newest course resync) resync backup old new before now (Err (IsRefusedWith refusal)) → IsEndedInReshape work new refusal → IsRefusalBy backup before now refusal
 moved-cause T newest course work resync backup old new before now refusal some caused ended =
     reshape-so (λ r. IsStepCaused {T = T} (due_of newest course resync) resync backup old new before now (Err (IsRefusedWith r)) → IsRefusalBy backup before now r) (λ count most was. tt) (λ role was. tt)

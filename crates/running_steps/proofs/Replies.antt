@@ -38,7 +38,6 @@ use Rattle.array_kept.proofs.ReplyLaws.{none_before}
 use Rattle.grow_asked.specs.declared.window.PhasesLeft.{PhasesLeft}
 use Rattle.kept_history.specs.Recorded.{MayGoOn}
 use Rattle.running_words.specs.Parts.{RunningParts}
-use Rattle.running_words.specs.Calls.{IsCalled}
 use Rattle.still_laws.specs.Steps.{MayAnswer}
 use Rattle.running_replies.specs.Replies.{may_end_early, DidRunningSteps, EndsRunningSteps, IsRefusalBy, IsRefusalToldBy, HasToldBy, IsAnsweredWith}
 use Rattle.running_replies.specs.Going.{is_finish, MayHoldBehind, AreLossesAlong, HasRunOn, IsSameEpoch}
@@ -286,11 +285,6 @@ module _ {B : Type 0} (tells : Type 0) (given : B → Given) (tape : B → List 
     where
       last : List Entry
       last = entries_of who end (event ∷ [])
-
--- as many steps are left behind a reply
-pub left-answered : {B tells : Type 0} {given : Given} {tape tape' : List Operation} {before after : ℕ → ℕ} (mid new : RunningParts B) → IsCalled tells given tape tape' before after mid new → new.parts.members ≡ mid.parts.members → new.course ≡ mid.course
-    → running_left new ≡ running_left mid
-left-answered mid new called members course i = running_left (record mid { parts = record mid.parts { work = called.work i; members = members i }; course = course i; ahead = called.same.ahead i })
 
 -- the reply may close the plans that are open
 pub may-answer : (entries : List Entry) (work : Work) (members : Members) (ahead : PhasesLeft) (done left : ℕ) (ended : Option Refusal) → (ended ≡ None → MayAnswer entries work members ahead (Stepped done left None))

@@ -78,18 +78,6 @@ module _ (p : Event → Bool) (old mid new more rest : List Entry) (early : mid 
   pub none-late : {Fact : Type 0} → list_any (λ e. p e.event) rest ≡ true → list_any (λ e. p e.event) (drop (length old) new) ≡ false → Fact
   none-late is none = absurd (let told = any-late is in let both : true ≡ false = sym told ∙ none in cc)
 
-  -- none is told before them, nor among them, where none is
-  none-parts : list_any (λ e. p e.event) (drop (length old) new) ≡ false → (list_any (λ e. p e.event) more ≡ false) × (list_any (λ e. p e.event) rest ≡ false)
-  none-parts none = by (list_any (λ e. p e.event) more) (list_any (λ e. p e.event) rest)
-      (sym (ap (list_any (λ e. p e.event)) behind-is ∙ list_any-append (λ e. p e.event) more rest) ∙ none)
-    where
-      by : (a b : Bool) → (a || b) ≡ false → (a ≡ false) × (b ≡ false)
-      by true b is = absurd (cc)
-      by false b is = (refl, is)
-
-  pub none-first : list_any (λ e. p e.event) (drop (length old) new) ≡ false → list_any (λ e. p e.event) (drop (length old) mid) ≡ false
-  none-first none = ap (list_any (λ e. p e.event)) (ap (drop (length old)) early ∙ drop-append_seam old more) ∙ (none-parts none).0
-
   quiet-parts : IsTrue (not (list_any (λ e. p e.event) (drop (length old) new))) → IsTrue (not (list_any (λ e. p e.event) more)) × IsTrue (not (list_any (λ e. p e.event) rest))
   quiet-parts none = by (list_any (λ e. p e.event) more) (list_any (λ e. p e.event) rest)
       (sym (ap not (ap (list_any (λ e. p e.event)) behind-is ∙ list_any-append (λ e. p e.event) more rest)) ∙ none)

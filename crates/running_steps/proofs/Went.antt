@@ -54,7 +54,7 @@ loss-more Had More more before after (Lost role Command) is = (is.0, more role i
 loss-more Had More more before after (Lost role cause) is = absurd is
 loss-more Had More more before after event is = is
 
-pub along-all : (members : Members) (before after : ℕ → ℕ) (Had : ℕ → ℕ → Type 0) → ((role slot : ℕ) → Had role slot → MayHold members role slot) → (done xs : List Entry) → All (λ e. IsLossBy Had before after e.event) xs
+along-all : (members : Members) (before after : ℕ → ℕ) (Had : ℕ → ℕ → Type 0) → ((role slot : ℕ) → Had role slot → MayHold members role slot) → (done xs : List Entry) → All (λ e. IsLossBy Had before after e.event) xs
     → AreLossesAlong members before after done xs
 along-all members before after Had had done [] all = tt
 along-all members before after Had had done (x ∷ xs) all = (

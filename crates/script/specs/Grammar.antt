@@ -4,11 +4,12 @@ use Rattle.std.specs.List.{list_all}
 use Rattle.std.specs.Option.{option_and_then}
 use Rattle.uuid.specs.Text.{parsed}
 use Rattle.md_base.specs.declared.places.Shape.{Shape}
+use Rattle.md_base.specs.declared.wishes.Wish.{Wish}
 use Rattle.line_words.specs.Keys.{has_key, given}
 use Rattle.line_words.specs.Layouts.{layout_named}
 use Rattle.line_words.specs.Numbers.{is_space, words_of, number_below}
 use Rattle.script.specs.declared.lines.Line.{Line}
-use Rattle.script.specs.declared.lines.Line.TheVariants.{Create, Read, Write, Flush, Fail, Add, Step, Wait, Stop, Halt, Detail, Mdstat, Examine, Assemble}
+use Rattle.script.specs.declared.lines.Line.TheVariants.{Create, Read, Write, Flush, Fail, Add, Step, Wait, Grow, Stop, Halt, Detail, Mdstat, Examine, Assemble}
 use Rattle.script.specs.declared.grammar.Meaning.{Meaning}
 use Rattle.script.specs.declared.grammar.Meaning.TheVariants.{PassedOver, Opens, Asks, Bad}
 use Rattle.script.specs.declared.reply.Lane.{Lane}
@@ -94,6 +95,17 @@ abbrev pub step_of : List (List ℕ) → Option Line
 step_of (most ∷ []) = option_and_then (λ n. if nat_le 1 n then Some (Step n) else None) (number_below (2 ^ 32) most)
 step_of _ = None
 
+-- a wish for so many disks, and for nothing else
+abbrev pub wish_for_disks : ℕ → Wish
+wish_for_disks disks = record { level = None; disks = Some disks; chunk = None; layout = None }
+
+-- `grow disks=N`, of this key alone
+abbrev pub grow_of : List (List ℕ) → Option Line
+grow_of words =
+    if list_all (has_key (codes "disks=" ∷ [])) words
+    then option_map (λ n. Grow (wish_for_disks n)) (given_number (2 ^ 32) (codes "disks=") None words)
+    else None
+
 -- `examine SLOT`
 abbrev pub examine_of : List (List ℕ) → Option Line
 examine_of (slot ∷ []) = option_map (λ n. Examine n) (number_below (2 ^ 32) slot)
@@ -117,6 +129,7 @@ line_of (verb ∷ values) =
     else if bytes_eq verb (codes "add") then add_of values
     else if bytes_eq verb (codes "step") then step_of values
     else if bytes_eq verb (codes "wait") then alone Wait values
+    else if bytes_eq verb (codes "grow") then grow_of values
     else if bytes_eq verb (codes "stop") then alone Stop values
     else if bytes_eq verb (codes "halt") then alone Halt values
     else if bytes_eq verb (codes "detail") then alone Detail values

@@ -3,14 +3,14 @@
 ghost use Rattle.std.specs.Prelude.{◌≡◌, ◌==◌, slice_index};
 ghost use Rattle.std.specs.List.{list_all};
 ghost use Rattle.uuid.specs.Text.{parsed};
-ghost use Rattle.script.specs.Grammar.{meaning_of, outside_of, inside_of, opens, is_for_lanes, asks_for, for_lanes, is_printable, line_of, alone, create_keys, create_of, shape_of, assemble_of, read_of, write_of, fail_of, add_of, step_of, examine_of, span_of};
+ghost use Rattle.script.specs.Grammar.{meaning_of, outside_of, inside_of, opens, is_for_lanes, asks_for, for_lanes, is_printable, line_of, alone, create_keys, create_of, shape_of, assemble_of, read_of, write_of, fail_of, add_of, step_of, grow_of, examine_of, span_of};
 ghost use Rattle.line_words.specs.Keys.{has_key};
 ghost use Rattle.line_words.specs.Numbers.{is_space, words_of};
 
 use crate::lines::{CreateLine, Line};
 use crate::reply::Lane;
 use line_words::{Words, have_keys, layout_named, number, small_number, value_of};
-use md_base::Shape;
+use md_base::{Shape, Wish};
 use uuid::Uuid;
 
 /// What the text of a line means: it may open a block, or ask something in a lane.
@@ -160,6 +160,8 @@ fn parse_line(mut words: Words<'_>) -> Option<Line>
         parse_step(words)
     } else if verb == b"wait".as_slice() {
         parse_alone(words, Line::Wait)
+    } else if verb == b"grow".as_slice() {
+        parse_grow(words)
     } else if verb == b"stop".as_slice() {
         parse_alone(words, Line::Stop)
     } else if verb == b"halt".as_slice() {
@@ -301,6 +303,22 @@ fn parse_step(mut words: Words<'_>) -> Option<Line>
         return None;
     }
     parse_alone(words, Line::Step { most })
+}
+
+fn parse_grow(words: Words<'_>) -> Option<Line>
+    ensures { result ≡ grow_of (words_of words.entry.line.now) }
+{
+    let keys: [&[u8]; 1] = [b"disks="];
+    if !have_keys(words, &keys) {
+        return None;
+    }
+    let disks = small_number(value_of(words, b"disks=", None)?)?;
+    Some(Line::Grow(Wish {
+        level: None,
+        disks: Some(disks),
+        chunk: None,
+        layout: None,
+    }))
 }
 
 // The sectors from X on, COUNT of them.

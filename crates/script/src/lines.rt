@@ -8,7 +8,7 @@ ghost use Rattle.script.specs.declared.reply.Lane.TheVariants.{Script as OfScrip
 
 use crate::grammar::{Meaning, meaning_of_line};
 use crate::reply::Lane;
-use md_base::Shape;
+use md_base::{Shape, Wish};
 use std::alloc::{AllocError, Global};
 use thiserror::Error;
 
@@ -23,6 +23,7 @@ pub enum Line {
     Add { slot: u32 },
     Step { most: u32 },
     Wait,
+    Grow(Wish),
     Stop,
     Halt,
     Detail,

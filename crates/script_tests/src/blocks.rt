@@ -45,7 +45,7 @@ const OPENED: [Text; 20] = [
     ("Together\nend", Some(1)),
 ];
 
-const LANES: [Text; 26] = [
+const LANES: [Text; 27] = [
     (
         "together\na: read 0 128\nb: write 0 1 4294967295\na: fail 4294967295\nb: flush\nend",
         None,
@@ -61,6 +61,7 @@ const LANES: [Text; 26] = [
     ("together\nb: stop\nend", Some(2)),
     ("together\nb: halt\nend", Some(2)),
     ("together\na: add 4\nend", Some(2)),
+    ("together\na: grow disks=5\nend", Some(2)),
     ("together\na: detail\nend", Some(2)),
     ("together\nb: examine 0\nend", Some(2)),
     ("together\nb: assemble\nend", Some(2)),

@@ -1,8 +1,8 @@
 //! Texts as a user may write them, and what they ask.
 
-use md_base::Shape;
+use md_base::{Shape, Wish};
 use script::{CreateLine, Lane, Line, Numbered, ScriptFault, read_script, seed_sectors};
-use std::alloc::Global;
+use std::alloc::{AllocError, Global};
 use std::process::Abort;
 use std::test::Fail;
 
@@ -57,7 +57,7 @@ const TEXTS: [Text; 28] = [
 ];
 
 // Lines that begin with a verb and a uuid, or not.
-const LINES: [Text; 52] = [
+const LINES: [Text; 51] = [
     ("flush", None),
     ("  stop  ", None),
     ("halt", None),
@@ -107,7 +107,6 @@ const LINES: [Text; 52] = [
         "create 6ba7b810-9dad-11d1-80b4-00c04fd430c level=5 disks=3 size=40",
         Some(1),
     ),
-    ("grow disks=5", Some(1)),
     ("array-size max", Some(1)),
     ("detail", None),
     ("detail 1", Some(1)),
@@ -121,97 +120,61 @@ const LINES: [Text; 52] = [
     ("examine 0 1", Some(1)),
 ];
 
-// Keys of `create` that make the line bad.
-const BAD_KEYS: [Text; 22] = [
-    (
-        "create 6ba7b810-9dad-11d1-80b4-00c04fd430c8 disks=3 size=40",
-        Some(1),
-    ),
-    (
-        "create 6ba7b810-9dad-11d1-80b4-00c04fd430c8 level=5 size=40",
-        Some(1),
-    ),
-    (
-        "create 6ba7b810-9dad-11d1-80b4-00c04fd430c8 level=5 disks=3",
-        Some(1),
-    ),
-    (
-        "create 6ba7b810-9dad-11d1-80b4-00c04fd430c8 level=5 disks=3 size=40 level=5",
-        Some(1),
-    ),
-    (
-        "create 6ba7b810-9dad-11d1-80b4-00c04fd430c8 level=5 disks=3 size=40 chunk=8 chunk=16",
-        Some(1),
-    ),
-    (
-        "create 6ba7b810-9dad-11d1-80b4-00c04fd430c8 level=5 disks=3 size=40 layout=parity-last layout=parity-last",
-        Some(1),
-    ),
-    (
-        "create 6ba7b810-9dad-11d1-80b4-00c04fd430c8 level=5 disks=3 size=40 size=80",
-        Some(1),
-    ),
-    (
-        "create 6ba7b810-9dad-11d1-80b4-00c04fd430c8 level=5 disks=3 size=40 name=home",
-        Some(1),
-    ),
-    (
-        "create 6ba7b810-9dad-11d1-80b4-00c04fd430c8 level=5 disks=3 size=40 spares",
-        Some(1),
-    ),
-    (
-        "create 6ba7b810-9dad-11d1-80b4-00c04fd430c8 level=5 disks=3 size=40 offset",
-        Some(1),
-    ),
-    (
-        "create 6ba7b810-9dad-11d1-80b4-00c04fd430c8 level=5 disks=3 size=40 Chunk=8",
-        Some(1),
-    ),
-    (
-        "create 6ba7b810-9dad-11d1-80b4-00c04fd430c8 level=5 disks=3 size=40 chunk=",
-        Some(1),
-    ),
-    (
-        "create 6ba7b810-9dad-11d1-80b4-00c04fd430c8 level=5 disks=3 size=40 chunk=08",
-        Some(1),
-    ),
-    (
-        "create 6ba7b810-9dad-11d1-80b4-00c04fd430c8 level=5 disks=3 size=40 chunk =8",
-        Some(1),
-    ),
-    (
-        "create 6ba7b810-9dad-11d1-80b4-00c04fd430c8 level=5 disks=3 size=40 chunk=4294967296",
-        Some(1),
-    ),
-    (
-        "create 6ba7b810-9dad-11d1-80b4-00c04fd430c8 level=5 disks=4294967296 size=40",
-        Some(1),
-    ),
-    (
-        "create 6ba7b810-9dad-11d1-80b4-00c04fd430c8 level=4294967296 disks=3 size=40",
-        Some(1),
-    ),
-    (
-        "create 6ba7b810-9dad-11d1-80b4-00c04fd430c8 level=5 disks=3 size=18446744073709551616",
-        Some(1),
-    ),
-    (
-        "create 6ba7b810-9dad-11d1-80b4-00c04fd430c8 level=5 disks=3 size=40 offset=18446744073709551616",
-        Some(1),
-    ),
-    (
-        "create 6ba7b810-9dad-11d1-80b4-00c04fd430c8 level=5 disks=3 size=40 layout=2",
-        Some(1),
-    ),
-    (
-        "create 6ba7b810-9dad-11d1-80b4-00c04fd430c8 level=5 disks=3 size=40 layout=parity",
-        Some(1),
-    ),
-    (
-        "create 6ba7b810-9dad-11d1-80b4-00c04fd430c8 level=5 disks=3 size=40 layout=preserve",
-        Some(1),
-    ),
+// Lines `grow`: of its keys there is `disks` alone.
+const GROWS: [Text; 21] = [
+    ("grow disks=5", None),
+    ("  grow   disks=16 ", None),
+    ("grow disks=0", None),
+    ("grow disks=4294967295", None),
+    ("grow", Some(1)),
+    ("grow 5", Some(1)),
+    ("grow disks", Some(1)),
+    ("grow disks=", Some(1)),
+    ("grow disks=05", Some(1)),
+    ("grow disks=+5", Some(1)),
+    ("grow disks= 5", Some(1)),
+    ("grow disks=4294967296", Some(1)),
+    ("grow disks=5 disks=5", Some(1)),
+    ("grow disks=5 6", Some(1)),
+    ("grow disks=5 size=40", Some(1)),
+    ("grow Disks=5", Some(1)),
+    ("Grow disks=5", Some(1)),
+    ("grow level=6", Some(1)),
+    ("grow chunk=16", Some(1)),
+    ("grow layout=preserve", Some(1)),
+    ("grow disks=5 chunk=16", Some(1)),
 ];
+
+// Keys of `create` that make the line bad.
+const BAD_KEYS: [&str; 22] = [
+    "disks=3 size=40",
+    "level=5 size=40",
+    "level=5 disks=3",
+    "level=5 disks=3 size=40 level=5",
+    "level=5 disks=3 size=40 chunk=8 chunk=16",
+    "level=5 disks=3 size=40 layout=parity-last layout=parity-last",
+    "level=5 disks=3 size=40 size=80",
+    "level=5 disks=3 size=40 name=home",
+    "level=5 disks=3 size=40 spares",
+    "level=5 disks=3 size=40 offset",
+    "level=5 disks=3 size=40 Chunk=8",
+    "level=5 disks=3 size=40 chunk=",
+    "level=5 disks=3 size=40 chunk=08",
+    "level=5 disks=3 size=40 chunk =8",
+    "level=5 disks=3 size=40 chunk=4294967296",
+    "level=5 disks=4294967296 size=40",
+    "level=4294967296 disks=3 size=40",
+    "level=5 disks=3 size=18446744073709551616",
+    "level=5 disks=3 size=40 offset=18446744073709551616",
+    "level=5 disks=3 size=40 layout=2",
+    "level=5 disks=3 size=40 layout=parity",
+    "level=5 disks=3 size=40 layout=preserve",
+];
+
+// A line `create` with these keys.
+fn create_line(alloc: Global, keys: &str) -> Result<String, AllocError> {
+    format!(in alloc; "create 6ba7b810-9dad-11d1-80b4-00c04fd430c8 {keys}")
+}
 
 fn have_bad_lines(rt: &impl Abort, alloc: Global, texts: &[Text]) -> Result<(), Fail> {
     for (text, bad) in texts {
@@ -243,7 +206,11 @@ fn bad_lines(rt: HostRuntime) -> Result<(), Fail> {
     let alloc = rt.alloc();
     have_bad_lines(&rt, alloc, &TEXTS)?;
     have_bad_lines(&rt, alloc, &LINES)?;
-    have_bad_lines(&rt, alloc, &BAD_KEYS)?;
+    have_bad_lines(&rt, alloc, &GROWS)?;
+    for keys in BAD_KEYS {
+        let text = create_line(alloc, keys)?;
+        assert!(rt; first_bad(alloc, text.as_bytes())? == Some(1), "{keys:?}");
+    }
     for (line, count, last, bad) in &LONG {
         let text = repeated(alloc, line, *count, last)?;
         assert!(rt; first_bad(alloc, text.as_bytes())? == *bad, "{count}");
@@ -255,125 +222,69 @@ fn bad_lines(rt: HostRuntime) -> Result<(), Fail> {
     Ok(())
 }
 
-// A line `create`, and the level, layout, chunk and disks, the size and the offset that it asks for, whether or not there
+// Keys of `create`, and the level, layout, chunk and disks, the size and the offset that they ask for, whether or not there
 // can be such an array.
 type Asked = (&'static str, [u32; 4], u64, u64);
 
-const ASKED: [Asked; 19] = [
+const ASKED: [Asked; 8] = [
     (
-        "create 6ba7b810-9dad-11d1-80b4-00c04fd430c8 level=5 disks=3 chunk=8 size=40 offset=16",
+        "level=5 disks=3 chunk=8 size=40 offset=16",
         [5, 2, 8, 3],
         40,
         16,
     ),
     (
-        "create 6ba7b810-9dad-11d1-80b4-00c04fd430c8 level=5 disks=3 chunk=1024 size=4096",
+        "level=5 disks=3 chunk=1024 size=4096",
         [5, 2, 1024, 3],
         4096,
         2048,
     ),
     (
-        "create 6ba7b810-9dad-11d1-80b4-00c04fd430c8 level=5 disks=6 chunk=128 size=4096",
+        "level=5 disks=6 chunk=128 size=4096",
         [5, 2, 128, 6],
         4096,
         2048,
     ),
+    ("level=5 disks=3 size=4104", [5, 2, 1024, 3], 4104, 2048),
     (
-        "create 6ba7b810-9dad-11d1-80b4-00c04fd430c8 level=5 disks=3 size=4104",
-        [5, 2, 1024, 3],
-        4104,
-        2048,
-    ),
-    (
-        "create 6ba7b810-9dad-11d1-80b4-00c04fd430c8 offset=16 layout=left-symmetric-6 size=40 chunk=8 disks=5 level=6",
+        "offset=16 layout=left-symmetric-6 size=40 chunk=8 disks=5 level=6",
         [6, 18, 8, 5],
         40,
         16,
     ),
     (
-        "create 6ba7b810-9dad-11d1-80b4-00c04fd430c8 level=5 disks=3 chunk=8 size=40 offset=16 layout=parity-last",
+        "level=5 disks=3 chunk=8 size=40 offset=16 layout=parity-last",
         [5, 5, 8, 3],
         40,
         16,
     ),
     (
-        "create 6ba7b810-9dad-11d1-80b4-00c04fd430c8 level=7 disks=1 size=0 offset=0 chunk=3",
+        "level=7 disks=1 size=0 offset=0 chunk=3",
         [7, 2, 3, 1],
         0,
         0,
     ),
     (
-        "create 6ba7b810-9dad-11d1-80b4-00c04fd430c8 level=4294967295 disks=4294967295 chunk=4294967295 size=18446744073709551615 offset=18446744073709551615",
+        "level=4294967295 disks=4294967295 chunk=4294967295 size=18446744073709551615 offset=18446744073709551615",
         [u32::MAX, 2, u32::MAX, u32::MAX],
         u64::MAX,
         u64::MAX,
     ),
-    (
-        "create 6ba7b810-9dad-11d1-80b4-00c04fd430c8 level=6 disks=5 size=1024 layout=left-asymmetric",
-        [6, 0, 1024, 5],
-        1024,
-        2048,
-    ),
-    (
-        "create 6ba7b810-9dad-11d1-80b4-00c04fd430c8 level=6 disks=5 size=1024 layout=right-asymmetric",
-        [6, 1, 1024, 5],
-        1024,
-        2048,
-    ),
-    (
-        "create 6ba7b810-9dad-11d1-80b4-00c04fd430c8 level=6 disks=5 size=1024 layout=left-symmetric",
-        [6, 2, 1024, 5],
-        1024,
-        2048,
-    ),
-    (
-        "create 6ba7b810-9dad-11d1-80b4-00c04fd430c8 level=6 disks=5 size=1024 layout=right-symmetric",
-        [6, 3, 1024, 5],
-        1024,
-        2048,
-    ),
-    (
-        "create 6ba7b810-9dad-11d1-80b4-00c04fd430c8 level=6 disks=5 size=1024 layout=parity-first",
-        [6, 4, 1024, 5],
-        1024,
-        2048,
-    ),
-    (
-        "create 6ba7b810-9dad-11d1-80b4-00c04fd430c8 level=6 disks=5 size=1024 layout=parity-last",
-        [6, 5, 1024, 5],
-        1024,
-        2048,
-    ),
-    (
-        "create 6ba7b810-9dad-11d1-80b4-00c04fd430c8 level=6 disks=5 size=1024 layout=left-asymmetric-6",
-        [6, 16, 1024, 5],
-        1024,
-        2048,
-    ),
-    (
-        "create 6ba7b810-9dad-11d1-80b4-00c04fd430c8 level=6 disks=5 size=1024 layout=right-asymmetric-6",
-        [6, 17, 1024, 5],
-        1024,
-        2048,
-    ),
-    (
-        "create 6ba7b810-9dad-11d1-80b4-00c04fd430c8 level=6 disks=5 size=1024 layout=left-symmetric-6",
-        [6, 18, 1024, 5],
-        1024,
-        2048,
-    ),
-    (
-        "create 6ba7b810-9dad-11d1-80b4-00c04fd430c8 level=6 disks=5 size=1024 layout=right-symmetric-6",
-        [6, 19, 1024, 5],
-        1024,
-        2048,
-    ),
-    (
-        "create 6ba7b810-9dad-11d1-80b4-00c04fd430c8 level=6 disks=5 size=1024 layout=parity-first-6",
-        [6, 20, 1024, 5],
-        1024,
-        2048,
-    ),
+];
+
+// Layouts by their names and numbers.
+const LAYOUTS: [(&str, u32); 11] = [
+    ("left-asymmetric", 0),
+    ("right-asymmetric", 1),
+    ("left-symmetric", 2),
+    ("right-symmetric", 3),
+    ("parity-first", 4),
+    ("parity-last", 5),
+    ("left-asymmetric-6", 16),
+    ("right-asymmetric-6", 17),
+    ("left-symmetric-6", 18),
+    ("right-symmetric-6", 19),
+    ("parity-first-6", 20),
 ];
 
 // Whether the text is one line that asks for this.
@@ -402,18 +313,29 @@ fn create([level, layout, chunk, disks]: [u32; 4], size: u64, offset: u64) -> Li
 }
 
 fn ask(rt: &impl Abort, alloc: Global, rows: &[Asked]) -> Result<(), Fail> {
-    for (text, shape, size, offset) in rows {
+    for (keys, shape, size, offset) in rows {
+        let text = create_line(alloc, keys)?;
         let line = create(*shape, *size, *offset);
-        assert!(rt; asks_alone(alloc, text, line)?, "{text:?}");
+        assert!(rt; asks_alone(alloc, text.as_str(), line)?, "{keys:?}");
+    }
+    Ok(())
+}
+
+fn name_layouts(rt: &impl Abort, alloc: Global, rows: &[(&str, u32)]) -> Result<(), Fail> {
+    for (name, layout) in rows {
+        let keys = format!(in alloc; "level=6 disks=5 size=1024 layout={name}")?;
+        let text = create_line(alloc, keys.as_str())?;
+        let line = create([6, *layout, 1024, 5], 1024, 2048);
+        assert!(rt; asks_alone(alloc, text.as_str(), line)?, "{name}");
     }
     Ok(())
 }
 
 const SCRIPT: &str =
-    "assemble\n# one\ncreate 6ba7b810-9dad-11d1-80b4-00c04fd430c8 level=5 disks=3 chunk=8 size=40 offset=16\n\nwrite 5 1 7\nread 0 2\nflush\nhalt\nassemble 6ba7b810-9dad-11d1-80b4-00c04fd430c8\nfail 3\nadd 4\nstep 1\nstep 4294967295\nwait\nstop\ndetail\nmdstat\nexamine 31";
+    "assemble\n# one\ncreate 6ba7b810-9dad-11d1-80b4-00c04fd430c8 level=5 disks=3 chunk=8 size=40 offset=16\n\nwrite 5 1 7\nread 0 2\nflush\nhalt\nassemble 6ba7b810-9dad-11d1-80b4-00c04fd430c8\nfail 3\nadd 4\nstep 1\nstep 4294967295\nwait\nstop\ndetail\nmdstat\nexamine 31\ngrow disks=5";
 
 // What that script asks, with the numbers of its lines.
-const WANTED: [(u64, Line); 16] = [
+const WANTED: [(u64, Line); 17] = [
     (1, Line::Assemble { uuid: None }),
     (
         3,
@@ -455,6 +377,15 @@ const WANTED: [(u64, Line); 16] = [
     (16, Line::Detail),
     (17, Line::Mdstat),
     (18, Line::Examine { slot: 31 }),
+    (
+        19,
+        Line::Grow(Wish {
+            level: None,
+            disks: Some(5),
+            chunk: None,
+            layout: None,
+        }),
+    ),
 ];
 
 fn compare(rt: &impl Abort, lines: &[Numbered], wanted: &[(u64, Line)]) {
@@ -472,6 +403,7 @@ fn compare(rt: &impl Abort, lines: &[Numbered], wanted: &[(u64, Line)]) {
 #[test]
 fn asked_lines(rt: HostRuntime) -> Result<(), Fail> {
     ask(&rt, rt.alloc(), &ASKED)?;
+    name_layouts(&rt, rt.alloc(), &LAYOUTS)?;
     let lines = read_script(rt.alloc(), SCRIPT.as_bytes())?;
     compare(&rt, lines.as_slice(), &WANTED);
     Ok(())

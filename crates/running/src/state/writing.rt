@@ -1,6 +1,6 @@
 //! Writes to a running array.
 
-ghost use Rattle.std.specs.Prelude.{◌≡◌, ◌≢◌, ◌+◌, ◌/◌, ◌^◌, ◌<◌, ◌≤◌, true, false, length, Err, IfSome, OnOk, OnErr, IsFalse};
+ghost use Rattle.std.specs.Prelude.{◌≡◌, ◌≢◌, ◌+◌, ◌/◌, ◌^◌, ◌<◌, ◌≤◌, true, false, length, Err, IfSome, OnOk, OnErr, IsFalse, IsSome};
 ghost use Rattle.md_base.specs.Sectors.{IsWhole, sectors_of};
 ghost use Rattle.md_base.specs.declared.answers.Fault.TheVariants.{Refused as IsRefusedWith};
 ghost use Rattle.md_base.specs.declared.answers.Refusal.TheVariants.{BackupFault};
@@ -50,6 +50,7 @@ impl<B: Bank> Running<B> {
         ensures first { is_reshaping self.old.parts.members.newest ≡ false → IsFirstRefused (λ members. call_refusal (list_length self.old.parts.members.newest) (at + length from.now / 512)
             (write_refusal (shape_of self.old.parts.members.newest) (are_mended (shape_of self.old.parts.members.newest) (mended_rows self.old.parts.work.resync self.old.parts.members) (at + length from.now / 512)) members))
             self.old.parts.members self.new.parts.members result }
+        ensures backed { is_reshaping self.old.parts.members.newest ≡ true → IsSome self.old.parts.backup }
         ensures backup { result ≡ Err (IsRefusedWith BackupFault) → IfSome self.old.parts.backup (λ slot. IsFaulted slot (B.faults_of self.old.parts.bank) (B.faults_of self.new.parts.bank)) }
         ensures failed { HaveRolesFailed self.old.parts.members self.new.parts.members (B.faults_of self.old.parts.bank) (B.faults_of self.new.parts.bank) }
         ensures course { (TouchesWindow self.old.course.window at (at + length from.now / 512) → ⊥) → self.new.course ≡ self.old.course }

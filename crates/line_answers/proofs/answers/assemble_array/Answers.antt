@@ -9,8 +9,8 @@ use Rattle.flat_history.specs.declared.events.Event.TheVariants.{Shown}
 use Rattle.flat_history.specs.Flat.{next_number}
 use Rattle.flat_history.specs.Plain.{entries_of}
 use Rattle.array_kept.specs.Calls.{IsEntered, IsEndOf}
-use Rattle.views.specs.Parts.{Parts}
-use Rattle.assemble.specs.Opening.{HasCause}
+use Rattle.running_words.specs.Parts.{RunningParts}
+use Rattle.assemble.specs.Opening.{HasFoundNone}
 use Rattle.script.specs.declared.lines.Line.TheVariants.{Assemble as AsksAssemble}
 use Rattle.run_laws.specs.Ended.{IsGoing, IsRunKept}
 use Rattle.run_laws.specs.Making.{setting_of, world_at, AreHeldSince}
@@ -22,7 +22,7 @@ use Rattle.run_laws.specs.declared.states.State.TheVariants.{Idle as IsIdle, Run
 use Rattle.run_laws.proofs.Causes.{flushes-grow, grows-none, assemble-refused, backup-known}
 use Rattle.run_laws.proofs.Legal.{grows_longer, idle_grown, accepted-grown, going_begun}
 use Rattle.superblocks.specs.declared.members.Members.{Members}
-use Rattle.line_answers.proofs.Found.{opened_accepted, opened_held}
+use Rattle.line_answers.proofs.Found.{found_here}
 use Rattle.run_laws.proofs.Losses.{held-later}
 use Rattle.line_answers.proofs.Turns.{turn_found, turn_idle, no_turn_idle}
 use Rattle.run_laws.specs.Histories.{histories_of}
@@ -30,8 +30,8 @@ use Rattle.run_laws.specs.Written.{MayWrite, HasWritten, IsWritten}
 use Rattle.run_laws.proofs.Writing.{written_idle, idle_flushes, opened_flushes}
 use Rattle.line_answers.proofs.answers.assemble_array.Goals as goal
 
-pub assemble-requires-clause-backup : goal.assemble-requires-clause-backup
-assemble-requires-clause-backup g c = backup-known (g.B.Bank.given c.args.bank).slots c.args.backup c.requires.bank.last
+pub open_running-requires-clause-backup : goal.open_running-requires-clause-backup
+open_running-requires-clause-backup g c = backup-known (g.B.Bank.given c.args.bank).slots c.args.backup c.requires.bank.last
 
 pub returns-then-not-has_room-clause-answered : goal.returns-then-not-has_room-clause-answered
 returns-then-not-has_room-clause-answered g c =
@@ -44,18 +44,18 @@ returns-in-Ok-status-clause-answered g c =
     let did = c.in-Ok.ensures in
     let array = c.status.new.self in
     let told = c.in-Ok-status.ensures in
-    let setting = setting_of g.B.Bank.tells (g.B.Bank.given c.args.bank) (g.B.Bank.tape c.args.bank) (g.B.Bank.tape found.bank) c.args.backup (g.B.Bank.faults_of c.args.bank) (g.B.Bank.faults_of found.bank) in
+    let setting = setting_of g.B.Bank.tells (g.B.Bank.given c.args.bank) (g.B.Bank.tape c.args.bank) (g.B.Bank.tape found.parts.bank) c.args.backup (g.B.Bank.faults_of c.args.bank) (g.B.Bank.faults_of found.parts.bank) in
     subst (λ (b : g.row.B.Denot). IsTurn (setting_of g.B.Bank.tells (g.B.Bank.given c.args.bank) (g.B.Bank.tape c.args.bank) (g.B.Bank.tape b) c.args.backup (g.B.Bank.faults_of c.args.bank) (g.B.Bank.faults_of b)) (IsIdle c.args.bank c.args.epochs) (IsRunning array c.has_room.new.epochs) (AsksAssemble c.args.uuid) (AnsweredOutside (Assembled c.next_epoch-epoch.result c.in-Ok-status.status))) (sym told.bank)
     (subst (λ (n : ℕ). IsTurn setting (IsIdle c.args.bank c.args.epochs) (IsRunning array c.has_room.new.epochs) (AsksAssemble c.args.uuid) (AnsweredOutside (Assembled n c.in-Ok-status.status))) (sym c.next_epoch-epoch.ensures)
     (turn_found setting c.args.bank c.args.epochs c.has_room.new.epochs c.has_room.ensures.same c.requires.own array
-    (c.has_room.ensures.room yes) (c.has_room.ensures.few yes) (grows_longer (flushes-grow did.tape)) found c.args.uuid did.assembled told.same.uuid told.same.given told.same.first c.in-Ok-status.status told.told
-    (subst (λ (w : Who). IsEntered g.B.Bank.tells (g.B.Bank.tape found.bank) w found.entries array.entries (Shown c.in-Ok-status.status ∷ [])) c.script_call-who.ensures told.entered) told.members))
+    (c.has_room.ensures.room yes) (c.has_room.ensures.few yes) (grows_longer (flushes-grow did.tape)) found c.args.uuid (found_here (g.B.Bank.given c.args.bank) (g.B.Bank.tape found.parts.bank) c.args.backup c.args.uuid found did.found) told.same.array.uuid told.same.array.given told.same.array.first c.in-Ok-status.status told.told
+    (subst (λ (w : Who). IsEntered g.B.Bank.tells (g.B.Bank.tape found.parts.bank) w found.parts.entries array.parts.entries (Shown c.in-Ok-status.status ∷ [])) c.script_call-who.ensures told.entered) told.members))
 
 pub returns-in-Err-status-clause-answered : goal.returns-in-Err-status-clause-answered
 returns-in-Err-status-clause-answered g c =
-    let gone : c.halt-bank.result.0 ≡ c.in-Ok.array.bank = c.halt-bank.ensures.bank ∙ ap (λ (a : Parts g.row.B.Denot). a.bank) c.in-Err-status.ensures.unchanged in
+    let gone : c.halt-bank.result.0 ≡ c.in-Ok.array.parts.bank = c.halt-bank.ensures.bank ∙ ap (λ (a : RunningParts g.row.B.Denot). a.parts.bank) c.in-Err-status.ensures.unchanged in
     subst (λ (b : g.row.B.Denot). IsNoTurn (setting_of g.B.Bank.tells (g.B.Bank.given c.args.bank) (g.B.Bank.tape c.args.bank) (g.B.Bank.tape b) c.args.backup (g.B.Bank.faults_of c.args.bank) (g.B.Bank.faults_of b)) (IsIdle c.args.bank c.args.epochs) (IsIdle b c.has_room.new.epochs) (AsksAssemble c.args.uuid)) (sym gone)
-    (no_turn_idle (setting_of g.B.Bank.tells (g.B.Bank.given c.args.bank) (g.B.Bank.tape c.args.bank) (g.B.Bank.tape c.in-Ok.array.bank) c.args.backup (g.B.Bank.faults_of c.args.bank) (g.B.Bank.faults_of c.in-Ok.array.bank)) c.args.bank c.args.epochs c.has_room.new.epochs c.has_room.ensures.same c.requires.own c.in-Ok.array.bank (AsksAssemble c.args.uuid))
+    (no_turn_idle (setting_of g.B.Bank.tells (g.B.Bank.given c.args.bank) (g.B.Bank.tape c.args.bank) (g.B.Bank.tape c.in-Ok.array.parts.bank) c.args.backup (g.B.Bank.faults_of c.args.bank) (g.B.Bank.faults_of c.in-Ok.array.parts.bank)) c.args.bank c.args.epochs c.has_room.new.epochs c.has_room.ensures.same c.requires.own c.in-Ok.array.parts.bank (AsksAssemble c.args.uuid))
 
 pub returns-in-Refused-clause-answered : goal.returns-in-Refused-clause-answered
 returns-in-Refused-clause-answered g c =
@@ -66,7 +66,7 @@ returns-in-Refused-clause-answered g c =
     let setting = setting_of g.B.Bank.tells (g.B.Bank.given c.args.bank) (g.B.Bank.tape c.args.bank) (g.B.Bank.tape left) c.args.backup (g.B.Bank.faults_of c.args.bank) (g.B.Bank.faults_of left) in
     subst (λ (what : Answered). IsTurn setting (IsIdle c.args.bank c.args.epochs) (IsIdle left c.has_room.new.epochs) (AsksAssemble c.args.uuid) what) (sym c.refused.ensures)
     (turn_idle setting c.args.bank c.args.epochs c.has_room.new.epochs c.has_room.ensures.same c.requires.own left (AsksAssemble c.args.uuid) c.in-Refused.refusal (grows_longer (flushes-grow did.left_tape))
-    (subst (λ (f : Fault). HasCause g.B.Bank.tells given (contents given.start tape (length tape)) c.args.backup c.args.uuid (g.B.Bank.faults_of c.args.bank) (g.B.Bank.faults_of left) f) c.in-Refused.is
+    (subst (λ (f : Fault). HasFoundNone g.B.Bank.tells given (contents given.start tape (length tape)) c.args.backup c.args.uuid (g.B.Bank.faults_of c.args.bank) (g.B.Bank.faults_of left) f) c.in-Refused.is
     (assemble-refused given c.args.backup c.args.uuid (g.B.Bank.tape c.args.bank) tape c.in-Err.left.1 did.left_counts.never_falls did.left_tape did.refused)))
 
 pub returns-in-NoMemory-clause-answered : goal.returns-in-NoMemory-clause-answered
@@ -79,22 +79,22 @@ returns-then-not-has_room-clause-former g c = idle_grown (g.B.Bank.given c.args.
 pub returns-in-Ok-status-clause-former : goal.returns-in-Ok-status-clause-former
 returns-in-Ok-status-clause-former g c =
     let did = c.in-Ok.ensures in
-    let begun = did.assembled.begun in
+    let here = found_here (g.B.Bank.given c.args.bank) (g.B.Bank.tape c.in-Ok.array.parts.bank) c.args.backup c.args.uuid c.in-Ok.array did.found in
     let told = c.in-Ok-status.ensures in
     let array = c.status.new.self in
-    subst (λ (b : g.row.B.Denot). IsGoing g.B.Bank.tells (g.B.Bank.given c.args.bank) (g.B.Bank.tape b) c.args.backup array c.has_room.new.epochs.items) (sym told.bank)
-    (going_begun (g.B.Bank.given c.args.bank) c.args.backup c.args.epochs.items c.has_room.new.epochs.items array c.has_room.ensures.same (flushes-grow did.tape) (told.same.backup ∙ begun.backup_is) (λ t. told.same.first ∙ begun.first t)
-    (accepted-grown (g.B.Bank.given c.args.bank) c.args.backup (running_history c.in-Ok.array) (running_history array) (grows-none (g.B.Bank.tape c.in-Ok.array.bank)) (record { uuid = told.same.uuid; given = told.same.given; first = told.same.first })
-    (λ t. omega (arith, begun.first t)) (λ t. opened_accepted (g.B.Bank.given c.args.bank) (g.B.Bank.tape c.in-Ok.array.bank) c.args.backup c.args.uuid c.in-Ok.array begun did.assembled.opened t begun.uuid))
-    (subst (λ (m : Members). g.B.Bank.tells → AreHeldSince (world_at (g.B.Bank.given c.args.bank) (g.B.Bank.tape c.in-Ok.array.bank) c.args.backup (running_history array)) array.entries m) (sym told.members)
-    (held-later (g.B.Bank.given c.args.bank) c.args.backup (running_history c.in-Ok.array) (running_history array) c.in-Ok.array.members (grows-none (g.B.Bank.tape c.in-Ok.array.bank))
-    (record { same = record { uuid = told.same.uuid; given = told.same.given; first = told.same.first }; more = entries_of c.script_call-who.result told.entered.end (Shown c.in-Ok-status.status ∷ []); grown = told.entered.is })
-    (λ t. opened_held (g.B.Bank.given c.args.bank) (g.B.Bank.tape c.in-Ok.array.bank) c.args.backup c.args.uuid c.in-Ok.array begun did.assembled.opened t begun.uuid)))
-    (subst (λ (b : g.row.B.Denot). IsEndOf g.B.Bank.tells array.first array.entries (g.B.Bank.tape b)) told.bank told.ended) c.requires.former)
+    subst (λ (b : g.row.B.Denot). IsGoing g.B.Bank.tells (g.B.Bank.given c.args.bank) (g.B.Bank.tape b) c.args.backup array.parts c.has_room.new.epochs.items) (sym told.bank)
+    (going_begun (g.B.Bank.given c.args.bank) c.args.backup c.args.epochs.items c.has_room.new.epochs.items array.parts c.has_room.ensures.same (flushes-grow did.tape) (told.same.array.backup ∙ here.backup_is) (λ t. told.same.array.first ∙ here.first t)
+    (accepted-grown (g.B.Bank.given c.args.bank) c.args.backup (running_history c.in-Ok.array.parts) (running_history array.parts) (grows-none (g.B.Bank.tape c.in-Ok.array.parts.bank)) (record { uuid = told.same.array.uuid; given = told.same.array.given; first = told.same.array.first })
+    (λ t. omega (arith, here.first t)) here.accepted)
+    (subst (λ (m : Members). g.B.Bank.tells → AreHeldSince (world_at (g.B.Bank.given c.args.bank) (g.B.Bank.tape c.in-Ok.array.parts.bank) c.args.backup (running_history array.parts)) array.parts.entries m) (sym told.members)
+    (held-later (g.B.Bank.given c.args.bank) c.args.backup (running_history c.in-Ok.array.parts) (running_history array.parts) c.in-Ok.array.parts.members (grows-none (g.B.Bank.tape c.in-Ok.array.parts.bank))
+    (record { same = record { uuid = told.same.array.uuid; given = told.same.array.given; first = told.same.array.first }; more = entries_of c.script_call-who.result told.entered.end (Shown c.in-Ok-status.status ∷ []); grown = told.entered.is })
+    here.held))
+    (subst (λ (b : g.row.B.Denot). IsEndOf g.B.Bank.tells array.parts.first array.parts.entries (g.B.Bank.tape b)) told.bank told.ended) c.requires.former)
 
 pub returns-in-Err-status-clause-former : goal.returns-in-Err-status-clause-former
 returns-in-Err-status-clause-former g c =
-    let gone : c.halt-bank.result.0 ≡ c.in-Ok.array.bank = c.halt-bank.ensures.bank ∙ ap (λ (a : Parts g.row.B.Denot). a.bank) c.in-Err-status.ensures.unchanged in
+    let gone : c.halt-bank.result.0 ≡ c.in-Ok.array.parts.bank = c.halt-bank.ensures.bank ∙ ap (λ (a : RunningParts g.row.B.Denot). a.parts.bank) c.in-Err-status.ensures.unchanged in
     subst (λ (b : g.row.B.Denot). IsRunKept g.B.Bank.tells (g.B.Bank.given c.args.bank) (g.B.Bank.tape b) c.args.backup (IsIdle b c.has_room.new.epochs)) (sym gone)
     (idle_grown (g.B.Bank.given c.args.bank) c.args.backup c.args.epochs.items c.has_room.new.epochs.items c.has_room.ensures.same (flushes-grow c.in-Ok.ensures.tape) c.requires.former)
 
@@ -110,7 +110,7 @@ returns-in-Ok-status-clause-grows g c =
 
 pub returns-in-Err-status-clause-grows : goal.returns-in-Err-status-clause-grows
 returns-in-Err-status-clause-grows g c =
-    let gone : c.halt-bank.result.0 ≡ c.in-Ok.array.bank = c.halt-bank.ensures.bank ∙ ap (λ (a : Parts g.row.B.Denot). a.bank) c.in-Err-status.ensures.unchanged in
+    let gone : c.halt-bank.result.0 ≡ c.in-Ok.array.parts.bank = c.halt-bank.ensures.bank ∙ ap (λ (a : RunningParts g.row.B.Denot). a.parts.bank) c.in-Err-status.ensures.unchanged in
     subst (λ (b : g.row.B.Denot). Grows g.B.Bank.tells (g.B.Bank.tape c.args.bank) (g.B.Bank.tape b)) (sym gone) (flushes-grow c.in-Ok.ensures.tape)
 
 pub returns-in-Refused-clause-grows : goal.returns-in-Refused-clause-grows
@@ -128,7 +128,7 @@ returns-in-Ok-status-clause-never_falls g c =
 
 pub returns-in-Err-status-clause-never_falls : goal.returns-in-Err-status-clause-never_falls
 returns-in-Err-status-clause-never_falls g c =
-    let gone : c.halt-bank.result.0 ≡ c.in-Ok.array.bank = c.halt-bank.ensures.bank ∙ ap (λ (a : Parts g.row.B.Denot). a.bank) c.in-Err-status.ensures.unchanged in
+    let gone : c.halt-bank.result.0 ≡ c.in-Ok.array.parts.bank = c.halt-bank.ensures.bank ∙ ap (λ (a : RunningParts g.row.B.Denot). a.parts.bank) c.in-Err-status.ensures.unchanged in
     subst (λ (b : g.row.B.Denot). NeverFalls (g.B.Bank.faults_of c.args.bank) (g.B.Bank.faults_of b)) (sym gone) c.in-Ok.ensures.counts.never_falls
 
 pub returns-then-not-has_room-clause-written : goal.returns-then-not-has_room-clause-written
@@ -144,17 +144,17 @@ returns-in-Ok-status-clause-written g c told =
     let shown = c.in-Ok-status.ensures in
     let given = g.B.Bank.given c.args.bank in
     let what = AnsweredOutside (Assembled c.next_epoch-epoch.result c.in-Ok-status.status) in
-    let setting = setting_of g.B.Bank.tells given (g.B.Bank.tape c.args.bank) (g.B.Bank.tape found.bank) c.args.backup (g.B.Bank.faults_of c.args.bank) (g.B.Bank.faults_of found.bank) in
-    subst (λ (b : g.row.B.Denot). IsWritten (setting_of g.B.Bank.tells given (g.B.Bank.tape c.args.bank) (g.B.Bank.tape b) c.args.backup (g.B.Bank.faults_of c.args.bank) (g.B.Bank.faults_of b)) (histories_of c.args.epochs.items) (histories_of c.has_room.new.epochs.items ++ running_history array ∷ []) (HasWritten given c.args.backup (AsksAssemble c.args.uuid) what)) (sym shown.bank)
-    (opened_flushes setting (g.B.Bank.tape c.args.bank) refl c.args.epochs.items c.has_room.new.epochs.items c.has_room.ensures.same (running_history array) (HasWritten given c.args.backup (AsksAssemble c.args.uuid) what)
-    (shown.same.first ∙ did.assembled.begun.first told) (subst (λ (b : g.row.B.Denot). IsEndOf g.B.Bank.tells array.first array.entries (g.B.Bank.tape b)) shown.bank shown.ended told) (did.tape told))
+    let setting = setting_of g.B.Bank.tells given (g.B.Bank.tape c.args.bank) (g.B.Bank.tape found.parts.bank) c.args.backup (g.B.Bank.faults_of c.args.bank) (g.B.Bank.faults_of found.parts.bank) in
+    subst (λ (b : g.row.B.Denot). IsWritten (setting_of g.B.Bank.tells given (g.B.Bank.tape c.args.bank) (g.B.Bank.tape b) c.args.backup (g.B.Bank.faults_of c.args.bank) (g.B.Bank.faults_of b)) (histories_of c.args.epochs.items) (histories_of c.has_room.new.epochs.items ++ running_history array.parts ∷ []) (HasWritten given c.args.backup (AsksAssemble c.args.uuid) what)) (sym shown.bank)
+    (opened_flushes setting (g.B.Bank.tape c.args.bank) refl c.args.epochs.items c.has_room.new.epochs.items c.has_room.ensures.same (running_history array.parts) (HasWritten given c.args.backup (AsksAssemble c.args.uuid) what)
+    (shown.same.array.first ∙ (found_here given (g.B.Bank.tape found.parts.bank) c.args.backup c.args.uuid found did.found).first told) (subst (λ (b : g.row.B.Denot). IsEndOf g.B.Bank.tells array.parts.first array.parts.entries (g.B.Bank.tape b)) shown.bank shown.ended told) (did.tape told))
 
 pub returns-in-Err-status-clause-written : goal.returns-in-Err-status-clause-written
 returns-in-Err-status-clause-written g c told =
-    let gone : c.halt-bank.result.0 ≡ c.in-Ok.array.bank = c.halt-bank.ensures.bank ∙ ap (λ (a : Parts g.row.B.Denot). a.bank) c.in-Err-status.ensures.unchanged in
+    let gone : c.halt-bank.result.0 ≡ c.in-Ok.array.parts.bank = c.halt-bank.ensures.bank ∙ ap (λ (a : RunningParts g.row.B.Denot). a.parts.bank) c.in-Err-status.ensures.unchanged in
     let given = g.B.Bank.given c.args.bank in
     subst (λ (b : g.row.B.Denot). IsWritten (setting_of g.B.Bank.tells given (g.B.Bank.tape c.args.bank) (g.B.Bank.tape b) c.args.backup (g.B.Bank.faults_of c.args.bank) (g.B.Bank.faults_of b)) (histories_of c.args.epochs.items) (histories_of c.has_room.new.epochs.items) (MayWrite given c.args.backup (AsksAssemble c.args.uuid))) (sym gone)
-    (idle_flushes (setting_of g.B.Bank.tells given (g.B.Bank.tape c.args.bank) (g.B.Bank.tape c.in-Ok.array.bank) c.args.backup (g.B.Bank.faults_of c.args.bank) (g.B.Bank.faults_of c.in-Ok.array.bank)) (g.B.Bank.tape c.args.bank) refl c.args.epochs.items c.has_room.new.epochs.items c.has_room.ensures.same
+    (idle_flushes (setting_of g.B.Bank.tells given (g.B.Bank.tape c.args.bank) (g.B.Bank.tape c.in-Ok.array.parts.bank) c.args.backup (g.B.Bank.faults_of c.args.bank) (g.B.Bank.faults_of c.in-Ok.array.parts.bank)) (g.B.Bank.tape c.args.bank) refl c.args.epochs.items c.has_room.new.epochs.items c.has_room.ensures.same
     (MayWrite given c.args.backup (AsksAssemble c.args.uuid)) (c.in-Ok.ensures.tape told))
 
 pub returns-in-Refused-clause-written : goal.returns-in-Refused-clause-written
@@ -173,12 +173,12 @@ returns-in-NoMemory-clause-written g c told =
 
 pub returns-in-Err-status-clause-given : goal.returns-in-Err-status-clause-given
 returns-in-Err-status-clause-given g c =
-    let gone : c.halt-bank.result.0 ≡ c.in-Ok.array.bank = c.halt-bank.ensures.bank ∙ ap (λ (a : Parts g.row.B.Denot). a.bank) c.in-Err-status.ensures.unchanged in
+    let gone : c.halt-bank.result.0 ≡ c.in-Ok.array.parts.bank = c.halt-bank.ensures.bank ∙ ap (λ (a : RunningParts g.row.B.Denot). a.parts.bank) c.in-Err-status.ensures.unchanged in
     subst (λ (b : g.row.B.Denot). g.B.Bank.given b ≡ g.B.Bank.given c.args.bank) (sym gone) c.in-Ok.ensures.given
 
 pub halt-bank-requires : goal.halt-bank-requires
 halt-bank-requires g c =
     record {
-      next = ap (λ (w : Who). w.number) c.script_call-who.ensures ∙ ap (λ (a : Parts g.row.B.Denot). next_number 0 a.entries) (sym c.in-Err-status.ensures.unchanged) ∙ ap (λ (w : Who). next_number w.caller c.status.new.self.entries) (sym c.script_call-who.ensures);
+      next = ap (λ (w : Who). w.number) c.script_call-who.ensures ∙ ap (λ (a : RunningParts g.row.B.Denot). next_number 0 a.parts.entries) (sym c.in-Err-status.ensures.unchanged) ∙ ap (λ (w : Who). next_number w.caller c.status.new.self.parts.entries) (sym c.script_call-who.ensures);
       caller = λ is. omega (arith, is, ap (λ (w : Who). w.caller) c.script_call-who.ensures);
     }

@@ -35,10 +35,10 @@ returns-in-Ok-clause-answered g c =
     let did = c.in-Ok.ensures in
     let given = g.B.Bank.given c.args.bank in
     let before = g.B.Bank.tape c.args.bank in
-    let after = g.B.Bank.tape c.in-Ok.array.bank in
-    turn_created (setting_of g.B.Bank.tells (g.B.Bank.given c.args.bank) (g.B.Bank.tape c.args.bank) (g.B.Bank.tape c.in-Ok.array.bank) c.args.backup (g.B.Bank.faults_of c.args.bank) (g.B.Bank.faults_of c.in-Ok.array.bank)) c.args.bank c.args.epochs c.has_room.new.epochs c.has_room.ensures.same c.requires.own c.in-Ok.array
+    let after = g.B.Bank.tape c.in-Ok.array.parts.bank in
+    turn_created (setting_of g.B.Bank.tells (g.B.Bank.given c.args.bank) (g.B.Bank.tape c.args.bank) (g.B.Bank.tape c.in-Ok.array.parts.bank) c.args.backup (g.B.Bank.faults_of c.args.bank) (g.B.Bank.faults_of c.in-Ok.array.parts.bank)) c.args.bank c.args.epochs c.has_room.new.epochs c.has_room.ensures.same c.requires.own c.in-Ok.array
     (c.has_room.ensures.room yes) (c.has_room.ensures.few yes) (grows_longer (below-grows did.tape)) c.args.line did.unrefused did.created
-    (λ t. used-same (scope_of given c.args.backup c.in-Ok.array.given c.args.line.uuid) (contents given.start before (length before)) (contents given.start after (length after)) c.args.line.shape.disks
+    (λ t. used-same (scope_of given c.args.backup c.in-Ok.array.parts.given c.args.line.uuid) (contents given.start before (length before)) (contents given.start after (length after)) c.args.line.shape.disks
     (below-present given.start c.args.line.shape.disks before after (did.tape t)) ∙ did.free t)
 
 pub returns-in-Refused-clause-answered : goal.returns-in-Refused-clause-answered
@@ -64,10 +64,10 @@ pub returns-in-Ok-clause-former : goal.returns-in-Ok-clause-former
 returns-in-Ok-clause-former g c =
     let did = c.in-Ok.ensures in
     let begun = did.created.begun in
-    going_begun (g.B.Bank.given c.args.bank) c.args.backup c.args.epochs.items c.has_room.new.epochs.items c.in-Ok.array c.has_room.ensures.same (below-grows did.tape) begun.backup_is begun.first
-    (λ t. opened_accepted (g.B.Bank.given c.args.bank) (g.B.Bank.tape c.in-Ok.array.bank) c.args.backup (Some c.args.line.uuid) c.in-Ok.array begun did.created.opened t begun.uuid)
-    (λ t. opened_held (g.B.Bank.given c.args.bank) (g.B.Bank.tape c.in-Ok.array.bank) c.args.backup (Some c.args.line.uuid) c.in-Ok.array begun did.created.opened t begun.uuid)
-    (λ t. ap (λ (l : List Entry). last_end_from c.in-Ok.array.first l) did.created.quiet ∙ begun.first t) c.requires.former
+    going_begun (g.B.Bank.given c.args.bank) c.args.backup c.args.epochs.items c.has_room.new.epochs.items c.in-Ok.array.parts c.has_room.ensures.same (below-grows did.tape) begun.backup_is begun.first
+    (λ t. opened_accepted (g.B.Bank.given c.args.bank) (g.B.Bank.tape c.in-Ok.array.parts.bank) c.args.backup (Some c.args.line.uuid) c.in-Ok.array.parts begun did.created.opened t begun.uuid)
+    (λ t. opened_held (g.B.Bank.given c.args.bank) (g.B.Bank.tape c.in-Ok.array.parts.bank) c.args.backup (Some c.args.line.uuid) c.in-Ok.array.parts begun did.created.opened t begun.uuid)
+    (λ t. ap (λ (l : List Entry). last_end_from c.in-Ok.array.parts.first l) did.created.quiet ∙ begun.first t) c.requires.former
 
 pub returns-in-Refused-clause-former : goal.returns-in-Refused-clause-former
 returns-in-Refused-clause-former g c = idle_grown (g.B.Bank.given c.args.bank) c.args.backup c.args.epochs.items c.has_room.new.epochs.items c.has_room.ensures.same (below-grows c.in-Err.ensures.left_tape) c.requires.former
@@ -96,9 +96,9 @@ pub returns-in-Ok-clause-written : goal.returns-in-Ok-clause-written
 returns-in-Ok-clause-written g c told =
     let did = c.in-Ok.ensures in
     let begun = did.created.begun in
-    let setting = setting_of g.B.Bank.tells (g.B.Bank.given c.args.bank) (g.B.Bank.tape c.args.bank) (g.B.Bank.tape c.in-Ok.array.bank) c.args.backup (g.B.Bank.faults_of c.args.bank) (g.B.Bank.faults_of c.in-Ok.array.bank) in
-    opened_below setting (g.B.Bank.tape c.args.bank) refl c.args.epochs.items c.has_room.new.epochs.items c.has_room.ensures.same (running_history c.in-Ok.array) (HasWritten (g.B.Bank.given c.args.bank) c.args.backup (AsksCreate c.args.line) (IsOutside Created))
-    c.args.line.shape.disks (begun.first told) (ap (λ (l : List Entry). last_end_from c.in-Ok.array.first l) did.created.quiet ∙ begun.first told) (did.tape told) (λ slot lt. (did.unrefused, lt))
+    let setting = setting_of g.B.Bank.tells (g.B.Bank.given c.args.bank) (g.B.Bank.tape c.args.bank) (g.B.Bank.tape c.in-Ok.array.parts.bank) c.args.backup (g.B.Bank.faults_of c.args.bank) (g.B.Bank.faults_of c.in-Ok.array.parts.bank) in
+    opened_below setting (g.B.Bank.tape c.args.bank) refl c.args.epochs.items c.has_room.new.epochs.items c.has_room.ensures.same (running_history c.in-Ok.array.parts) (HasWritten (g.B.Bank.given c.args.bank) c.args.backup (AsksCreate c.args.line) (IsOutside Created))
+    c.args.line.shape.disks (begun.first told) (ap (λ (l : List Entry). last_end_from c.in-Ok.array.parts.first l) did.created.quiet ∙ begun.first told) (did.tape told) (λ slot lt. (did.unrefused, lt))
 
 pub returns-in-Refused-clause-written : goal.returns-in-Refused-clause-written
 returns-in-Refused-clause-written g c told =

@@ -2,8 +2,7 @@ use Rattle.std.proofs.Common.{rules, ◌≡◌, ◌-◌, [], ◌∷◌, ◌++◌
 use Rattle.flat_history.specs.declared.events.Epoch.{Epoch}
 use Rattle.flat_history.specs.declared.events.Event.{Event}
 use Rattle.run_laws.specs.Histories.{history_of, is_end}
-use Rattle.views.specs.Whole.{list_size}
-use Rattle.views.specs.Placed.{places_of}
+use Rattle.superblocks.specs.Reading.{list_length}
 use Rattle.script.specs.declared.lines.Line.TheVariants.{Halt as AsksHalt}
 use Rattle.run_laws.specs.Making.{setting_of}
 use Rattle.run_laws.specs.States.{IsTurn}
@@ -26,9 +25,9 @@ returns-clause-answered g c =
     let did = c.halt-bank.ensures in
     let room = c.requires.own.room in
     let items : c.push_reserved.new.self.items ≡ c.args.epochs.items ++ epoch ∷ [] = search rules in
-    let setting = setting_of g.B.Bank.tells (g.B.Bank.given array.bank) (g.B.Bank.tape array.bank) (g.B.Bank.tape bank) c.args.backup (g.B.Bank.faults_of array.bank) (g.B.Bank.faults_of bank) in
+    let setting = setting_of g.B.Bank.tells (g.B.Bank.given array.parts.bank) (g.B.Bank.tape array.parts.bank) (g.B.Bank.tape bank) c.args.backup (g.B.Bank.faults_of array.parts.bank) (g.B.Bank.faults_of bank) in
     let grew = halt_grew c.script_call-who.result did.entered in
-    let asked = asked_halt (list_size (places_of array.members)) (c.len.result - 1) c.script_call-who.result c.script_call-who.ensures did.entered (omega (arith, grew, c.len.ensures)) in
+    let asked = asked_halt (list_length array.parts.members.newest) (c.len.result - 1) c.script_call-who.result c.script_call-who.ensures did.entered (omega (arith, grew, c.len.ensures)) in
     let lost = losses-halted setting c.script_call-who.result (history_of epoch) did.entered in
     subst (λ (what : Answered). IsTurn setting (IsRunning array c.args.epochs) (IsIdle bank c.push_reserved.new.self) AsksHalt what) (sym c.inside-what.ensures)
     (turn_ended setting array epoch bank c.args.epochs c.push_reserved.new.self items c.requires.own lost did.uuid did.given did.first AsksHalt (c.len.result - 1) asked.0
@@ -41,8 +40,8 @@ returns-clause-former g c =
     let did = c.halt-bank.ensures in
     let room = c.requires.own.room in
     let items : c.push_reserved.new.self.items ≡ c.args.epochs.items ++ epoch ∷ [] = search rules in
-    former_halted g.B.Bank.tells (λ (b : g.row.B.Denot). g.B.Bank.given b) (λ (b : g.row.B.Denot). g.B.Bank.tape b) c.args.backup array c.halt-bank.result.0 epoch c.args.epochs.items c.push_reserved.new.self.items items did.bank did.uuid did.given did.first
-    did.ends did.legal did.last did.right c.requires.former
+    former_halted g.B.Bank.tells (λ (b : g.row.B.Denot). g.B.Bank.given b) (λ (b : g.row.B.Denot). g.B.Bank.tape b) c.args.backup array.parts c.halt-bank.result.0 epoch c.args.epochs.items c.push_reserved.new.self.items items did.bank did.uuid did.given did.first
+    did.ends did.last did.right did.plain c.requires.former
 
 pub returns-clause-written : goal.returns-clause-written
 returns-clause-written g c told =
@@ -52,8 +51,8 @@ returns-clause-written g c told =
     let room = c.requires.own.room in
     let items : c.push_reserved.new.self.items ≡ c.args.epochs.items ++ epoch ∷ [] = search rules in
     let bank = c.halt-bank.result.0 in
-    let setting = setting_of g.B.Bank.tells (g.B.Bank.given array.bank) (g.B.Bank.tape array.bank) (g.B.Bank.tape bank) c.args.backup (g.B.Bank.faults_of array.bank) (g.B.Bank.faults_of bank) in
+    let setting = setting_of g.B.Bank.tells (g.B.Bank.given array.parts.bank) (g.B.Bank.tape array.parts.bank) (g.B.Bank.tape bank) c.args.backup (g.B.Bank.faults_of array.parts.bank) (g.B.Bank.faults_of bank) in
     let same = ap (λ (b : g.row.B.Denot). length (g.B.Bank.tape b)) did.bank in
     let end = entered_end epoch.first c.script_call-who.result Halted did.entered told in
-    written_ended setting array bank epoch c.args.epochs c.push_reserved.new.self (HasWritten (g.B.Bank.given array.bank) c.args.backup AsksHalt _) items did.first (c.requires.former.begun told) (omega (arith, same))
+    written_ended setting array bank epoch c.args.epochs c.push_reserved.new.self (HasWritten (g.B.Bank.given array.parts.bank) c.args.backup AsksHalt _) items did.first (c.requires.former.begun told) (omega (arith, same))
     (c.requires.former.ended told) (omega (arith, end, same))

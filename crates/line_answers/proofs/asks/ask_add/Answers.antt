@@ -1,48 +1,62 @@
-use Rattle.std.proofs.Common.{List}
+use Rattle.std.proofs.Common.{List, refl, ap}
 use Rattle.flat_history.specs.declared.events.Entry.{Entry}
 use Rattle.flat_history.specs.declared.events.Event.TheVariants.{Added}
 use Rattle.flat_history.specs.declared.events.Request.TheVariants.{Add as AsksAdd}
 use Rattle.flat_history.specs.OneShape.{OneShapeFits}
-use Rattle.views.specs.Whole.{list_size}
-use Rattle.views.specs.Placed.{places_of}
+use Rattle.superblocks.specs.Reading.{list_length}
+use Rattle.running_words.specs.Parts.{RunningParts}
 use Rattle.script.specs.declared.lines.Line.TheVariants.{Add as AddLine}
 use Rattle.run_laws.proofs.AskLaws.{on_no_memory, grew, asked_at, answered_reply, answered_none, spares_told, spares_short}
-use Rattle.run_laws.proofs.Told.{fault_told, answered_add}
+use Rattle.run_laws.proofs.Sizes.{sized-answered}
+use Rattle.line_answers.proofs.Called.{added-length}
+use Rattle.run_laws.proofs.Told.{told_added}
+use Rattle.running_replies.proofs.Fitting.{fits-add}
 use Rattle.line_answers.proofs.asks.ask_add.Goals as goal
 
 pub returns-then-wants_memory-clause-asked : goal.returns-then-wants_memory-clause-asked
 returns-then-wants_memory-clause-asked g c =
-    answered_none (list_size (places_of c.args.array.now.members)) (AsksAdd c.args.slot) c.script_call-who.result c.args.array.now.entries c.add-answer.new.self.entries (Added c.args.slot) c.add-answer.result
+    answered_none (list_length c.args.array.now.parts.members.newest) (AsksAdd c.args.slot) c.script_call-who.result c.args.array.now.parts.entries c.add-answer.new.self.parts.entries (Added c.args.slot) c.add-answer.result
     c.add-answer.ensures.answered (c.wants_memory.ensures.yes c.if-wants_memory.true)
 
 pub last_place-requires : goal.last_place-requires
 last_place-requires g c =
-    grew (answered_reply (list_size (places_of c.args.array.now.members)) (AsksAdd c.args.slot) c.script_call-who.result c.args.array.now.entries c.add-answer.new.self.entries (Added c.args.slot) c.add-answer.result
+    grew (answered_reply (list_length c.args.array.now.parts.members.newest) (AsksAdd c.args.slot) c.script_call-who.result c.args.array.now.parts.entries c.add-answer.new.self.parts.entries (Added c.args.slot) c.add-answer.result
     c.add-answer.ensures.answered (c.wants_memory.ensures.no c.if-wants_memory.false)).1
 
 pub returns-clause-asked : goal.returns-clause-asked
 returns-clause-asked g c =
-    let size = list_size (places_of c.args.array.now.members) in
-    let was = answered_reply size (AsksAdd c.args.slot) c.script_call-who.result c.args.array.now.entries c.add-answer.new.self.entries (Added c.args.slot) c.add-answer.result
+    let size = list_length c.args.array.now.parts.members.newest in
+    let was = answered_reply size (AsksAdd c.args.slot) c.script_call-who.result c.args.array.now.parts.entries c.add-answer.new.self.parts.entries (Added c.args.slot) c.add-answer.result
     c.add-answer.ensures.answered (c.wants_memory.ensures.no c.if-wants_memory.false) in
-    asked_at (AddLine c.args.slot) c.last_place.result was.1 (λ (before : List Entry) (e : Entry) (fits : OneShapeFits size before e (AsksAdd c.args.slot)). fits) c.script_call-who.ensures c.last_place.ensures
+    asked_at (AddLine c.args.slot) c.last_place.result was.1 (λ (before : List Entry) (e : Entry) (fits : OneShapeFits size before e (AsksAdd c.args.slot)). fits-add size before e c.args.slot fits) c.script_call-who.ensures c.last_place.ensures
 
 pub returns-then-wants_memory-clause-unchanged : goal.returns-then-wants_memory-clause-unchanged
 returns-then-wants_memory-clause-unchanged g c = on_no_memory c.add-answer.result c.add-answer.ensures.unchanged (c.wants_memory.ensures.yes c.if-wants_memory.true)
 
 pub returns-then-wants_memory-clause-spares : goal.returns-then-wants_memory-clause-spares
 returns-then-wants_memory-clause-spares g c =
-    spares_short c.args.array.now c.add-answer.new.self (on_no_memory c.add-answer.result c.add-answer.ensures.unchanged (c.wants_memory.ensures.yes c.if-wants_memory.true))
+    spares_short c.args.array.now.parts c.add-answer.new.self.parts (ap (λ (a : RunningParts g.row.B.Denot). a.parts) (on_no_memory c.add-answer.result c.add-answer.ensures.unchanged (c.wants_memory.ensures.yes c.if-wants_memory.true)))
 
 pub returns-clause-spares : goal.returns-clause-spares
 returns-clause-spares g c =
-    spares_told (list_size (places_of c.args.array.now.members)) c.args.slot c.script_call-who.result (g.B.Bank.given c.args.array.now.bank) c.args.array.now.backup c.args.array.now.entries c.add-answer.new.self.entries c.args.array.now.members c.add-answer.new.self.members
-    (g.B.Bank.faults_of c.args.array.now.bank) (g.B.Bank.faults_of c.add-answer.new.self.bank) c.add-answer.result
-    c.add-answer.ensures.answered c.add-answer.ensures.caused (c.wants_memory.ensures.no c.if-wants_memory.false) c.add-answer.ensures.spares
+    spares_told (list_length c.args.array.now.parts.members.newest) c.args.slot c.script_call-who.result (g.B.Bank.given c.args.array.now.parts.bank) c.args.array.now.parts.backup c.args.array.now.parts.entries c.add-answer.new.self.parts.entries c.args.array.now.parts.members c.add-answer.new.self.parts.members
+    (g.B.Bank.faults_of c.args.array.now.parts.bank) (g.B.Bank.faults_of c.add-answer.new.self.parts.bank) c.add-answer.result
+    c.add-answer.ensures.answered c.add-answer.ensures.caused (c.wants_memory.ensures.no c.if-wants_memory.false) c.add-answer.ensures.called.spares
 
-pub returns-clause-faulted : goal.returns-clause-faulted
-returns-clause-faulted g c =
-    let size = list_size (places_of c.args.array.now.members) in
-    let was = answered_add size c.args.slot c.script_call-who.result (g.B.Bank.given c.args.array.now.bank) c.args.array.now.backup c.args.array.now.entries c.add-answer.new.self.entries c.args.array.now.members c.add-answer.new.self.members
-    (g.B.Bank.faults_of c.args.array.now.bank) (g.B.Bank.faults_of c.add-answer.new.self.bank) c.add-answer.result c.add-answer.ensures.answered c.add-answer.ensures.caused (c.wants_memory.ensures.no c.if-wants_memory.false) in
-    fault_told c.last_place.result (g.B.Bank.faults_of c.args.array.now.bank) (g.B.Bank.faults_of c.add-answer.new.self.bank) was.1 c.last_place.ensures was.2
+pub returns-then-wants_memory-clause-told : goal.returns-then-wants_memory-clause-told
+returns-then-wants_memory-clause-told g c =
+    told_added c.args.array.now.parts.backup (g.B.Bank.faults_of c.args.array.now.parts.bank) (g.B.Bank.faults_of c.add-answer.new.self.parts.bank) (list_length c.args.array.now.parts.members.newest) c.args.slot c.script_call-who.result (g.B.Bank.given c.args.array.now.parts.bank) c.args.array.now.parts.backup c.args.array.now.parts.entries c.add-answer.new.self.parts.entries c.args.array.now.parts.members c.add-answer.new.self.parts.members c.add-answer.result
+    c.add-answer.ensures.answered c.add-answer.ensures.caused
+
+pub returns-then-wants_memory-clause-sized : goal.returns-then-wants_memory-clause-sized
+returns-then-wants_memory-clause-sized g c =
+    sized-answered (list_length c.args.array.now.parts.members.newest) (AsksAdd c.args.slot) c.script_call-who.result (Added c.args.slot) c.add-answer.result (added-length c.add-answer.ensures.called) (λ n. refl) c.add-answer.ensures.answered
+
+pub returns-clause-told : goal.returns-clause-told
+returns-clause-told g c =
+    told_added c.args.array.now.parts.backup (g.B.Bank.faults_of c.args.array.now.parts.bank) (g.B.Bank.faults_of c.add-answer.new.self.parts.bank) (list_length c.args.array.now.parts.members.newest) c.args.slot c.script_call-who.result (g.B.Bank.given c.args.array.now.parts.bank) c.args.array.now.parts.backup c.args.array.now.parts.entries c.add-answer.new.self.parts.entries c.args.array.now.parts.members c.add-answer.new.self.parts.members c.add-answer.result
+    c.add-answer.ensures.answered c.add-answer.ensures.caused
+
+pub returns-clause-sized : goal.returns-clause-sized
+returns-clause-sized g c =
+    sized-answered (list_length c.args.array.now.parts.members.newest) (AsksAdd c.args.slot) c.script_call-who.result (Added c.args.slot) c.add-answer.result (added-length c.add-answer.ensures.called) (λ n. refl) c.add-answer.ensures.answered

@@ -1,13 +1,17 @@
-use Rattle.std.proofs.Common.{◌≡◌, ◌*◌, ◌/◌, ℕ, List, length, ◌∙◌, subst, arith}
+use Rattle.std.proofs.Common.{refl, ◌≡◌, ◌*◌, ◌/◌, ℕ, List, length, ◌∙◌, subst, arith}
 use Rattle.md_base.specs.Sectors.{sectors_of}
 use Rattle.flat_history.specs.declared.events.Entry.{Entry}
 use Rattle.flat_history.specs.declared.events.Event.TheVariants.{Read}
 use Rattle.flat_history.specs.declared.events.Request.TheVariants.{Read as AsksRead}
 use Rattle.flat_history.specs.OneShape.{OneShapeFits}
-use Rattle.views.specs.Whole.{list_size}
-use Rattle.views.specs.Placed.{places_of}
+use Rattle.superblocks.specs.Reading.{list_length}
 use Rattle.script.specs.declared.lines.Line.TheVariants.{Read as ReadLine}
 use Rattle.run_laws.proofs.AskLaws.{on_no_memory, grew, asked_at, answered_reply, answered_none}
+use Rattle.run_laws.proofs.Sizes.{sized-answered, sized-none}
+use Rattle.line_answers.proofs.Called.{called-length}
+use Rattle.run_laws.proofs.Told.{told_none, told_answered, read_told}
+use Rattle.running_replies.specs.Replies.{RunningFits}
+use Rattle.running_replies.proofs.Fitting.{fits-read}
 use Rattle.line_answers.proofs.asks.ask_read.Goals as goal
 
 sectors_in : (n len : ℕ) → len ≡ n * 512 → len / 512 ≡ n
@@ -15,22 +19,44 @@ sectors_in n len is = omega (arith, is)
 
 pub returns-then-wants_memory-clause-asked : goal.returns-then-wants_memory-clause-asked
 returns-then-wants_memory-clause-asked g c =
-    answered_none (list_size (places_of c.args.array.now.members)) (AsksRead c.args.at (length c.as_mut_slice.result.now / 512)) c.script_call-who.result c.args.array.now.entries c.read-answer.new.self.entries (Read c.args.at (sectors_of c.read-answer.new.into)) c.read-answer.result
+    answered_none (list_length c.args.array.now.parts.members.newest) (AsksRead c.args.at (length c.as_mut_slice.result.now / 512)) c.script_call-who.result c.args.array.now.parts.entries c.read-answer.new.self.parts.entries (Read c.args.at (sectors_of c.read-answer.new.into)) c.read-answer.result
     c.read-answer.ensures.answered (c.wants_memory.ensures.yes c.if-wants_memory.true)
 
 pub last_place-requires : goal.last_place-requires
 last_place-requires g c =
-    grew (answered_reply (list_size (places_of c.args.array.now.members)) (AsksRead c.args.at (length c.as_mut_slice.result.now / 512)) c.script_call-who.result c.args.array.now.entries c.read-answer.new.self.entries (Read c.args.at (sectors_of c.read-answer.new.into)) c.read-answer.result
+    grew (answered_reply (list_length c.args.array.now.parts.members.newest) (AsksRead c.args.at (length c.as_mut_slice.result.now / 512)) c.script_call-who.result c.args.array.now.parts.entries c.read-answer.new.self.parts.entries (Read c.args.at (sectors_of c.read-answer.new.into)) c.read-answer.result
     c.read-answer.ensures.answered (c.wants_memory.ensures.no c.if-wants_memory.false)).1
 
 pub returns-clause-asked : goal.returns-clause-asked
 returns-clause-asked g c =
-    let size = list_size (places_of c.args.array.now.members) in
+    let size = list_length c.args.array.now.parts.members.newest in
     let count : length c.as_mut_slice.result.now / 512 ≡ c.args.count = sectors_in c.args.count (length c.as_mut_slice.result.now) (c.as_mut_slice.ensures.len ∙ c.in-Ok.ensures.len) in
-    let was = answered_reply size (AsksRead c.args.at (length c.as_mut_slice.result.now / 512)) c.script_call-who.result c.args.array.now.entries c.read-answer.new.self.entries (Read c.args.at (sectors_of c.read-answer.new.into)) c.read-answer.result
+    let was = answered_reply size (AsksRead c.args.at (length c.as_mut_slice.result.now / 512)) c.script_call-who.result c.args.array.now.parts.entries c.read-answer.new.self.parts.entries (Read c.args.at (sectors_of c.read-answer.new.into)) c.read-answer.result
     c.read-answer.ensures.answered (c.wants_memory.ensures.no c.if-wants_memory.false) in
     asked_at (ReadLine c.args.at c.args.count) c.last_place.result was.1
-    (λ (before : List Entry) (e : Entry) (fits : OneShapeFits size before e (AsksRead c.args.at (length c.as_mut_slice.result.now / 512))). subst (λ (n : ℕ). OneShapeFits size before e (AsksRead c.args.at n)) count fits) c.script_call-who.ensures c.last_place.ensures
+    (λ (before : List Entry) (e : Entry) (fits : OneShapeFits size before e (AsksRead c.args.at (length c.as_mut_slice.result.now / 512))). subst (λ (n : ℕ). RunningFits size before e (AsksRead c.args.at n)) count (fits-read size before e c.args.at (length c.as_mut_slice.result.now / 512) fits)) c.script_call-who.ensures c.last_place.ensures
 
 pub returns-then-wants_memory-clause-unchanged : goal.returns-then-wants_memory-clause-unchanged
 returns-then-wants_memory-clause-unchanged g c = on_no_memory c.read-answer.result c.read-answer.ensures.unchanged (c.wants_memory.ensures.yes c.if-wants_memory.true)
+
+pub returns-then-wants_memory-clause-told : goal.returns-then-wants_memory-clause-told
+returns-then-wants_memory-clause-told g c =
+    told_answered c.args.array.now.parts.backup (g.B.Bank.faults_of c.args.array.now.parts.bank) (g.B.Bank.faults_of c.read-answer.new.self.parts.bank) (list_length c.args.array.now.parts.members.newest) (AsksRead c.args.at (length c.as_mut_slice.result.now / 512)) c.script_call-who.result (Read c.args.at (sectors_of c.read-answer.new.into)) c.read-answer.result (read_told c.args.array.now.parts.backup (g.B.Bank.faults_of c.args.array.now.parts.bank) (g.B.Bank.faults_of c.read-answer.new.self.parts.bank) c.args.at (length c.as_mut_slice.result.now / 512)) c.read-answer.ensures.answered
+
+pub returns-then-wants_memory-clause-sized : goal.returns-then-wants_memory-clause-sized
+returns-then-wants_memory-clause-sized g c =
+    sized-answered (list_length c.args.array.now.parts.members.newest) (AsksRead c.args.at (length c.as_mut_slice.result.now / 512)) c.script_call-who.result (Read c.args.at (sectors_of c.read-answer.new.into)) c.read-answer.result (called-length c.read-answer.ensures.called) (λ n. refl) c.read-answer.ensures.answered
+
+pub returns-clause-told : goal.returns-clause-told
+returns-clause-told g c =
+    told_answered c.args.array.now.parts.backup (g.B.Bank.faults_of c.args.array.now.parts.bank) (g.B.Bank.faults_of c.read-answer.new.self.parts.bank) (list_length c.args.array.now.parts.members.newest) (AsksRead c.args.at (length c.as_mut_slice.result.now / 512)) c.script_call-who.result (Read c.args.at (sectors_of c.read-answer.new.into)) c.read-answer.result (read_told c.args.array.now.parts.backup (g.B.Bank.faults_of c.args.array.now.parts.bank) (g.B.Bank.faults_of c.read-answer.new.self.parts.bank) c.args.at (length c.as_mut_slice.result.now / 512)) c.read-answer.ensures.answered
+
+pub returns-clause-sized : goal.returns-clause-sized
+returns-clause-sized g c =
+    sized-answered (list_length c.args.array.now.parts.members.newest) (AsksRead c.args.at (length c.as_mut_slice.result.now / 512)) c.script_call-who.result (Read c.args.at (sectors_of c.read-answer.new.into)) c.read-answer.result (called-length c.read-answer.ensures.called) (λ n. refl) c.read-answer.ensures.answered
+
+pub returns-in-Err-clause-told : goal.returns-in-Err-clause-told
+returns-in-Err-clause-told g c = told_none c.args.array.now.parts.backup (g.B.Bank.faults_of c.args.array.now.parts.bank) (g.B.Bank.faults_of c.args.array.now.parts.bank) refl
+
+pub returns-in-Err-clause-sized : goal.returns-in-Err-clause-sized
+returns-in-Err-clause-sized g c = sized-none refl refl

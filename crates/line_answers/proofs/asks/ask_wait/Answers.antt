@@ -1,12 +1,14 @@
-use Rattle.std.proofs.Common.{sym, ◌∙◌, arith}
-use Rattle.shared_array.proofs.GoneOn.{gone-then}
-use Rattle.line_answers.proofs.Waits.{size_same, waited_done, waiting_on}
+use Rattle.std.proofs.Common.{Option, [], refl, sym, ◌∙◌, subst, arith}
+use Rattle.std.specs.Prelude.{IsSome}
+use Rattle.flat_history.specs.declared.events.Entry.{Entry}
+use Rattle.run_laws.proofs.AskLaws.{entry_there}
+use Rattle.running_replies.proofs.GoneOn.{gone-none, gone-then}
+use Rattle.line_answers.proofs.Waits.{waited_done, waiting_on}
 use Rattle.line_answers.proofs.asks.ask_wait.Goals as goal
 
 pub returns-then-not-leaves_more-clause-asked : goal.returns-then-not-leaves_more-clause-asked
 returns-then-not-leaves_more-clause-asked g c =
-    let was = c.loop-at.invariant in
-    waited_done (size_same c.args.array.now.members c.loop-at.array.members was.went.same.shape was.went.same.size) was.waiting c.in-Ok.ensures.asked (sym c.leaves_more.ensures ∙ c.if-not-leaves_more.true)
+    waited_done c.loop-at.invariant.waiting c.in-Ok.ensures.asked (sym c.leaves_more.ensures ∙ c.if-not-leaves_more.true)
 
 pub returns-then-not-leaves_more-clause-went : goal.returns-then-not-leaves_more-clause-went
 returns-then-not-leaves_more-clause-went g c =
@@ -19,7 +21,17 @@ pub loop-at-preserved : goal.loop-at-preserved
 loop-at-preserved g c =
     let was = c.loop-at.invariant in
     record {
-      waiting = waiting_on (size_same c.args.array.now.members c.loop-at.array.members was.went.same.shape was.went.same.size) was.waiting c.in-Ok.ensures.asked (sym c.leaves_more.ensures ∙ c.if-not-leaves_more.false);
+      waiting = waiting_on was.waiting c.in-Ok.ensures.asked (sym c.leaves_more.ensures ∙ c.if-not-leaves_more.false);
       ended = c.in-Ok.ensures.ended;
       went = gone-then g.B.Bank.tells g.B.Bank.given g.B.Bank.tape g.B.Bank.faults_of c.args.array.now c.loop-at.array c.ask_steps.new.array was.went c.in-Ok.ensures.went;
     }
+
+pub loop-at-init : goal.loop-at-init
+loop-at-init g c = record {
+  waiting = ([], refl);
+  ended = c.requires.ended;
+  went = gone-none g.B.Bank.tells g.B.Bank.given g.B.Bank.tape g.B.Bank.faults_of c.args.array.now;
+}
+
+pub leaves_more-requires : goal.leaves_more-requires
+leaves_more-requires g c = record { there = subst (λ (o : Option Entry). IsSome o) (sym (entry_there c.in-Ok.ensures.asked)) refl }

@@ -1,14 +1,24 @@
-use Rattle.std.proofs.Common.{List, ◌∙◌, subst, arith}
+use Rattle.std.proofs.Common.{refl, ◌∙◌, subst, arith}
+use Rattle.std.proofs.Common.{◌/◌, List, length}
+use Rattle.bank.specs.Given.{IsFaulted}
 use Rattle.md_base.specs.Sectors.{Sector, sectors_of}
+use Rattle.superblocks.specs.Reading.{is_reshaping, list_length}
 use Rattle.flat_history.specs.declared.events.Entry.{Entry}
-use Rattle.flat_history.specs.declared.events.Event.TheVariants.{Wrote}
 use Rattle.flat_history.specs.declared.events.Request.TheVariants.{Write as AsksWrite}
-use Rattle.flat_history.specs.OneShape.{OneShapeFits}
-use Rattle.views.specs.Whole.{list_size}
-use Rattle.views.specs.Placed.{places_of}
+use Rattle.flat_history.specs.Flat.{visible_of}
+use Rattle.running.specs.Calls.{IsWriteLackedIn}
+use Rattle.running_replies.specs.Replies.{RunningFits}
 use Rattle.script.specs.declared.lines.Line.TheVariants.{Write as WriteLine}
-use Rattle.run_laws.proofs.AskLaws.{on_no_memory, grew, asked_at, answered_reply, answered_none, seeded_count}
+use Rattle.run_laws.proofs.AskLaws.{on_no_memory, asked_with, with-grew, written_reply, written_none, seeded_count}
+use Rattle.run_laws.proofs.Sizes.{sized-none, sized-written}
+use Rattle.run_laws.proofs.Told.{told_none, write_told_by}
+use Rattle.line_answers.proofs.Barred.{barred-backup, barred-still, barred-end}
+use Rattle.line_answers.proofs.Called.{called-length, script-numbered, all-visible}
 use Rattle.line_answers.proofs.asks.ask_write.Goals as goal
+
+pub write-answer-requires-clause-some : goal.write-answer-requires-clause-some
+write-answer-requires-clause-some g c =
+    let count = seeded_count c.as_bytes.result.now c.args.seed c.args.at c.args.count (c.as_bytes.ensures.sectors ∙ c.in-Ok.ensures) in omega (arith, count, c.requires.some)
 
 pub write-answer-requires-clause-few : goal.write-answer-requires-clause-few
 write-answer-requires-clause-few g c =
@@ -20,21 +30,68 @@ write-answer-requires-clause-short g c =
 
 pub returns-then-wants_memory-clause-asked : goal.returns-then-wants_memory-clause-asked
 returns-then-wants_memory-clause-asked g c =
-    answered_none (list_size (places_of c.args.array.now.members)) (AsksWrite c.args.at (sectors_of c.as_bytes.result.now)) c.script_call-who.result c.args.array.now.entries c.write-answer.new.self.entries (Wrote c.args.at (sectors_of c.as_bytes.result.now)) c.write-answer.result
+    written_none (list_length c.args.array.now.parts.members.newest) c.args.at (sectors_of c.as_bytes.result.now) c.script_call-who.result c.args.array.now.parts.entries c.write-answer.new.self.parts.entries c.write-answer.result
     c.write-answer.ensures.answered (c.wants_memory.ensures.yes c.if-wants_memory.true)
 
 pub last_place-requires : goal.last_place-requires
 last_place-requires g c =
-    grew (answered_reply (list_size (places_of c.args.array.now.members)) (AsksWrite c.args.at (sectors_of c.as_bytes.result.now)) c.script_call-who.result c.args.array.now.entries c.write-answer.new.self.entries (Wrote c.args.at (sectors_of c.as_bytes.result.now)) c.write-answer.result
-    c.write-answer.ensures.answered (c.wants_memory.ensures.no c.if-wants_memory.false)).1
+    let old = c.args.array.now in
+    let did = c.write-answer.ensures in
+    with-grew (written_reply (list_length old.parts.members.newest) c.args.at (sectors_of c.as_bytes.result.now) c.script_call-who.result old.parts.entries c.write-answer.new.self.parts.entries c.write-answer.result
+    (script-numbered old.parts.entries c.script_call-who.result c.script_call-who.ensures)
+    (barred-end (list_length old.parts.members.newest) c.args.at (visible_of (list_length old.parts.members.newest) old.parts.entries) c.as_bytes.result.now (IsWriteLackedIn old c.args.at (length c.as_bytes.result.now / 512)) old.parts.members c.write-answer.new.self.parts.members c.write-answer.result did.caused (all-visible (list_length old.parts.members.newest) old.parts.entries c.requires.sized c.requires.unlimited))
+    did.answered (c.wants_memory.ensures.no c.if-wants_memory.false)).1
 
 pub returns-clause-asked : goal.returns-clause-asked
 returns-clause-asked g c =
-    let size = list_size (places_of c.args.array.now.members) in
-    let was = answered_reply size (AsksWrite c.args.at (sectors_of c.as_bytes.result.now)) c.script_call-who.result c.args.array.now.entries c.write-answer.new.self.entries (Wrote c.args.at (sectors_of c.as_bytes.result.now)) c.write-answer.result
-    c.write-answer.ensures.answered (c.wants_memory.ensures.no c.if-wants_memory.false) in
-    asked_at (WriteLine c.args.at c.args.count c.args.seed) c.last_place.result was.1
-    (λ (before : List Entry) (e : Entry) (fits : OneShapeFits size before e (AsksWrite c.args.at (sectors_of c.as_bytes.result.now))). subst (λ (b : List Sector). OneShapeFits size before e (AsksWrite c.args.at b)) (c.as_bytes.ensures.sectors ∙ c.in-Ok.ensures) fits) c.script_call-who.ensures c.last_place.ensures
+    let old = c.args.array.now in
+    let size = list_length old.parts.members.newest in
+    let did = c.write-answer.ensures in
+    let was = written_reply size c.args.at (sectors_of c.as_bytes.result.now) c.script_call-who.result old.parts.entries c.write-answer.new.self.parts.entries c.write-answer.result
+    (script-numbered old.parts.entries c.script_call-who.result c.script_call-who.ensures)
+    (barred-end size c.args.at (visible_of size old.parts.entries) c.as_bytes.result.now (IsWriteLackedIn old c.args.at (length c.as_bytes.result.now / 512)) old.parts.members c.write-answer.new.self.parts.members c.write-answer.result did.caused (all-visible (list_length old.parts.members.newest) old.parts.entries c.requires.sized c.requires.unlimited))
+    did.answered (c.wants_memory.ensures.no c.if-wants_memory.false) in
+    asked_with (WriteLine c.args.at c.args.count c.args.seed) c.last_place.result was.1
+    (λ (before : List Entry) (e : Entry) (fits : RunningFits size before e (AsksWrite c.args.at (sectors_of c.as_bytes.result.now))). subst (λ (b : List Sector). RunningFits size before e (AsksWrite c.args.at b)) (c.as_bytes.ensures.sectors ∙ c.in-Ok.ensures) fits)
+    c.script_call-who.ensures c.last_place.ensures
 
 pub returns-then-wants_memory-clause-unchanged : goal.returns-then-wants_memory-clause-unchanged
 returns-then-wants_memory-clause-unchanged g c = on_no_memory c.write-answer.result c.write-answer.ensures.unchanged (c.wants_memory.ensures.yes c.if-wants_memory.true)
+
+pub returns-then-wants_memory-clause-told : goal.returns-then-wants_memory-clause-told
+returns-then-wants_memory-clause-told g c =
+    let old = c.args.array.now in
+    let did = c.write-answer.ensures in
+    let size = list_length old.parts.members.newest in
+    let before = g.B.Bank.faults_of old.parts.bank in
+    let now = g.B.Bank.faults_of c.write-answer.new.self.parts.bank in
+    write_told_by old.parts.backup before now size c.args.at (sectors_of c.as_bytes.result.now) c.script_call-who.result c.write-answer.result
+    (λ barred. barred-backup (is_reshaping old.parts.members.newest) old.parts.backup (λ slot. IsFaulted slot before now)
+    (barred-still size c.args.at (sectors_of c.as_bytes.result.now) c.script_call-who.result old.parts.entries c.write-answer.new.self.parts.entries (is_reshaping old.parts.members.newest) c.write-answer.result did.answered_still barred)
+    did.backed (did.backup barred)) did.answered
+
+pub returns-then-wants_memory-clause-sized : goal.returns-then-wants_memory-clause-sized
+returns-then-wants_memory-clause-sized g c =
+    sized-written (list_length c.args.array.now.parts.members.newest) c.args.at (sectors_of c.as_bytes.result.now) c.script_call-who.result c.write-answer.result (called-length c.write-answer.ensures.called) c.write-answer.ensures.answered
+
+pub returns-clause-told : goal.returns-clause-told
+returns-clause-told g c =
+    let old = c.args.array.now in
+    let did = c.write-answer.ensures in
+    let size = list_length old.parts.members.newest in
+    let before = g.B.Bank.faults_of old.parts.bank in
+    let now = g.B.Bank.faults_of c.write-answer.new.self.parts.bank in
+    write_told_by old.parts.backup before now size c.args.at (sectors_of c.as_bytes.result.now) c.script_call-who.result c.write-answer.result
+    (λ barred. barred-backup (is_reshaping old.parts.members.newest) old.parts.backup (λ slot. IsFaulted slot before now)
+    (barred-still size c.args.at (sectors_of c.as_bytes.result.now) c.script_call-who.result old.parts.entries c.write-answer.new.self.parts.entries (is_reshaping old.parts.members.newest) c.write-answer.result did.answered_still barred)
+    did.backed (did.backup barred)) did.answered
+
+pub returns-clause-sized : goal.returns-clause-sized
+returns-clause-sized g c =
+    sized-written (list_length c.args.array.now.parts.members.newest) c.args.at (sectors_of c.as_bytes.result.now) c.script_call-who.result c.write-answer.result (called-length c.write-answer.ensures.called) c.write-answer.ensures.answered
+
+pub returns-in-Err-clause-told : goal.returns-in-Err-clause-told
+returns-in-Err-clause-told g c = told_none c.args.array.now.parts.backup (g.B.Bank.faults_of c.args.array.now.parts.bank) (g.B.Bank.faults_of c.args.array.now.parts.bank) refl
+
+pub returns-in-Err-clause-sized : goal.returns-in-Err-clause-sized
+returns-in-Err-clause-sized g c = sized-none refl refl

@@ -1,7 +1,7 @@
 use Rattle.std.proofs.Common.{length, refl, sym, ap, subst, arith, List}
 use Rattle.bank.specs.declared.bank.Operation.{Operation}
 use Rattle.md_base.specs.declared.answers.Refusal.TheVariants.{NoSuchSlot}
-use Rattle.views.specs.Parts.{Parts}
+use Rattle.running_words.specs.Parts.{RunningParts}
 use Rattle.script.specs.declared.lines.Line.TheVariants.{Examine}
 use Rattle.run_laws.specs.Examining.{told_of}
 use Rattle.run_laws.specs.Making.{setting_of}
@@ -16,26 +16,26 @@ use Rattle.line_answers.proofs.examines.examine_running.Goals as goal
 pub returns-then-slot-slots-clause-answered : goal.returns-then-slot-slots-clause-answered
 returns-then-slot-slots-clause-answered g c =
     let array = c.args.array in
-    let setting = setting_of g.B.Bank.tells (g.B.Bank.given array.bank) (g.B.Bank.tape array.bank) (g.B.Bank.tape array.bank) c.args.backup (g.B.Bank.faults_of array.bank) (g.B.Bank.faults_of array.bank) in
+    let setting = setting_of g.B.Bank.tells (g.B.Bank.given array.parts.bank) (g.B.Bank.tape array.parts.bank) (g.B.Bank.tape array.parts.bank) c.args.backup (g.B.Bank.faults_of array.parts.bank) (g.B.Bank.faults_of array.parts.bank) in
     subst (λ (what : Answered). IsTurn setting (IsRunning array c.args.epochs) (IsRunning array c.args.epochs) (Examine c.args.slot) what) (sym c.absent.ensures)
     (unexamined_running setting array c.args.epochs c.requires.own (λ t. omega arith) c.args.slot (NoSuchSlot c.args.slot) (refl, omega (arith, c.slots.ensures, c.if-slot-slots.true)))
 
 pub returns-then-slot-slots-clause-written : goal.returns-then-slot-slots-clause-written
 returns-then-slot-slots-clause-written g c told =
     let array = c.args.array in
-    let setting = setting_of g.B.Bank.tells (g.B.Bank.given array.bank) (g.B.Bank.tape array.bank) (g.B.Bank.tape array.bank) c.args.backup (g.B.Bank.faults_of array.bank) (g.B.Bank.faults_of array.bank) in
-    written-nothing setting (histories_in (IsRunning array c.args.epochs)) (HasWritten (g.B.Bank.given array.bank) c.args.backup (Examine c.args.slot) _) (omega arith)
+    let setting = setting_of g.B.Bank.tells (g.B.Bank.given array.parts.bank) (g.B.Bank.tape array.parts.bank) (g.B.Bank.tape array.parts.bank) c.args.backup (g.B.Bank.faults_of array.parts.bank) (g.B.Bank.faults_of array.parts.bank) in
+    written-nothing setting (histories_in (IsRunning array c.args.epochs)) (HasWritten (g.B.Bank.given array.parts.bank) c.args.backup (Examine c.args.slot) _) (omega arith)
 
 pub returns-clause-answered : goal.returns-clause-answered
 returns-clause-answered g c =
     let array = c.args.array in
     let new = c.examine-found.new.self in
     let did = c.examine-found.ensures in
-    let setting = setting_of g.B.Bank.tells (g.B.Bank.given array.bank) (g.B.Bank.tape array.bank) (g.B.Bank.tape new.bank) c.args.backup (g.B.Bank.faults_of array.bank) (g.B.Bank.faults_of new.bank) in
+    let setting = setting_of g.B.Bank.tells (g.B.Bank.given array.parts.bank) (g.B.Bank.tape array.parts.bank) (g.B.Bank.tape new.parts.bank) c.args.backup (g.B.Bank.faults_of array.parts.bank) (g.B.Bank.faults_of new.parts.bank) in
     subst (λ (what : Answered). IsTurn setting (IsRunning array c.args.epochs) (IsRunning new c.args.epochs) (Examine c.args.slot) what) (sym c.told.ensures)
-    (subst (λ (a : Parts g.row.B.Denot). IsTurn setting (IsRunning array c.args.epochs) (IsRunning a c.args.epochs) (Examine c.args.slot) (told_of c.args.slot c.examine-found.result)) (sym did.else_same)
-    (examined_running setting array c.args.epochs c.requires.own (λ t. omega (arith, ap (λ (l : List Operation). length l) (did.tape t))) c.args.slot new.bank c.examine-found.result
-    (looked_at setting (g.B.Bank.tape array.bank) c.args.slot c.examine-found.result (omega (arith, c.slots.ensures, c.if-slot-slots.false)) did.tape did.found)
+    (subst (λ (a : RunningParts g.row.B.Denot). IsTurn setting (IsRunning array c.args.epochs) (IsRunning a c.args.epochs) (Examine c.args.slot) (told_of c.args.slot c.examine-found.result)) (sym did.else_same)
+    (examined_running setting array c.args.epochs c.requires.own (λ t. omega (arith, ap (λ (l : List Operation). length l) (did.tape t))) c.args.slot new.parts.bank c.examine-found.result
+    (looked_at setting (g.B.Bank.tape array.parts.bank) c.args.slot c.examine-found.result (omega (arith, c.slots.ensures, c.if-slot-slots.false)) did.tape did.found)
     (failed_at setting.before setting.now c.args.slot c.examine-found.result did.cause.failed)))
 
 pub returns-clause-written : goal.returns-clause-written
@@ -43,9 +43,9 @@ returns-clause-written g c told =
     let array = c.args.array in
     let new = c.examine-found.new.self in
     let did = c.examine-found.ensures in
-    let setting = setting_of g.B.Bank.tells (g.B.Bank.given array.bank) (g.B.Bank.tape array.bank) (g.B.Bank.tape new.bank) c.args.backup (g.B.Bank.faults_of array.bank) (g.B.Bank.faults_of new.bank) in
-    subst (λ (a : Parts g.row.B.Denot). IsWritten setting (histories_in (IsRunning array c.args.epochs)) (histories_in (IsRunning a c.args.epochs)) (HasWritten (g.B.Bank.given array.bank) c.args.backup (Examine c.args.slot) c.told.result)) (sym did.else_same)
-    (written-nothing setting (histories_in (IsRunning array c.args.epochs)) (HasWritten (g.B.Bank.given array.bank) c.args.backup (Examine c.args.slot) c.told.result) (omega (arith, ap (λ (l : List Operation). length l) (did.tape told))))
+    let setting = setting_of g.B.Bank.tells (g.B.Bank.given array.parts.bank) (g.B.Bank.tape array.parts.bank) (g.B.Bank.tape new.parts.bank) c.args.backup (g.B.Bank.faults_of array.parts.bank) (g.B.Bank.faults_of new.parts.bank) in
+    subst (λ (a : RunningParts g.row.B.Denot). IsWritten setting (histories_in (IsRunning array c.args.epochs)) (histories_in (IsRunning a c.args.epochs)) (HasWritten (g.B.Bank.given array.parts.bank) c.args.backup (Examine c.args.slot) c.told.result)) (sym did.else_same)
+    (written-nothing setting (histories_in (IsRunning array c.args.epochs)) (HasWritten (g.B.Bank.given array.parts.bank) c.args.backup (Examine c.args.slot) c.told.result) (omega (arith, ap (λ (l : List Operation). length l) (did.tape told))))
 
 pub returns-clause-grows : goal.returns-clause-grows
 returns-clause-grows g c = grows_same c.examine-found.ensures.tape

@@ -1,17 +1,35 @@
 use Rattle.line_answers.proofs.Statuses.{shown_detail, shown_mdstat, shown_told}
+use Rattle.std.proofs.Common.{refl, ap}
+use Rattle.running_words.specs.Parts.{RunningParts}
+use Rattle.run_laws.proofs.Sizes.{sized-none, sized-entered}
+use Rattle.run_laws.proofs.Told.{told_none, told_entered}
+use Rattle.line_answers.proofs.Called.{reshape-length}
 use Rattle.line_answers.proofs.shows.ask_show.Goals as goal
 
 pub returns-clause-asked : goal.returns-clause-asked
 returns-clause-asked g c =
     let did = c.in-Ok.ensures in
-    shown_detail c.args.array.now c.status.new.self.entries c.last_place.result c.script_call-who.result c.in-Ok.status c.script_call-who.ensures did.entered did.told c.last_place.ensures did.few.0 did.few.1
+    shown_detail c.args.array.now c.status.new.self.parts.entries c.last_place.result c.script_call-who.result c.in-Ok.status c.script_call-who.ensures did.entered did.told c.last_place.ensures did.few.0 did.few.1
 
 pub returns-clause-asked_brief : goal.returns-clause-asked_brief
 returns-clause-asked_brief g c =
     let did = c.in-Ok.ensures in
-    shown_mdstat c.args.array.now c.status.new.self.entries c.last_place.result c.script_call-who.result c.in-Ok.status c.script_call-who.ensures did.entered did.told c.last_place.ensures did.few.0 did.few.1
+    shown_mdstat c.args.array.now c.status.new.self.parts.entries c.last_place.result c.script_call-who.result c.in-Ok.status c.script_call-who.ensures did.entered did.told c.last_place.ensures did.few.0 did.few.1
+
+pub returns-clause-shown : goal.returns-clause-shown
+returns-clause-shown g c =
+    let did = c.in-Ok.ensures in
+    shown_told c.args.array.now c.status.new.self.parts.entries c.last_place.result c.script_call-who.result c.in-Ok.status c.script_call-who.ensures did.entered did.told c.last_place.ensures did.few.0 did.few.1
 
 pub returns-clause-told : goal.returns-clause-told
-returns-clause-told g c =
-    let did = c.in-Ok.ensures in
-    shown_told c.args.array.now c.status.new.self.entries c.last_place.result c.script_call-who.result c.in-Ok.status c.script_call-who.ensures did.entered did.told c.last_place.ensures did.few.0 did.few.1
+returns-clause-told g c = told_entered c.args.array.now.parts.backup (g.B.Bank.faults_of c.args.array.now.parts.bank) (g.B.Bank.faults_of c.status.new.self.parts.bank) c.in-Ok.ensures.entered tt
+
+pub returns-in-Err-clause-told : goal.returns-in-Err-clause-told
+returns-in-Err-clause-told g c =
+    told_none c.args.array.now.parts.backup (g.B.Bank.faults_of c.args.array.now.parts.bank) (g.B.Bank.faults_of c.status.new.self.parts.bank) (ap (λ (a : RunningParts g.row.B.Denot). a.parts.entries) c.in-Err.ensures.unchanged)
+
+pub returns-clause-sized : goal.returns-clause-sized
+returns-clause-sized g c = sized-entered (reshape-length c.in-Ok.ensures.same) (λ n. refl) c.in-Ok.ensures.entered
+
+pub returns-in-Err-clause-sized : goal.returns-in-Err-clause-sized
+returns-in-Err-clause-sized g c = sized-none (reshape-length c.in-Err.ensures.same) (ap (λ (a : RunningParts g.row.B.Denot). a.parts.entries) c.in-Err.ensures.unchanged)

@@ -1,7 +1,6 @@
 use Rattle.std.proofs.Common.{rules, ◌≡◌, ◌-◌, [], ◌∷◌, ◌++◌, length, refl, sym, ap, subst, arith}
 use Rattle.flat_history.specs.declared.events.Epoch.{Epoch}
-use Rattle.views.specs.Whole.{list_size}
-use Rattle.views.specs.Placed.{places_of}
+use Rattle.superblocks.specs.Reading.{list_length}
 use Rattle.run_laws.specs.Ended.{IsRunKept, AreFormer}
 use Rattle.run_laws.specs.States.{histories_in, bank_in, RunsOwn}
 use Rattle.run_laws.proofs.Legal.{former_halted}
@@ -32,9 +31,9 @@ returns-in-Running-clause-ended g c =
     let room = own.room in
     let items : c.push_reserved.new.self.items ≡ c.in-Running.epochs.items ++ epoch ∷ [] = search rules in
     let grew = halt_grew c.script_call-who.result did.entered in
-    let asked = asked_halt (list_size (places_of array.members)) (length epoch.entries.items - 1) c.script_call-who.result c.script_call-who.ensures did.entered (omega (arith, grew)) in
+    let asked = asked_halt (list_length array.parts.members.newest) (length epoch.entries.items - 1) c.script_call-who.result c.script_call-who.ensures did.entered (omega (arith, grew)) in
     let bank = c.halt-bank.result.0 in
-    let setting = setting_of g.B.Bank.tells (g.B.Bank.given array.bank) (g.B.Bank.tape bank) (g.B.Bank.tape bank) c.args.backup (g.B.Bank.faults_of bank) (g.B.Bank.faults_of bank) in
+    let setting = setting_of g.B.Bank.tells (g.B.Bank.given array.parts.bank) (g.B.Bank.tape bank) (g.B.Bank.tape bank) c.args.backup (g.B.Bank.faults_of bank) (g.B.Bank.faults_of bank) in
     subst (λ (s : State g.row.B.Denot). IsEnded (setting_of g.B.Bank.tells (g.B.Bank.given (bank_in s)) (g.B.Bank.tape bank) (g.B.Bank.tape bank) c.args.backup (g.B.Bank.faults_of bank) (g.B.Bank.faults_of bank)) s bank c.push_reserved.new.self.items) (sym c.in-Running.is)
     (subst (λ (b : g.row.B.Denot). IsEnded setting (Running array c.in-Running.epochs) b c.push_reserved.new.self.items) (sym did.bank)
     (ended_running setting c.script_call-who.result array epoch c.in-Running.epochs c.push_reserved.new.self items own did.entered did.uuid did.given did.first asked.0 (asked.1)))
@@ -49,8 +48,8 @@ returns-in-Running-clause-former g c =
     let items : c.push_reserved.new.self.items ≡ c.in-Running.epochs.items ++ epoch ∷ [] = search rules in
     let former = subst (λ (s : State g.row.B.Denot). IsRunKept g.B.Bank.tells (g.B.Bank.given (bank_in s)) (g.B.Bank.tape (bank_in s)) c.args.backup s) c.in-Running.is c.requires.former in
     subst (λ (s : State g.row.B.Denot). g.B.Bank.tells → AreFormer (g.B.Bank.given (bank_in s)) (g.B.Bank.tape c.halt-bank.result.0) c.args.backup (length (g.B.Bank.tape c.halt-bank.result.0)) c.push_reserved.new.self.items) (sym c.in-Running.is)
-    (former_halted g.B.Bank.tells (λ (b : g.row.B.Denot). g.B.Bank.given b) (λ (b : g.row.B.Denot). g.B.Bank.tape b) c.args.backup array c.halt-bank.result.0 epoch c.in-Running.epochs.items c.push_reserved.new.self.items items did.bank did.uuid did.given did.first
-    did.ends did.legal did.last did.right former)
+    (former_halted g.B.Bank.tells (λ (b : g.row.B.Denot). g.B.Bank.given b) (λ (b : g.row.B.Denot). g.B.Bank.tape b) c.args.backup array.parts c.halt-bank.result.0 epoch c.in-Running.epochs.items c.push_reserved.new.self.items items did.bank did.uuid did.given did.first
+    did.ends did.last did.right did.plain former)
 
 pub returns-in-Idle-clause-written : goal.returns-in-Idle-clause-written
 returns-in-Idle-clause-written g c told =
@@ -68,7 +67,7 @@ returns-in-Running-clause-written g c told =
     let items : c.push_reserved.new.self.items ≡ c.in-Running.epochs.items ++ epoch ∷ [] = search rules in
     let former = subst (λ (s : State g.row.B.Denot). IsRunKept g.B.Bank.tells (g.B.Bank.given (bank_in s)) (g.B.Bank.tape (bank_in s)) c.args.backup s) c.in-Running.is c.requires.former in
     let bank = c.halt-bank.result.0 in
-    let setting = setting_of g.B.Bank.tells (g.B.Bank.given array.bank) (g.B.Bank.tape bank) (g.B.Bank.tape bank) c.args.backup (g.B.Bank.faults_of bank) (g.B.Bank.faults_of bank) in
+    let setting = setting_of g.B.Bank.tells (g.B.Bank.given array.parts.bank) (g.B.Bank.tape bank) (g.B.Bank.tape bank) c.args.backup (g.B.Bank.faults_of bank) (g.B.Bank.faults_of bank) in
     let same = ap (λ (b : g.row.B.Denot). length (g.B.Bank.tape b)) did.bank in
     let begun = former.begun told in
     let was = former.ended told in

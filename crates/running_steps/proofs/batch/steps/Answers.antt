@@ -1,16 +1,14 @@
-use Rattle.std.proofs.Common.{◌≡◌, ◌⊎◌, ℕ, min, inl, inr, refl, sym, ◌∙◌, ap, subst, arith}
+use Rattle.std.proofs.Common.{◌≡◌, ◌⊎◌, ℕ, min, inl, inr, refl, ap, subst, arith}
 use Rattle.std.proofs.lemmas.Bool.{cases_lt}
 use Rattle.std.specs.Prelude.{IfSome}
-use Rattle.md_base.specs.declared.answers.Refusal.TheVariants.{Nothing}
-use Rattle.flat_history.specs.declared.events.Event.TheVariants.{Stepped, Refused}
-use Rattle.superblocks.specs.Reading.{is_reshaping, list_length}
+use Rattle.flat_history.specs.declared.events.Event.TheVariants.{Stepped}
+use Rattle.superblocks.specs.Reading.{list_length}
 use Rattle.running_replies.specs.Replies.{IsRefusalBy}
 use Rattle.running_replies.proofs.GoneOn.{gone-none}
 use Rattle.running.specs.Calls.{running_left}
-use Rattle.running_steps.specs.Steps.{IsOpenFor}
 use Rattle.running_steps.proofs.Went.{epoch-of}
 use Rattle.running_steps.proofs.Plain.{open-begins}
-use Rattle.running_steps.proofs.Replies.{answered-nothing, answered-stepped, gone-room, gone-behind, gone-answered, left-answered, may-answer}
+use Rattle.running_steps.proofs.Replies.{answered-nothing, answered-stepped, gone-behind, gone-answered, may-answer}
 use Rattle.running_steps.proofs.batch.steps.Goals as goal
 
 least-is : (count most start : ℕ) → count ≡ min most start → (count ≡ most) ⊎ (count ≡ start)

@@ -1,4 +1,3 @@
-use Rattle.std.proofs.Common.{refl}
 use Rattle.md_base.specs.declared.answers.Refusal.TheVariants.{Nothing}
 use Rattle.flat_history.specs.declared.events.Event.TheVariants.{Refused}
 use Rattle.array_kept.proofs.LossLaws.{behind-alone}

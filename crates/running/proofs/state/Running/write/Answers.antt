@@ -1,4 +1,5 @@
-use Rattle.std.proofs.Common.{◌/◌, length, refl}
+use Rattle.std.proofs.Common.{ℕ, ◌/◌, Option, length, refl, subst}
+use Rattle.std.specs.Prelude.{IsSome}
 use Rattle.flat_history.specs.declared.events.Event.TheVariants.{Wrote}
 use Rattle.flat_history.specs.declared.events.Request.TheVariants.{Write as AsksWrite}
 use Rattle.still_laws.proofs.PlansKept.{add-answered}
@@ -40,6 +41,14 @@ returns-clause-caused g c = elim c.match-self.branch [
   | in-Moving w ↦
       let active = rw w.in-Moving.is at c.self.invariant in
       rw (← c.self.view_is, w.in-Moving.is, w.self-inside-is, w.check_moving.ensures.same, w.result-is) (write-moving w.in-Moving.moving c.args.at (length c.args.from.now / 512) w.in-Moving.moving.parts.members w.write-done-in-Moving.new.self.parts.members w.write-done-in-Moving.result active.active w.write-done-in-Moving.ensures.caused)
+]
+
+pub returns-clause-backed : goal.returns-clause-backed
+returns-clause-backed g c = elim c.match-self.branch [
+  | in-Still w ↦
+      let rest = rw w.in-Still.is at c.self.invariant in
+      rw (← c.self.view_is, w.in-Still.is) (λ active. absurd (cc (active, rest.now.still)))
+  | in-Moving w ↦ rw (← c.self.view_is, w.in-Moving.is) (λ active. subst (λ (o : Option ℕ). IsSome o) w.write-done-in-Moving.ensures.called.same.array.backup w.check_moving.ensures.backed)
 ]
 
 pub returns-clause-backup : goal.returns-clause-backup

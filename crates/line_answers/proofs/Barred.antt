@@ -1,0 +1,48 @@
+-- A write that was refused for the backup: the array is in a reshape, and has a backup that failed.
+use Rattle.std.proofs.Common.{◌≡◌, ℕ, ◌+◌, ◌≤◌, ◌/◌, Bool, true, false, Option, Some, None, Result, Err, List, length, refl, subst, arith}
+use Rattle.std.specs.Prelude.{MatchBool, MatchOption, IfSome, IsSome, nat_lt}
+use Rattle.md_base.specs.Sectors.{sectors_of}
+use Rattle.md_base.proofs.SectorLaws.{length-sectors_of}
+use Rattle.md_base.specs.declared.answers.Fault.{Fault}
+use Rattle.md_base.specs.declared.answers.Fault.TheVariants.{Refused as IsRefusedWith}
+use Rattle.md_base.specs.declared.answers.Refusal.{Refusal}
+use Rattle.md_base.specs.declared.answers.Refusal.TheVariants.{BackupFault}
+use Rattle.md_base.specs.declared.answers.Who.{Who}
+use Rattle.superblocks.specs.declared.members.Members.{Members}
+use Rattle.flat_history.specs.declared.events.Entry.{Entry}
+use Rattle.flat_history.specs.declared.events.Event.TheVariants.{Wrote}
+use Rattle.flat_history.specs.declared.events.Request.TheVariants.{Write as AsksWrite}
+use Rattle.flat_history.specs.Fits.{IsReadRefused}
+use Rattle.flat_history.specs.Transfers.{IsRefusedAt, IsPastEnd}
+use Rattle.array_kept.specs.Calls.{IsAnswered, IsCausedBy}
+use Rattle.run_laws.proofs.AskLaws.{barred_within}
+
+-- a reply of an array of one shape doesn't tell it
+none-barred : (visible to : ℕ) → IsRefusedAt visible to IsReadRefused BackupFault → ⊥
+none-barred visible to is = by (nat_lt visible to) is
+  where
+    by : (b : Bool) → MatchBool b (IsPastEnd BackupFault) (IsReadRefused BackupFault × (IsPastEnd BackupFault → ⊥)) → ⊥
+    by true is = is
+    by false is = is.0
+
+not-still : {T : Type 0} (size at : ℕ) (body : List (List ℕ)) (who : Who) (old new : List Entry) (r : Result T Fault) → IsAnswered size (AsksWrite at body) who old new (Wrote at body) r → r ≡ Err (IsRefusedWith BackupFault) → ⊥
+not-still {T = T} size at body who old new r answered is =
+    none-barred _ _ (subst (λ (x : Result T Fault). IsAnswered size (AsksWrite at body) who old new (Wrote at body) x) is answered).fits.answers
+
+-- so it is in a reshape, where it has a backup
+pub barred-backup : (moving : Bool) (backup : Option ℕ) (Failed : ℕ → Type 0) → ((moving ≡ false) → ⊥) → (moving ≡ true → IsSome backup) → IfSome backup Failed → MatchOption backup ⊥ Failed
+barred-backup true None Failed here backed failed = absurd (let some = backed refl in cc)
+barred-backup true (Some slot) Failed here backed failed = failed
+barred-backup false backup Failed here backed failed = absurd (here refl)
+
+pub barred-still : {T : Type 0} (size at : ℕ) (body : List (List ℕ)) (who : Who) (old new : List Entry) (moving : Bool) (r : Result T Fault) → (moving ≡ false → IsAnswered size (AsksWrite at body) who old new (Wrote at body) r)
+    → r ≡ Err (IsRefusedWith BackupFault) → moving ≡ false → ⊥
+barred-still size at body who old new moving r answered is still = not-still size at body who old new r (answered still) is
+
+-- and the write doesn't go past the end
+pub barred-end : {T : Type 0} (size at visible : ℕ) (bytes : List ℕ) (why : Members → Refusal → Type 0) (members after : Members) (r : Result T Fault) → IsCausedBy size (at + length bytes / 512) why members after r → visible ≡ size
+    → r ≡ Err (IsRefusedWith BackupFault) → at + length (sectors_of bytes) ≤ visible
+barred-end size at visible bytes why members after r caused seen is =
+    let within = barred_within size (at + length bytes / 512) why members after r caused is in
+    let many = length-sectors_of bytes in
+    omega (arith, within, many, seen)

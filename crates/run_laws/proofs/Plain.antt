@@ -1,0 +1,38 @@
+-- An array that kept its shape: where its history fills in right, it can be relied on.
+use Rattle.std.proofs.Common.{◌≡◌, inl, inr, ℕ, ◌||◌, Bool, false, Option, Some, None, List, [], ◌∷◌, refl, sym, ◌∙◌, ap, true≢false}
+use Rattle.std.specs.Prelude.{MatchOption, IfSome, IsTrue, ⊤}
+use Rattle.std.specs.List.{list_any}
+use Rattle.superblocks.specs.Reading.{Reading, is_reshaping}
+use Rattle.flat_history.specs.declared.events.Entry.{Entry}
+use Rattle.flat_history.specs.declared.events.Event.{Event}
+use Rattle.flat_history.specs.declared.events.Event.TheVariants.{Step}
+use Rattle.flat_history.specs.declared.events.StepKind.TheVariants.{TakenOver}
+use Rattle.flat_history.specs.Losses.{takes, loses}
+use Rattle.flat_history.specs.OneShape.{is_lost}
+use Rattle.flat_history.specs.Plain.{loses_role}
+use Rattle.flat_history.specs.Sound.{FillsRight}
+use Rattle.flat_history.specs.World.{World, contents_at, reading_at}
+use Rattle.kept_history.specs.Safe.{IsReshapeFit, IsFilledRight}
+use Rattle.running_words.specs.Plans.{turns_shape, KeepsShape}
+use Rattle.run_laws.proofs.PlainReplies.{neither}
+
+-- an event that tells no reshape takes a role's holder away only where it tells that lost
+takes-told : (r : Option Reading) (role : ℕ) (event : Event) → turns_shape event ≡ false → takes r role event ≡ loses_role role event
+takes-told r role (Step TakenOver left) keeps = absurd (true≢false keeps)
+takes-told r role event keeps = refl
+
+takes-none : (world : World) (role : ℕ) (entries : List Entry) → list_any (λ e. turns_shape e.event) entries ≡ false → is_lost entries role ≡ false → list_any (loses world role) entries ≡ false
+takes-none world role [] keeps none = refl
+takes-none world role (e ∷ entries) keeps none =
+    let kept = neither (turns_shape e.event) (list_any (λ e. turns_shape e.event) entries) keeps in
+    let lost = neither (loses_role role e.event) (is_lost entries role) none in
+    ap (λ (b : Bool). b || list_any (loses world role) entries) (takes-told (reading_at world e.end) role e.event (kept.0) ∙ lost.0) ∙ takes-none world role entries (kept.1) (lost.1)
+
+on-course : (world : World) (o : Option Reading) → MatchOption o ⊤ (λ r. is_reshaping r.newest ≡ false) → IfSome o (λ r. IsTrue (is_reshaping r.newest) → IsReshapeFit world.scope (contents_at world world.first) r)
+on-course world None found = tt
+on-course world (Some r) found = λ moving. absurd (true≢false (sym moving ∙ found))
+
+-- what is filled in is right
+pub kept-fills : (world : World) (entries : List Entry) → KeepsShape world entries → FillsRight world entries → IsFilledRight world entries
+kept-fills world entries keeps (inl none) = inl (λ role. takes-none world role entries keeps.none (none role), on-course world (reading_at world world.first) keeps.found)
+kept-fills world entries keeps (inr fit) = inr fit

@@ -1,0 +1,20 @@
+-- Which replies are those of an array of one shape.
+use Rattle.std.specs.Prelude.{◌≡◌, ℕ, Bool, true, false, List}
+use Rattle.std.specs.List.{list_any}
+use Rattle.flat_history.specs.declared.events.Entry.{Entry}
+use Rattle.flat_history.specs.declared.events.Request.{Request}
+use Rattle.flat_history.specs.declared.events.Request.TheVariants.{Grow as AsksGrow}
+use Rattle.flat_history.specs.OneShape.{OneShapeFits}
+use Rattle.running_words.specs.Plans.{turns_shape}
+use Rattle.still_laws.specs.Plain.{MayTellPlainly}
+use Rattle.running_replies.specs.Replies.{RunningFits}
+
+-- the request asks for a reshape
+abbrev pub is_grow : Request → Bool
+is_grow (AsksGrow wish) = true
+is_grow request = false
+
+-- Where no reshape was planned or begun before it, such a reply to another request fits it as one of an array of one shape, unless it tells what only a reshape may.
+abbrev pub PlainRepliesFit : Type 0
+PlainRepliesFit = (size : ℕ) (before : List Entry) (e : Entry) (request : Request) → list_any (λ e. turns_shape e.event) before ≡ false → MayTellPlainly e.event → is_grow request ≡ false
+    → RunningFits size before e request → OneShapeFits size before e request

@@ -1,0 +1,9 @@
+//! The laws of replies.
+
+ghost use Rattle.run_laws.specs.Plain.{PlainRepliesFit};
+
+/// Where no reshape was planned or begun before it, a reply that tells no failed backup, and no refusal of a reshape, fits its request
+/// as one of an array of one shape.
+pub fn plain_replies_fit()
+    ensures { PlainRepliesFit }
+{}
