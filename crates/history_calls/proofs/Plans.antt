@@ -1,5 +1,5 @@
 -- The plans that are open go to one shape, and an event that leaves no step closes them; and what stands behind an event in its call.
-use Rattle.std.proofs.Common.{◌≡◌, ℕ, ◌≤◌, ◌&&◌, Bool, true, false, cond, Option, Some, option_map, List, [], ◌∷◌, ◌++◌, length, fold, MatchOption, refl, sym, ◌∙◌, ap, subst}
+use Rattle.std.proofs.Common.{◌≡◌, ℕ, ◌≤◌, Bool, true, false, cond, Option, Some, option_map, List, [], ◌∷◌, ◌++◌, length, fold, MatchOption, refl, sym, ◌∙◌, ap, subst}
 use Rattle.std.specs.Prelude.{⊤}
 use Rattle.std.specs.List.{list_all}
 use Rattle.std.proofs.lemmas.List.Sums.{fold-append}

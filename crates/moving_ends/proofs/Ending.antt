@@ -16,7 +16,7 @@ use Rattle.flat_history.specs.Legal.{is_loss, before_last_step, level_after}
 use Rattle.flat_history.specs.Losses.{loses, is_gone_after, is_unsynced, settles, unsettles}
 use Rattle.flat_history.specs.OneShape.{is_lost, is_unsettled}
 use Rattle.flat_history.specs.Plain.{entries_of, loses_role}
-use Rattle.flat_history.specs.Reshaped.{behind, comes_with_finish, comes_with_step, is_rebuilt}
+use Rattle.flat_history.specs.Reshaped.{comes_with_finish, comes_with_step, is_rebuilt}
 use Rattle.flat_history.specs.Transfers.{last_end_from}
 use Rattle.flat_history.specs.World.{World, opening_list}
 use Rattle.history_laws.proofs.OneShapeGrowing.{entries-both}
