@@ -47,12 +47,16 @@ fn running(answer: Answer) -> Result<Running<MemoryBank>, Fail> {
 
 // The bank of an array that is refused for this.
 fn refused(rt: &impl Abort, answer: Answer, wanted: Refusal) -> Result<MemoryBank, Fail> {
-    match answer {
-        Err((bank, Fault::Refused(refusal))) => {
+    let Err(left) = answer else {
+        return Err(Fail::from("not refused"));
+    };
+    let (bank, fault) = left;
+    match fault {
+        Fault::Refused(refusal) => {
             assert!(rt; refusal == wanted);
             Ok(bank)
         }
-        _ => Err(Fail::from("not refused")),
+        Fault::NoMemory => Err(Fail::from("no memory")),
     }
 }
 
