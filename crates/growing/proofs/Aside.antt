@@ -5,7 +5,7 @@ use Rattle.superblocks.specs.Reads.{has_spare}
 use Rattle.views.specs.Placed.{AreStillHeld}
 use Rattle.views.specs.Rebuilding.{MayHold}
 use Rattle.array_kept.specs.Calls.{AreSparesFewer, AreHeldOrSpare}
-use Rattle.still.specs.running_words_Adding.{AreSparesBut}
+use Rattle.turning.specs.running_words_Adding.{AreSparesBut}
 use Rattle.growing.specs.Plans.{IsAside}
 
 not-so : (b : Bool) → (b ≡ true → ⊥) → b ≡ false

@@ -22,11 +22,11 @@ use Rattle.grow_asked.specs.Fitting.{IsReadLike}
 use Rattle.grow_asked.proofs.FirstLaws.{judged, exactly}
 use Rattle.kept_history.specs.Recorded.{entry_of}
 use Rattle.kept_history.proofs.Records.{begins-going}
-use Rattle.still.specs.course_kept_the_Course.{Course}
-use Rattle.still.specs.moving_kept_Moving.{IsMoving}
-use Rattle.still.proofs.moving_kept_Refusals.{quiet-refusal}
-use Rattle.still.proofs.moving_kept_Resting.{resting-moves}
-use Rattle.still.proofs.running_words_Called.{not_254}
+use Rattle.turning.specs.course_kept_the_Course.{Course}
+use Rattle.turning.specs.moving_kept_Moving.{IsMoving}
+use Rattle.turning.proofs.moving_kept_Refusals.{quiet-refusal}
+use Rattle.turning.proofs.moving_kept_Resting.{resting-moves}
+use Rattle.turning.proofs.running_words_Called.{not_254}
 use Rattle.growing.specs.Planned.{IsReadWhereAsked}
 use Rattle.growing.proofs.Fitting.{where-is, reply-fits}
 

@@ -31,7 +31,7 @@ use Rattle.kept_history.specs.Recorded.{entry_of}
 use Rattle.kept_history.specs.Safe.{world_in, IsFilledRight}
 use Rattle.kept_history.proofs.Turned.{filled-before}
 use Rattle.history_calls.specs.Reliable.{IsReliable}
-use Rattle.still.specs.still_kept_Still.{AreNoneMissing, IsStill}
+use Rattle.turning.specs.still_kept_Still.{AreNoneMissing, IsStill}
 use Rattle.growing.specs.Planned.{IsReadWhereAsked, ArePhasesTold}
 use Rattle.growing.proofs.Read.{read-whole}
 

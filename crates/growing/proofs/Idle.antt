@@ -25,9 +25,9 @@ use Rattle.views.specs.Placed.{is_vacant}
 use Rattle.views.specs.Status.{stripes_of, rebuilt_of, vacant_count, spare_count, resync_left, role_left, recovery_left, left_of}
 use Rattle.grow_asked.specs.Asked.{Asked, lowest_missing, IsUngrowable, grow_refusal}
 use Rattle.grow_asked.proofs.FirstLaws.{judged, none-exactly}
-use Rattle.still.specs.still_kept_Still.{AreNoneMissing}
-use Rattle.still.specs.still_laws_Plain.{MayTellPlainly}
-use Rattle.still.proofs.still_kept_Refusals.{IsRefusedStill}
+use Rattle.turning.specs.still_kept_Still.{AreNoneMissing}
+use Rattle.turning.specs.still_laws_Plain.{MayTellPlainly}
+use Rattle.turning.proofs.still_kept_Refusals.{IsRefusedStill}
 
 -- ---- what speaks against it
 

@@ -23,13 +23,13 @@ use Rattle.grow_asked.specs.declared.window.PhasesLeft.{PhasesLeft}
 use Rattle.grow_asked.specs.Asked.{Asked, window_for, grow_refusal}
 use Rattle.grow_asked.specs.Left.{phases_of}
 use Rattle.kept_history.proofs.Records.{begins-going}
-use Rattle.still.specs.still_kept_Still.{IsStill}
-use Rattle.still.proofs.still_kept_Resting.{resting-stands}
-use Rattle.still.specs.running_words_Parts.{still_left}
-use Rattle.still.proofs.running_words_Called.{not_254}
-use Rattle.still.specs.still_laws_Ready.{IsReady}
-use Rattle.still.proofs.still_laws_Kept.{plainly-more}
-use Rattle.still.proofs.still_laws_Plain.{IsLeftPlain, turned-plain, turns-behind}
+use Rattle.turning.specs.still_kept_Still.{IsStill}
+use Rattle.turning.proofs.still_kept_Resting.{resting-stands}
+use Rattle.turning.specs.running_words_Parts.{still_left}
+use Rattle.turning.proofs.running_words_Called.{not_254}
+use Rattle.turning.specs.still_laws_Ready.{IsReady}
+use Rattle.turning.proofs.still_laws_Kept.{plainly-more}
+use Rattle.turning.proofs.still_laws_Plain.{IsLeftPlain, turned-plain, turns-behind}
 use Rattle.growing.specs.Planned.{HasWideBackup}
 use Rattle.growing.proofs.Idle.{nothing-against}
 

@@ -8,3 +8,11 @@ pub mod Unbroken
 pub mod Aside
 pub mod Replied
 pub mod Windows
+pub use Rattle.running_replies.proofs.Fitting as running_replies_Fitting
+pub use Rattle.running_replies.proofs.GoneOn as running_replies_GoneOn
+pub use Rattle.turning.proofs.Begun as turning_Begun
+pub use Rattle.turning.proofs.moving_laws_MendLaws
+pub use Rattle.turning.proofs.still_kept_Whole
+pub use Rattle.turning.proofs.still_laws_PlansKept
+pub use Rattle.turning.proofs.still_steps_Lowest
+pub use Rattle.turning.proofs.still_steps_NextLaws

@@ -25,8 +25,8 @@ use Rattle.views.specs.declared.work.Work.{Work}
 use Rattle.kept_history.specs.Recorded.{entry_of}
 use Rattle.kept_history.specs.Safe.{world_in}
 use Rattle.history_calls.specs.Reliable.{IsReliable}
-use Rattle.still.specs.still_kept_Still.{AreNoneMissing, IsStill}
-use Rattle.still.specs.running_words_Plans.{GoTo}
+use Rattle.turning.specs.still_kept_Still.{AreNoneMissing, IsStill}
+use Rattle.turning.specs.running_words_Plans.{GoTo}
 use Rattle.growing.specs.Planned.{HasWideBackup}
 use Rattle.growing.proofs.Fitting.{right-before}
 use Rattle.growing.proofs.Read.{read-whole}

@@ -19,9 +19,9 @@ use Rattle.grow_asked.specs.Fitting.{SaysSameShape}
 use Rattle.kept_history.specs.Safe.{world_in}
 use Rattle.kept_history.proofs.Lengths.{now-drawn}
 use Rattle.history_calls.specs.Reliable.{IsReliable}
-use Rattle.still.specs.still_kept_Still.{AreNoneMissing, AreAtRest, IsStill}
-use Rattle.still.proofs.still_kept_Leaving.{safe-now}
-use Rattle.still.proofs.still_kept_Stood.{within-count}
+use Rattle.turning.specs.still_kept_Still.{AreNoneMissing, AreAtRest, IsStill}
+use Rattle.turning.proofs.still_kept_Leaving.{safe-now}
+use Rattle.turning.proofs.still_kept_Stood.{within-count}
 
 -- some slot is live
 pub whole-live : (given : Given) (m : Members) → AreAtRest given m → AreNoneMissing m → HasLiveSlot m

@@ -27,7 +27,7 @@ use Rattle.array_kept.specs.Calls.{IsLossBy}
 use Rattle.array_kept.proofs.ReplyLaws.{none_before}
 use Rattle.grow_asked.specs.Asked.{Asked, IsUngrowable}
 use Rattle.kept_history.specs.Recorded.{entry_of}
-use Rattle.still.specs.running_words_Parts.{RunningParts}
+use Rattle.turning.specs.running_words_Parts.{RunningParts}
 use Rattle.running_replies.specs.Replies.{MayRefuseGrow, RunningAnswers, RunningFits, IsAnsweredWith, IsRefusalBy, IsRefusalToldBy}
 use Rattle.running_replies.specs.Going.{MayHoldBehind, HasRunOn}
 use Rattle.growing.specs.Planned.{IsGrowJudged, IsGrowAnswered, IsAsBefore}

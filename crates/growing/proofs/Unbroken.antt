@@ -25,8 +25,8 @@ use Rattle.call_entries.proofs.CallLaws.{AreLossEvents, losses-are}
 use Rattle.kept_history.specs.Recorded.{entry_of, IsCallGoing, MayGoOn, IsLengthKept, IsOpenBehind}
 use Rattle.kept_history.proofs.Growing.{contents-grown}
 use Rattle.history_calls.specs.Reliable.{IsReliable}
-use Rattle.still.specs.still_laws_Steps.{IsCallUnbroken}
-use Rattle.still.proofs.still_laws_PlansKept.{reliable-before}
+use Rattle.turning.specs.still_laws_Steps.{IsCallUnbroken}
+use Rattle.turning.proofs.still_laws_PlansKept.{reliable-before}
 
 -- ---- lengths that were kept are so later
 

@@ -1,3 +1,34 @@
 pub mod Planned
 pub mod Plans
 pub mod Replied
+pub use Rattle.running_replies.specs.Going as running_replies_Going
+pub use Rattle.running_replies.specs.Replies as running_replies_Replies
+pub use Rattle.turning.specs.Begun as turning_Begun
+pub use Rattle.turning.specs.Ended as turning_Ended
+pub use Rattle.turning.specs.course_kept_Course
+pub use Rattle.turning.specs.course_kept_Laws
+pub use Rattle.turning.specs.course_kept_the_Course
+pub use Rattle.turning.specs.moving_kept_Moving
+pub use Rattle.turning.specs.moving_laws_Mending
+pub use Rattle.turning.specs.moving_laws_Ready
+pub use Rattle.turning.specs.moving_laws_Steps
+pub use Rattle.turning.specs.moving_laws_Writing
+pub use Rattle.turning.specs.moving_state_Due
+pub use Rattle.turning.specs.moving_state_First
+pub use Rattle.turning.specs.moving_state_the_Due
+pub use Rattle.turning.specs.moving_state_the_Due_TheVariants
+pub use Rattle.turning.specs.moving_steps_Replies
+pub use Rattle.turning.specs.region_mends_Left
+pub use Rattle.turning.specs.region_mends_Mends
+pub use Rattle.turning.specs.region_mends_the_Stripe
+pub use Rattle.turning.specs.running_words_Adding
+pub use Rattle.turning.specs.running_words_Calls
+pub use Rattle.turning.specs.running_words_Parts
+pub use Rattle.turning.specs.running_words_Plans
+pub use Rattle.turning.specs.running_words_Still
+pub use Rattle.turning.specs.still_kept_Still
+pub use Rattle.turning.specs.still_laws_Plain
+pub use Rattle.turning.specs.still_laws_Steps
+pub use Rattle.turning.specs.still_steps_Rebuilding
+pub use Rattle.turning.specs.still_steps_Resyncing
+pub use Rattle.turning.specs.still_steps_Stepping

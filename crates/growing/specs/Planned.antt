@@ -21,8 +21,8 @@ use Rattle.grow_asked.specs.Fitting.{IsReadLike}
 use Rattle.grow_asked.specs.Left.{phases_of}
 use Rattle.kept_history.specs.Recorded.{entry_of}
 use Rattle.history_calls.specs.Reliable.{IsReliable}
-use Rattle.still.specs.still_kept_Still.{AreNoneMissing}
-use Rattle.still.specs.running_words_Parts.{RunningParts}
+use Rattle.turning.specs.still_kept_Still.{AreNoneMissing}
+use Rattle.turning.specs.running_words_Parts.{RunningParts}
 
 -- ---- what is asked
 

@@ -6,8 +6,8 @@ use Rattle.superblocks.specs.Reads.{has_spare}
 use Rattle.flat_history.specs.Reshaped.{open_plans}
 use Rattle.flat_history.specs.World.{World}
 use Rattle.views.specs.Rebuilding.{Held}
-use Rattle.still.specs.running_words_Parts.{RunningParts}
-use Rattle.still.specs.running_words_Plans.{ArePlansKept}
+use Rattle.turning.specs.running_words_Parts.{RunningParts}
+use Rattle.turning.specs.running_words_Plans.{ArePlansKept}
 
 -- where no plan was open before it, each that is open then goes where the phases lead that are ahead
 abbrev pub GoesTo : {B : Type 0} → Type 0 → World → RunningParts B → RunningParts B → Type 0

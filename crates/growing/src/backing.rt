@@ -3,12 +3,12 @@
 ghost use Rattle.std.specs.Prelude.{◌≡◌, ◌<◌, ◌≤◌, ℕ, true, false, length, Some, IfSome};
 ghost use Rattle.growing.specs.Plans.{IsAside};
 
-use array_state::holders::holds_role;
 use bank::Bank;
 use safe_updates::roles::is_spare;
-use still::Still;
 use superblocks::Members;
 use superblocks::sets::contains;
+use turning::array_state::holders::holds_role;
+use turning::still::Still;
 
 // Whether the slot was found sound, holds no role and is no spare.
 fn is_aside(members: &Members, given: u32, slot: u32) -> bool

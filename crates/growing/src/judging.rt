@@ -10,12 +10,12 @@ ghost use Rattle.grow_asked.specs.Asked.{asked_of, grow_refusal};
 ghost use Rattle.grow_asked.specs.Left.{phases_of};
 ghost use Rattle.growing.specs.Planned.{asked_in};
 
-use array_state::asking::visible;
 use bank::Bank;
 use grow_asked::{PhasesLeft, judge_grow};
 use md_base::{Refusal, Wish};
-use still::Still;
 use superblocks::Members;
+use turning::array_state::asking::visible;
+use turning::still::Still;
 
 // How many sectors the backup slot has; none where the bank has no such slot.
 fn backup_sectors<B: Bank>(bank: &B, backup: Option<u32>) -> Option<u64>

@@ -9,3 +9,7 @@ mod refusing;
 pub use backing::can_back;
 pub use planning::{PlannedGrow, plan_grow};
 pub use refusing::refuse_grow;
+pub use turning;
+pub use turning::{
+    array_state, course_kept, moving, moving_state, moving_steps, still, still_steps,
+};

@@ -9,20 +9,20 @@ ghost use Rattle.flat_history.specs.declared.events.Event.TheVariants.{Planned, 
 ghost use Rattle.array_kept.specs.Calls.{OnNoMemory, IsEndOf};
 ghost use Rattle.grow_asked.specs.Asked.{grow_refusal};
 ghost use Rattle.grow_asked.specs.Left.{phases_of};
-ghost use Rattle.still.specs.running_words_Parts.{still_left};
-ghost use Rattle.still.specs.running_words_Calls.{moving_world};
+ghost use Rattle.turning.specs.running_words_Parts.{still_left};
+ghost use Rattle.turning.specs.running_words_Calls.{moving_world};
 ghost use Rattle.growing.specs.Planned.{asked_in, IsGrowJudged, IsGrowReply, IsGrowAnswered, IsAsBefore, IsGrowPlanned};
 ghost use Rattle.growing.specs.Plans.{GoesTo};
 
 use crate::judging::judge;
-use array_state::room::zeros;
 use bank::Bank;
 use call_entries::calls::{check_number, enter};
 use flat_history::Event;
 use grow_asked::plan_of;
 use grow_asked::planning::all_left;
 use md_base::{Fault, Refusal, Who, Wish};
-use still::Still;
+use turning::array_state::room::zeros;
+use turning::still::Still;
 
 /// What a plan answers: how many steps are left, and a buffer for each of its windows.
 #[derive(Drop)]

@@ -7,7 +7,7 @@ ghost use Rattle.superblocks.specs.Reading.{list_length};
 ghost use Rattle.flat_history.specs.Flat.{next_number, visible_of};
 ghost use Rattle.flat_history.specs.declared.events.Event.TheVariants.{Refused};
 ghost use Rattle.array_kept.specs.Calls.{OnNoMemory, IsEndOf};
-ghost use Rattle.still.specs.running_words_Calls.{moving_world};
+ghost use Rattle.turning.specs.running_words_Calls.{moving_world};
 ghost use Rattle.growing.specs.Planned.{asked_in, IsGrowJudged, IsGrowAnswered, IsAsBefore};
 
 use crate::planning::PlannedGrow;
@@ -15,7 +15,7 @@ use bank::Bank;
 use call_entries::calls::{check_number, enter};
 use flat_history::Event;
 use md_base::{BusyKind, Fault, Refusal, Who, Wish};
-use moving::Moving;
+use turning::moving::Moving;
 
 /// Refuses to plan a grow of an array in a reshape, whichever is wished: `Busy` with the reshape. It makes no device call. Want of
 /// memory changes nothing.

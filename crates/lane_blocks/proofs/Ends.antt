@@ -7,16 +7,16 @@ use Rattle.bank.specs.Given.{Given}
 use Rattle.flat_history.specs.declared.events.Entry.{Entry}
 use Rattle.flat_history.specs.declared.events.Request.{Request}
 use Rattle.views.specs.Parts.{Parts}
-use Rattle.shared_array.specs.declared.reply.Reply.{Reply}
-use Rattle.shared_array.specs.declared.reply.Reply.TheVariants.{Done, NoMemory as Short}
+use Rattle.shared_lanes.specs.shared_array_the_Reply.{Reply}
+use Rattle.shared_lanes.specs.shared_array_the_Reply_TheVariants.{Done, NoMemory as Short}
 use Rattle.turn_lock.specs.declared.call.Call.{Call}
 use Rattle.turn_lock.specs.declared.lock.Pass.{Pass}
 use Rattle.turn_lock.specs.Turns.{mine_of, fresh, resting}
 use Rattle.turn_lock.specs.Passes.{LockId, AreNew, calls_by, Ended}
 use Rattle.seen_laws.specs.Callers.{AreReplied, HasCalled}
 use Rattle.seen_laws.proofs.PlaceLaws.{there, still-replied}
-use Rattle.lanes.specs.declared.worker.Worked.{Worked}
-use Rattle.lanes.specs.Lane.{StandsIn, done_of}
+use Rattle.shared_lanes.specs.lanes_the_Worked.{Worked}
+use Rattle.shared_lanes.specs.lanes_Lane.{StandsIn, done_of}
 use Rattle.shared_lanes.specs.Serving.{most_entries, sectors_of, IsEarlier, HasMade, requests_of, array_ways}
 use Rattle.shared_lanes.specs.Lanes.{known_of, own_requests}
 use Rattle.lane_blocks.specs.Blocks.{HasRun, HasPassed, HasWorkedBy}

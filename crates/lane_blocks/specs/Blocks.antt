@@ -6,13 +6,13 @@ use Rattle.bank.specs.Given.{Given}
 use Rattle.flat_history.specs.declared.events.Request.{Request}
 use Rattle.flat_history.specs.declared.events.Request.TheVariants.{Steps as AsksSteps}
 use Rattle.views.specs.Parts.{Parts}
-use Rattle.shared_array.specs.declared.reply.Reply.{Reply}
+use Rattle.shared_lanes.specs.shared_array_the_Reply.{Reply}
 use Rattle.turn_lock.specs.declared.lock.Pass.{Pass}
 use Rattle.seen_laws.specs.Callers.{AreReplied, HasCalled}
-use Rattle.lanes.specs.declared.worker.Worked.{Worked}
-use Rattle.lanes.specs.Carried.{GoesOn}
-use Rattle.lanes.specs.Lane.{AreOneEach, StandsIn, done_of, AreDone}
-use Rattle.lanes.specs.Worker.{done_in, left_behind, AreTurns}
+use Rattle.shared_lanes.specs.lanes_the_Worked.{Worked}
+use Rattle.shared_lanes.specs.lanes_Carried.{GoesOn}
+use Rattle.shared_lanes.specs.lanes_Lane.{AreOneEach, StandsIn, done_of, AreDone}
+use Rattle.shared_lanes.specs.lanes_Worker.{done_in, left_behind, AreTurns}
 use Rattle.shared_lanes.specs.Serving.{most_entries, sectors_of}
 use Rattle.shared_lanes.specs.Lanes.{carried_by}
 

@@ -3,19 +3,19 @@ ghost use Rattle.std.specs.Prelude.{◌≡◌, ◌≢◌, ◌≤◌, ℕ, [], �
 ghost use Rattle.std.specs.List.{All};
 ghost use Rattle.views.specs.Status.{left_of};
 ghost use Rattle.array_kept.specs.Calls.{IsEndOf};
-ghost use Rattle.shared_array.specs.Replies.{IsAskable};
+ghost use Rattle.shared_lanes.specs.shared_array_Replies.{IsAskable};
 ghost use Rattle.turn_lock.specs.Passes.{Ended};
-ghost use Rattle.lanes.specs.Pace.{AnswersSteps, asked_by};
+ghost use Rattle.shared_lanes.specs.lanes_Pace.{AnswersSteps, asked_by};
 ghost use Rattle.shared_lanes.specs.Serving.{IsEarlier, HasMade, array_ways};
 ghost use Rattle.lane_blocks.specs.Blocks.{HasRun, HasWorkedBy};
 
 use crate::rows::{put_back, taken};
 use crate::threads::at_once;
-use array::Array;
 use bank::Bank;
 use flat_history::Request;
-use lanes::{Pace, Worked};
-use shared_array::Reply;
+use shared_lanes::array::Array;
+use shared_lanes::lanes::{Pace, Worked};
+use shared_lanes::shared_array::Reply;
 use shared_lanes::{Pass, Shared};
 use std::alloc::Global;
 use std::sync::Wait;

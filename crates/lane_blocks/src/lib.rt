@@ -6,3 +6,5 @@ mod rows;
 mod threads;
 
 pub use block::{Joined, run_block};
+pub use shared_lanes;
+pub use shared_lanes::{array, lanes, shared_array};

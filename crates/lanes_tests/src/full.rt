@@ -2,8 +2,8 @@
 ghost use Rattle.std.specs.Prelude.{⊤};
 
 use flat_history::Request;
-use lanes::Service;
-use shared_array::Reply;
+use lane_blocks::lanes::Service;
+use lane_blocks::shared_array::Reply;
 use std::sync::Wait;
 
 #[derive(Drop)]

@@ -1,15 +1,15 @@
 //! Lanes and workers, each from the start of the sharing to its end.
 ghost use Rattle.std.specs.List.{All};
-ghost use Rattle.shared_array.specs.Replies.{IsAskable};
-ghost use Rattle.lanes.specs.Pace.{AnswersSteps, asked_by};
+ghost use Rattle.lane_blocks.specs.shared_array_Replies.{IsAskable};
+ghost use Rattle.lane_blocks.specs.lanes_Pace.{AnswersSteps, asked_by};
 
-use array::Array;
 use bank::Bank;
 use flat_history::Request;
+use lane_blocks::array::Array;
+use lane_blocks::lanes::{Pace, Worked, run_worker};
+use lane_blocks::shared_lanes::Shared;
 use lane_blocks::{Joined, run_block};
-use lanes::{Pace, Worked, run_worker};
 use md_base::Who;
-use shared_lanes::Shared;
 use std::alloc::Global;
 use std::sync::Wait;
 use std::thread::Threads;

@@ -1,18 +1,18 @@
 //! Lanes and workers over arrays in memory.
 ghost use Rattle.std.specs.Prelude.{◌≡◌, IfOk};
 ghost use Rattle.std.specs.List.{All};
-ghost use Rattle.shared_array.specs.Replies.{IsAskable};
+ghost use Rattle.lane_blocks.specs.shared_array_Replies.{IsAskable};
 
 use crate::{Doors, Full, Ticket, together, wait_for, work_alone};
-use array::Array;
 use array_samples::{SPEC, bank_of, created, fail, found, next_call, write};
 use assemble::create;
 use bank::{Bank, MemoryBank};
 use flat_history::{Event, Request};
 use lane_blocks::Joined;
-use lanes::{Pace, Worked, run_lane, run_worker};
+use lane_blocks::array::Array;
+use lane_blocks::lanes::{Pace, Worked, run_lane, run_worker};
+use lane_blocks::shared_array::{Reply, perform};
 use md_base::{Refusal, Sectors};
-use shared_array::{Reply, perform};
 use std::alloc::Global;
 use std::sync::atomic::{AtomicU64, Ordering};
 use std::sync::{Arc, Wait};

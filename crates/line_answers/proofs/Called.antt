@@ -14,11 +14,11 @@ use Rattle.bank.specs.declared.bank.Operation.{Operation}
 use Rattle.bank.specs.Given.{Given}
 use Rattle.superblocks.specs.Reading.{list_length}
 use Rattle.flat_history.specs.World.{World}
-use Rattle.running_words.specs.Parts.{RunningParts}
-use Rattle.running_words.specs.Calls.{IsCalled, IsSameReshape}
-use Rattle.running_words.specs.Adding.{IsAddCalled}
-use Rattle.running_replies.specs.Going.{IsSameEpoch, HasRunOn}
-use Rattle.running_replies.specs.Replies.{IsAnsweredWith, HasToldBy}
+use Rattle.run_laws.specs.running_words_Parts.{RunningParts}
+use Rattle.run_laws.specs.running_words_Calls.{IsCalled, IsSameReshape}
+use Rattle.run_laws.specs.running_words_Adding.{IsAddCalled}
+use Rattle.run_laws.specs.running_replies_Going.{IsSameEpoch, HasRunOn}
+use Rattle.run_laws.specs.running_replies_Replies.{IsAnsweredWith, HasToldBy}
 use Rattle.md_base.specs.declared.answers.NoMemory.{NoMemory}
 use Rattle.md_base.specs.declared.answers.Fault.{Fault}
 use Rattle.md_base.specs.declared.answers.Fault.TheVariants.{Refused as IsRefusedWith, NoMemory as WantsMemory}
@@ -27,7 +27,7 @@ use Rattle.md_base.specs.declared.wishes.Wish.{Wish}
 use Rattle.flat_history.specs.declared.events.Event.{Event}
 use Rattle.flat_history.specs.declared.events.Event.TheVariants.{Planned, Refused}
 use Rattle.flat_history.specs.declared.events.Request.TheVariants.{Grow as AsksGrow}
-use Rattle.growing.specs.Replied.{IsGrowReplied}
+use Rattle.run_laws.specs.growing_Replied.{IsGrowReplied}
 use Rattle.std.specs.Prelude.{Result, Ok, Err, IfErr}
 use Rattle.array_kept.specs.Calls.{AreLossesBy}
 use Rattle.run_laws.specs.Asked.{IsSizedBy}

@@ -26,25 +26,25 @@ use Rattle.array_kept.specs.Adopting.{opener, found_loss, absent_loss, absent_lo
 use Rattle.views.specs.declared.work.Work.{Work}
 use Rattle.views.specs.Parts.{Parts}
 use Rattle.views.proofs.Still.{count-still}
-use Rattle.array.specs.declared.spec.CreateSpec.{CreateSpec}
-use Rattle.assemble.specs.Opening.{scope_of, array_of, AreGiven, IsOpened}
-use Rattle.assemble.specs.Running.{opened_of, IsBegun, IsCreated, IsAssembled}
+use Rattle.run_laws.specs.array_the_CreateSpec.{CreateSpec}
+use Rattle.run_laws.specs.assemble_Opening.{scope_of, array_of, AreGiven, IsOpened}
+use Rattle.run_laws.specs.assemble_Running.{opened_of, IsBegun, IsCreated, IsAssembled}
 use Rattle.views.specs.Status.{stripes_of, rebuilt_of, vacant_count, spare_count, resync_left, role_left, recovery_left, left_of}
-use Rattle.running_words.specs.Parts.{RunningParts}
-use Rattle.running_words.specs.Calls.{IsStatusFor}
-use Rattle.running_words.specs.Still.{IsStillStatus}
-use Rattle.running.specs.Calls.{IsShownAs}
+use Rattle.run_laws.specs.running_words_Parts.{RunningParts}
+use Rattle.run_laws.specs.running_words_Calls.{IsStatusFor}
+use Rattle.run_laws.specs.running_words_Still.{IsStillStatus}
+use Rattle.run_laws.specs.running_Calls.{IsShownAs}
 use Rattle.grow_asked.specs.Left.{phases_of, grow_left}
-use Rattle.region_mends.specs.Left.{resync_left as region_left}
+use Rattle.run_laws.specs.region_mends_Left.{resync_left as region_left}
 use Rattle.grow_asked.specs.declared.window.Window.{Window}
-use Rattle.course_kept.specs.declared.course.Course.{Course}
-use Rattle.reshape_openings.specs.Finding.{window_for}
+use Rattle.run_laws.specs.course_kept_the_Course.{Course}
+use Rattle.run_laws.specs.reshape_openings_Finding.{window_for}
 use Rattle.shape_views.specs.Regions.{header_in, open_by}
 use Rattle.grow_plan.specs.Plans.{phases_steps}
 use Rattle.md_base.specs.declared.wishes.Phase.{Phase}
 use Rattle.flat_history.specs.Left.{opened_role, opened_roles}
 use Rattle.flat_history.specs.Plain.{entries_of}
-use Rattle.openings.specs.Found.{IsStillFound, IsMovingFound, IsRunningFound}
+use Rattle.run_laws.specs.openings_Found.{IsStillFound, IsMovingFound, IsRunningFound}
 use Rattle.superblocks.specs.Reads.{has_spare}
 use Rattle.run_laws.specs.Histories.{History}
 use Rattle.run_laws.specs.Making.{Setting, world_at, history_world, MissingAtFirst, AreHeldSince, found_members, found_window, found_left, IsStored, IsStoredNew, IsStoredAs}

@@ -6,3 +6,11 @@ pub mod Found
 pub mod Statuses
 pub mod Turns
 pub mod Waits
+pub use Rattle.run_laws.proofs.AskLaws as run_laws_AskLaws
+pub use Rattle.run_laws.proofs.Causes as run_laws_Causes
+pub use Rattle.run_laws.proofs.Growth as run_laws_Growth
+pub use Rattle.run_laws.proofs.Legal as run_laws_Legal
+pub use Rattle.run_laws.proofs.Losses as run_laws_Losses
+pub use Rattle.run_laws.proofs.Plain as run_laws_Plain
+pub use Rattle.run_laws.proofs.Worlds as run_laws_Worlds
+pub use Rattle.run_laws.proofs.Writing as run_laws_Writing

@@ -10,10 +10,10 @@ use Rattle.flat_history.specs.declared.events.Event.{Event}
 use Rattle.flat_history.specs.declared.events.Event.TheVariants.{Shown}
 use Rattle.flat_history.specs.OneShape.{IsOfCall}
 use Rattle.superblocks.specs.Reading.{is_reshaping, list_length}
-use Rattle.running_words.specs.Parts.{RunningParts}
-use Rattle.running_words.specs.Calls.{IsStatusFor}
-use Rattle.running_words.specs.Still.{IsStillStatus}
-use Rattle.running.specs.Calls.{IsShownAs}
+use Rattle.run_laws.specs.running_words_Parts.{RunningParts}
+use Rattle.run_laws.specs.running_words_Calls.{IsStatusFor}
+use Rattle.run_laws.specs.running_words_Still.{IsStillStatus}
+use Rattle.run_laws.specs.running_Calls.{IsShownAs}
 use Rattle.array_kept.specs.Calls.{IsEntered}
 use Rattle.array_kept.proofs.ReplyLaws.{none-inside}
 use Rattle.script.specs.declared.lines.Line.{Line}

@@ -15,9 +15,9 @@ use Rattle.md_base.specs.declared.status.Status.{Status}
 use Rattle.md_base.specs.declared.wishes.Wish.{Wish}
 use Rattle.md_base.specs.Shapes.{data_disks}
 use Rattle.superblocks.specs.Reading.{list_length}
-use Rattle.running_words.specs.Parts.{RunningParts}
-use Rattle.running_replies.specs.Replies.{RunningAnswers}
-use Rattle.running.specs.Calls.{IsShownAs}
+use Rattle.run_laws.specs.running_words_Parts.{RunningParts}
+use Rattle.run_laws.specs.running_replies_Replies.{RunningAnswers}
+use Rattle.run_laws.specs.running_Calls.{IsShownAs}
 use Rattle.run_laws.proofs.Limits.{LeavesLimit, leave-all, asked-unlimited, waiting-unlimited}
 use Rattle.run_laws.proofs.Sizes.{leaves-all, sized-now}
 use Rattle.flat_history.specs.declared.events.Entry.{Entry}
@@ -39,10 +39,10 @@ use Rattle.bank.specs.Given.{sizes}
 use Rattle.superblocks.specs.declared.members.Members.{Members}
 use Rattle.array_kept.specs.Adopting.{opener, absent_losses}
 use Rattle.array_kept.specs.Calls.{IsEndOf, IsEntered, world_for}
-use Rattle.assemble.specs.Creating.{create_refusal}
-use Rattle.assemble.specs.Opening.{AreGiven, array_of, scope_of}
-use Rattle.assemble.specs.Made.{used_slot}
-use Rattle.assemble.specs.Running.{IsCreated, OpensWithZeros}
+use Rattle.run_laws.specs.assemble_Creating.{create_refusal}
+use Rattle.run_laws.specs.assemble_Opening.{AreGiven, array_of, scope_of}
+use Rattle.run_laws.specs.assemble_Made.{used_slot}
+use Rattle.run_laws.specs.assemble_Running.{IsCreated, OpensWithZeros}
 use Rattle.script.specs.declared.lines.CreateLine.{CreateLine}
 use Rattle.script.specs.declared.lines.Line.{Line}
 use Rattle.script.specs.declared.lines.Line.TheVariants.{Create, Read, Write, Flush, Fail, Add, Grow, Step, Wait, Assemble}

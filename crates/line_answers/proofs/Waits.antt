@@ -5,7 +5,7 @@ use Rattle.std.specs.Option.{option_map_or}
 use Rattle.flat_history.specs.declared.events.Entry.{Entry}
 use Rattle.flat_history.specs.Flat.{next_number}
 use Rattle.script.specs.declared.lines.Line.TheVariants.{Step, Wait}
-use Rattle.running_replies.proofs.Fitting.{fits-steps}
+use Rattle.run_laws.proofs.running_replies_Fitting.{fits-steps}
 use Rattle.run_laws.specs.Asked.{script_who, IsAskedAt, IsStillWaiting, IsWaitedFor}
 use Rattle.run_laws.specs.Replies.{steps_at_once, leaves_more, leaves_more_at, IsReplyAt, IsWaitedAt, IsRepliedAt}
 use Rattle.run_laws.specs.States.{AreByScript, IsWaitingAt}

@@ -20,13 +20,13 @@ use crate::asks::{
 };
 use crate::examines::{examine_idle, examine_running};
 use crate::shows::ask_show;
-use array::CreateSpec;
 use bank::Bank;
 use flat_history::{Entry, Epoch};
 use md_base::{Fault, NoMemory, Refusal};
-use openings::open_running;
-use run_laws::{Answered, Outside, State};
-use running::Running;
+use run_laws::array::CreateSpec;
+use run_laws::openings::open_running;
+use run_laws::running::Running;
+use run_laws::{Answered, Outside, State, openings};
 use script::{CreateLine, Line};
 use std::alloc::Global;
 

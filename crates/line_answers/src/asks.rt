@@ -11,8 +11,8 @@ ghost use Rattle.flat_history.specs.Flat.{length_of, limit_of};
 ghost use Rattle.views.specs.Placed.{AreStillHeld};
 ghost use Rattle.array_kept.specs.Calls.{AreSparesFewer, AreLossesOf, IsEndOf};
 ghost use Rattle.views.specs.Moving.{Grows};
-ghost use Rattle.running_replies.specs.Going.{IsSameEpoch, HasRunOn};
-ghost use Rattle.running_replies.specs.Replies.{HasToldBy};
+ghost use Rattle.run_laws.specs.running_replies_Going.{IsSameEpoch, HasRunOn};
+ghost use Rattle.run_laws.specs.running_replies_Replies.{HasToldBy};
 ghost use Rattle.run_laws.specs.Making.{is_added};
 ghost use Rattle.run_laws.specs.Asked.{IsAsked, IsSizedBy, IsWaited, script_who};
 ghost use Rattle.run_laws.specs.Replies.{leaves_more_at};
@@ -21,8 +21,8 @@ ghost use Rattle.script.specs.declared.lines.Line.TheVariants.{Read as ReadLine,
 use bank::Bank;
 use flat_history::Event;
 use md_base::{Fault, NoMemory, Who, Wish};
-use running::Running;
-use running_steps::steps;
+use run_laws::running::Running;
+use run_laws::running_steps::steps;
 use script::seed_sectors;
 use std::alloc::Global;
 

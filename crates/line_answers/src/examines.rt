@@ -18,8 +18,8 @@ use bank::{Bank, BankFault};
 use election::reads::read_superblock;
 use flat_history::Epoch;
 use md_base::{NoMemory, Refusal};
+use run_laws::running::Running;
 use run_laws::{Answered, Outside, State};
-use running::Running;
 use sb1::Sb;
 
 // What is answered where the slot was looked at.

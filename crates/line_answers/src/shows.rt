@@ -6,8 +6,8 @@ ghost use Rattle.superblocks.specs.Reading.{list_length};
 ghost use Rattle.views.specs.Placed.{AreStillHeld};
 ghost use Rattle.views.specs.Moving.{Grows};
 ghost use Rattle.array_kept.specs.Calls.{AreSparesFewer, AreLossesOf, IsEndOf};
-ghost use Rattle.running_replies.specs.Going.{IsSameEpoch};
-ghost use Rattle.running_replies.specs.Replies.{HasToldBy};
+ghost use Rattle.run_laws.specs.running_replies_Going.{IsSameEpoch};
+ghost use Rattle.run_laws.specs.running_replies_Replies.{HasToldBy};
 ghost use Rattle.run_laws.specs.Asked.{IsAsked, IsSizedBy};
 ghost use Rattle.run_laws.specs.Showing.{IsToldAt};
 ghost use Rattle.script.specs.declared.lines.Line.TheVariants.{Detail as DetailLine, Mdstat as MdstatLine};
@@ -15,7 +15,7 @@ ghost use Rattle.script.specs.declared.lines.Line.TheVariants.{Detail as DetailL
 use crate::asks::{last_place, script_call};
 use bank::Bank;
 use md_base::NoMemory;
-use running::Running;
+use run_laws::running::Running;
 
 /// Asks what the array tells of itself. Ok is the place of the reply entry. It makes no device call.
 pub fn ask_show<B: Bank>(array: &mut Running<B>) -> Result<u64, NoMemory>

@@ -27,3 +27,6 @@ pub use Rattle.moving_kept.proofs.region_writes_Sides
 pub use Rattle.moving_kept.proofs.region_writes_Together
 pub use Rattle.moving_kept.proofs.window_steps_CopyLaws
 pub use Rattle.moving_kept.proofs.window_steps_PastLaws
+pub use Rattle.moving_kept.proofs.BegunCall as moving_kept_BegunCall
+pub use Rattle.moving_kept.proofs.BegunMembers as moving_kept_BegunMembers
+pub use Rattle.moving_kept.proofs.Shortened as moving_kept_Shortened

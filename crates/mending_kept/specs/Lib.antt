@@ -9,3 +9,4 @@ pub use Rattle.moving_kept.specs.region_rows_Stretches
 pub use Rattle.moving_kept.specs.region_writes_Runs
 pub use Rattle.moving_kept.specs.window_calls_Fetching
 pub use Rattle.moving_kept.specs.window_steps_Recording
+pub use Rattle.moving_kept.specs.window_calls_Finishing

@@ -1,2 +1,21 @@
 pub use Rattle.moving_laws.specs.Ready as moving_laws_Ready
 pub use Rattle.moving_laws.specs.running_words_Parts
+pub use Rattle.moving_laws.specs.Mending as moving_laws_Mending
+pub use Rattle.moving_laws.specs.Steps as moving_laws_Steps
+pub use Rattle.moving_laws.specs.Writing as moving_laws_Writing
+pub use Rattle.moving_laws.specs.course_kept_Course
+pub use Rattle.moving_laws.specs.course_kept_Laws
+pub use Rattle.moving_laws.specs.course_kept_the_Course
+pub use Rattle.moving_laws.specs.moving_kept_Moving
+pub use Rattle.moving_laws.specs.moving_state_Due
+pub use Rattle.moving_laws.specs.moving_state_First
+pub use Rattle.moving_laws.specs.moving_state_the_Due
+pub use Rattle.moving_laws.specs.moving_state_the_Due_TheVariants
+pub use Rattle.moving_laws.specs.region_mends_Left
+pub use Rattle.moving_laws.specs.region_mends_Mends
+pub use Rattle.moving_laws.specs.region_mends_the_Stripe
+pub use Rattle.moving_laws.specs.running_words_Adding
+pub use Rattle.moving_laws.specs.running_words_Calls
+pub use Rattle.moving_laws.specs.running_words_Plans
+pub use Rattle.moving_laws.specs.running_words_Still
+pub use Rattle.window_steps.specs.Zeroing as window_steps_Zeroing

@@ -3,4 +3,6 @@
 
 mod state;
 
+pub use array_state;
+pub use moving_laws::{course_kept, moving_state};
 pub use state::Moving;

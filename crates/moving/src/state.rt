@@ -27,10 +27,10 @@ mod writing;
 mod zeroing;
 
 use bank::Bank;
-use course_kept::Course;
 use flat_history::Epoch;
 use grow_asked::{PhasesLeft, planned_left, reshape_left};
-use region_mends::counting::resync_left;
+use moving_laws::course_kept::Course;
+use moving_laws::region_mends::counting::resync_left;
 use safe_updates::roles::final_in;
 use std::alloc::Global;
 use std::marker::Model;

@@ -10,3 +10,4 @@ pub use Rattle.course_mends.specs.region_writes_Runs
 pub use Rattle.course_mends.specs.window_steps_Recording
 pub use Rattle.course_mends.specs.window_steps_Zeroing
 pub use Rattle.window_calls.specs.Fetching as window_calls_Fetching
+pub use Rattle.window_calls.specs.Finishing as window_calls_Finishing

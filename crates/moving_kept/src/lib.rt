@@ -1,2 +1,4 @@
 //! What an array keeps from call to call that is in a reshape: definitions, and laws of its record.
 #![tactic(auto)]
+
+pub use window_calls;

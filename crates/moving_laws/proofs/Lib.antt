@@ -28,3 +28,11 @@ pub use Rattle.mending_kept.proofs.moving_kept_Resting
 pub use Rattle.mending_kept.proofs.moving_kept_Steps
 pub use Rattle.mending_kept.proofs.moving_kept_Writing
 pub use Rattle.running_words.proofs.Called as running_words_Called
+pub use Rattle.mending_kept.proofs.course_mends_Mended
+pub use Rattle.mending_kept.proofs.moving_kept_BegunCall
+pub use Rattle.mending_kept.proofs.moving_kept_BegunMembers
+pub use Rattle.mending_kept.proofs.moving_kept_Shortened
+pub use Rattle.mending_kept.proofs.moving_kept_Staying
+pub use Rattle.moving_state.proofs.DueLaws as moving_state_DueLaws
+pub use Rattle.moving_state.proofs.ReshapeLaws as moving_state_ReshapeLaws
+pub use Rattle.running_words.proofs.Lengths as running_words_Lengths

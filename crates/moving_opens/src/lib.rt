@@ -4,6 +4,8 @@
 ghost use Rattle.std.specs.Prelude.{⊤};
 ghost use Rattle.moving_opens.specs.Opening.{FoundWindowsOpen, OpeningsMove};
 
+pub use reshape_openings;
+
 /// What `find_window` answers of members that were opened is what an opening finds.
 pub fn found_windows_open()
     ensures { FoundWindowsOpen ⊤ }

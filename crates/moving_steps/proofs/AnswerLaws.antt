@@ -25,16 +25,16 @@ use Rattle.kept_history.specs.Recorded.{IsCallGoing, entry_of}
 use Rattle.kept_history.specs.Safe.{world_in}
 use Rattle.history_calls.specs.Reliable.{IsReliable, AreToldGone}
 use Rattle.history_calls.proofs.Quiet.{IsQuiet}
-use Rattle.course_kept.specs.declared.course.Course.{Course}
-use Rattle.moving_kept.specs.Moving.{IsMoving}
-use Rattle.moving_kept.proofs.Refusals.{refused-right}
-use Rattle.moving_kept.proofs.Resting.{resting-moves}
+use Rattle.moving.specs.course_kept_the_Course.{Course}
+use Rattle.moving.specs.moving_kept_Moving.{IsMoving}
+use Rattle.moving.proofs.moving_kept_Refusals.{refused-right}
+use Rattle.moving.proofs.moving_kept_Resting.{resting-moves}
 use Rattle.still_kept.proofs.Resync.{not-zero}
-use Rattle.running_words.specs.Parts.{left_in}
-use Rattle.running_words.proofs.Called.{not_254}
-use Rattle.moving_laws.specs.Ready.{IsReady}
-use Rattle.moving_laws.proofs.Kept.{IsLengthKept, alone-keeps}
-use Rattle.moving_laws.proofs.MendLaws.{left-some}
+use Rattle.moving.specs.running_words_Parts.{left_in}
+use Rattle.moving.proofs.running_words_Called.{not_254}
+use Rattle.moving.specs.moving_laws_Ready.{IsReady}
+use Rattle.moving.proofs.moving_laws_Kept.{IsLengthKept, alone-keeps}
+use Rattle.moving.proofs.moving_laws_MendLaws.{left-some}
 use Rattle.moving_steps.specs.Replies.{IsUnmendableNow, IsEndedInReshape, IsReplyInReshape}
 
 -- ---- a reply

@@ -1,1 +1,22 @@
 pub mod AnswerLaws
+pub use Rattle.moving.proofs.course_mends_Mended
+pub use Rattle.moving.proofs.moving_kept_BegunCall
+pub use Rattle.moving.proofs.moving_kept_BegunMembers
+pub use Rattle.moving.proofs.moving_kept_Refusals
+pub use Rattle.moving.proofs.moving_kept_Resting
+pub use Rattle.moving.proofs.moving_kept_Shortened
+pub use Rattle.moving.proofs.moving_kept_Staying
+pub use Rattle.moving.proofs.moving_kept_Steps
+pub use Rattle.moving.proofs.moving_laws_Kept
+pub use Rattle.moving.proofs.moving_laws_MendLaws
+pub use Rattle.moving.proofs.moving_state_DueLaws
+pub use Rattle.moving.proofs.moving_state_ReshapeLaws
+pub use Rattle.moving.proofs.running_words_Called
+pub use Rattle.moving.proofs.running_words_Lengths
+pub use Rattle.still_kept.proofs.Bridges as still_kept_Bridges
+pub use Rattle.still_kept.proofs.Leaving as still_kept_Leaving
+pub use Rattle.still_kept.proofs.Quiet as still_kept_Quiet
+pub use Rattle.still_kept.proofs.Refusals as still_kept_Refusals
+pub use Rattle.still_kept.proofs.Resting as still_kept_Resting
+pub use Rattle.still_kept.proofs.Stood as still_kept_Stood
+pub use Rattle.still_kept.proofs.Whole as still_kept_Whole

@@ -1,1 +1,23 @@
 pub mod Replies
+pub use Rattle.moving.specs.course_kept_Course
+pub use Rattle.moving.specs.course_kept_Laws
+pub use Rattle.moving.specs.course_kept_the_Course
+pub use Rattle.moving.specs.moving_kept_Moving
+pub use Rattle.moving.specs.moving_laws_Mending
+pub use Rattle.moving.specs.moving_laws_Ready
+pub use Rattle.moving.specs.moving_laws_Steps
+pub use Rattle.moving.specs.moving_laws_Writing
+pub use Rattle.moving.specs.moving_state_Due
+pub use Rattle.moving.specs.moving_state_First
+pub use Rattle.moving.specs.moving_state_the_Due
+pub use Rattle.moving.specs.moving_state_the_Due_TheVariants
+pub use Rattle.moving.specs.region_mends_Left
+pub use Rattle.moving.specs.region_mends_Mends
+pub use Rattle.moving.specs.region_mends_the_Stripe
+pub use Rattle.moving.specs.running_words_Adding
+pub use Rattle.moving.specs.running_words_Calls
+pub use Rattle.moving.specs.running_words_Parts
+pub use Rattle.moving.specs.running_words_Plans
+pub use Rattle.moving.specs.running_words_Still
+pub use Rattle.moving.specs.window_steps_Zeroing
+pub use Rattle.still_kept.specs.Still as still_kept_Still

@@ -10,8 +10,8 @@ use Rattle.views.specs.declared.work.Work.{Work}
 use Rattle.views.specs.Placed.{IsInForce}
 use Rattle.views.specs.Lacking.{AreTooMany, IsNotResynced}
 use Rattle.grow_asked.specs.declared.window.PhasesLeft.{PhasesLeft}
-use Rattle.course_kept.specs.declared.course.Course.{Course}
-use Rattle.running_words.specs.Parts.{left_in}
+use Rattle.moving.specs.course_kept_the_Course.{Course}
+use Rattle.moving.specs.running_words_Parts.{left_in}
 
 -- a resync is pending, and a role is missing that has data by a shape in force
 abbrev pub IsUnmendableNow : Work → Members → Refusal → Type 0

@@ -3,7 +3,7 @@
 ghost use Rattle.std.specs.Prelude.{◌≡◌, ◌≢◌, ◌+◌, ◌≤◌, ◌∷◌, [], length};
 ghost use Rattle.array_kept.specs.Calls.{IsEntered};
 ghost use Rattle.kept_history.specs.Recorded.{IsCallGoing};
-ghost use Rattle.running_words.specs.Calls.{IsCalled};
+ghost use Rattle.moving.specs.running_words_Calls.{IsCalled};
 ghost use Rattle.moving_steps.specs.Replies.{IsReplyInReshape};
 
 use bank::Bank;

@@ -5,4 +5,6 @@ mod answering;
 mod rooms;
 
 pub use answering::answer;
+pub use moving;
+pub use moving::{array_state, course_kept, moving_state};
 pub use rooms::make_room;

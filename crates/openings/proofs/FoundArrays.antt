@@ -17,7 +17,7 @@ use Rattle.shape_views.specs.Regions.{DoWithout}
 use Rattle.views.specs.Flushing.{OnlyItsSlotsFail}
 use Rattle.array_kept.specs.Adopting.{IsAdopted}
 use Rattle.grow_asked.specs.Left.{phases_of}
-use Rattle.running_words.specs.Parts.{RunningParts}
+use Rattle.running_steps.specs.running_words_Parts.{RunningParts}
 use Rattle.assemble.specs.declared.opening.Opened.{Opened}
 use Rattle.assemble.specs.Opening.{scope_of, array_of, AreGiven, AreOfGiven, AreCounted, AreFlushed, IsFound, IsAside, IsOpened, IsUnfound, HasFoundNone}
 use Rattle.assemble.proofs.RunningLaws.{assembled}

@@ -28,7 +28,7 @@ use Rattle.assemble.specs.Opening.{scope_of, array_of, AreGiven, AreOfGiven, Are
 use Rattle.found_members.specs.Causes.{IsWithoutBackup}
 use Rattle.found_members.proofs.Causes.{backups-without, lost-backup}
 use Rattle.found_members.proofs.Elected.{elected-does}
-use Rattle.reshape_openings.specs.Recovering.{AreRecovering}
+use Rattle.moving_opens.specs.reshape_openings_Recovering.{AreRecovering}
 use Rattle.moving_opens.specs.Opening.{AreOpenedMoving}
 use Rattle.moving_opens.proofs.Members.{placed-here}
 

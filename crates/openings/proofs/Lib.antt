@@ -4,3 +4,5 @@ pub mod Unplanned
 pub mod Aside
 pub mod FoundMoving
 pub mod FoundArrays
+pub use Rattle.running_steps.proofs.running_replies_Fitting
+pub use Rattle.running_steps.proofs.running_replies_GoneOn

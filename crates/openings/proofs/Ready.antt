@@ -17,13 +17,13 @@ use Rattle.calls_kept.proofs.AdoptingLaws.{found-kept}
 use Rattle.kept_history.specs.Safe.{world_in, TakesNone}
 use Rattle.grow_asked.specs.declared.window.PhasesLeft.{PhasesLeft}
 use Rattle.grow_asked.specs.declared.window.Window.{Window}
-use Rattle.moving_state.specs.Due.{unsure_in}
+use Rattle.running_steps.specs.moving_state_Due.{unsure_in}
 use Rattle.grow_asked.specs.declared.window.Window.TheVariants.{Closed, Entered, Unsure}
-use Rattle.still_kept.proofs.Whole.{whole-told}
-use Rattle.running_words.specs.Parts.{left_in}
-use Rattle.moving_laws.specs.Ready.{bytes_in, IsReady}
-use Rattle.reshape_openings.specs.Finding.{bytes_for}
-use Rattle.reshape_openings.specs.Recovering.{AreRecovering}
+use Rattle.running_steps.proofs.still_kept_Whole.{whole-told}
+use Rattle.running_steps.specs.running_words_Parts.{left_in}
+use Rattle.running_steps.specs.moving_laws_Ready.{bytes_in, IsReady}
+use Rattle.moving_opens.specs.reshape_openings_Finding.{bytes_for}
+use Rattle.moving_opens.specs.reshape_openings_Recovering.{AreRecovering}
 use Rattle.moving_opens.specs.Opening.{scope_of, IsOpenedMoving, opening_entries, AreAmong, found_course}
 use Rattle.moving_opens.proofs.Losses.{all-gone, no-limit, same-length}
 use Rattle.moving_opens.proofs.Opens.{openings-move}

@@ -4,7 +4,7 @@ use Rattle.bank.specs.declared.bank.Operation.{Operation}
 use Rattle.bank.specs.Given.{Given}
 use Rattle.superblocks.specs.declared.members.Members.{Members}
 use Rattle.grow_asked.specs.declared.window.Window.{Window}
-use Rattle.running_words.specs.Parts.{RunningParts}
+use Rattle.running_steps.specs.running_words_Parts.{RunningParts}
 use Rattle.moving_opens.specs.Opening.{AreOpenedMoving, IsOpenedMoving}
 use Rattle.openings.specs.Adopted.{IsMovingAdopted}
 

@@ -18,9 +18,9 @@ use Rattle.views.specs.Parts.{Parts}
 use Rattle.array_kept.specs.Kept.{scope_in}
 use Rattle.array_kept.specs.Adopting.{opener, absent_losses, IsAdopted}
 use Rattle.kept_history.proofs.Opened.{loss_events}
-use Rattle.running_words.specs.Parts.{RunningParts}
-use Rattle.running_words.specs.Calls.{moving_world}
-use Rattle.running_words.specs.Plans.{KeepsShape}
+use Rattle.running_steps.specs.running_words_Parts.{RunningParts}
+use Rattle.running_steps.specs.running_words_Calls.{moving_world}
+use Rattle.running_steps.specs.running_words_Plans.{KeepsShape}
 use Rattle.moving_opens.specs.Opening.{AreOpenedMoving}
 use Rattle.moving_opens.proofs.Losses.{all-found, events-are}
 use Rattle.openings.specs.Adopted.{IsMovingAdopted}

@@ -12,10 +12,10 @@ use Rattle.shape_views.specs.Regions.{header_in, open_by}
 use Rattle.views.specs.declared.work.Work.{Work}
 use Rattle.array_kept.specs.Adopting.{is_number_of}
 use Rattle.grow_asked.specs.Left.{phases_of}
-use Rattle.reshape_openings.specs.Finding.{window_for}
-use Rattle.reshape_openings.specs.Recovering.{AreRecovering}
+use Rattle.moving_opens.specs.reshape_openings_Finding.{window_for}
+use Rattle.moving_opens.specs.reshape_openings_Recovering.{AreRecovering}
 use Rattle.moving_opens.specs.Opening.{scope_of, opening_entries, found_course, found_resync}
-use Rattle.running_words.specs.Parts.{RunningParts}
+use Rattle.running_steps.specs.running_words_Parts.{RunningParts}
 
 -- What is under way beside the reshape: a resync, where the array is dirty. No role is rebuilt.
 abbrev pub moving_work : Members → Work

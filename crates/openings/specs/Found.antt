@@ -8,7 +8,7 @@ use Rattle.superblocks.specs.Reading.{is_reshaping}
 use Rattle.flat_history.specs.Left.{opened_role}
 use Rattle.shape_views.specs.Regions.{DoWithout}
 use Rattle.grow_asked.specs.Left.{phases_of}
-use Rattle.running_words.specs.Parts.{RunningParts}
+use Rattle.running_steps.specs.running_words_Parts.{RunningParts}
 use Rattle.assemble.specs.Opening.{AreGiven, IsFound}
 use Rattle.assemble.specs.Running.{IsAssembled}
 use Rattle.openings.specs.Adopted.{IsMovingAdopted}

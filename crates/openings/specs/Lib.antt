@@ -1,2 +1,22 @@
 pub mod Adopted
 pub mod Found
+pub use Rattle.array.specs.declared.spec.CreateSpec as array_the_CreateSpec
+pub use Rattle.assemble.specs.Creating as assemble_Creating
+pub use Rattle.assemble.specs.Filling as assemble_Filling
+pub use Rattle.assemble.specs.Made as assemble_Made
+pub use Rattle.assemble.specs.Opening as assemble_Opening
+pub use Rattle.assemble.specs.Running as assemble_Running
+pub use Rattle.moving_opens.specs.reshape_openings_Finding
+pub use Rattle.running_steps.specs.course_kept_the_Course
+pub use Rattle.running_steps.specs.growing_Replied
+pub use Rattle.running_steps.specs.moving_laws_Writing
+pub use Rattle.running_steps.specs.region_mends_Left
+pub use Rattle.running_steps.specs.running_Calls
+pub use Rattle.running_steps.specs.running_replies_Going
+pub use Rattle.running_steps.specs.running_replies_Replies
+pub use Rattle.running_steps.specs.running_words_Adding
+pub use Rattle.running_steps.specs.running_words_Calls
+pub use Rattle.running_steps.specs.running_words_Parts
+pub use Rattle.running_steps.specs.running_words_Plans
+pub use Rattle.running_steps.specs.running_words_Still
+pub use Rattle.running_steps.specs.still_laws_Plain

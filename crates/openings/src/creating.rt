@@ -18,7 +18,7 @@ use array::CreateSpec;
 use assemble::make;
 use bank::Bank;
 use md_base::Fault;
-use running::Running;
+use running_steps::running::Running;
 use std::alloc::Global;
 
 /// Makes an array as `make` of `assemble` does, with every role whole and its list zero, and runs it; it has no plan. A refusal hands

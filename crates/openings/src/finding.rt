@@ -20,9 +20,10 @@ use crate::adopting::adopt_moving;
 use assemble::{Opened, find};
 use bank::Bank;
 use md_base::Fault;
-use running::Running;
+use running_steps::running::Running;
+use running_steps::still;
+use running_steps::still::Still;
 use std::alloc::Global;
-use still::Still;
 use superblocks::says::is_reshaping;
 
 // The array runs that has no active reshape, and whose backup holds no role and is no spare.

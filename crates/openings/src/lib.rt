@@ -6,5 +6,8 @@ mod creating;
 mod finding;
 
 pub use adopting::adopt_moving;
+pub use array;
 pub use creating::create_array;
 pub use finding::open_running;
+pub use running_steps;
+pub use running_steps::running;

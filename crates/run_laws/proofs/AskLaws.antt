@@ -29,14 +29,14 @@ use Rattle.call_entries.proofs.CallLaws.{losses-are}
 use Rattle.array_kept.proofs.ReplyLaws.{inside-losses, none-inside, none_before}
 use Rattle.flat_history.specs.declared.events.Request.{Request}
 use Rattle.flat_history.specs.declared.events.Request.TheVariants.{Write as AsksWrite, Add as AsksAdd}
-use Rattle.moving_laws.specs.Writing.{IsRepliedBehind, IsWriteReplied}
+use Rattle.openings.specs.moving_laws_Writing.{IsRepliedBehind, IsWriteReplied}
 use Rattle.flat_history.specs.Flat.{rest_of_call, next_number, visible_of}
 use Rattle.flat_history.specs.Plain.{entries_of}
 use Rattle.flat_history.specs.OneShape.{IsOfCall, OneShapeFits}
 use Rattle.views.specs.Lacking.{AreTooMany}
 use Rattle.flat_history.specs.Legal.{MayBeInner}
-use Rattle.running_replies.specs.Replies.{RunningFits, IsAnsweredWith}
-use Rattle.running_replies.proofs.Fitting.{inside-inner, fits-write}
+use Rattle.openings.specs.running_replies_Replies.{RunningFits, IsAnsweredWith}
+use Rattle.openings.proofs.running_replies_Fitting.{inside-inner, fits-write}
 use Rattle.array_kept.specs.Calls.{OnNoMemory, StandsInside, IsReplied, IsAnswered, IsAddedFor, IsCausedBy, IsEntered, IsBehind, IsRefusedFor}
 use Rattle.script.specs.declared.lines.Line.TheVariants.{Wait, Stop, Halt}
 use Rattle.script.specs.declared.lines.Line.{Line}

@@ -18,12 +18,12 @@ use Rattle.bank.proofs.Laws.{value_after-append}
 use Rattle.views.specs.Flushing.{OnlyFlushesAdded}
 use Rattle.views.specs.Moving.{Grows}
 use Rattle.views.proofs.Flushed.{contents-added}
-use Rattle.assemble.specs.Filling.{AreBelow, OnlyBelow}
+use Rattle.openings.specs.assemble_Filling.{AreBelow, OnlyBelow}
 use Rattle.superblocks.specs.Reading.{Scope, of_array, is_seen}
 use Rattle.flat_history.specs.Stands.{verdict}
-use Rattle.array.specs.declared.spec.CreateSpec.{CreateSpec}
-use Rattle.assemble.specs.Opening.{scope_of, array_of, AreGiven, HasFoundNone}
-use Rattle.assemble.specs.Made.{is_used, used_slot, IsUse, IsLateRefusal, HasCreateCause}
+use Rattle.openings.specs.array_the_CreateSpec.{CreateSpec}
+use Rattle.openings.specs.assemble_Opening.{scope_of, array_of, AreGiven, HasFoundNone}
+use Rattle.openings.specs.assemble_Made.{is_used, used_slot, IsUse, IsLateRefusal, HasCreateCause}
 
 -- has failed since every earlier moment, and at every later one
 pub faulted-wider : {first before now last : ℕ → ℕ} (slot : ℕ) → NeverFalls first before → NeverFalls before now → NeverFalls now last → IsFaulted slot before now → IsFaulted slot first last

@@ -21,13 +21,13 @@ use Rattle.flat_history.specs.Epochs.{OpensAlike}
 use Rattle.flat_history.specs.Opened.{OpensSound}
 use Rattle.flat_history.specs.Growing.{grown}
 use Rattle.views.specs.Moving.{Grows}
-use Rattle.assemble.specs.Creating.{create_refusal}
-use Rattle.assemble.specs.Opening.{AreGiven, HasFoundNone, array_of, scope_of}
-use Rattle.assemble.specs.Made.{HasCreateCause, used_slot}
-use Rattle.assemble.specs.Running.{OpensWithZeros}
+use Rattle.openings.specs.assemble_Creating.{create_refusal}
+use Rattle.openings.specs.assemble_Opening.{AreGiven, HasFoundNone, array_of, scope_of}
+use Rattle.openings.specs.assemble_Made.{HasCreateCause, used_slot}
+use Rattle.openings.specs.assemble_Running.{OpensWithZeros}
 use Rattle.std.specs.List.{All}
 use Rattle.std.proofs.lemmas.List.Elements.{All-head, All-tail}
-use Rattle.array.specs.declared.spec.CreateSpec.{CreateSpec}
+use Rattle.openings.specs.array_the_CreateSpec.{CreateSpec}
 use Rattle.script.specs.declared.lines.Line.TheVariants.{Create, Read, Write, Flush, Fail, Add, Grow, Step, Wait, Stop, Halt, Detail, Mdstat, Examine, Assemble}
 use Rattle.flat_history.specs.declared.events.Entry.{Entry}
 use Rattle.flat_history.specs.declared.events.Event.TheVariants.{Shown}

@@ -15,8 +15,8 @@ use Rattle.history_laws.proofs.ReshapedLaws.{reshapes-stay-right}
 use Rattle.kept_history.proofs.Turned.{filled-before}
 use Rattle.kept_history.specs.Safe.{IsFilledRight}
 use Rattle.history_calls.specs.Reliable.{IsReliable}
-use Rattle.running_words.specs.Calls.{IsEpochKept}
-use Rattle.still_laws.specs.Plain.{IsPlainEpoch}
+use Rattle.openings.specs.running_words_Calls.{IsEpochKept}
+use Rattle.openings.specs.still_laws_Plain.{IsPlainEpoch}
 use Rattle.array_kept.specs.Calls.{IsEndOf}
 use Rattle.views.specs.Moving.{Grows}
 use Rattle.views.specs.Parts.{Parts}

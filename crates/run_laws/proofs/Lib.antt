@@ -10,3 +10,5 @@ pub mod Told
 pub mod Worlds
 pub mod Writing
 pub mod Sizes
+pub use Rattle.openings.proofs.running_replies_Fitting
+pub use Rattle.openings.proofs.running_replies_GoneOn

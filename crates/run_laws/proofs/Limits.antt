@@ -11,7 +11,7 @@ use Rattle.flat_history.specs.declared.events.Request.TheVariants.{Read as AsksR
 use Rattle.flat_history.specs.Flat.{limit_after, limit_of}
 use Rattle.flat_history.specs.Fits.{FitsStop, FitsHalt}
 use Rattle.flat_history.specs.Legal.{MayBeInner, call_before}
-use Rattle.running_replies.specs.Replies.{RunningAnswers, RunningFits}
+use Rattle.openings.specs.running_replies_Replies.{RunningAnswers, RunningFits}
 use Rattle.script.specs.declared.lines.Line.{Line}
 use Rattle.script.specs.declared.lines.Line.TheVariants.{Create, Read, Write, Flush, Fail, Add, Grow, Step, Wait, Stop, Halt, Detail, Mdstat, Examine, Assemble}
 use Rattle.script.specs.Seeds.{seeded}

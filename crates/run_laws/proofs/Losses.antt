@@ -27,7 +27,7 @@ use Rattle.array_kept.specs.Adopting.{opener, found_loss, absent_loss, absent_lo
 use Rattle.array_kept.specs.Calls.{IsRoleLossBy, IsLossBy, AreLossesBy, AreLossesOf, AreSparesFewer, IsSameArray, IsEntered}
 use Rattle.views.specs.Rebuilding.{Held, MayHold}
 use Rattle.views.specs.Placed.{AreStillHeld}
-use Rattle.running_replies.specs.Going.{is_finish, MayBeDropped, MayHoldBehind, AreHeldBehind, AreLossesAlong}
+use Rattle.openings.specs.running_replies_Going.{is_finish, MayBeDropped, MayHoldBehind, AreHeldBehind, AreLossesAlong}
 use Rattle.views.specs.Moving.{Grows}
 use Rattle.run_laws.specs.Histories.{History}
 use Rattle.run_laws.specs.Making.{Setting, world_at, history_world, HeldAtFirst, MissingAtFirst, SpareAtFirst, is_added, IsSpareSince, MayHaveHeld, AreHeldSince}

@@ -17,9 +17,9 @@ use Rattle.flat_history.specs.Fits.{IsReadRefused, IsWriteRefused, is_lost_event
 use Rattle.flat_history.specs.Legal.{call_before}
 use Rattle.flat_history.specs.OneShape.{DidOneShapeSteps, OneShapeAnswers, OneShapeFits}
 use Rattle.flat_history.specs.Transfers.{IsRefusedAt, IsPastEnd}
-use Rattle.running_words.specs.Plans.{turns_shape}
-use Rattle.running_replies.specs.Replies.{may_end_early, DidRunningSteps, RunningAnswers, RunningFits}
-use Rattle.still_laws.specs.Plain.{MayTellPlainly}
+use Rattle.openings.specs.running_words_Plans.{turns_shape}
+use Rattle.openings.specs.running_replies_Replies.{may_end_early, DidRunningSteps, RunningAnswers, RunningFits}
+use Rattle.openings.specs.still_laws_Plain.{MayTellPlainly}
 use Rattle.run_laws.specs.Plain.{is_grow}
 
 -- ---- what none of some entries is, none of one call before another is

@@ -20,7 +20,7 @@ use Rattle.call_entries.proofs.CallLaws.{losses-are}
 use Rattle.array_kept.specs.Calls.{StandsInside, IsReplied, IsAnswered, IsBehind, IsEntered}
 use Rattle.array_kept.proofs.ReplyLaws.{inside-losses}
 use Rattle.kept_history.specs.Recorded.{entry_of}
-use Rattle.moving_laws.specs.Writing.{IsRepliedBehind, IsWriteReplied}
+use Rattle.openings.specs.moving_laws_Writing.{IsRepliedBehind, IsWriteReplied}
 use Rattle.run_laws.specs.Asked.{IsSizedBy}
 use Rattle.run_laws.proofs.AskLaws.{one, entries_of-append}
 

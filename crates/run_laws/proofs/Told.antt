@@ -27,9 +27,9 @@ use Rattle.call_entries.proofs.CallLaws.{losses-are}
 use Rattle.array_kept.proofs.ReplyLaws.{inside-losses}
 use Rattle.array_kept.specs.Calls.{StandsInside, IsReplied, IsAnswered, IsAddedFor, IsBehind, IsEntered}
 use Rattle.kept_history.specs.Recorded.{entry_of}
-use Rattle.moving_laws.specs.Writing.{IsRepliedBehind, IsWriteReplied}
+use Rattle.openings.specs.moving_laws_Writing.{IsRepliedBehind, IsWriteReplied}
 use Rattle.flat_history.specs.Legal.{call_before}
-use Rattle.running_replies.specs.Replies.{IsRefusalBy, IsRefusalToldBy, HasToldBy}
+use Rattle.openings.specs.running_replies_Replies.{IsRefusalBy, IsRefusalToldBy, HasToldBy}
 use Rattle.run_laws.specs.Making.{Setting}
 use Rattle.run_laws.proofs.AskLaws.{one, entries_of-append}
 

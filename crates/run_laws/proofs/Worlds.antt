@@ -17,8 +17,8 @@ use Rattle.superblocks.specs.Reading.{Reading, reading, role_count, role_state, 
 use Rattle.shape_views.specs.Regions.{header_in, open_by}
 use Rattle.grow_asked.specs.declared.window.Window.{Window}
 use Rattle.grow_asked.specs.Left.{grow_left}
-use Rattle.region_mends.specs.Left.{resync_left}
-use Rattle.reshape_openings.specs.Finding.{window_for}
+use Rattle.openings.specs.region_mends_Left.{resync_left}
+use Rattle.openings.specs.reshape_openings_Finding.{window_for}
 use Rattle.array_kept.specs.Adopting.{found_work}
 use Rattle.views.specs.Status.{left_of}
 use Rattle.superblocks.specs.Found.{AreLikeNewest}
@@ -39,8 +39,8 @@ use Rattle.flat_history.specs.Growing.{grown, EndBy}
 use Rattle.history_laws.proofs.GrowingLaws.{marks-stay-safe}
 use Rattle.flat_history.proofs.SoundLaws.{fit-before, leaves-later, leaves-flushed}
 use Rattle.flat_history.proofs.StretchLaws.{bounds-serve}
-use Rattle.array.specs.declared.spec.CreateSpec.{CreateSpec}
-use Rattle.running_words.specs.Plans.{KeepsShape}
+use Rattle.openings.specs.array_the_CreateSpec.{CreateSpec}
+use Rattle.openings.specs.running_words_Plans.{KeepsShape}
 use Rattle.run_laws.specs.Making.{IsStored, IsStoredNew, IsStoredAs, HeldAtFirst, MissingAtFirst, SpareAtFirst, found_members, found_left}
 
 -- ---- the opening

@@ -22,11 +22,11 @@ use Rattle.flat_history.proofs.OneShapeLegal.{last-snoc}
 use Rattle.flat_history.specs.Transfers.{last_end_from}
 use Rattle.views.specs.Flushing.{OnlyFlushesAdded}
 use Rattle.views.specs.Moving.{Grows}
-use Rattle.running_words.specs.Parts.{RunningParts}
+use Rattle.openings.specs.running_words_Parts.{RunningParts}
 use Rattle.array_kept.specs.Calls.{IsEntered}
-use Rattle.assemble.specs.Creating.{create_refusal}
-use Rattle.assemble.specs.Filling.{AreBelow, OnlyBelow}
-use Rattle.assemble.specs.Made.{HasCreateCause}
+use Rattle.openings.specs.assemble_Creating.{create_refusal}
+use Rattle.openings.specs.assemble_Filling.{AreBelow, OnlyBelow}
+use Rattle.openings.specs.assemble_Made.{HasCreateCause}
 use Rattle.script.specs.declared.lines.CreateLine.{CreateLine}
 use Rattle.script.specs.declared.lines.Line.{Line}
 use Rattle.script.specs.declared.lines.Line.TheVariants.{Create}

@@ -8,3 +8,22 @@ pub mod Replies
 pub mod Showing
 pub mod States
 pub mod Written
+pub use Rattle.openings.specs.Found as openings_Found
+pub use Rattle.openings.specs.array_the_CreateSpec
+pub use Rattle.openings.specs.assemble_Creating
+pub use Rattle.openings.specs.assemble_Made
+pub use Rattle.openings.specs.assemble_Opening
+pub use Rattle.openings.specs.assemble_Running
+pub use Rattle.openings.specs.course_kept_the_Course
+pub use Rattle.openings.specs.growing_Replied
+pub use Rattle.openings.specs.region_mends_Left
+pub use Rattle.openings.specs.reshape_openings_Finding
+pub use Rattle.openings.specs.running_Calls
+pub use Rattle.openings.specs.running_replies_Going
+pub use Rattle.openings.specs.running_replies_Replies
+pub use Rattle.openings.specs.running_words_Adding
+pub use Rattle.openings.specs.running_words_Calls
+pub use Rattle.openings.specs.running_words_Parts
+pub use Rattle.openings.specs.running_words_Plans
+pub use Rattle.openings.specs.running_words_Still
+pub use Rattle.openings.specs.still_laws_Plain

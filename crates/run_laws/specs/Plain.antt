@@ -5,9 +5,9 @@ use Rattle.flat_history.specs.declared.events.Entry.{Entry}
 use Rattle.flat_history.specs.declared.events.Request.{Request}
 use Rattle.flat_history.specs.declared.events.Request.TheVariants.{Grow as AsksGrow}
 use Rattle.flat_history.specs.OneShape.{OneShapeFits}
-use Rattle.running_words.specs.Plans.{turns_shape}
-use Rattle.still_laws.specs.Plain.{MayTellPlainly}
-use Rattle.running_replies.specs.Replies.{RunningFits}
+use Rattle.openings.specs.running_words_Plans.{turns_shape}
+use Rattle.openings.specs.still_laws_Plain.{MayTellPlainly}
+use Rattle.openings.specs.running_replies_Replies.{RunningFits}
 
 -- the request asks for a reshape
 abbrev pub is_grow : Request → Bool

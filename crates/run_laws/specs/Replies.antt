@@ -5,7 +5,7 @@ use Rattle.md_base.specs.declared.answers.Refusal.{Refusal}
 use Rattle.md_base.specs.declared.answers.Refusal.TheVariants.{Running, NotRunning}
 use Rattle.md_base.specs.declared.status.Status.{Status}
 use Rattle.md_base.specs.Shapes.{data_disks, has_slot}
-use Rattle.array.specs.declared.spec.CreateSpec.{CreateSpec}
+use Rattle.openings.specs.array_the_CreateSpec.{CreateSpec}
 use Rattle.script.specs.declared.lines.CreateLine.{CreateLine}
 use Rattle.flat_history.specs.declared.events.Entry.{Entry}
 use Rattle.flat_history.specs.declared.events.Event.{Event}
@@ -13,14 +13,14 @@ use Rattle.flat_history.specs.declared.events.Event.TheVariants.{Stepped}
 use Rattle.flat_history.specs.declared.events.Request.TheVariants.{Read as AsksRead, Write as AsksWrite, Flush as AsksFlush, Fail as AsksFail, Add as AsksAdd, Grow as AsksGrow, Steps as AsksSteps}
 use Rattle.flat_history.specs.Flat.{rest_of_call, length_of}
 use Rattle.flat_history.specs.Fits.{FitsStop, FitsHalt}
-use Rattle.running_replies.specs.Replies.{RunningFits}
+use Rattle.openings.specs.running_replies_Replies.{RunningFits}
 use Rattle.flat_history.specs.World.{opening_list}
 use Rattle.flat_history.specs.Epochs.{OpensAlike}
 use Rattle.flat_history.specs.Opened.{OpensSound}
-use Rattle.assemble.specs.Creating.{create_refusal}
-use Rattle.assemble.specs.Opening.{AreGiven, array_of, scope_of}
-use Rattle.assemble.specs.Made.{used_slot}
-use Rattle.assemble.specs.Running.{OpensWithZeros}
+use Rattle.openings.specs.assemble_Creating.{create_refusal}
+use Rattle.openings.specs.assemble_Opening.{AreGiven, array_of, scope_of}
+use Rattle.openings.specs.assemble_Made.{used_slot}
+use Rattle.openings.specs.assemble_Running.{OpensWithZeros}
 use Rattle.script.specs.declared.lines.Line.{Line}
 use Rattle.script.specs.declared.lines.Line.TheVariants.{Create, Read, Write, Flush, Fail, Add, Grow, Step, Wait, Stop, Halt, Detail, Mdstat, Examine, Assemble}
 use Rattle.script.specs.declared.lines.Numbered.{Numbered}

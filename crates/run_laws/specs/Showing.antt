@@ -3,8 +3,8 @@ use Rattle.std.specs.Prelude.{◌≡◌, ℕ, ◌≤◌, List, length, slice_get
 use Rattle.flat_history.specs.declared.events.Entry.{Entry}
 use Rattle.flat_history.specs.declared.events.Event.{Event}
 use Rattle.flat_history.specs.declared.events.Event.TheVariants.{Shown}
-use Rattle.running_words.specs.Parts.{RunningParts}
-use Rattle.running.specs.Calls.{IsShownAs}
+use Rattle.openings.specs.running_words_Parts.{RunningParts}
+use Rattle.openings.specs.running_Calls.{IsShownAs}
 
 -- the event tells a list of so many sectors, of which all can be read, of at most 16 roles and 32 spares
 abbrev pub IsShown : ℕ → Event → Type 0

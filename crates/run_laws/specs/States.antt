@@ -12,8 +12,8 @@ use Rattle.flat_history.specs.declared.events.LostCause.TheVariants.{Absent, Rec
 use Rattle.flat_history.specs.Flat.{rest_of_call, next_number, length_of, limit_of}
 use Rattle.views.specs.Parts.{Parts}
 use Rattle.superblocks.specs.Reading.{list_length}
-use Rattle.running_words.specs.Parts.{RunningParts}
-use Rattle.running_replies.specs.Replies.{IsRefusalBy}
+use Rattle.openings.specs.running_words_Parts.{RunningParts}
+use Rattle.openings.specs.running_replies_Replies.{IsRefusalBy}
 use Rattle.script.specs.declared.lines.Line.{Line}
 use Rattle.script.specs.declared.lines.Line.TheVariants.{Step, Wait}
 use Rattle.run_laws.specs.declared.report.Answered.{Answered}

@@ -6,5 +6,7 @@ pub mod laws;
 mod report;
 mod states;
 
+pub use openings;
+pub use openings::{array, running, running_steps};
 pub use report::{Answered, LineReply, Outside};
 pub use states::State;

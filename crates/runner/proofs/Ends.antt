@@ -11,33 +11,33 @@ use Rattle.flat_history.specs.declared.events.Event.TheVariants.{Halted}
 use Rattle.flat_history.specs.Flat.{next_number, last_of}
 use Rattle.md_base.specs.declared.answers.Who.{Who}
 use Rattle.array_kept.specs.Calls.{IsEntered}
-use Rattle.running_words.specs.Parts.{RunningParts}
+use Rattle.line_answers.specs.running_words_Parts.{RunningParts}
 use Rattle.superblocks.specs.Reading.{list_length}
 use Rattle.script.specs.declared.lines.Line.TheVariants.{Halt}
 use Rattle.script.specs.declared.lines.Numbered.{Numbered}
 use Rattle.runner.specs.declared.sessions.Session.{Session}
 use Rattle.runner.specs.declared.sessions.Stop.{Stop}
 use Rattle.runner.specs.declared.sessions.Stop.TheVariants.{WriteFault, NoMemory as WantsMemory}
-use Rattle.run_laws.specs.declared.states.State.TheVariants.{Idle, Running}
-use Rattle.run_laws.specs.Asked.{script_who, IsAskedAt}
-use Rattle.run_laws.specs.Histories.{History, history_of, histories_of, is_end}
-use Rattle.run_laws.specs.Making.{Setting, setting_of}
+use Rattle.line_answers.specs.run_laws_the_State_TheVariants.{Idle, Running}
+use Rattle.line_answers.specs.run_laws_Asked.{script_who, IsAskedAt}
+use Rattle.line_answers.specs.run_laws_Histories.{History, history_of, histories_of, is_end}
+use Rattle.line_answers.specs.run_laws_Making.{Setting, setting_of}
 use Rattle.bank.specs.declared.bank.Operation.{Operation}
-use Rattle.run_laws.specs.Replies.{Course, at_rest, course_of}
+use Rattle.line_answers.specs.run_laws_Replies.{Course, at_rest, course_of}
 use Rattle.runner.specs.Runs.{status_for, stop_of, IsHalted, AreLinesPerformed, AreLossesFailed, IsEnded}
 use Rattle.runner.specs.Sessions.{counted, IsCourse, IsCourseBehind, taken_whole, IsTaken, IsPerformed, IsShownTo}
 use Rattle.runner.specs.Shown.{report_text, has_refusal}
-use Rattle.run_laws.specs.States.{running_history, histories_in, course_in, RunsOwn, AreLossesBehind, AreLossesFrom, IsCutShort}
-use Rattle.run_laws.specs.Ended.{AreRising}
+use Rattle.line_answers.specs.run_laws_States.{running_history, histories_in, course_in, RunsOwn, AreLossesBehind, AreLossesFrom, IsCutShort}
+use Rattle.line_answers.specs.run_laws_Ended.{AreRising}
 use Rattle.runner.specs.Writes.{AreWritesPlaced}
-use Rattle.run_laws.specs.Written.{IsWritten}
+use Rattle.line_answers.specs.run_laws_Written.{IsWritten}
 use Rattle.views.specs.Moving.{Grows}
-use Rattle.run_laws.proofs.AskLaws.{one, with_reply}
-use Rattle.run_laws.proofs.Legal.{grows_longer}
+use Rattle.line_answers.proofs.run_laws_AskLaws.{one, with_reply}
+use Rattle.line_answers.proofs.run_laws_Legal.{grows_longer}
 use Rattle.runner.proofs.WritesPlaced.{placed-end, quiet-between}
-use Rattle.run_laws.proofs.Growth.{IsWider, replies_stay, replies_front, courses_stay, cut_stays}
+use Rattle.line_answers.proofs.run_laws_Growth.{IsWider, replies_stay, replies_front, courses_stay, cut_stays}
 use Rattle.runner.proofs.ShownLaws.{shown_stays}
-use Rattle.run_laws.proofs.Losses.{losses-halted, losses-whole, losses-kept, losses-last, losses_add}
+use Rattle.line_answers.proofs.run_laws_Losses.{losses-halted, losses-whole, losses-kept, losses-last, losses_add}
 use Rattle.line_answers.proofs.Turns.{now_are, turn_ended, grown_kept, get_last}
 
 last-snoc : (xs : List Entry) (e : Entry) → last_of (xs ++ e ∷ []) ≡ Some e

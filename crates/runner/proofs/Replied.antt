@@ -3,19 +3,19 @@ use Rattle.std.proofs.Common.{◌≡◌, Bool, length, sym, ◌∙◌, ap, subst
 use Rattle.std.specs.Prelude.{IsTrue}
 use Rattle.md_base.specs.declared.answers.NoMemory.{NoMemory}
 use Rattle.script.specs.declared.lines.Line.{Line}
-use Rattle.run_laws.specs.declared.report.Answered.{Answered}
-use Rattle.run_laws.specs.declared.states.State.{State}
-use Rattle.run_laws.specs.Making.{Setting}
-use Rattle.run_laws.specs.Replies.{IsEnd}
+use Rattle.line_answers.specs.run_laws_the_Answered.{Answered}
+use Rattle.line_answers.specs.run_laws_the_State.{State}
+use Rattle.line_answers.specs.run_laws_Making.{Setting}
+use Rattle.line_answers.specs.run_laws_Replies.{IsEnd}
 use Rattle.script.specs.Script.{is_within_limits}
 use Rattle.script.specs.declared.lines.Numbered.{Numbered}
 use Rattle.script.specs.declared.reply.Lane.TheVariants.{Script as InScript}
-use Rattle.run_laws.specs.declared.report.LineReply.{LineReply}
+use Rattle.line_answers.specs.run_laws_the_LineReply.{LineReply}
 use Rattle.runner.specs.Sessions.{IsEndNow, IsReplied}
-use Rattle.run_laws.specs.States.{histories_in, course_in, IsNamed, IsTurn, IsTurnOrNone}
-use Rattle.run_laws.specs.Written.{HasWritten, IsWritten, IsWrittenBy}
+use Rattle.line_answers.specs.run_laws_States.{histories_in, course_in, IsNamed, IsTurn, IsTurnOrNone}
+use Rattle.line_answers.specs.run_laws_Written.{HasWritten, IsWritten, IsWrittenBy}
 use Rattle.runner.specs.Shown.{IsAnswerShort, is_refusal}
-use Rattle.run_laws.proofs.Growth.{answer_named}
+use Rattle.line_answers.proofs.run_laws_Growth.{answer_named}
 use Rattle.runner.proofs.Shortness.{answer_short}
 
 -- an answer is a turn, which names its entry

@@ -10,18 +10,18 @@ use Rattle.flat_history.specs.declared.events.Request.TheVariants.{Read as AsksR
 use Rattle.flat_history.specs.Fits.{FitsStop, FitsHalt}
 use Rattle.flat_history.specs.Legal.{call_before}
 use Rattle.flat_history.specs.OneShape.{OneShapeAnswers}
-use Rattle.running_replies.specs.Replies.{RunningAnswers}
+use Rattle.line_answers.specs.running_replies_Replies.{RunningAnswers}
 use Rattle.md_base.specs.declared.wishes.Wish.{Wish}
 use Rattle.script.specs.Script.{is_within_limits}
 use Rattle.script.specs.Seeds.{seeded}
 use Rattle.script.specs.declared.lines.Line.{Line}
 use Rattle.script.specs.declared.lines.Line.TheVariants.{Create, Read, Write, Flush, Fail, Add, Grow, Step, Wait, Stop, Halt, Detail, Mdstat, Examine, Assemble}
-use Rattle.run_laws.specs.declared.report.Answered.{Answered}
-use Rattle.run_laws.specs.declared.report.Answered.TheVariants.{Inside, Outside as IsOutside}
-use Rattle.run_laws.specs.Histories.{History}
-use Rattle.run_laws.specs.Making.{Setting}
-use Rattle.run_laws.specs.Replies.{Course, FitsLine, IsReplyAt, IsWaitedAt, IsRepliedAt, IsAnswer, steps_at_once}
-use Rattle.run_laws.specs.Showing.{IsShown}
+use Rattle.line_answers.specs.run_laws_the_Answered.{Answered}
+use Rattle.line_answers.specs.run_laws_the_Answered_TheVariants.{Inside, Outside as IsOutside}
+use Rattle.line_answers.specs.run_laws_Histories.{History}
+use Rattle.line_answers.specs.run_laws_Making.{Setting}
+use Rattle.line_answers.specs.run_laws_Replies.{Course, FitsLine, IsReplyAt, IsWaitedAt, IsRepliedAt, IsAnswer, steps_at_once}
+use Rattle.line_answers.specs.run_laws_Showing.{IsShown}
 use Rattle.runner.specs.Shown.{IsShort, IsAnswerShort}
 
 short_read : (size : ℕ) (before call : List Entry) (at count : ℕ) (event : Event) → count ≤ 128 → OneShapeAnswers size before call (AsksRead at count) event → IsShort event

@@ -6,15 +6,15 @@ use Rattle.flat_history.specs.declared.events.Entry.{Entry}
 use Rattle.script.specs.Texts.{lane_text}
 use Rattle.script.specs.declared.lines.Line.{Line}
 use Rattle.script.specs.declared.lines.Numbered.{Numbered}
-use Rattle.run_laws.specs.declared.report.Answered.{Answered}
-use Rattle.run_laws.specs.declared.report.Answered.TheVariants.{Inside, Outside as IsOutside}
-use Rattle.run_laws.specs.declared.report.LineReply.{LineReply}
-use Rattle.run_laws.specs.Histories.{History, entry_at}
-use Rattle.run_laws.specs.Making.{Setting}
-use Rattle.run_laws.specs.Replies.{Course, course_after, AreReplies}
+use Rattle.line_answers.specs.run_laws_the_Answered.{Answered}
+use Rattle.line_answers.specs.run_laws_the_Answered_TheVariants.{Inside, Outside as IsOutside}
+use Rattle.line_answers.specs.run_laws_the_LineReply.{LineReply}
+use Rattle.line_answers.specs.run_laws_Histories.{History, entry_at}
+use Rattle.line_answers.specs.run_laws_Making.{Setting}
+use Rattle.line_answers.specs.run_laws_Replies.{Course, course_after, AreReplies}
 use Rattle.runner.specs.Shown.{entry_text, answer_text, reply_text, report_text, tells_refusal, is_refusal, has_refusal}
-use Rattle.run_laws.specs.States.{AreGrown, IsNamed}
-use Rattle.run_laws.proofs.Growth.{some_named, named_stays, answer_named}
+use Rattle.line_answers.specs.run_laws_States.{AreGrown, IsNamed}
+use Rattle.line_answers.proofs.run_laws_Growth.{some_named, named_stays, answer_named}
 
 -- what an answer shows stays
 answer_shown : (olds news : List History) (line : Line) (what : Answered) → AreGrown olds news → IsNamed olds what → (answer_text news line what ≡ answer_text olds line what) × (is_refusal news line what ≡ is_refusal olds line what)

@@ -14,25 +14,25 @@ use Rattle.flat_history.specs.declared.events.Entry.{Entry}
 use Rattle.text_io.specs.Causes.{HasRisen}
 use Rattle.flat_history.specs.declared.events.Epoch.{Epoch}
 use Rattle.script.specs.declared.lines.Numbered.{Numbered}
-use Rattle.run_laws.specs.declared.report.Answered.{Answered}
-use Rattle.run_laws.specs.declared.report.Answered.TheVariants.{Inside, Outside as IsOutside}
-use Rattle.run_laws.specs.declared.report.LineReply.{LineReply}
-use Rattle.run_laws.specs.declared.states.State.{State}
-use Rattle.run_laws.specs.declared.states.State.TheVariants.{Idle}
+use Rattle.line_answers.specs.run_laws_the_Answered.{Answered}
+use Rattle.line_answers.specs.run_laws_the_Answered_TheVariants.{Inside, Outside as IsOutside}
+use Rattle.line_answers.specs.run_laws_the_LineReply.{LineReply}
+use Rattle.line_answers.specs.run_laws_the_State.{State}
+use Rattle.line_answers.specs.run_laws_the_State_TheVariants.{Idle}
 use Rattle.runner.specs.declared.sessions.Stop.{Stop}
 use Rattle.runner.specs.declared.sessions.Stop.TheVariants.{WriteFault, NoMemory as WantsMemory}
 use Rattle.runner.specs.declared.sessions.Session.{Session}
-use Rattle.run_laws.specs.Histories.{History, histories_of, entry_at}
-use Rattle.run_laws.specs.Making.{Setting, setting_of}
-use Rattle.run_laws.proofs.Legal.{grows_longer}
-use Rattle.run_laws.specs.Replies.{Course, at_rest, course_after, course_of, IsAnswer, IsEnd, IsReplyTo, AreReplies, AreInOrder}
+use Rattle.line_answers.specs.run_laws_Histories.{History, histories_of, entry_at}
+use Rattle.line_answers.specs.run_laws_Making.{Setting, setting_of}
+use Rattle.line_answers.proofs.run_laws_Legal.{grows_longer}
+use Rattle.line_answers.specs.run_laws_Replies.{Course, at_rest, course_after, course_of, IsAnswer, IsEnd, IsReplyTo, AreReplies, AreInOrder}
 use Rattle.runner.specs.Shown.{reply_text, report_text, has_refusal}
-use Rattle.run_laws.specs.States.{histories_in, course_in, RunsOwn, IsOfScript, AreOfScript, AreLossesFrom, AreGrown, EndsBetween, IsCutShort, IsCourseShort}
+use Rattle.line_answers.specs.run_laws_States.{histories_in, course_in, RunsOwn, IsOfScript, AreOfScript, AreLossesFrom, AreGrown, EndsBetween, IsCutShort, IsCourseShort}
 use Rattle.runner.specs.Sessions.{counted, IsEndNow, IsUnreplied, IsReplyMore, IsStep, IsCourse, taken_whole, IsTaken, IsStopCause, IsCourseBehind, IsPerformed, IsShownTo}
-use Rattle.run_laws.proofs.Growth.{IsWider, answer_wider, replies_stay, replies_more, course_more, courses_stay}
+use Rattle.line_answers.proofs.run_laws_Growth.{IsWider, answer_wider, replies_stay, replies_more, course_more, courses_stay}
 use Rattle.runner.proofs.ShownLaws.{shown_stays, text_more, refusal_more}
 use Rattle.runner.specs.Writes.{AreWritesPlaced}
-use Rattle.run_laws.proofs.Losses.{losses_add}
+use Rattle.line_answers.proofs.run_laws_Losses.{losses_add}
 use Rattle.runner.proofs.WritesPlaced.{placed-none, placed-reply, placed-short}
 
 -- ---- where the replies were made

@@ -13,20 +13,20 @@ use Rattle.flat_history.specs.declared.events.Epoch.{Epoch}
 use Rattle.flat_history.specs.Transfers.{last_end_from}
 use Rattle.script.specs.declared.lines.Line.{Line}
 use Rattle.script.specs.declared.lines.Numbered.{Numbered}
-use Rattle.run_laws.specs.declared.report.Answered.{Answered}
-use Rattle.run_laws.specs.declared.report.Answered.TheVariants.{Inside, Outside as IsOutside}
-use Rattle.run_laws.specs.declared.report.LineReply.{LineReply}
+use Rattle.line_answers.specs.run_laws_the_Answered.{Answered}
+use Rattle.line_answers.specs.run_laws_the_Answered_TheVariants.{Inside, Outside as IsOutside}
+use Rattle.line_answers.specs.run_laws_the_LineReply.{LineReply}
 use Rattle.runner.specs.declared.sessions.Stop.{Stop}
 use Rattle.runner.specs.declared.sessions.Stop.TheVariants.{NoMemory as IsShort}
-use Rattle.run_laws.specs.Ended.{next_mark, AreRising}
-use Rattle.run_laws.specs.Histories.{History, history_of, histories_of}
-use Rattle.run_laws.specs.Making.{Setting, setting_of}
-use Rattle.run_laws.specs.Replies.{AreInOrder}
+use Rattle.line_answers.specs.run_laws_Ended.{next_mark, AreRising}
+use Rattle.line_answers.specs.run_laws_Histories.{History, history_of, histories_of}
+use Rattle.line_answers.specs.run_laws_Making.{Setting, setting_of}
+use Rattle.line_answers.specs.run_laws_Replies.{AreInOrder}
 use Rattle.runner.specs.Sessions.{IsEndNow}
-use Rattle.run_laws.specs.Written.{IsInEpoch, MayWrite, HasWritten, AreSpans, IsWritten}
+use Rattle.line_answers.specs.run_laws_Written.{IsInEpoch, MayWrite, HasWritten, AreSpans, IsWritten}
 use Rattle.runner.specs.Writes.{IsOfCreate, AreWritesPlaced, NoneOfCreate, AreQuiet}
-use Rattle.run_laws.proofs.Worlds.{last-within}
-use Rattle.run_laws.proofs.Writing.{none-behind, spans-back}
+use Rattle.line_answers.proofs.run_laws_Worlds.{last-within}
+use Rattle.line_answers.proofs.run_laws_Writing.{none-behind, spans-back}
 
 -- the tape's front stays
 front-stays : (old ops : List Operation) (mark : ℕ) (op : Operation) → mark < length old → slice_get (old ++ ops) mark ≡ Some op → slice_get old mark ≡ Some op

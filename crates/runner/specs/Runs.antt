@@ -7,17 +7,17 @@ use Rattle.flat_history.specs.declared.events.Event.TheVariants.{Halted}
 use Rattle.flat_history.specs.Flat.{last_of}
 use Rattle.script.specs.Script.{script_of}
 use Rattle.script.specs.declared.lines.Numbered.{Numbered}
-use Rattle.run_laws.specs.declared.report.LineReply.{LineReply}
+use Rattle.line_answers.specs.run_laws_the_LineReply.{LineReply}
 use Rattle.runner.specs.declared.sessions.Stop.{Stop}
 use Rattle.runner.specs.declared.sessions.Stop.TheVariants.{WriteFault, NoMemory as WantsMemory}
-use Rattle.run_laws.specs.declared.states.State.{State}
-use Rattle.run_laws.specs.Histories.{History, history_of, histories_of}
-use Rattle.run_laws.specs.Making.{Setting}
-use Rattle.run_laws.specs.Replies.{Course, at_rest, course_of, AreReplies, AreInOrder}
+use Rattle.line_answers.specs.run_laws_the_State.{State}
+use Rattle.line_answers.specs.run_laws_Histories.{History, history_of, histories_of}
+use Rattle.line_answers.specs.run_laws_Making.{Setting}
+use Rattle.line_answers.specs.run_laws_Replies.{Course, at_rest, course_of, AreReplies, AreInOrder}
 use Rattle.runner.specs.Sessions.{IsCourse, counted, taken_whole, IsTaken}
 use Rattle.runner.specs.Shown.{report_text, has_refusal}
 use Rattle.runner.specs.Source.{IsTextOf}
-use Rattle.run_laws.specs.States.{histories_in, bank_in, course_in, AreOfScript, AreGrown, AreLossesBehind, AreLossesFrom}
+use Rattle.line_answers.specs.run_laws_States.{histories_in, bank_in, course_in, AreOfScript, AreGrown, AreLossesBehind, AreLossesFrom}
 use Rattle.runner.specs.Writes.{AreWritesPlaced, AreQuiet}
 
 -- The statuses: 0 done, 1 done with refusals, 2 bad words, 3 a bad line, 4 the source failed, 5 the sink failed, 6 memory was short.

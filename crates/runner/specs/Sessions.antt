@@ -5,20 +5,20 @@ use Rattle.script.specs.declared.lines.Line.{Line}
 use Rattle.script.specs.declared.lines.Numbered.{Numbered}
 use Rattle.script.specs.declared.reply.Lane.TheVariants.{Script as InScript}
 use Rattle.text_io.specs.Causes.{HasRisen}
-use Rattle.run_laws.specs.declared.report.Answered.{Answered}
-use Rattle.run_laws.specs.declared.report.Answered.TheVariants.{Inside, Outside as IsOutside}
-use Rattle.run_laws.specs.declared.report.LineReply.{LineReply}
-use Rattle.run_laws.specs.declared.states.State.{State}
+use Rattle.line_answers.specs.run_laws_the_Answered.{Answered}
+use Rattle.line_answers.specs.run_laws_the_Answered_TheVariants.{Inside, Outside as IsOutside}
+use Rattle.line_answers.specs.run_laws_the_LineReply.{LineReply}
+use Rattle.line_answers.specs.run_laws_the_State.{State}
 use Rattle.runner.specs.declared.sessions.Made.{Made}
 use Rattle.runner.specs.declared.sessions.Stop.{Stop}
 use Rattle.runner.specs.declared.sessions.Stop.TheVariants.{WriteFault, NoMemory as WantsMemory}
 use Rattle.runner.specs.declared.sessions.Session.{Session}
-use Rattle.run_laws.specs.Histories.{History}
-use Rattle.run_laws.specs.Making.{Setting}
-use Rattle.run_laws.specs.Replies.{Course, at_rest, course_of, IsEnd, AreReplies, AreInOrder}
+use Rattle.line_answers.specs.run_laws_Histories.{History}
+use Rattle.line_answers.specs.run_laws_Making.{Setting}
+use Rattle.line_answers.specs.run_laws_Replies.{Course, at_rest, course_of, IsEnd, AreReplies, AreInOrder}
 use Rattle.runner.specs.Shown.{reply_text, report_text, is_refusal, has_refusal}
-use Rattle.run_laws.specs.States.{histories_in, course_in, RunsOwn, AreLossesFrom, AreGrown, IsCutShort, IsCourseShort, IsTurn}
-use Rattle.run_laws.specs.Written.{MayWrite, HasWritten, IsWritten}
+use Rattle.line_answers.specs.run_laws_States.{histories_in, course_in, RunsOwn, AreLossesFrom, AreGrown, IsCutShort, IsCourseShort, IsTurn}
+use Rattle.line_answers.specs.run_laws_Written.{MayWrite, HasWritten, IsWritten}
 use Rattle.runner.specs.Writes.{AreWritesPlaced}
 
 -- so many bytes, as far as a u64 can count

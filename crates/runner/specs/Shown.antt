@@ -9,12 +9,12 @@ use Rattle.script.specs.declared.lines.Line.TheVariants.{Wait, Detail, Mdstat}
 use Rattle.script.specs.declared.lines.Numbered.{Numbered}
 use Rattle.script.specs.Texts.{created_text, assembled_text, refusal_text, event_text, waited_text, lane_text}
 use Rattle.status_text.specs.Texts.{detail_text, mdstat_text, examined_text}
-use Rattle.run_laws.specs.declared.report.Outside.{Outside}
-use Rattle.run_laws.specs.declared.report.Outside.TheVariants.{Created, Assembled, Examined, Refused}
-use Rattle.run_laws.specs.declared.report.Answered.{Answered}
-use Rattle.run_laws.specs.declared.report.Answered.TheVariants.{Inside, Outside as IsOutside}
-use Rattle.run_laws.specs.declared.report.LineReply.{LineReply}
-use Rattle.run_laws.specs.Histories.{History, entry_at}
+use Rattle.line_answers.specs.run_laws_the_Outside.{Outside}
+use Rattle.line_answers.specs.run_laws_the_Outside_TheVariants.{Created, Assembled, Examined, Refused}
+use Rattle.line_answers.specs.run_laws_the_Answered.{Answered}
+use Rattle.line_answers.specs.run_laws_the_Answered_TheVariants.{Inside, Outside as IsOutside}
+use Rattle.line_answers.specs.run_laws_the_LineReply.{LineReply}
+use Rattle.line_answers.specs.run_laws_Histories.{History, entry_at}
 
 abbrev pub outside_text : Outside → List ℕ
 outside_text Created = created_text

@@ -8,18 +8,18 @@ ghost use Rattle.text_io.specs.Causes.{HasRisen};
 ghost use Rattle.script.specs.Script.{is_within_limits};
 ghost use Rattle.script.specs.Appends.{Appends, AppendsFew};
 ghost use Rattle.runner.specs.Shown.{longest_answer, longest_reply, IsShort, IsAnswerShort, outside_text, entry_text, answer_text, reply_text, is_refused_outside, is_refusal, tells_refusal};
-ghost use Rattle.run_laws.specs.States.{histories_in, bank_in, RunsOwn, IsFitBank, IsNamed};
+ghost use Rattle.line_answers.specs.run_laws_States.{histories_in, bank_in, RunsOwn, IsFitBank, IsNamed};
 ghost use Rattle.runner.specs.Sessions.{IsEndNow, IsRepliedOrNot, IsStep, IsStopCause, IsPerformed, IsShownTo};
-ghost use Rattle.run_laws.specs.Ended.{IsRunKept};
-ghost use Rattle.run_laws.specs.Making.{setting_of};
-ghost use Rattle.run_laws.specs.Replies.{IsEnd};
+ghost use Rattle.line_answers.specs.run_laws_Ended.{IsRunKept};
+ghost use Rattle.line_answers.specs.run_laws_Making.{setting_of};
+ghost use Rattle.line_answers.specs.run_laws_Replies.{IsEnd};
 ghost use Rattle.script.specs.declared.reply.Lane.TheVariants.{Script as InScript};
 
 use bank::Bank;
 use flat_history::Event;
+use line_answers::run_laws::{Answered, LineReply, Outside, State};
 use line_answers::{answer, entry_of};
 use md_base::{NoMemory, Refusal};
-use run_laws::{Answered, LineReply, Outside, State};
 use script::{
     Lane, Line, Numbered, push_assembled, push_created, push_event, push_lane, push_refusal,
     push_waited,

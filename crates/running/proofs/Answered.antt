@@ -22,11 +22,11 @@ use Rattle.views.specs.declared.work.Work.{Work}
 use Rattle.grow_asked.specs.declared.window.PhasesLeft.{PhasesLeft}
 use Rattle.grow_asked.specs.Left.{phases_of}
 use Rattle.growing.proofs.Idle.{some-steps}
-use Rattle.running_words.specs.Parts.{RunningParts, left_in, still_left}
-use Rattle.running_words.specs.Calls.{IsCalled}
-use Rattle.still_laws.specs.Steps.{IsStepped, MayEndNow, IsStepsReplyNow}
-use Rattle.still_laws.proofs.PlansKept.{PlanNone}
-use Rattle.moving_steps.specs.Replies.{IsEndedInReshape, IsReplyInReshape}
+use Rattle.growing.specs.running_words_Parts.{RunningParts, left_in, still_left}
+use Rattle.growing.specs.running_words_Calls.{IsCalled}
+use Rattle.growing.specs.still_laws_Steps.{IsStepped, MayEndNow, IsStepsReplyNow}
+use Rattle.growing.proofs.still_laws_PlansKept.{PlanNone}
+use Rattle.growing.specs.moving_steps_Replies.{IsEndedInReshape, IsReplyInReshape}
 use Rattle.running.specs.Calls.{running_left, MayEndSteps, IsReplyNow}
 use Rattle.running.proofs.Checked.{some-of}
 

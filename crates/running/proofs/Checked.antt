@@ -11,7 +11,7 @@ use Rattle.shape_views.proofs.Headers.{backup-is}
 use Rattle.shape_changes.proofs.Without.{live-is}
 use Rattle.views.specs.Rebuilding.{Held}
 use Rattle.safe_updates.specs.Unused.{IsUnused}
-use Rattle.moving_kept.specs.Moving.{AreReshaping}
+use Rattle.growing.specs.moving_kept_Moving.{AreReshaping}
 
 pub some-of : (n : ℕ) → n ≢ 0 → 0 < n
 some-of zero none = absurd (none refl)

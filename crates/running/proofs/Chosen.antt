@@ -20,13 +20,13 @@ use Rattle.flat_history.specs.OneShape.{IsOfCall}
 use Rattle.flat_history.specs.Plain.{entries_of}
 use Rattle.views.specs.Lacking.{IsUnread, IsUnwritten, are_mended, mended_rows}
 use Rattle.array_kept.specs.Calls.{IsRefusedFor, IsCausedBy, IsAnswered, IsEntered, IsReplied, StandsInside}
-use Rattle.region_mends.specs.Mends.{relied_sector}
+use Rattle.growing.specs.region_mends_Mends.{relied_sector}
 use Rattle.kept_history.specs.Recorded.{entry_of}
 use Rattle.kept_history.proofs.Marks.{ends-call}
-use Rattle.running_words.specs.Parts.{RunningParts}
-use Rattle.course_kept.specs.Course.{hidden_in}
-use Rattle.moving_state.specs.First.{IsUnreadAround}
-use Rattle.moving_laws.specs.Writing.{IsWriteBarred, IsRepliedBehind, IsWriteReplied}
+use Rattle.growing.specs.running_words_Parts.{RunningParts}
+use Rattle.growing.specs.course_kept_Course.{hidden_in}
+use Rattle.growing.specs.moving_state_First.{IsUnreadAround}
+use Rattle.growing.specs.moving_laws_Writing.{IsWriteBarred, IsRepliedBehind, IsWriteReplied}
 use Rattle.running.specs.Calls.{IsReadLacked, IsWriteLackedIn}
 
 pub on-ok : {T E : Type 0} (r : Result T E) {F : Type 0} → F → OnOk r F

@@ -32,17 +32,17 @@ use Rattle.call_entries.proofs.LosingLaws.{entries-both}
 use Rattle.array_kept.specs.Calls.{IsBehind, IsFailedFor, IsRefusedFor, IsFaultFor, IsCausedBy, IsUnmendable, IsRebuildStepped}
 use Rattle.kept_history.specs.Recorded.{entry_of}
 use Rattle.grow_asked.specs.Left.{phases_of}
-use Rattle.running_words.specs.Parts.{RunningParts, still_left}
-use Rattle.running_words.specs.Calls.{IsStepTaken}
-use Rattle.still_steps.specs.Resyncing.{is_at_end, IsUnmended}
-use Rattle.still_steps.specs.Resyncing as resync
-use Rattle.still_steps.specs.Rebuilding.{recovers, first_recovering, first_vacant, IsRebuildNext, rebuilt_role, rebuild_kind, rebuild_events}
-use Rattle.still_steps.specs.Stepping.{IsUndone, IsStepEntered}
-use Rattle.still_steps.proofs.Lowest.{lowest-found}
-use Rattle.still_steps.proofs.NextLaws.{next-rebuild}
-use Rattle.turning.specs.Ended.{ended_length, IsEndedWith}
+use Rattle.growing.specs.running_words_Parts.{RunningParts, still_left}
+use Rattle.growing.specs.running_words_Calls.{IsStepTaken}
+use Rattle.growing.specs.still_steps_Resyncing.{is_at_end, IsUnmended}
+use Rattle.growing.specs.still_steps_Resyncing as resync
+use Rattle.growing.specs.still_steps_Rebuilding.{recovers, first_recovering, first_vacant, IsRebuildNext, rebuilt_role, rebuild_kind, rebuild_events}
+use Rattle.growing.specs.still_steps_Stepping.{IsUndone, IsStepEntered}
+use Rattle.growing.proofs.still_steps_Lowest.{lowest-found}
+use Rattle.growing.proofs.still_steps_NextLaws.{next-rebuild}
+use Rattle.growing.specs.turning_Ended.{ended_length, IsEndedWith}
 use Rattle.growing.proofs.Idle.{none-left}
-use Rattle.still_laws.proofs.PlansKept.{PlanNone, AddNoPlan, none-open, done-closes}
+use Rattle.growing.proofs.still_laws_PlansKept.{PlanNone, AddNoPlan, none-open, done-closes}
 use Rattle.running.specs.State.{AreClosedIdle}
 use Rattle.running.proofs.Entered.{ended-tail}
 

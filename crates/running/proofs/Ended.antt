@@ -16,25 +16,25 @@ use Rattle.views.specs.declared.work.Work.{Work}
 use Rattle.shape_views.proofs.Alike.{for-both}
 use Rattle.views.specs.Placed.{IsInForce}
 use Rattle.views.specs.Lacking.{AreTooMany}
-use Rattle.region_mends.specs.declared.stripes.Stripe.{Stripe}
-use Rattle.region_mends.specs.Mends.{low_end, low_shape, high_shape, low_stripes, high_stripe, mend_shape, IsNotMended}
+use Rattle.growing.specs.region_mends_the_Stripe.{Stripe}
+use Rattle.growing.specs.region_mends_Mends.{low_end, low_shape, high_shape, low_stripes, high_stripe, mend_shape, IsNotMended}
 use Rattle.array_kept.specs.Calls.{by_answer, IsCausedBy}
 use Rattle.grow_asked.specs.declared.window.PhasesLeft.{PhasesLeft}
 use Rattle.grow_asked.specs.declared.window.Window.{Window}
 use Rattle.grow_asked.specs.declared.window.Window.TheVariants.{Closed, Entered, Unsure}
 use Rattle.grow_asked.specs.Left.{phases_of, stripes_in, zeroed_by}
-use Rattle.moving_state.specs.Due.{due_in, due_of}
-use Rattle.moving_state.specs.declared.stepping.Due.{Due}
-use Rattle.moving_state.specs.declared.stepping.Due.TheVariants.{Copy, Record, Mend, EndResync, Enter, Zero, Finish}
-use Rattle.running_words.specs.Parts.{RunningParts, still_left}
-use Rattle.running_words.specs.Calls.{IsStepTaken}
-use Rattle.moving_laws.specs.Steps.{resync_behind, IsStepCaused}
-use Rattle.still_laws.specs.Steps.{IsEndedRight, RefusesBegin, MayEndNow, IsClosable}
-use Rattle.still_steps.specs.Resyncing.{is_at_end, IsUnmended}
-use Rattle.still_steps.specs.Stepping.{IsUndone, after_step}
-use Rattle.moving_steps.specs.Replies.{IsEndedInReshape}
-use Rattle.turning.specs.Begun.{IsBeginRefused}
-use Rattle.turning.specs.Ended.{IsEndedWith}
+use Rattle.growing.specs.moving_state_Due.{due_in, due_of}
+use Rattle.growing.specs.moving_state_the_Due.{Due}
+use Rattle.growing.specs.moving_state_the_Due_TheVariants.{Copy, Record, Mend, EndResync, Enter, Zero, Finish}
+use Rattle.growing.specs.running_words_Parts.{RunningParts, still_left}
+use Rattle.growing.specs.running_words_Calls.{IsStepTaken}
+use Rattle.growing.specs.moving_laws_Steps.{resync_behind, IsStepCaused}
+use Rattle.growing.specs.still_laws_Steps.{IsEndedRight, RefusesBegin, MayEndNow, IsClosable}
+use Rattle.growing.specs.still_steps_Resyncing.{is_at_end, IsUnmended}
+use Rattle.growing.specs.still_steps_Stepping.{IsUndone, after_step}
+use Rattle.growing.specs.moving_steps_Replies.{IsEndedInReshape}
+use Rattle.growing.specs.turning_Begun.{IsBeginRefused}
+use Rattle.growing.specs.turning_Ended.{IsEndedWith}
 use Rattle.running.specs.Calls.{MayEndSteps, IsRefusedInStep}
 use Rattle.running.proofs.Closed.{why-of, ended-closes}
 

@@ -29,16 +29,16 @@ use Rattle.call_entries.proofs.LosingLaws.{entries-both}
 use Rattle.array_kept.specs.Calls.{IsEntered, StandsInside, IsRebuildStepped, IsUnsettled}
 use Rattle.kept_history.specs.Recorded.{entry_of}
 use Rattle.kept_history.proofs.Tests.{neither}
-use Rattle.running_words.specs.Parts.{RunningParts}
-use Rattle.running_words.specs.Calls.{IsStepTaken}
-use Rattle.running_words.specs.Plans.{turns_shape, KeepsShape}
-use Rattle.still_steps.specs.Resyncing as resync
-use Rattle.still_steps.specs.Rebuilding.{rebuilt_role, rebuild_kind, rebuild_events}
-use Rattle.still_steps.specs.Stepping.{IsStepEntered}
-use Rattle.moving_laws.specs.Writing.{IsRepliedBehind, IsWriteReplied}
-use Rattle.turning.specs.Begun.{begun_length, IsBegunWith}
-use Rattle.turning.specs.Ended.{ended_length, IsEndedWith}
-use Rattle.still_laws.proofs.PlansKept.{PlanNone, AddNoPlan, none-behind, add-entered, add-behind, add-behind_all, add-nothing, add-step}
+use Rattle.growing.specs.running_words_Parts.{RunningParts}
+use Rattle.growing.specs.running_words_Calls.{IsStepTaken}
+use Rattle.growing.specs.running_words_Plans.{turns_shape, KeepsShape}
+use Rattle.growing.specs.still_steps_Resyncing as resync
+use Rattle.growing.specs.still_steps_Rebuilding.{rebuilt_role, rebuild_kind, rebuild_events}
+use Rattle.growing.specs.still_steps_Stepping.{IsStepEntered}
+use Rattle.growing.specs.moving_laws_Writing.{IsRepliedBehind, IsWriteReplied}
+use Rattle.growing.specs.turning_Begun.{begun_length, IsBegunWith}
+use Rattle.growing.specs.turning_Ended.{ended_length, IsEndedWith}
+use Rattle.growing.proofs.still_laws_PlansKept.{PlanNone, AddNoPlan, none-behind, add-entered, add-behind, add-behind_all, add-nothing, add-step}
 
 -- ---- lists
 

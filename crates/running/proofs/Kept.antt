@@ -37,15 +37,15 @@ use Rattle.kept_history.proofs.Growing.{reading-grown}
 use Rattle.kept_history.proofs.Tests.{neither}
 use Rattle.grow_asked.specs.declared.window.PhasesLeft.{PhasesLeft}
 use Rattle.grow_asked.specs.Left.{phases_of}
-use Rattle.running_words.specs.Adding.{IsAddCalled}
-use Rattle.running_words.specs.Parts.{RunningParts}
-use Rattle.running_words.specs.Calls.{moving_world, IsCalled, IsSameReshape}
-use Rattle.running_words.specs.Plans.{aim_of, ArePlansKept, turns_shape, KeepsShape}
-use Rattle.still_laws.specs.Steps.{IsStepped}
-use Rattle.moving_laws.specs.Mending.{IsMendCalled}
-use Rattle.turning.specs.Begun.{IsReshapeBegun, IsGivenBack}
-use Rattle.turning.specs.Ended.{IsReshapeEnded}
-use Rattle.still_laws.proofs.PlansKept.{AddNoPlan, add-nothing, plans-kept, plans-closed, aim-begun, aim-ended}
+use Rattle.growing.specs.running_words_Adding.{IsAddCalled}
+use Rattle.growing.specs.running_words_Parts.{RunningParts}
+use Rattle.growing.specs.running_words_Calls.{moving_world, IsCalled, IsSameReshape}
+use Rattle.growing.specs.running_words_Plans.{aim_of, ArePlansKept, turns_shape, KeepsShape}
+use Rattle.growing.specs.still_laws_Steps.{IsStepped}
+use Rattle.growing.specs.moving_laws_Mending.{IsMendCalled}
+use Rattle.growing.specs.turning_Begun.{IsReshapeBegun, IsGivenBack}
+use Rattle.growing.specs.turning_Ended.{IsReshapeEnded}
+use Rattle.growing.proofs.still_laws_PlansKept.{AddNoPlan, add-nothing, plans-kept, plans-closed, aim-begun, aim-ended}
 use Rattle.running.specs.State.{IsStillNow, IsOneReshape, CanBeNext, IsWithin, IsBackupAside, AreClosedIdle, IsAtRest, IsInReshape}
 use Rattle.running.proofs.Closed.{closed-kept, closed-ended}
 use Rattle.running.proofs.Entered.{add-begun, begun-turns, add-ended}

@@ -6,3 +6,8 @@ pub mod Ended
 pub mod Entered
 pub mod Kept
 pub mod Planning
+pub use Rattle.growing.proofs.running_replies_Fitting
+pub use Rattle.growing.proofs.running_replies_GoneOn
+pub use Rattle.growing.proofs.still_kept_Whole
+pub use Rattle.growing.proofs.still_steps_NextLaws
+pub use Rattle.growing.proofs.turning_Begun

@@ -27,11 +27,11 @@ use Rattle.views.specs.Rebuilding.{Held}
 use Rattle.views.proofs.MovedLaws.{grows-none}
 use Rattle.grow_asked.specs.Asked.{Asked, grow_refusal}
 use Rattle.grow_asked.specs.Left.{phases_of}
-use Rattle.running_words.specs.Parts.{RunningParts, left_in, still_left}
-use Rattle.running_words.specs.Calls.{moving_world}
-use Rattle.running_replies.specs.Going.{HasRunOn}
-use Rattle.running_replies.specs.Replies.{IsAnsweredWith}
-use Rattle.still_laws.proofs.PlansKept.{AddNoPlan, add-nothing}
+use Rattle.growing.specs.running_words_Parts.{RunningParts, left_in, still_left}
+use Rattle.growing.specs.running_words_Calls.{moving_world}
+use Rattle.growing.specs.running_replies_Going.{HasRunOn}
+use Rattle.growing.specs.running_replies_Replies.{IsAnsweredWith}
+use Rattle.growing.proofs.still_laws_PlansKept.{AddNoPlan, add-nothing}
 use Rattle.growing.specs.Planned.{asked_in, HasWideBackup, IsAsBefore, IsGrowAnswered, IsGrowJudged, IsGrowPlanned}
 use Rattle.growing.specs.Plans.{GoesTo}
 use Rattle.growing.specs.Replied.{IsGrowReplied}

@@ -13,21 +13,21 @@ use Rattle.flat_history.specs.declared.events.Entry.{Entry}
 use Rattle.flat_history.specs.declared.events.Event.{Event}
 use Rattle.flat_history.specs.declared.events.Event.TheVariants.{Refused, Stepped}
 use Rattle.views.specs.Lacking.{IsUnread, IsUnwritten, are_mended, mended_rows}
-use Rattle.region_mends.specs.Mends.{relied_sector}
+use Rattle.growing.specs.region_mends_Mends.{relied_sector}
 use Rattle.views.specs.Status.{left_of}
 use Rattle.grow_asked.specs.Left.{phases_of}
 use Rattle.kept_history.specs.Safe.{IsFilledRight}
 use Rattle.history_calls.specs.Reliable.{IsReliable}
-use Rattle.running_words.specs.Parts.{RunningParts, left_in, still_left}
-use Rattle.running_words.specs.Calls.{IsStatusFor}
-use Rattle.running_words.specs.Still.{IsStillStatus}
-use Rattle.course_kept.specs.Course.{hidden_in}
-use Rattle.moving_state.specs.Due.{due_of}
-use Rattle.moving_state.specs.declared.stepping.Due.TheVariants.{Finish as EndsReshape}
-use Rattle.moving_state.specs.First.{IsUnreadAround}
-use Rattle.moving_laws.specs.Writing.{IsWriteBarred}
-use Rattle.still_laws.specs.Steps.{MayEndNow}
-use Rattle.moving_steps.specs.Replies.{IsEndedInReshape}
+use Rattle.growing.specs.running_words_Parts.{RunningParts, left_in, still_left}
+use Rattle.growing.specs.running_words_Calls.{IsStatusFor}
+use Rattle.growing.specs.running_words_Still.{IsStillStatus}
+use Rattle.growing.specs.course_kept_Course.{hidden_in}
+use Rattle.growing.specs.moving_state_Due.{due_of}
+use Rattle.growing.specs.moving_state_the_Due_TheVariants.{Finish as EndsReshape}
+use Rattle.growing.specs.moving_state_First.{IsUnreadAround}
+use Rattle.growing.specs.moving_laws_Writing.{IsWriteBarred}
+use Rattle.growing.specs.still_laws_Steps.{MayEndNow}
+use Rattle.growing.specs.moving_steps_Replies.{IsEndedInReshape}
 use Rattle.running.specs.declared.state.choosing.Next.{Next}
 use Rattle.running.specs.declared.state.choosing.Next.TheVariants.{Nothing, Own, Begin, Move, Finish}
 

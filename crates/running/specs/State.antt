@@ -13,11 +13,11 @@ use Rattle.flat_history.specs.Reshaped.{open_plans}
 use Rattle.views.specs.Placed.{AreWhole}
 use Rattle.views.specs.Rebuilding.{Held}
 use Rattle.grow_asked.specs.Left.{phases_of}
-use Rattle.course_kept.specs.Laws.{closed}
-use Rattle.running_words.specs.Parts.{RunningParts}
-use Rattle.running_words.specs.Calls.{moving_world}
-use Rattle.running_words.specs.Plans.{ArePlansKept, KeepsShape}
-use Rattle.turning.specs.Begun.{IsBackupAt}
+use Rattle.growing.specs.course_kept_Laws.{closed}
+use Rattle.growing.specs.running_words_Parts.{RunningParts}
+use Rattle.growing.specs.running_words_Calls.{moving_world}
+use Rattle.growing.specs.running_words_Plans.{ArePlansKept, KeepsShape}
+use Rattle.growing.specs.turning_Begun.{IsBackupAt}
 use Rattle.running.specs.declared.state.State.{State}
 use Rattle.running.specs.declared.state.State.TheVariants.{Still, Moving}
 

@@ -5,9 +5,9 @@ ghost use Rattle.superblocks.specs.Reading.{is_reshaping};
 ghost use Rattle.flat_history.specs.Reshaped.{open_plans};
 ghost use Rattle.views.specs.Placed.{IsPlaced};
 ghost use Rattle.grow_asked.specs.Left.{phases_of};
-ghost use Rattle.running_words.specs.Parts.{left_in};
-ghost use Rattle.running_words.specs.Calls.{moving_world};
-ghost use Rattle.running_words.specs.Plans.{KeepsShape};
+ghost use Rattle.growing.specs.running_words_Parts.{left_in};
+ghost use Rattle.growing.specs.running_words_Calls.{moving_world};
+ghost use Rattle.growing.specs.running_words_Plans.{KeepsShape};
 ghost use Rattle.running.specs.State.{IsStillNow, IsWithin, IsBackupAside};
 
 mod adding;
@@ -30,10 +30,10 @@ mod writing;
 use bank::Bank;
 pub use choosing::Next;
 use core::mem::replace_with;
-use moving::Moving;
+use growing::moving::Moving;
+use growing::still::Still;
 use std::alloc::Global;
 use std::marker::Model;
-use still::Still;
 
 // Whether a reshape is active in it.
 #[derive(Drop)]
@@ -53,7 +53,7 @@ pub struct Running<B: Bank> {
 
 impl<B: Bank> Model for Running<B> {
     ghost use Rattle.std.specs.Prelude.{length};
-    ghost use Rattle.running_words.specs.Parts.{RunningParts};
+    ghost use Rattle.growing.specs.running_words_Parts.{RunningParts};
 
     ghost Value = { RunningParts B };
 

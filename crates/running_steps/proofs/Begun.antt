@@ -45,10 +45,10 @@ use Rattle.reshape_ends.specs.Begun.{begun_plan}
 use Rattle.grow_asked.specs.declared.window.PhasesLeft.{PhasesLeft}
 use Rattle.grow_asked.specs.Left.{IsAtStartOf}
 use Rattle.kept_history.specs.Recorded.{MayGoOn, IsCallGoing}
-use Rattle.running_words.specs.Parts.{RunningParts, left_in}
-use Rattle.turning.specs.Begun.{is_resize, begun_length, IsReshapeBegun, IsGivenBack, IsBeginRefused}
-use Rattle.running_replies.specs.Replies.{EndsRunningSteps, IsRefusalBy, IsRefusalToldBy}
-use Rattle.running_replies.specs.Going.{is_finish}
+use Rattle.running.specs.running_words_Parts.{RunningParts, left_in}
+use Rattle.running.specs.turning_Begun.{is_resize, begun_length, IsReshapeBegun, IsGivenBack, IsBeginRefused}
+use Rattle.running.specs.running_replies_Replies.{EndsRunningSteps, IsRefusalBy, IsRefusalToldBy}
+use Rattle.running.specs.running_replies_Going.{is_finish}
 use Rattle.running.specs.Calls.{running_left, MayEndSteps}
 use Rattle.running_steps.specs.Steps.{TellsLeft, IsStepDone, IsStepRefused}
 use Rattle.running_steps.proofs.Events.{EachOf, each-losses, each-entry, each-own, any-none, count-one, IsNoStep, long-kept, going-more}

@@ -24,11 +24,11 @@ use Rattle.call_entries.proofs.CallLaws.{losses-are, length-losses}
 use Rattle.views.specs.Placed.{AreStillHeld}
 use Rattle.views.specs.Rebuilding.{Held}
 use Rattle.kept_history.specs.Recorded.{MayGoOn, IsCallGoing}
-use Rattle.running_words.specs.Parts.{RunningParts, still_left}
-use Rattle.still_laws.specs.Steps.{IsClosable}
-use Rattle.turning.specs.Ended.{ended_length, AreSparesOrDropped, IsReshapeEnded}
-use Rattle.running_replies.specs.Replies.{IsRefusalToldBy}
-use Rattle.running_replies.specs.Going.{is_finish, MayBeDropped, AreHeldBehind}
+use Rattle.running.specs.running_words_Parts.{RunningParts, still_left}
+use Rattle.running.specs.still_laws_Steps.{IsClosable}
+use Rattle.running.specs.turning_Ended.{ended_length, AreSparesOrDropped, IsReshapeEnded}
+use Rattle.running.specs.running_replies_Replies.{IsRefusalToldBy}
+use Rattle.running.specs.running_replies_Going.{is_finish, MayBeDropped, AreHeldBehind}
 use Rattle.running.specs.Calls.{running_left}
 use Rattle.running_steps.specs.Steps.{TellsLeft, IsStepDone}
 use Rattle.running_steps.proofs.Events.{EachOf, each-behind, each-losses, each-entry, each-own, count-one, IsNoStep, going-more}

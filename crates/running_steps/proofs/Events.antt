@@ -24,9 +24,9 @@ use Rattle.call_entries.proofs.PlainLaws.{one}
 use Rattle.call_entries.proofs.CallLaws.{AreLossEvents, losses-are}
 use Rattle.array_kept.specs.Calls.{IsRoleLost}
 use Rattle.kept_history.specs.Recorded.{MayGoOn, IsCallGoing}
-use Rattle.turning.specs.Begun.{is_resize, HasKeptLength}
-use Rattle.running_replies.specs.Replies.{IsRefusalToldBy}
-use Rattle.running_replies.specs.Going.{is_finish}
+use Rattle.running.specs.turning_Begun.{is_resize, HasKeptLength}
+use Rattle.running.specs.running_replies_Replies.{IsRefusalToldBy}
+use Rattle.running.specs.running_replies_Going.{is_finish}
 use Rattle.running_steps.specs.Steps.{TellsLeft, TellOneStep}
 
 -- ---- what stands behind the old entries

@@ -8,3 +8,6 @@ mod Begun
 mod Ended
 mod StepsOf
 mod Replies
+pub use Rattle.running.proofs.running_replies_Fitting
+pub use Rattle.running.proofs.running_replies_GoneOn
+pub use Rattle.running.proofs.still_kept_Whole

@@ -11,14 +11,14 @@ use Rattle.views.specs.Lacking.{AreTooMany}
 use Rattle.views.specs.Rebuilding.{Held}
 use Rattle.array_kept.specs.Calls.{IsBehind}
 use Rattle.kept_history.specs.Recorded.{IsCallGoing}
-use Rattle.moving_state.specs.declared.stepping.Due.{Due}
-use Rattle.moving_state.specs.declared.stepping.Due.TheVariants.{Finish}
-use Rattle.running_words.specs.Parts.{RunningParts, left_in}
-use Rattle.running_words.specs.Calls.{IsCalled}
-use Rattle.moving_laws.specs.Mending.{IsMendCalled}
-use Rattle.moving_laws.specs.Steps.{kind_of}
-use Rattle.running_replies.specs.Replies.{IsRefusalBy}
-use Rattle.running_replies.specs.Going.{is_finish}
+use Rattle.running.specs.moving_state_the_Due.{Due}
+use Rattle.running.specs.moving_state_the_Due_TheVariants.{Finish}
+use Rattle.running.specs.running_words_Parts.{RunningParts, left_in}
+use Rattle.running.specs.running_words_Calls.{IsCalled}
+use Rattle.running.specs.moving_laws_Mending.{IsMendCalled}
+use Rattle.running.specs.moving_laws_Steps.{kind_of}
+use Rattle.running.specs.running_replies_Replies.{IsRefusalBy}
+use Rattle.running.specs.running_replies_Going.{is_finish}
 use Rattle.running.specs.Calls.{running_left, MayEndSteps}
 use Rattle.running_steps.specs.Steps.{IsStepDone, IsStepRefused}
 use Rattle.running_steps.proofs.Events.{IsStepEntries}

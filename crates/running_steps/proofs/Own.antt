@@ -16,16 +16,16 @@ use Rattle.flat_history.specs.declared.events.StepKind.TheVariants.{Finished, Re
 use Rattle.views.specs.declared.work.Work.{Work}
 use Rattle.views.specs.Status.{stripes_of, rebuilt_of}
 use Rattle.array_kept.specs.Calls.{AreHeldOrSpare, AreStepsFewer, IsBehind, IsBehindAll, IsRebuildStepped, IsRefusedFor}
-use Rattle.running_words.specs.Parts.{RunningParts, still_left}
-use Rattle.running_words.specs.Calls.{IsStepTaken}
-use Rattle.still_laws.specs.Steps.{IsStepped, IsClosable}
-use Rattle.still_steps.specs.Rebuilding.{first_recovering, rebuilt_role, rebuild_kind, rebuild_events}
-use Rattle.still_steps.specs.Resyncing.{is_at_end}
-use Rattle.still_steps.specs.Resyncing as resync
-use Rattle.still_steps.specs.Stepping.{IsUndone, IsHeldOrDue, IsStepEntered}
-use Rattle.still_steps.proofs.NextLaws.{due-may}
-use Rattle.turning.specs.Begun.{HasKeptLength}
-use Rattle.running_replies.specs.Going.{is_finish}
+use Rattle.running.specs.running_words_Parts.{RunningParts, still_left}
+use Rattle.running.specs.running_words_Calls.{IsStepTaken}
+use Rattle.running.specs.still_laws_Steps.{IsStepped, IsClosable}
+use Rattle.running.specs.still_steps_Rebuilding.{first_recovering, rebuilt_role, rebuild_kind, rebuild_events}
+use Rattle.running.specs.still_steps_Resyncing.{is_at_end}
+use Rattle.running.specs.still_steps_Resyncing as resync
+use Rattle.running.specs.still_steps_Stepping.{IsUndone, IsHeldOrDue, IsStepEntered}
+use Rattle.running.proofs.still_steps_NextLaws.{due-may}
+use Rattle.running.specs.turning_Begun.{HasKeptLength}
+use Rattle.running.specs.running_replies_Going.{is_finish}
 use Rattle.running.specs.Calls.{running_left, MayEndSteps}
 use Rattle.running_steps.specs.Steps.{IsStepDone, IsStepRefused}
 use Rattle.running_steps.proofs.Events.{IsOfStep, IsStepEntries, entries-behind, entries-lost}

@@ -19,11 +19,11 @@ use Rattle.views.specs.Moving.{Grows}
 use Rattle.views.specs.Rebuilding.{MayHold}
 use Rattle.array_kept.specs.Calls.{AreHeldOrSpare, AreLossesBy, AreStepsFewer, IsBehind, IsEndOf}
 use Rattle.kept_history.specs.Recorded.{MayGoOn, IsCallGoing}
-use Rattle.running_words.specs.Parts.{RunningParts, left_in, still_left}
-use Rattle.still_laws.specs.Steps.{IsClosable}
-use Rattle.turning.specs.Begun.{is_resize, HasKeptLength}
-use Rattle.running_replies.specs.Replies.{EndsRunningSteps, IsRefusalBy, IsRefusalToldBy}
-use Rattle.running_replies.specs.Going.{is_finish, IsSameEpoch}
+use Rattle.running.specs.running_words_Parts.{RunningParts, left_in, still_left}
+use Rattle.running.specs.still_laws_Steps.{IsClosable}
+use Rattle.running.specs.turning_Begun.{is_resize, HasKeptLength}
+use Rattle.running.specs.running_replies_Replies.{EndsRunningSteps, IsRefusalBy, IsRefusalToldBy}
+use Rattle.running.specs.running_replies_Going.{is_finish, IsSameEpoch}
 use Rattle.running.specs.Calls.{running_left, MayEndSteps}
 use Rattle.running_steps.specs.Steps.{IsOpenFor, TellsLeft, IsStepDone, IsStepRefused}
 use Rattle.running_steps.proofs.Events.{each-behind, each-entry, any-none, IsOfStep, of-goes, of-told, of-lengthless, of-unfinished, of-undone, of-unrefused, IsStepEntries, long-kept, going-more, kept-more, refused-own}

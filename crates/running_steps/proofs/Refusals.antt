@@ -15,17 +15,17 @@ use Rattle.array_kept.specs.Calls.{IsRefusedFor, IsUnmendable}
 use Rattle.grow_asked.specs.declared.window.Window.{Window}
 use Rattle.grow_asked.specs.declared.window.Window.TheVariants.{Closed, Entered, Unsure}
 use Rattle.grow_asked.specs.Left.{stripes_in, zeroed_by}
-use Rattle.region_mends.specs.Mends.{mend_shape, IsNotMended}
-use Rattle.course_kept.specs.declared.course.Course.{Course}
-use Rattle.moving_state.specs.Due.{due_in, due_of}
-use Rattle.moving_state.specs.declared.stepping.Due.{Due}
-use Rattle.moving_state.specs.declared.stepping.Due.TheVariants.{Copy, Record, Mend, Enter, Zero, Finish}
-use Rattle.running_words.specs.Parts.{RunningParts}
-use Rattle.moving_laws.specs.Steps.{IsStepCaused}
-use Rattle.still_steps.specs.Stepping.{IsUndone}
-use Rattle.still_steps.proofs.NextLaws.{undone-unwritten}
-use Rattle.running_replies.specs.Replies.{EndsRunningSteps, IsRefusalBy}
-use Rattle.moving_steps.specs.Replies.{IsEndedInReshape}
+use Rattle.running.specs.region_mends_Mends.{mend_shape, IsNotMended}
+use Rattle.running.specs.course_kept_the_Course.{Course}
+use Rattle.running.specs.moving_state_Due.{due_in, due_of}
+use Rattle.running.specs.moving_state_the_Due.{Due}
+use Rattle.running.specs.moving_state_the_Due_TheVariants.{Copy, Record, Mend, Enter, Zero, Finish}
+use Rattle.running.specs.running_words_Parts.{RunningParts}
+use Rattle.running.specs.moving_laws_Steps.{IsStepCaused}
+use Rattle.running.specs.still_steps_Stepping.{IsUndone}
+use Rattle.running.proofs.still_steps_NextLaws.{undone-unwritten}
+use Rattle.running.specs.running_replies_Replies.{EndsRunningSteps, IsRefusalBy}
+use Rattle.running.specs.moving_steps_Replies.{IsEndedInReshape}
 use Rattle.running.specs.Calls.{MayEndSteps}
 
 -- a fact of each refusal that tells what is missing holds of one for too many roles

@@ -37,11 +37,11 @@ use Rattle.array_kept.specs.Calls.{IsEntered, IsLossBy, AreStepsFewer, IsBehind,
 use Rattle.array_kept.proofs.ReplyLaws.{none_before}
 use Rattle.grow_asked.specs.declared.window.PhasesLeft.{PhasesLeft}
 use Rattle.kept_history.specs.Recorded.{MayGoOn}
-use Rattle.running_words.specs.Parts.{RunningParts}
-use Rattle.still_laws.specs.Steps.{MayAnswer}
-use Rattle.running_replies.specs.Replies.{may_end_early, DidRunningSteps, EndsRunningSteps, IsRefusalBy, IsRefusalToldBy, HasToldBy, IsAnsweredWith}
-use Rattle.running_replies.specs.Going.{is_finish, MayHoldBehind, AreLossesAlong, HasRunOn, IsSameEpoch}
-use Rattle.running_replies.proofs.GoneOn.{refusal-wider, told-then, along-append, may-then, spares-then, gone-then}
+use Rattle.running.specs.running_words_Parts.{RunningParts}
+use Rattle.running.specs.still_laws_Steps.{MayAnswer}
+use Rattle.running.specs.running_replies_Replies.{may_end_early, DidRunningSteps, EndsRunningSteps, IsRefusalBy, IsRefusalToldBy, HasToldBy, IsAnsweredWith}
+use Rattle.running.specs.running_replies_Going.{is_finish, MayHoldBehind, AreLossesAlong, HasRunOn, IsSameEpoch}
+use Rattle.running.proofs.running_replies_GoneOn.{refusal-wider, told-then, along-append, may-then, spares-then, gone-then}
 use Rattle.running.specs.Calls.{running_left}
 use Rattle.running_steps.specs.Steps.{IsStepDone, IsStepRefused, IsStepAnswered, AreStepsOf, has_finished}
 use Rattle.running_steps.proofs.Events.{count-both}

@@ -14,10 +14,10 @@ use Rattle.flat_history.specs.World.{World}
 use Rattle.views.specs.Placed.{AreStillHeld}
 use Rattle.views.specs.Rebuilding.{Held, MayHold}
 use Rattle.array_kept.specs.Calls.{AreHeldOrSpare, AreSparesFewer, IsLossBy, AreLossesBy}
-use Rattle.running_words.specs.Parts.{RunningParts}
-use Rattle.running_words.specs.Calls.{IsSameReshape}
-use Rattle.turning.specs.Begun.{StaysItself}
-use Rattle.running_replies.specs.Going.{MayHoldBehind, AreHeldBehind, AreLossesAlong, IsSameEpoch}
+use Rattle.running.specs.running_words_Parts.{RunningParts}
+use Rattle.running.specs.running_words_Calls.{IsSameReshape}
+use Rattle.running.specs.turning_Begun.{StaysItself}
+use Rattle.running.specs.running_replies_Going.{MayHoldBehind, AreHeldBehind, AreLossesAlong, IsSameEpoch}
 use Rattle.running_steps.proofs.Events.{same-rest}
 
 -- ---- the same array

@@ -16,11 +16,11 @@ use Rattle.flat_history.specs.Fits.{is_step_event, is_lost_event}
 use Rattle.flat_history.specs.OneShape.{IsOfCall}
 use Rattle.array_kept.specs.Calls.{IsBehind, IsEndOf, AreStepsFewer, TellNoLoss}
 use Rattle.kept_history.specs.Recorded.{MayGoOn, IsCallGoing}
-use Rattle.running_words.specs.Parts.{RunningParts}
-use Rattle.running_replies.specs.Replies.{EndsRunningSteps, IsRefusalBy}
-use Rattle.running_replies.specs.Going.{is_finish, HasRunOn}
-use Rattle.still_laws.specs.Steps.{IsClosable}
-use Rattle.turning.specs.Begun.{HasKeptLength}
+use Rattle.running.specs.running_words_Parts.{RunningParts}
+use Rattle.running.specs.running_replies_Replies.{EndsRunningSteps, IsRefusalBy}
+use Rattle.running.specs.running_replies_Going.{is_finish, HasRunOn}
+use Rattle.running.specs.still_laws_Steps.{IsClosable}
+use Rattle.running.specs.turning_Begun.{HasKeptLength}
 use Rattle.running.specs.Calls.{running_left, MayEndSteps}
 
 -- ---- what is asked

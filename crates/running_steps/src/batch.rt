@@ -6,9 +6,9 @@ ghost use Rattle.flat_history.specs.Flat.{next_number};
 ghost use Rattle.flat_history.specs.declared.events.Request.TheVariants.{Steps as AsksSteps};
 ghost use Rattle.array_kept.specs.Calls.{IsEndOf, TellNoLoss, TellNoRoleLoss};
 ghost use Rattle.kept_history.specs.Recorded.{IsCallGoing};
-ghost use Rattle.still_laws.specs.Steps.{IsClosable};
-ghost use Rattle.running_replies.specs.Replies.{IsAnsweredWith, EndsRunningSteps, IsRefusalBy};
-ghost use Rattle.running_replies.specs.Going.{HasRunOn};
+ghost use Rattle.running.specs.still_laws_Steps.{IsClosable};
+ghost use Rattle.running.specs.running_replies_Replies.{IsAnsweredWith, EndsRunningSteps, IsRefusalBy};
+ghost use Rattle.running.specs.running_replies_Going.{HasRunOn};
 ghost use Rattle.running.specs.Calls.{running_left, MayEndSteps};
 ghost use Rattle.running_steps.specs.Steps.{IsOpenFor, AreStepsOf, IsStepCount, has_finished};
 

@@ -6,4 +6,6 @@ mod stepping;
 mod turns;
 
 pub use batch::steps;
+pub use running;
+pub use running::{array_state, course_kept, moving, moving_state, still};
 pub use stepping::step;

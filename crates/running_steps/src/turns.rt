@@ -6,9 +6,9 @@ ghost use Rattle.superblocks.specs.Reading.{is_reshaping};
 ghost use Rattle.views.specs.Status.{left_of};
 ghost use Rattle.grow_asked.specs.Left.{phases_of};
 ghost use Rattle.kept_history.specs.Recorded.{IsCallGoing};
-ghost use Rattle.moving_state.specs.Due.{due_of};
-ghost use Rattle.moving_state.specs.declared.stepping.Due.TheVariants.{Finish as EndsReshape};
-ghost use Rattle.turning.specs.Begun.{HasKeptLength};
+ghost use Rattle.running.specs.moving_state_Due.{due_of};
+ghost use Rattle.running.specs.moving_state_the_Due_TheVariants.{Finish as EndsReshape};
+ghost use Rattle.running.specs.turning_Begun.{HasKeptLength};
 ghost use Rattle.running_steps.specs.Steps.{IsStepTaken};
 
 use bank::Bank;

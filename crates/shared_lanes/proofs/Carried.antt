@@ -7,8 +7,8 @@ use Rattle.flat_history.specs.declared.events.Entry.{Entry}
 use Rattle.flat_history.specs.declared.events.Event.{Event}
 use Rattle.flat_history.specs.declared.events.Request.{Request}
 use Rattle.views.specs.Parts.{Parts}
-use Rattle.shared_array.specs.declared.reply.Reply.{Reply}
-use Rattle.shared_array.specs.declared.reply.Reply.TheVariants.{Done, NoMemory as Short}
+use Rattle.lanes.specs.shared_array_the_Reply.{Reply}
+use Rattle.lanes.specs.shared_array_the_Reply_TheVariants.{Done, NoMemory as Short}
 use Rattle.turn_lock.specs.declared.view.Known.{Known}
 use Rattle.turn_lock.specs.declared.lock.Pass.{Pass}
 use Rattle.seen_laws.specs.Callers.{IsReplyTo, IsCalled, HasCalled}

@@ -5,8 +5,8 @@ use Rattle.bank.specs.declared.bank.Operation.{Operation}
 use Rattle.bank.specs.Given.{Given}
 use Rattle.flat_history.specs.declared.events.Request.{Request}
 use Rattle.views.specs.Parts.{Parts}
-use Rattle.shared_array.specs.declared.reply.Reply.{Reply}
-use Rattle.shared_array.specs.declared.reply.Reply.TheVariants.{Done, NoMemory as Short}
+use Rattle.lanes.specs.shared_array_the_Reply.{Reply}
+use Rattle.lanes.specs.shared_array_the_Reply_TheVariants.{Done, NoMemory as Short}
 use Rattle.turn_lock.specs.declared.lock.Pass.{Pass}
 use Rattle.turn_lock.specs.Turns.{OnKnown, OnSeen, mine_of}
 use Rattle.lanes.specs.Carried.{Carried}

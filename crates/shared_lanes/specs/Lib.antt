@@ -1,3 +1,11 @@
 pub mod Serving
 pub mod ServingLaws
 pub mod Lanes
+pub use Rattle.lanes.specs.Carried as lanes_Carried
+pub use Rattle.lanes.specs.Lane as lanes_Lane
+pub use Rattle.lanes.specs.Pace as lanes_Pace
+pub use Rattle.lanes.specs.Worker as lanes_Worker
+pub use Rattle.lanes.specs.declared.worker.Worked as lanes_the_Worked
+pub use Rattle.lanes.specs.shared_array_Replies
+pub use Rattle.lanes.specs.shared_array_the_Reply
+pub use Rattle.lanes.specs.shared_array_the_Reply_TheVariants

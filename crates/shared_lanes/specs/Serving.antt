@@ -8,9 +8,9 @@ use Rattle.views.specs.Whole.{list_size}
 use Rattle.views.specs.Placed.{places_of}
 use Rattle.views.specs.Parts.{Parts}
 use Rattle.array_kept.specs.Calls.{world_for, IsEndOf}
-use Rattle.shared_array.specs.declared.reply.Reply.{Reply}
-use Rattle.shared_array.specs.declared.reply.Reply.TheVariants.{Done, NoMemory as Short}
-use Rattle.shared_array.specs.Replies.{IsAskable, IsLater, IsRepliedBy}
+use Rattle.lanes.specs.shared_array_the_Reply.{Reply}
+use Rattle.lanes.specs.shared_array_the_Reply_TheVariants.{Done, NoMemory as Short}
+use Rattle.lanes.specs.shared_array_Replies.{IsAskable, IsLater, IsRepliedBy}
 use Rattle.turn_lock.specs.declared.call.Call.{Call}
 use Rattle.turn_lock.specs.Ways.{Ways}
 use Rattle.seen_laws.specs.Callers.{IsBefore, HasCalled}

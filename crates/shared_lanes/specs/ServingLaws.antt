@@ -15,10 +15,10 @@ use Rattle.flat_history.specs.Flat.{next_number}
 use Rattle.flat_history.specs.OneShape.{IsOfCall}
 use Rattle.flat_history.specs.Seen.{BeginsWith}
 use Rattle.views.specs.Parts.{Parts}
-use Rattle.shared_array.specs.declared.reply.Reply.{Reply}
-use Rattle.shared_array.specs.declared.reply.Reply.TheVariants.{Done, NoMemory as Short}
+use Rattle.lanes.specs.shared_array_the_Reply.{Reply}
+use Rattle.lanes.specs.shared_array_the_Reply_TheVariants.{Done, NoMemory as Short}
 use Rattle.array_kept.specs.Calls.{IsEndOf}
-use Rattle.shared_array.specs.Replies.{IsPerformed}
+use Rattle.lanes.specs.shared_array_Replies.{IsPerformed}
 use Rattle.turn_lock.specs.declared.call.Call.{Call}
 use Rattle.turn_lock.specs.Ways.{IsLawful}
 use Rattle.seen_laws.specs.Callers.{IsShownAs, HasCalled, IsCalled}

@@ -4,5 +4,8 @@
 mod serving;
 mod sharing;
 
+pub use array;
+pub use lanes;
+pub use lanes::shared_array;
 pub use serving::Answering;
 pub use sharing::{Pass, Shared};

@@ -11,7 +11,7 @@ use array::Array;
 use bank::Bank;
 use flat_history::Request;
 use lanes::Service;
-use shared_array::Reply;
+use lanes::shared_array::Reply;
 use std::alloc::Global;
 use std::sync::Wait;
 use turn_lock::Lock;

@@ -2,3 +2,12 @@ pub mod Lowest
 pub mod NextLaws
 pub mod RebuildLaws
 pub mod ResyncLaws
+pub use Rattle.still.proofs.still_laws_AddLaws
+pub use Rattle.still.proofs.still_laws_Closing
+pub use Rattle.still.proofs.still_laws_Going
+pub use Rattle.still.proofs.still_laws_Kept
+pub use Rattle.still.proofs.still_laws_Left
+pub use Rattle.still.proofs.still_laws_Plain
+pub use Rattle.still.proofs.still_laws_PlainBehind
+pub use Rattle.still.proofs.still_laws_PlansKept
+pub use Rattle.still.proofs.still_laws_StepLaws

@@ -7,3 +7,4 @@ mod resyncing;
 mod stepping;
 
 pub use stepping::still_step;
+pub use still;

@@ -69,18 +69,18 @@ use Rattle.kept_history.specs.Safe.{world_in, TakesNone}
 use Rattle.kept_history.proofs.Entered.{lost-taken}
 use Rattle.kept_history.proofs.Tests.{neither}
 use Rattle.history_calls.proofs.Behind.{IsAmong, early-losses}
-use Rattle.course_kept.specs.Laws.{closed}
-use Rattle.still.specs.moving_kept_Moving.{IsMoving}
-use Rattle.still.proofs.moving_kept_BegunCall.{IsBegunBy}
-use Rattle.still.proofs.moving_kept_BegunMembers.{array-begins}
-use Rattle.still.proofs.moving_kept_Shortened.{array-shortens}
-use Rattle.still.proofs.still_kept_Bridges.{stands-kept}
-use Rattle.still.specs.running_words_Parts.{still_left}
-use Rattle.still.proofs.running_words_Called.{not_254}
-use Rattle.still.proofs.running_words_Lengths.{IsLengthKept, behind-keeps}
-use Rattle.still.specs.still_laws_Ready.{IsReady as IsReadyStill}
-use Rattle.moving.specs.moving_laws_Ready.{IsReady as IsReadyMoving}
-use Rattle.moving.proofs.moving_laws_Kept.{left_by}
+use Rattle.moving_steps.specs.course_kept_Laws.{closed}
+use Rattle.moving_steps.specs.moving_kept_Moving.{IsMoving}
+use Rattle.moving_steps.proofs.moving_kept_BegunCall.{IsBegunBy}
+use Rattle.moving_steps.proofs.moving_kept_BegunMembers.{array-begins}
+use Rattle.moving_steps.proofs.moving_kept_Shortened.{array-shortens}
+use Rattle.moving_steps.proofs.still_kept_Bridges.{stands-kept}
+use Rattle.moving_steps.specs.running_words_Parts.{still_left}
+use Rattle.moving_steps.proofs.running_words_Called.{not_254}
+use Rattle.moving_steps.proofs.running_words_Lengths.{IsLengthKept, behind-keeps}
+use Rattle.still_steps.specs.still_laws_Ready.{IsReady as IsReadyStill}
+use Rattle.moving_steps.specs.moving_laws_Ready.{IsReady as IsReadyMoving}
+use Rattle.moving_steps.proofs.moving_laws_Kept.{left_by}
 use Rattle.turning.specs.Begun.{begun_length, is_resize, HasKeptLength, IsBackupAt, CanBegin}
 use Rattle.turning.proofs.Planned.{none-recovering, begin-live, lost-missing}
 

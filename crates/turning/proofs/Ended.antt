@@ -37,19 +37,19 @@ use Rattle.grow_asked.specs.declared.window.PhasesLeft.{PhasesLeft}
 use Rattle.grow_asked.specs.Left.{phases_of, zeroed_by}
 use Rattle.kept_history.specs.Recorded.{IsCallGoing}
 use Rattle.kept_history.specs.Safe.{world_in}
-use Rattle.course_kept.specs.declared.course.Course.{Course}
-use Rattle.course_kept.specs.Laws.{closed}
-use Rattle.still.specs.moving_kept_Moving.{IsMoving}
+use Rattle.moving_steps.specs.course_kept_the_Course.{Course}
+use Rattle.moving_steps.specs.course_kept_Laws.{closed}
+use Rattle.moving_steps.specs.moving_kept_Moving.{IsMoving}
 use Rattle.moving_ends.proofs.Ended.{IsPlannedTo, IsStepped}
 use Rattle.moving_ends.proofs.Ending.{length_by, grown_to, ending_events}
-use Rattle.still.specs.running_words_Parts.{left_in, still_left}
-use Rattle.still.specs.running_words_Plans.{GoTo, turns_shape}
-use Rattle.still.proofs.still_laws_Closing.{LeadTo, plans-of, ahead-none}
-use Rattle.still.proofs.running_words_Called.{not_254}
-use Rattle.still.specs.still_laws_Ready.{IsReady as IsReadyStill}
-use Rattle.still.proofs.still_laws_Plain.{IsLeftPlain, turned-plain, turns-behind}
-use Rattle.moving.specs.moving_laws_Ready.{IsReady as IsReadyMoving, bytes_in}
-use Rattle.moving.proofs.moving_laws_Kept.{left_by, takes-before}
+use Rattle.moving_steps.specs.running_words_Parts.{left_in, still_left}
+use Rattle.moving_steps.specs.running_words_Plans.{GoTo, turns_shape}
+use Rattle.still_steps.proofs.still_laws_Closing.{LeadTo, plans-of, ahead-none}
+use Rattle.moving_steps.proofs.running_words_Called.{not_254}
+use Rattle.still_steps.specs.still_laws_Ready.{IsReady as IsReadyStill}
+use Rattle.still_steps.proofs.still_laws_Plain.{IsLeftPlain, turned-plain, turns-behind}
+use Rattle.moving_steps.specs.moving_laws_Ready.{IsReady as IsReadyMoving, bytes_in}
+use Rattle.moving_steps.proofs.moving_laws_Kept.{left_by, takes-before}
 use Rattle.turning.specs.Ended.{AreKeptOrFailed}
 use Rattle.turning.proofs.EndedStill.{IsFinished, ended-still, ended-sized, ended-free}
 

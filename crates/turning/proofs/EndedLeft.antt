@@ -29,11 +29,11 @@ use Rattle.grow_asked.specs.declared.window.Window.TheVariants.{Closed}
 use Rattle.grow_asked.specs.Left.{IsReshapeUnderWay, phases_of, grow_left, reshape_left, zeroed_by}
 use Rattle.grow_asked.proofs.LeftLaws.{ending as ending-left}
 use Rattle.history_calls.proofs.Behind.{IsAmong}
-use Rattle.course_kept.specs.Laws.{closed}
+use Rattle.moving_steps.specs.course_kept_Laws.{closed}
 use Rattle.moving_ends.proofs.Ended.{IsStepped}
 use Rattle.moving_ends.proofs.Ending.{only-lost}
-use Rattle.still.specs.running_words_Parts.{still_left}
-use Rattle.moving.proofs.moving_laws_Kept.{left_by}
+use Rattle.moving_steps.specs.running_words_Parts.{still_left}
+use Rattle.moving_steps.proofs.moving_laws_Kept.{left_by}
 
 -- ---- nothing is to be rebuilt
 

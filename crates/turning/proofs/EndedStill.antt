@@ -56,17 +56,17 @@ use Rattle.kept_history.proofs.Entered.{lost-taken}
 use Rattle.kept_history.proofs.Ledgers.{unsynced-still}
 use Rattle.kept_history.proofs.Tests.{neither}
 use Rattle.history_calls.proofs.Behind.{IsAmong}
-use Rattle.course_kept.specs.Laws.{closed}
-use Rattle.still.specs.moving_kept_Moving.{IsMoving, IsStillKept}
+use Rattle.moving_steps.specs.course_kept_Laws.{closed}
+use Rattle.moving_steps.specs.moving_kept_Moving.{IsMoving, IsStillKept}
 use Rattle.moving_ends.proofs.Ended.{IsPlannedTo, IsStepped}
 use Rattle.moving_ends.proofs.EndedCall.{IsEndedBy, ended-since}
 use Rattle.moving_ends.proofs.EndedMembers.{array-ends}
 use Rattle.moving_ends.proofs.Ending.{length_by, grown_to, ending_events, ending-length, ending-lost, ending-late}
-use Rattle.still.specs.still_kept_Still.{IsStill, AreNoneMissing}
-use Rattle.still.proofs.still_kept_Bridges.{kept-again}
-use Rattle.still.proofs.still_kept_Leaving.{unsynced-later}
-use Rattle.still.specs.running_words_Parts.{still_left}
-use Rattle.moving.proofs.moving_laws_Kept.{left_by}
+use Rattle.moving_steps.specs.still_kept_Still.{IsStill, AreNoneMissing}
+use Rattle.moving_steps.proofs.still_kept_Bridges.{kept-again}
+use Rattle.moving_steps.proofs.still_kept_Leaving.{unsynced-later}
+use Rattle.moving_steps.specs.running_words_Parts.{still_left}
+use Rattle.moving_steps.proofs.moving_laws_Kept.{left_by}
 
 -- ---- what is entered
 

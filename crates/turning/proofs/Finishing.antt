@@ -51,8 +51,8 @@ use Rattle.views.specs.Placed.{is_vacant, AreWhole, IsPlaced}
 use Rattle.views.specs.Rebuilding.{AreSparesFree}
 use Rattle.views.proofs.Still.{count-still}
 use Rattle.safe_updates.specs.Unused.{IsUnusedKept}
-use Rattle.still.specs.window_steps_Zeroing.{IsThrough}
-use Rattle.still.specs.region_mends_Mends.{mend_stripes}
+use Rattle.moving_steps.specs.window_steps_Zeroing.{IsThrough}
+use Rattle.moving_steps.specs.region_mends_Mends.{mend_stripes}
 use Rattle.call_entries.specs.Losing.{losses_of}
 use Rattle.array_kept.specs.Calls.{TellNoLoss}
 use Rattle.grow_asked.specs.declared.window.PhasesLeft.{PhasesLeft}
@@ -60,24 +60,24 @@ use Rattle.grow_asked.specs.Left.{zeroed_by}
 use Rattle.kept_history.specs.Recorded.{IsCallGoing}
 use Rattle.kept_history.specs.Safe.{world_in}
 use Rattle.history_calls.proofs.Behind.{IsAmong}
-use Rattle.course_kept.specs.declared.course.Course.{Course}
-use Rattle.course_kept.specs.Course.{IsCourseOf}
-use Rattle.course_kept.specs.Laws.{closed}
-use Rattle.still.proofs.course_mends_Mended.{mended-courses-move}
-use Rattle.still.specs.moving_kept_Moving.{IsMoving}
-use Rattle.still.proofs.moving_kept_Staying.{refused-moves}
-use Rattle.still.proofs.moving_kept_Steps.{missing-since}
+use Rattle.moving_steps.specs.course_kept_the_Course.{Course}
+use Rattle.moving_steps.specs.course_kept_Course.{IsCourseOf}
+use Rattle.moving_steps.specs.course_kept_Laws.{closed}
+use Rattle.moving_steps.proofs.course_mends_Mended.{mended-courses-move}
+use Rattle.moving_steps.specs.moving_kept_Moving.{IsMoving}
+use Rattle.moving_steps.proofs.moving_kept_Staying.{refused-moves}
+use Rattle.moving_steps.proofs.moving_kept_Steps.{missing-since}
 use Rattle.moving_ends.proofs.Ended.{IsStepped}
 use Rattle.moving_ends.proofs.EndedCall.{ended-since}
 use Rattle.moving_ends.proofs.Ending.{length_by}
-use Rattle.moving.proofs.moving_laws_Kept.{left_by, left-moved, live-of}
-use Rattle.moving_state.specs.Due.{due_of, IsDue}
-use Rattle.moving_state.specs.declared.stepping.Due.{Due}
-use Rattle.moving_state.specs.declared.stepping.Due.TheVariants.{Finish}
-use Rattle.moving_state.proofs.DueLaws.{due-is}
-use Rattle.moving_state.proofs.ReshapeLaws.{under-way-of}
-use Rattle.still.specs.running_words_Parts.{left_in, still_left}
-use Rattle.still.proofs.running_words_Called.{not_254, risen-told}
+use Rattle.moving_steps.proofs.moving_laws_Kept.{left_by, left-moved, live-of}
+use Rattle.moving_steps.specs.moving_state_Due.{due_of, IsDue}
+use Rattle.moving_steps.specs.moving_state_the_Due.{Due}
+use Rattle.moving_steps.specs.moving_state_the_Due_TheVariants.{Finish}
+use Rattle.moving_steps.proofs.moving_state_DueLaws.{due-is}
+use Rattle.moving_steps.proofs.moving_state_ReshapeLaws.{under-way-of}
+use Rattle.moving_steps.specs.running_words_Parts.{left_in, still_left}
+use Rattle.moving_steps.proofs.running_words_Called.{not_254, risen-told}
 use Rattle.turning.specs.Begun.{AreSparesKeptOrFailed}
 use Rattle.turning.specs.Ended.{AreDroppedSpares, AreSparesOrDropped}
 use Rattle.turning.proofs.EndedLeft.{whole-idle, whole-left, whole-new, ended-stepped}

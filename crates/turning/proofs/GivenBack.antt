@@ -31,11 +31,11 @@ use Rattle.array_kept.proofs.KeptLaws.{left-lost}
 use Rattle.kept_history.specs.Recorded.{IsCallGoing}
 use Rattle.kept_history.specs.Safe.{world_in}
 use Rattle.history_calls.proofs.Behind.{AreEarly}
-use Rattle.still.specs.still_kept_Still.{HasListStood, IsStill}
-use Rattle.still.proofs.still_kept_Quiet.{early-stands}
-use Rattle.still.proofs.still_kept_Refusals.{quiet-refusal, IsRefusedStill, refused-right}
-use Rattle.still.proofs.still_kept_Resting.{resting-stands}
-use Rattle.still.proofs.running_words_Called.{not_254, risen-told}
+use Rattle.moving_steps.specs.still_kept_Still.{HasListStood, IsStill}
+use Rattle.moving_steps.proofs.still_kept_Quiet.{early-stands}
+use Rattle.moving_steps.proofs.still_kept_Refusals.{quiet-refusal, IsRefusedStill, refused-right}
+use Rattle.moving_steps.proofs.still_kept_Resting.{resting-stands}
+use Rattle.moving_steps.proofs.running_words_Called.{not_254, risen-told}
 use Rattle.turning.specs.Begun.{IsUnbegun, IsPlain}
 
 -- ---- refusals

@@ -41,8 +41,8 @@ use Rattle.views.proofs.LackingLaws.{since-missing}
 use Rattle.views.proofs.LiveLeft.{holder-left}
 use Rattle.views.proofs.MarkLaws.{role_from-found}
 use Rattle.history_calls.proofs.Behind.{IsAmong}
-use Rattle.still.specs.still_kept_Still.{AreNoneMissing}
-use Rattle.still.proofs.still_kept_Stood.{within-count}
+use Rattle.moving_steps.specs.still_kept_Still.{AreNoneMissing}
+use Rattle.moving_steps.proofs.still_kept_Stood.{within-count}
 use Rattle.turning.specs.Begun.{CanBegin}
 
 -- ---- one role

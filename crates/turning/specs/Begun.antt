@@ -34,9 +34,9 @@ use Rattle.grow_asked.specs.declared.window.PhasesLeft.{PhasesLeft}
 use Rattle.grow_asked.specs.Left.{IsAtStartOf}
 use Rattle.grow_asked.specs.Asked.{lowest_missing}
 use Rattle.kept_history.specs.Recorded.{IsCallGoing}
-use Rattle.course_kept.specs.Laws.{closed}
-use Rattle.still.specs.still_kept_Still.{AreNoneMissing}
-use Rattle.still.specs.running_words_Parts.{RunningParts, left_in, still_left}
+use Rattle.moving_steps.specs.course_kept_Laws.{closed}
+use Rattle.moving_steps.specs.still_kept_Still.{AreNoneMissing}
+use Rattle.moving_steps.specs.running_words_Parts.{RunningParts, left_in, still_left}
 
 -- ---- what is asked
 

@@ -21,8 +21,8 @@ use Rattle.views.specs.Lacking.{AreTooMany}
 use Rattle.views.specs.Moving.{Grows}
 use Rattle.views.specs.Placed.{is_vacant, AreStillHeld, AreWhole}
 use Rattle.array_kept.specs.Calls.{AreLossesOf, IsEndOf, TellNoLoss}
-use Rattle.course_kept.specs.Laws.{closed}
-use Rattle.still.specs.running_words_Parts.{RunningParts, left_in, still_left}
+use Rattle.moving_steps.specs.course_kept_Laws.{closed}
+use Rattle.moving_steps.specs.running_words_Parts.{RunningParts, left_in, still_left}
 use Rattle.turning.specs.Begun.{StaysItself, AreSparesKeptOrFailed}
 
 -- a reshape to more data disks makes the list longer as it ends

@@ -1,2 +1,30 @@
 pub mod Begun
 pub mod Ended
+pub use Rattle.moving_steps.specs.Replies as moving_steps_Replies
+pub use Rattle.moving_steps.specs.course_kept_Course
+pub use Rattle.moving_steps.specs.course_kept_Laws
+pub use Rattle.moving_steps.specs.course_kept_the_Course
+pub use Rattle.moving_steps.specs.moving_kept_Moving
+pub use Rattle.moving_steps.specs.moving_laws_Mending
+pub use Rattle.moving_steps.specs.moving_laws_Ready
+pub use Rattle.moving_steps.specs.moving_laws_Steps
+pub use Rattle.moving_steps.specs.moving_laws_Writing
+pub use Rattle.moving_steps.specs.moving_state_Due
+pub use Rattle.moving_steps.specs.moving_state_First
+pub use Rattle.moving_steps.specs.moving_state_the_Due
+pub use Rattle.moving_steps.specs.moving_state_the_Due_TheVariants
+pub use Rattle.moving_steps.specs.region_mends_Left
+pub use Rattle.moving_steps.specs.region_mends_Mends
+pub use Rattle.moving_steps.specs.region_mends_the_Stripe
+pub use Rattle.moving_steps.specs.running_words_Adding
+pub use Rattle.moving_steps.specs.running_words_Calls
+pub use Rattle.moving_steps.specs.running_words_Parts
+pub use Rattle.moving_steps.specs.running_words_Plans
+pub use Rattle.moving_steps.specs.running_words_Still
+pub use Rattle.moving_steps.specs.still_kept_Still
+pub use Rattle.still_steps.specs.Rebuilding as still_steps_Rebuilding
+pub use Rattle.still_steps.specs.Resyncing as still_steps_Resyncing
+pub use Rattle.still_steps.specs.Stepping as still_steps_Stepping
+pub use Rattle.still_steps.specs.still_laws_Plain
+pub use Rattle.still_steps.specs.still_laws_Ready
+pub use Rattle.still_steps.specs.still_laws_Steps

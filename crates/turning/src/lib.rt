@@ -7,3 +7,7 @@ mod refusing;
 
 pub use beginning::begin_reshape;
 pub use ending::finish_reshape;
+pub use moving_steps;
+pub use moving_steps::{array_state, course_kept, moving, moving_state};
+pub use still_steps;
+pub use still_steps::still;

@@ -5,7 +5,7 @@ ghost use Rattle.md_base.specs.Shapes.{is_valid_shape};
 ghost use Rattle.superblocks.specs.Reading.{shape_of, role_count};
 ghost use Rattle.views.specs.Status.{spare_count};
 ghost use Rattle.grow_asked.specs.Asked.{lowest_missing};
-ghost use Rattle.still.specs.still_kept_Still.{AreNoneMissing};
+ghost use Rattle.moving_steps.specs.still_kept_Still.{AreNoneMissing};
 ghost use Rattle.turning.specs.Begun.{CanBegin, IsUnbegun};
 
 use md_base::{Refusal, Shape};

@@ -12,7 +12,7 @@ ghost use Rattle.views.specs.Lacking.{HaveRolesFailed};
 ghost use Rattle.array_kept.specs.Calls.{IsCausedBy, OnNoMemory};
 ghost use Rattle.grow_asked.specs.declared.window.Window.TheVariants.{Unsure as IsUnsureWindow};
 ghost use Rattle.kept_history.specs.Recorded.{IsCallGoing};
-ghost use Rattle.region_mends.specs.Mends.{relied_sector};
+ghost use Rattle.moving_laws.specs.region_mends_Mends.{relied_sector};
 ghost use Rattle.moving_laws.specs.running_words_Calls.{IsCalled};
 ghost use Rattle.moving_laws.specs.running_words_Parts.{left_in};
 ghost use Rattle.moving_laws.specs.Writing.{TouchesUnsure, IsWriteBarred, IsRefusedAlone, IsWriteEntered, IsWriteReplied};
@@ -24,8 +24,8 @@ use bank::Bank;
 use call_entries::calls::enter;
 use flat_history::Event;
 use md_base::{Fault, Refusal, Who};
-use region_mends::stripes::relied_sector;
-use window_entering::clear_window;
+use moving_laws::region_mends::stripes::relied_sector;
+use moving_laws::window_entering::clear_window;
 
 impl<B: Bank> Moving<B> {
     // Tries to make the header of an unsure window plain. It is refused `BackupFault`, and nothing is written: the backup failed when the

@@ -17,14 +17,14 @@ use crate::state::moves::check_going;
 use crate::state::{Moving, steps_left};
 use bank::Bank;
 use call_entries::calls::{enter, enter_behind};
-use course_kept::Course;
 use flat_history::{Event, StepKind};
 use grow_asked::Window;
 use md_base::{Fault, Who};
-use moving_state::reshape::{is_window_critical, list_sectors, next_window_of};
+use moving_laws::course_kept::Course;
+use moving_laws::moving_state::reshape::{is_window_critical, list_sectors, next_window_of};
+use moving_laws::window_entering::enter_next;
 use safe_updates::refusing::too_many;
 use superblocks::Members;
-use window_entering::enter_next;
 
 // Whether a window is unsure, and no more roles are missing than the shapes in force tolerate.
 fn is_barred(members: &Members, course: &Course) -> bool

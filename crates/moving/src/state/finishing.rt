@@ -21,11 +21,11 @@ ghost use Rattle.views.specs.Rebuilding.{AreSparesFree};
 ghost use Rattle.views.specs.Lacking.{HaveFailedSince, HaveRolesFailed, AreLostSince, AreTooMany, AreOtherRowsKept};
 ghost use Rattle.safe_updates.specs.Unused.{IsUnusedKept};
 ghost use Rattle.window_rows.specs.Copies.{tail_of, IsCopied};
-ghost use Rattle.window_calls.specs.Finishing.{IsOfRest, AreStripesCopied, IsOpenWindow};
+ghost use Rattle.moving_laws.specs.window_calls_Finishing.{IsOfRest, AreStripesCopied, IsOpenWindow};
 ghost use Rattle.array_kept.specs.Calls.{IsCausedBy};
 ghost use Rattle.kept_history.specs.Recorded.{IsCallGoing};
-ghost use Rattle.region_mends.specs.Mends.{relied_sector};
-ghost use Rattle.course_kept.specs.Laws.{closed};
+ghost use Rattle.moving_laws.specs.region_mends_Mends.{relied_sector};
+ghost use Rattle.moving_laws.specs.course_kept_Laws.{closed};
 ghost use Rattle.moving_laws.specs.running_words_Parts.{left_in};
 ghost use Rattle.moving_laws.specs.running_words_Calls.{IsCalled, IsStepTaken};
 ghost use Rattle.moving_laws.specs.Writing.{IsWindowOpen, steps_in};
@@ -34,15 +34,15 @@ use crate::state::moves::check_going;
 use crate::state::{Moving, steps_left};
 use bank::Bank;
 use call_entries::calls::{enter, enter_behind};
-use course_kept::Course;
 use flat_history::{Event, StepKind};
 use grow_asked::Window;
 use md_base::{Fault, Refusal, Span, Who};
+use moving_laws::course_kept::Course;
+use moving_laws::window_calls::finish_window;
 use safe_updates::naming::newly_vacant;
 use safe_updates::refusing::too_many;
 use safe_updates::roles::{final_in, vacant_roles};
 use superblocks::Members;
-use window_calls::finish_window;
 
 // The roles and the spares that were lost as a window was finished, how many of its stripes are copied, and why it isn't.
 #[derive(Clone, Copy)]

@@ -21,7 +21,7 @@ ghost use Rattle.views.specs.Lacking.{AreLostSince, AreTooMany, AreOtherRowsKept
 ghost use Rattle.safe_updates.specs.Unused.{IsUnusedKept};
 ghost use Rattle.grow_asked.specs.Left.{stripes_in};
 ghost use Rattle.window_rows.specs.Copies.{tail_of, IsCopied};
-ghost use Rattle.course_kept.specs.Laws.{entered, next_stripe};
+ghost use Rattle.moving_laws.specs.course_kept_Laws.{entered, next_stripe};
 ghost use Rattle.array_kept.specs.Calls.{IsCausedBy};
 ghost use Rattle.kept_history.specs.Recorded.{IsCallGoing};
 ghost use Rattle.moving_laws.specs.running_words_Parts.{left_in};
@@ -33,7 +33,7 @@ use call_entries::calls::{enter, enter_behind};
 use flat_history::{Entries, Event, StepKind};
 use grow_asked::Window;
 use md_base::{Fault, Refusal, Span, Who};
-use moving_state::reshape::stripe_to_copy;
+use moving_laws::moving_state::reshape::stripe_to_copy;
 use safe_updates::naming::newly_vacant;
 use safe_updates::refusing::too_many;
 use safe_updates::roles::{final_in, vacant_roles};

@@ -12,9 +12,9 @@ ghost use Rattle.flat_history.specs.declared.events.Request.TheVariants.{Read as
 ghost use Rattle.shape_changes.specs.Marking.{AreOthersPresent};
 ghost use Rattle.views.specs.Lacking.{HaveRolesFailed};
 ghost use Rattle.array_kept.specs.Calls.{IsAnswered, IsCausedBy, IsRefusalOf, OnNoMemory};
-ghost use Rattle.region_mends.specs.Mends.{relied_sector};
-ghost use Rattle.course_kept.specs.Course.{hidden_in};
-ghost use Rattle.moving_state.specs.First.{IsUnreadAround};
+ghost use Rattle.moving_laws.specs.region_mends_Mends.{relied_sector};
+ghost use Rattle.moving_laws.specs.course_kept_Course.{hidden_in};
+ghost use Rattle.moving_laws.specs.moving_state_First.{IsUnreadAround};
 ghost use Rattle.history_calls.specs.Reliable.{IsReliable};
 ghost use Rattle.moving_laws.specs.running_words_Calls.{moving_world, IsCalled};
 
@@ -24,13 +24,13 @@ use bank::Bank;
 use call_entries::calls::{check_number, enter, enter_behind};
 use flat_history::Event;
 use md_base::{Fault, Sectors, Span, Who};
-use moving_state::refusing::unread_from;
-use moving_state::reshape::list_sectors;
-use moving_state::windows::hidden_span;
-use region_mends::stripes::relied_sector;
+use moving_laws::moving_state::refusing::unread_from;
+use moving_laws::moving_state::reshape::list_sectors;
+use moving_laws::moving_state::windows::hidden_span;
+use moving_laws::region_mends::stripes::relied_sector;
+use moving_laws::window_calls::fetch_beside;
 use safe_updates::naming::newly_vacant;
 use safe_updates::roles::vacant_roles;
-use window_calls::fetch_beside;
 
 // How many bytes the sectors of this window have; none where there is none.
 fn bytes_of(hidden: Option<Span>, most: usize) -> usize

@@ -6,7 +6,7 @@ ghost use Rattle.superblocks.specs.Reading.{is_clean, list_length};
 ghost use Rattle.views.specs.Lacking.{AreTooMany};
 ghost use Rattle.array_kept.specs.Calls.{IsCausedBy};
 ghost use Rattle.kept_history.specs.Recorded.{IsCallGoing};
-ghost use Rattle.course_kept.specs.Laws.{closed};
+ghost use Rattle.moving_laws.specs.course_kept_Laws.{closed};
 ghost use Rattle.moving_laws.specs.running_words_Parts.{left_in};
 ghost use Rattle.moving_laws.specs.running_words_Calls.{IsCalled, IsStepTaken, IsZeroDue};
 
@@ -16,7 +16,7 @@ use bank::Bank;
 use call_entries::calls::{enter, enter_behind};
 use flat_history::{Event, StepKind};
 use md_base::{Fault, Who};
-use moving_state::reshape::stripe_to_zero;
+use moving_laws::moving_state::reshape::stripe_to_zero;
 use safe_updates::naming::newly_vacant;
 use safe_updates::refusing::too_many;
 use safe_updates::roles::{final_in, vacant_roles};

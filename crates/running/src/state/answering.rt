@@ -4,17 +4,18 @@ ghost use Rattle.std.specs.Prelude.{◌≡◌, ◌≢◌, ◌+◌, ◌≤◌, �
 ghost use Rattle.superblocks.specs.Reading.{is_reshaping};
 ghost use Rattle.array_kept.specs.Calls.{IsEntered};
 ghost use Rattle.kept_history.specs.Recorded.{IsCallGoing};
-ghost use Rattle.running_words.specs.Calls.{IsCalled};
-ghost use Rattle.still_laws.specs.Steps.{MayAnswer};
-ghost use Rattle.moving_steps.specs.Replies.{IsReplyInReshape};
+ghost use Rattle.growing.specs.running_words_Calls.{IsCalled};
+ghost use Rattle.growing.specs.still_laws_Steps.{MayAnswer};
+ghost use Rattle.growing.specs.moving_steps_Replies.{IsReplyInReshape};
 ghost use Rattle.running.specs.Calls.{IsReplyNow};
 
 use crate::state::{Running, State, check_moving, check_still};
 use bank::Bank;
 use core::mem::replace_with;
 use flat_history::Event;
+use growing::moving::Moving;
+use growing::moving_steps;
 use md_base::Who;
-use moving::Moving;
 
 // Answers in an array in a reshape.
 fn answer_in<B: Bank>(moving: Moving<B>, reply: (Who, Event)) -> (Moving<B>, ())

@@ -5,7 +5,7 @@ ghost use Rattle.superblocks.specs.Reading.{is_reshaping, list_length};
 ghost use Rattle.flat_history.specs.Flat.{next_number};
 ghost use Rattle.flat_history.specs.declared.events.Event.TheVariants.{Shown};
 ghost use Rattle.array_kept.specs.Calls.{IsEntered, IsEndOf};
-ghost use Rattle.running_words.specs.Calls.{moving_world, IsSameReshape};
+ghost use Rattle.growing.specs.running_words_Calls.{moving_world, IsSameReshape};
 ghost use Rattle.running.specs.Calls.{running_left, IsShownAs};
 
 use crate::state::{Running, State, check_moving, check_still};

@@ -8,14 +8,14 @@ ghost use Rattle.views.specs.Moving.{Grows};
 ghost use Rattle.views.specs.Status.{left_of};
 ghost use Rattle.grow_asked.specs.declared.window.PhasesLeft.{PhasesLeft};
 ghost use Rattle.grow_asked.specs.Left.{phases_of};
-ghost use Rattle.turning.specs.Begun.{HasKeptLength, IsReshapeBegun, IsGivenBack, IsBeginRefused};
+ghost use Rattle.growing.specs.turning_Begun.{HasKeptLength, IsReshapeBegun, IsGivenBack, IsBeginRefused};
 ghost use Rattle.running.specs.Calls.{MayEndSteps};
 
 use crate::state::{Running, State, check_moving, check_still};
 use bank::Bank;
 use grow_asked::PhasesLeft;
+use growing::turning::begin_reshape;
 use md_base::{Refusal, Shape, Who};
-use turning::begin_reshape;
 
 impl<B: Bank> Running<B> {
     /// The reshape to this shape, which is all that is ahead, begins, where nothing else is left to do: the backup's header is cleared,

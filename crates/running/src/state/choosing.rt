@@ -9,14 +9,14 @@ ghost use Rattle.running.specs.Calls.{running_left, IsNext};
 ghost use Rattle.running.specs.declared.state.choosing.Next.TheVariants.{Nothing as IsDone};
 
 use crate::state::{Running, State, check_moving, check_still};
-use array_state::asking::steps_left;
 use bank::Bank;
 use core::mem::replace_with;
 use grow_asked::PhasesLeft;
+use growing::array_state::asking::steps_left;
+use growing::moving::Moving;
+use growing::moving_state::stepping::{Due, due_step};
+use growing::still::Still;
 use md_base::{Phase, Shape};
-use moving::Moving;
-use moving_state::stepping::{Due, due_step};
-use still::Still;
 
 /// What is next to do in a running array: nothing; a step of a resync or of a rebuild, without a reshape; the reshape to this shape
 /// begins, which is ahead; a step of the active reshape, or of a resync beside it; or the active reshape ends.

@@ -18,11 +18,11 @@ ghost use Rattle.views.specs.Lacking.{AreTooMany, HaveRolesFailed};
 ghost use Rattle.array_kept.specs.Calls.{IsEntered, IsBehind, IsUnsettled, IsFaultFor, AreLossesOf, IsEndOf};
 ghost use Rattle.kept_history.specs.Safe.{IsFilledRight};
 ghost use Rattle.history_calls.specs.Reliable.{IsReliable};
-ghost use Rattle.still_kept.specs.Still.{HasListStood};
-ghost use Rattle.running_words.specs.Calls.{moving_world, IsCalled, IsEpochKept};
-ghost use Rattle.running_words.specs.Plans.{turns_shape, KeepsShape};
-ghost use Rattle.running_words.specs.Still.{AreLeftSettled};
-ghost use Rattle.still_laws.specs.Plain.{AreToldPlainly, IsPlainEpoch};
+ghost use Rattle.growing.specs.still_kept_Still.{HasListStood};
+ghost use Rattle.growing.specs.running_words_Calls.{moving_world, IsCalled, IsEpochKept};
+ghost use Rattle.growing.specs.running_words_Plans.{turns_shape, KeepsShape};
+ghost use Rattle.growing.specs.running_words_Still.{AreLeftSettled};
+ghost use Rattle.growing.specs.still_laws_Plain.{AreToldPlainly, IsPlainEpoch};
 
 use crate::state::{Running, State, check_moving, check_still};
 use bank::Bank;

@@ -6,17 +6,17 @@ ghost use Rattle.flat_history.specs.declared.events.Event.TheVariants.{Refused};
 ghost use Rattle.views.specs.Lacking.{AreTooMany};
 ghost use Rattle.array_kept.specs.Calls.{IsBehind};
 ghost use Rattle.kept_history.specs.Recorded.{IsCallGoing};
-ghost use Rattle.moving_state.specs.Due.{due_of};
-ghost use Rattle.moving_state.specs.declared.stepping.Due.TheVariants.{Finish};
-ghost use Rattle.running_words.specs.Calls.{IsCalled};
-ghost use Rattle.still_laws.specs.Steps.{IsClosable};
-ghost use Rattle.turning.specs.Ended.{IsReshapeEnded};
+ghost use Rattle.growing.specs.moving_state_Due.{due_of};
+ghost use Rattle.growing.specs.moving_state_the_Due_TheVariants.{Finish};
+ghost use Rattle.growing.specs.running_words_Calls.{IsCalled};
+ghost use Rattle.growing.specs.still_laws_Steps.{IsClosable};
+ghost use Rattle.growing.specs.turning_Ended.{IsReshapeEnded};
 ghost use Rattle.running.specs.Calls.{MayEndSteps};
 
 use crate::state::{Running, State, check_moving, check_still};
 use bank::Bank;
+use growing::turning::finish_reshape;
 use md_base::{Refusal, Who};
-use turning::finish_reshape;
 
 impl<B: Bank> Running<B> {
     /// The active reshape, which has gone through the list, ends: each slot that holds a role is flushed, and the superblocks record the

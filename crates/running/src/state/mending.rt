@@ -13,18 +13,18 @@ ghost use Rattle.views.specs.Lacking.{AreHoldersFlushed, RowsStand};
 ghost use Rattle.shape_views.specs.Regions.{DoWithout};
 ghost use Rattle.array_kept.specs.Calls.{AreHeldOrSpare, IsWholeOrLost, by_answer, AreStepsFewer, AreStepsKept, AreValuesKept, IsCausedBy};
 ghost use Rattle.kept_history.specs.Recorded.{IsCallGoing};
-ghost use Rattle.running_words.specs.Parts.{still_left};
-ghost use Rattle.running_words.specs.Calls.{moving_world};
-ghost use Rattle.still_laws.specs.Steps.{IsStepped, IsClosable, IsCallUnbroken};
-ghost use Rattle.still_steps.specs.Resyncing.{is_at_end};
-ghost use Rattle.still_steps.specs.Rebuilding.{rebuilt_role, IsGivenToSpare};
-ghost use Rattle.still_steps.specs.Stepping.{IsUndone, IsEnd, IsStepEntered, next_kind, after_step, IsHeldOrDue};
+ghost use Rattle.growing.specs.running_words_Parts.{still_left};
+ghost use Rattle.growing.specs.running_words_Calls.{moving_world};
+ghost use Rattle.growing.specs.still_laws_Steps.{IsStepped, IsClosable, IsCallUnbroken};
+ghost use Rattle.growing.specs.still_steps_Resyncing.{is_at_end};
+ghost use Rattle.growing.specs.still_steps_Rebuilding.{rebuilt_role, IsGivenToSpare};
+ghost use Rattle.growing.specs.still_steps_Stepping.{IsUndone, IsEnd, IsStepEntered, next_kind, after_step, IsHeldOrDue};
 ghost use Rattle.running.specs.Calls.{IsRefusedInStep};
 
 use crate::state::{Running, State, check_still};
 use bank::Bank;
+use growing::still_steps::still_step;
 use md_base::{Fault, Who};
-use still_steps::still_step;
 
 impl<B: Bank> Running<B> {
     /// Does the next step of an array without a reshape, of which one is left besides those of the phases ahead: of the resync where one

@@ -9,9 +9,9 @@ ghost use Rattle.flat_history.specs.Flat.{next_number, visible_of};
 ghost use Rattle.flat_history.specs.declared.events.Event.TheVariants.{Planned, Refused};
 ghost use Rattle.array_kept.specs.Calls.{OnNoMemory, IsEndOf};
 ghost use Rattle.grow_asked.specs.Left.{phases_of};
-ghost use Rattle.running_words.specs.Parts.{still_left};
-ghost use Rattle.running_words.specs.Calls.{moving_world};
-ghost use Rattle.running_replies.specs.Going.{HasRunOn};
+ghost use Rattle.growing.specs.running_words_Parts.{still_left};
+ghost use Rattle.growing.specs.running_words_Calls.{moving_world};
+ghost use Rattle.growing.specs.running_replies_Going.{HasRunOn};
 ghost use Rattle.growing.specs.Planned.{asked_in, IsGrowJudged, IsGrowAnswered, IsAsBefore, IsGrowPlanned};
 ghost use Rattle.growing.specs.Plans.{GoesTo};
 ghost use Rattle.growing.specs.Replied.{IsGrowReplied};
@@ -20,10 +20,10 @@ ghost use Rattle.running.specs.Calls.{running_left};
 use crate::state::{Running, State, check_moving, check_still};
 use bank::Bank;
 use core::mem::replace_with;
+use growing::moving::Moving;
+use growing::still::Still;
 use growing::{PlannedGrow, plan_grow, refuse_grow};
 use md_base::{Fault, Who, Wish};
-use moving::Moving;
-use still::Still;
 
 // The wish of a caller, of an array without a reshape.
 fn plan_still<B: Bank>(

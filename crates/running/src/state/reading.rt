@@ -14,7 +14,7 @@ ghost use Rattle.views.specs.Lacking.{HaveRolesFailed, mended_rows};
 ghost use Rattle.views.specs.Placed.{AreWhole};
 ghost use Rattle.safe_updates.specs.First.{read_refusal, call_refusal, IsFirstRefused};
 ghost use Rattle.array_kept.specs.Calls.{IsAnswered, IsCausedBy, OnNoMemory};
-ghost use Rattle.running_words.specs.Calls.{moving_world, IsCalled};
+ghost use Rattle.growing.specs.running_words_Calls.{moving_world, IsCalled};
 ghost use Rattle.running.specs.Calls.{IsReadRight, IsReadLacked};
 
 use crate::state::{Running, State, check_moving, check_still};

@@ -5,8 +5,9 @@ ghost use Rattle.std.specs.Prelude.{◌≡◌, OnOk, OnErr};
 use crate::state::{Running, State, check_moving, check_still};
 use bank::Bank;
 use core::mem::replace_with;
+use growing::moving::Moving;
+use growing::moving_steps;
 use md_base::NoMemory;
-use moving::Moving;
 
 // Makes room in an array in a reshape.
 fn room_in<B: Bank>(moving: Moving<B>, steps: u64) -> (Moving<B>, Result<(), NoMemory>)

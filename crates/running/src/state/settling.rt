@@ -9,7 +9,7 @@ ghost use Rattle.flat_history.specs.declared.events.Request.TheVariants.{Flush a
 ghost use Rattle.shape_changes.specs.Marking.{AreOthersPresent};
 ghost use Rattle.views.specs.Lacking.{HaveRolesFailed, AreHoldersFlushed, AreTooMany};
 ghost use Rattle.array_kept.specs.Calls.{IsAnswered, IsCausedBy, OnNoMemory};
-ghost use Rattle.running_words.specs.Calls.{IsCalled};
+ghost use Rattle.growing.specs.running_words_Calls.{IsCalled};
 
 use crate::state::{Running, State, check_moving, check_still};
 use bank::Bank;

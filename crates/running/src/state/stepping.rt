@@ -4,12 +4,12 @@ ghost use Rattle.std.specs.Prelude.{◌≡◌, ◌≢◌, ◌⊎◌, ◌+◌, �
 ghost use Rattle.superblocks.specs.Reading.{is_reshaping};
 ghost use Rattle.array_kept.specs.Calls.{by_answer};
 ghost use Rattle.kept_history.specs.Recorded.{IsCallGoing};
-ghost use Rattle.moving_state.specs.Due.{due_of};
-ghost use Rattle.moving_state.specs.declared.stepping.Due.TheVariants.{Finish as EndsReshape};
-ghost use Rattle.running_words.specs.Parts.{left_in};
-ghost use Rattle.running_words.specs.Calls.{IsStepTaken, IsNextUnsure};
-ghost use Rattle.moving_laws.specs.Mending.{IsMendCalled};
-ghost use Rattle.moving_laws.specs.Steps.{kind_of, resync_behind, IsMarkedBehind, IsStepCaused};
+ghost use Rattle.growing.specs.moving_state_Due.{due_of};
+ghost use Rattle.growing.specs.moving_state_the_Due_TheVariants.{Finish as EndsReshape};
+ghost use Rattle.growing.specs.running_words_Parts.{left_in};
+ghost use Rattle.growing.specs.running_words_Calls.{IsStepTaken, IsNextUnsure};
+ghost use Rattle.growing.specs.moving_laws_Mending.{IsMendCalled};
+ghost use Rattle.growing.specs.moving_laws_Steps.{kind_of, resync_behind, IsMarkedBehind, IsStepCaused};
 ghost use Rattle.running.specs.Calls.{IsRefusedInStep};
 
 use crate::state::{Running, State, check_moving};

@@ -14,10 +14,10 @@ ghost use Rattle.shape_changes.specs.Marking.{AreOthersPresent};
 ghost use Rattle.views.specs.Lacking.{HaveRolesFailed, are_mended, mended_rows};
 ghost use Rattle.safe_updates.specs.First.{write_refusal, call_refusal, IsFirstRefused};
 ghost use Rattle.array_kept.specs.Calls.{IsAnswered, IsCausedBy, OnNoMemory, has_torn};
-ghost use Rattle.course_kept.specs.Laws.{closed};
-ghost use Rattle.running_words.specs.Parts.{left_in};
-ghost use Rattle.running_words.specs.Calls.{IsCalled};
-ghost use Rattle.moving_laws.specs.Writing.{TouchesWindow, IsWriteEntered, IsWriteReplied};
+ghost use Rattle.growing.specs.course_kept_Laws.{closed};
+ghost use Rattle.growing.specs.running_words_Parts.{left_in};
+ghost use Rattle.growing.specs.running_words_Calls.{IsCalled};
+ghost use Rattle.growing.specs.moving_laws_Writing.{TouchesWindow, IsWriteEntered, IsWriteReplied};
 ghost use Rattle.running.specs.Calls.{IsWriteLackedIn};
 
 use crate::state::{Running, State, check_moving, check_still};

@@ -18,8 +18,8 @@ use Rattle.grow_asked.specs.Asked.{asked_of, grow_refusal}
 use Rattle.grow_asked.specs.Left.{phases_of}
 use Rattle.grow_asked.proofs.FirstLaws.{unrefused-plan}
 use Rattle.history_calls.specs.Reliable.{IsReliable}
-use Rattle.still.specs.running_words_Plans.{GoTo}
-use Rattle.still.proofs.still_kept_Stood.{within-count}
+use Rattle.turning.specs.running_words_Plans.{GoTo}
+use Rattle.turning.proofs.still_kept_Stood.{within-count}
 use Rattle.growing.specs.Planned.{asked_in, HasWideBackup}
 use Rattle.growing.proofs.Idle.{planned-whole, planned-idle, some-steps}
 use Rattle.growing.proofs.Fitting.{told-by, plan-fits, phases-told}

@@ -12,10 +12,10 @@ use Rattle.array_kept.proofs.ReadyLaws.{scope-same}
 use Rattle.grow_asked.specs.Asked.{asked_of, grow_refusal}
 use Rattle.grow_asked.specs.Left.{phases_of}
 use Rattle.kept_history.proofs.Records.{begins-going}
-use Rattle.still.proofs.running_words_Lengths.{alone-keeps}
-use Rattle.still.proofs.still_laws_Kept.{ready, rows-same}
-use Rattle.still.proofs.still_laws_PlainBehind.{refused-plain}
-use Rattle.still.proofs.still_laws_StepLaws.{refused-going}
+use Rattle.turning.proofs.running_words_Lengths.{alone-keeps}
+use Rattle.turning.proofs.still_laws_Kept.{ready, rows-same}
+use Rattle.turning.proofs.still_laws_PlainBehind.{refused-plain}
+use Rattle.turning.proofs.still_laws_StepLaws.{refused-going}
 use Rattle.growing.specs.Planned.{asked_in}
 use Rattle.growing.proofs.Idle.{grow-plain, grow-shaped, grow-plainly}
 use Rattle.growing.proofs.Fitting.{told-by, first-of, refusal-fits}

@@ -10,7 +10,7 @@ use Rattle.views.proofs.MovedLaws.{grows-none}
 use Rattle.array_kept.specs.Kept.{scope_in, world_in}
 use Rattle.array_kept.proofs.LossLaws.{ended-behind}
 use Rattle.array_kept.proofs.ReadyLaws.{scope-same}
-use Rattle.moving.proofs.moving_laws_Kept.{ready, roomier, shapes-same, alone-keeps}
+use Rattle.turning.proofs.moving_laws_Kept.{ready, roomier, shapes-same, alone-keeps}
 use Rattle.growing.proofs.Kept.{all-visible}
 use Rattle.growing.proofs.Busy.{busy-fits, busy-moves}
 use Rattle.growing.proofs.refusing.refuse_grow.Goals as goal

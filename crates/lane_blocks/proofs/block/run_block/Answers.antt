@@ -1,5 +1,5 @@
 use Rattle.views.specs.Status.{left_of}
-use Rattle.lanes.specs.Pace.{asked_by}
+use Rattle.shared_lanes.specs.lanes_Pace.{asked_by}
 use Rattle.lane_blocks.proofs.Ends.{AreTold, all-told}
 use Rattle.lane_blocks.proofs.block.run_block.Given.{Over}
 use Rattle.lane_blocks.proofs.block.run_block.Goals as goal

@@ -1,6 +1,6 @@
 use Rattle.std.proofs.Common.{◌++◌, List, sym, ap, ◌∙◌, subst}
-use Rattle.shared_array.specs.declared.reply.Reply.{Reply}
-use Rattle.lanes.specs.Lane.{AreDone}
+use Rattle.shared_lanes.specs.shared_array_the_Reply.{Reply}
+use Rattle.shared_lanes.specs.lanes_Lane.{AreDone}
 use Rattle.shared_lanes.specs.Lanes.{carried_by}
 use Rattle.lane_blocks.proofs.threads.lane.Goals as goal
 

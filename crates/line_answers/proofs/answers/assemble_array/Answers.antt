@@ -9,8 +9,8 @@ use Rattle.flat_history.specs.declared.events.Event.TheVariants.{Shown}
 use Rattle.flat_history.specs.Flat.{next_number}
 use Rattle.flat_history.specs.Plain.{entries_of}
 use Rattle.array_kept.specs.Calls.{IsEntered, IsEndOf}
-use Rattle.running_words.specs.Parts.{RunningParts}
-use Rattle.assemble.specs.Opening.{HasFoundNone}
+use Rattle.run_laws.specs.running_words_Parts.{RunningParts}
+use Rattle.run_laws.specs.assemble_Opening.{HasFoundNone}
 use Rattle.script.specs.declared.lines.Line.TheVariants.{Assemble as AsksAssemble}
 use Rattle.run_laws.specs.Ended.{IsGoing, IsRunKept}
 use Rattle.run_laws.specs.Making.{setting_of, world_at, AreHeldSince}

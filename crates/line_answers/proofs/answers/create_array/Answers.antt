@@ -4,8 +4,8 @@ use Rattle.bank.specs.Tape.{contents}
 use Rattle.md_base.specs.declared.answers.Fault.{Fault}
 use Rattle.flat_history.specs.declared.events.Entry.{Entry}
 use Rattle.flat_history.specs.Transfers.{last_end_from}
-use Rattle.assemble.specs.Made.{HasCreateCause}
-use Rattle.assemble.specs.Opening.{scope_of}
+use Rattle.run_laws.specs.assemble_Made.{HasCreateCause}
+use Rattle.run_laws.specs.assemble_Opening.{scope_of}
 use Rattle.script.specs.declared.lines.Line.TheVariants.{Create as AsksCreate}
 use Rattle.run_laws.specs.Making.{setting_of}
 use Rattle.run_laws.specs.Replies.{spec_of}

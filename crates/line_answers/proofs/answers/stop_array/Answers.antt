@@ -12,11 +12,11 @@ use Rattle.run_laws.specs.States.{running_history, IsTurn}
 use Rattle.run_laws.specs.declared.report.Answered.{Answered}
 use Rattle.run_laws.specs.declared.states.State.TheVariants.{Idle as IsIdle, Running as IsRunning}
 use Rattle.run_laws.proofs.AskLaws.{asked_stop, asked_unstopped, behind_grew}
-use Rattle.running_words.specs.Calls.{IsEpochKept}
-use Rattle.running_replies.specs.Replies.{IsRefusalToldBy}
+use Rattle.run_laws.specs.running_words_Calls.{IsEpochKept}
+use Rattle.run_laws.specs.running_replies_Replies.{IsRefusalToldBy}
 use Rattle.bank.specs.Given.{Given}
 use Rattle.run_laws.specs.Ended.{IfReliable, IfShapeKept}
-use Rattle.still_laws.specs.Plain.{IsPlainEpoch}
+use Rattle.run_laws.specs.still_laws_Plain.{IsPlainEpoch}
 use Rattle.run_laws.proofs.Legal.{grows_longer, going_grown, former_more, legal_epoch}
 use Rattle.run_laws.proofs.Sizes.{sized-none, sized-behind}
 use Rattle.run_laws.proofs.Told.{told_none, told_behind, stop_told}

@@ -4,13 +4,13 @@ use Rattle.flat_history.specs.declared.events.Event.TheVariants.{Added}
 use Rattle.flat_history.specs.declared.events.Request.TheVariants.{Add as AsksAdd}
 use Rattle.flat_history.specs.OneShape.{OneShapeFits}
 use Rattle.superblocks.specs.Reading.{list_length}
-use Rattle.running_words.specs.Parts.{RunningParts}
+use Rattle.run_laws.specs.running_words_Parts.{RunningParts}
 use Rattle.script.specs.declared.lines.Line.TheVariants.{Add as AddLine}
 use Rattle.run_laws.proofs.AskLaws.{on_no_memory, grew, asked_at, answered_reply, answered_none, spares_told, spares_short}
 use Rattle.run_laws.proofs.Sizes.{sized-answered}
 use Rattle.line_answers.proofs.Called.{added-length}
 use Rattle.run_laws.proofs.Told.{told_added}
-use Rattle.running_replies.proofs.Fitting.{fits-add}
+use Rattle.run_laws.proofs.running_replies_Fitting.{fits-add}
 use Rattle.line_answers.proofs.asks.ask_add.Goals as goal
 
 pub returns-then-wants_memory-clause-asked : goal.returns-then-wants_memory-clause-asked

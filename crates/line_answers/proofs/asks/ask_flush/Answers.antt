@@ -9,7 +9,7 @@ use Rattle.run_laws.proofs.AskLaws.{on_no_memory, grew, asked_at, answered_reply
 use Rattle.run_laws.proofs.Sizes.{sized-answered}
 use Rattle.line_answers.proofs.Called.{called-length}
 use Rattle.run_laws.proofs.Told.{told_answered, flush_told}
-use Rattle.running_replies.proofs.Fitting.{fits-flush}
+use Rattle.run_laws.proofs.running_replies_Fitting.{fits-flush}
 use Rattle.line_answers.proofs.asks.ask_flush.Goals as goal
 
 pub returns-then-wants_memory-clause-asked : goal.returns-then-wants_memory-clause-asked

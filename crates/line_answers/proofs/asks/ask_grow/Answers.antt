@@ -1,6 +1,6 @@
 use Rattle.superblocks.specs.Reading.{list_length}
 use Rattle.script.specs.declared.lines.Line.TheVariants.{Grow as GrowLine}
-use Rattle.running.specs.Calls.{running_left}
+use Rattle.run_laws.specs.running_Calls.{running_left}
 use Rattle.run_laws.proofs.AskLaws.{on_no_memory, asked_with, with-grew}
 use Rattle.line_answers.proofs.Called.{grown-reply, grown-none}
 use Rattle.line_answers.proofs.asks.ask_grow.Goals as goal

@@ -10,8 +10,8 @@ use Rattle.run_laws.proofs.AskLaws.{on_no_memory, grew, asked_at, answered_reply
 use Rattle.run_laws.proofs.Sizes.{sized-answered, sized-none}
 use Rattle.line_answers.proofs.Called.{called-length}
 use Rattle.run_laws.proofs.Told.{told_none, told_answered, read_told}
-use Rattle.running_replies.specs.Replies.{RunningFits}
-use Rattle.running_replies.proofs.Fitting.{fits-read}
+use Rattle.run_laws.specs.running_replies_Replies.{RunningFits}
+use Rattle.run_laws.proofs.running_replies_Fitting.{fits-read}
 use Rattle.line_answers.proofs.asks.ask_read.Goals as goal
 
 sectors_in : (n len : ℕ) → len ≡ n * 512 → len / 512 ≡ n

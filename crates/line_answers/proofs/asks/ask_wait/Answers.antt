@@ -2,7 +2,7 @@ use Rattle.std.proofs.Common.{Option, [], refl, sym, ◌∙◌, subst, arith}
 use Rattle.std.specs.Prelude.{IsSome}
 use Rattle.flat_history.specs.declared.events.Entry.{Entry}
 use Rattle.run_laws.proofs.AskLaws.{entry_there}
-use Rattle.running_replies.proofs.GoneOn.{gone-none, gone-then}
+use Rattle.run_laws.proofs.running_replies_GoneOn.{gone-none, gone-then}
 use Rattle.line_answers.proofs.Waits.{waited_done, waiting_on}
 use Rattle.line_answers.proofs.asks.ask_wait.Goals as goal
 

@@ -2,7 +2,7 @@
 use Rattle.std.proofs.Common.{ℕ, ◌-◌, ◌^◌, List, length}
 use Rattle.superblocks.specs.Reading.{list_length}
 use Rattle.array_kept.specs.Calls.{IsEndOf}
-use Rattle.running_replies.specs.Going.{HasRunOn}
+use Rattle.run_laws.specs.running_replies_Going.{HasRunOn}
 use Rattle.run_laws.specs.Asked.{IsStillWaiting}
 use Rattle.line_answers.proofs.asks.ask_wait.Given as goal
 

@@ -6,8 +6,8 @@ use Rattle.superblocks.specs.Reading.{is_reshaping, list_length}
 use Rattle.flat_history.specs.declared.events.Entry.{Entry}
 use Rattle.flat_history.specs.declared.events.Request.TheVariants.{Write as AsksWrite}
 use Rattle.flat_history.specs.Flat.{visible_of}
-use Rattle.running.specs.Calls.{IsWriteLackedIn}
-use Rattle.running_replies.specs.Replies.{RunningFits}
+use Rattle.run_laws.specs.running_Calls.{IsWriteLackedIn}
+use Rattle.run_laws.specs.running_replies_Replies.{RunningFits}
 use Rattle.script.specs.declared.lines.Line.TheVariants.{Write as WriteLine}
 use Rattle.run_laws.proofs.AskLaws.{on_no_memory, asked_with, with-grew, written_reply, written_none, seeded_count}
 use Rattle.run_laws.proofs.Sizes.{sized-none, sized-written}

@@ -1,7 +1,7 @@
 use Rattle.std.proofs.Common.{length, refl, sym, ap, subst, arith, List}
 use Rattle.bank.specs.declared.bank.Operation.{Operation}
 use Rattle.md_base.specs.declared.answers.Refusal.TheVariants.{NoSuchSlot}
-use Rattle.running_words.specs.Parts.{RunningParts}
+use Rattle.run_laws.specs.running_words_Parts.{RunningParts}
 use Rattle.script.specs.declared.lines.Line.TheVariants.{Examine}
 use Rattle.run_laws.specs.Examining.{told_of}
 use Rattle.run_laws.specs.Making.{setting_of}

@@ -1,6 +1,6 @@
 use Rattle.line_answers.proofs.Statuses.{shown_detail, shown_mdstat, shown_told}
 use Rattle.std.proofs.Common.{refl, ap}
-use Rattle.running_words.specs.Parts.{RunningParts}
+use Rattle.run_laws.specs.running_words_Parts.{RunningParts}
 use Rattle.run_laws.proofs.Sizes.{sized-none, sized-entered}
 use Rattle.run_laws.proofs.Told.{told_none, told_entered}
 use Rattle.line_answers.proofs.Called.{reshape-length}

@@ -5,8 +5,8 @@ use Rattle.array_kept.proofs.LossLaws.{ended-behind}
 use Rattle.array_kept.proofs.ReadyLaws.{scope-same}
 use Rattle.views.specs.Rebuilding.{Held}
 use Rattle.kept_history.specs.Recorded.{IsCallGoing}
-use Rattle.running_words.proofs.Called.{called, alone-lossless}
-use Rattle.moving_laws.proofs.Kept.{ready, shapes-same}
+use Rattle.moving.proofs.running_words_Called.{called, alone-lossless}
+use Rattle.moving.proofs.moving_laws_Kept.{ready, shapes-same}
 use Rattle.moving_steps.specs.Replies.{IsReplyInReshape}
 use Rattle.moving_steps.proofs.AnswerLaws.{answer-moves, reply-keeps, reply-lossless}
 use Rattle.moving_steps.proofs.answering.answer.Goals as goal

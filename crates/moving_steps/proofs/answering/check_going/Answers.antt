@@ -1,5 +1,5 @@
 use Rattle.std.proofs.Common.{◌≤◌, length, subst, ℕ}
-use Rattle.moving_laws.proofs.Copied.{going-few}
+use Rattle.moving.proofs.moving_laws_Copied.{going-few}
 use Rattle.moving_steps.proofs.answering.check_going.Goals as goal
 
 pub returns : goal.returns

@@ -1,5 +1,5 @@
 use Rattle.moving_steps.proofs.AnswerLaws.{with-steps}
-use Rattle.moving_laws.proofs.Kept.{roomier}
+use Rattle.moving.proofs.moving_laws_Kept.{roomier}
 use Rattle.moving_steps.proofs.rooms.make_room.Goals as goal
 
 pub of_pieces-requires-clause-ready : goal.of_pieces-requires-clause-ready

@@ -4,8 +4,8 @@ use Rattle.bank.specs.declared.bank.Operation.{Operation}
 use Rattle.bank.specs.Given.{Given}
 use Rattle.bank.specs.Whole.{HasWholeSectors}
 use Rattle.views.specs.Flushing.{OnlyItsSlotsFail}
-use Rattle.moving_laws.specs.Ready.{bytes_in}
-use Rattle.reshape_openings.specs.Finding.{bytes_for}
+use Rattle.running_steps.specs.moving_laws_Ready.{bytes_in}
+use Rattle.moving_opens.specs.reshape_openings_Finding.{bytes_for}
 use Rattle.moving_opens.specs.Opening.{IsOpenedMoving}
 use Rattle.moving_opens.proofs.Members.{fit-here}
 use Rattle.moving_opens.proofs.Opens.{found-windows-open}

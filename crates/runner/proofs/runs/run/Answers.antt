@@ -1,5 +1,5 @@
 use Rattle.std.proofs.Common.{ℕ, Option, subst}
-use Rattle.run_laws.specs.Ended.{AreRight}
+use Rattle.line_answers.specs.run_laws_Ended.{AreRight}
 use Rattle.runner.proofs.runs.run.Goals as goal
 
 pub returns-clause-right : goal.returns-clause-right

@@ -4,15 +4,15 @@ use Rattle.bank.specs.Given.{Given}
 use Rattle.script.specs.declared.lines.Numbered.{Numbered}
 use Rattle.script.specs.declared.lines.Line.TheVariants.{Create}
 use Rattle.script.specs.declared.reply.Lane.TheVariants.{Script as InScript}
-use Rattle.run_laws.specs.Ended.{IsRunKept}
-use Rattle.run_laws.specs.Making.{setting_of}
-use Rattle.run_laws.specs.States.{bank_in}
+use Rattle.line_answers.specs.run_laws_Ended.{IsRunKept}
+use Rattle.line_answers.specs.run_laws_Making.{setting_of}
+use Rattle.line_answers.specs.run_laws_States.{bank_in}
 use Rattle.runner.specs.Sessions.{IsStep}
-use Rattle.run_laws.specs.declared.report.LineReply.{LineReply}
+use Rattle.line_answers.specs.run_laws_the_LineReply.{LineReply}
 use Rattle.runner.specs.declared.sessions.Session.{Session}
-use Rattle.run_laws.specs.declared.states.State.TheVariants.{Idle}
-use Rattle.run_laws.proofs.Causes.{grows-none, grows-then}
-use Rattle.run_laws.proofs.Legal.{former_none}
+use Rattle.line_answers.specs.run_laws_the_State_TheVariants.{Idle}
+use Rattle.line_answers.proofs.run_laws_Causes.{grows-none, grows-then}
+use Rattle.line_answers.proofs.run_laws_Legal.{former_none}
 use Rattle.runner.proofs.Steps.{performed_none, shown_none, step, one_reply}
 use Rattle.runner.proofs.sessions.perform.Goals as goal
 

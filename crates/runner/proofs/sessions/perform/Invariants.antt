@@ -2,10 +2,10 @@
 use Rattle.std.proofs.Common.{◌≡◌, ◌≤◌, length, vec_capacity, None}
 use Rattle.bank.specs.Given.{NeverFalls}
 use Rattle.views.specs.Moving.{Grows}
-use Rattle.run_laws.specs.Ended.{IsRunKept}
-use Rattle.run_laws.specs.Making.{setting_of}
+use Rattle.line_answers.specs.run_laws_Ended.{IsRunKept}
+use Rattle.line_answers.specs.run_laws_Making.{setting_of}
 use Rattle.runner.specs.Shown.{longest_reply}
-use Rattle.run_laws.specs.States.{bank_in}
+use Rattle.line_answers.specs.run_laws_States.{bank_in}
 use Rattle.runner.specs.Sessions.{IsPerformed, IsShownTo}
 use Rattle.runner.proofs.sessions.perform.Given as goal
 

@@ -1,16 +1,16 @@
 use Rattle.std.proofs.Common.{take, ◌+◌, ◌≡◌, ℕ, [], ◌++◌, ◌∷◌, length, List, Result, inl, refl, ◌∙◌, ap, subst, arith}
 use Rattle.md_base.specs.declared.answers.NoMemory.{NoMemory}
-use Rattle.run_laws.specs.declared.report.LineReply.{LineReply}
+use Rattle.line_answers.specs.run_laws_the_LineReply.{LineReply}
 use Rattle.runner.specs.declared.sessions.Made.{Made}
 use Rattle.runner.specs.Shown.{reply_text}
-use Rattle.run_laws.specs.Making.{setting_of}
-use Rattle.run_laws.specs.States.{histories_in, bank_in}
+use Rattle.line_answers.specs.run_laws_Making.{setting_of}
+use Rattle.line_answers.specs.run_laws_States.{histories_in, bank_in}
 use Rattle.runner.specs.Sessions.{counted, IsRepliedOrNot}
-use Rattle.run_laws.proofs.Causes.{grows-none}
-use Rattle.run_laws.proofs.Losses.{losses-kept}
+use Rattle.line_answers.proofs.run_laws_Causes.{grows-none}
+use Rattle.line_answers.proofs.run_laws_Losses.{losses-kept}
 use Rattle.line_answers.proofs.Turns.{grown_kept}
-use Rattle.run_laws.specs.Written.{MayWrite}
-use Rattle.run_laws.proofs.Writing.{written-nothing}
+use Rattle.line_answers.specs.run_laws_Written.{MayWrite}
+use Rattle.line_answers.proofs.run_laws_Writing.{written-nothing}
 use Rattle.runner.proofs.sessions.perform_line.Goals as goal
 
 pub returns-then-is_err-clause-step : goal.returns-then-is_err-clause-step

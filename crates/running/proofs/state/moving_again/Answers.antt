@@ -1,5 +1,5 @@
 use Rattle.array_kept.specs.Kept.{scope_in}
-use Rattle.moving_laws.proofs.MendLaws.{left-some}
+use Rattle.growing.proofs.moving_laws_MendLaws.{left-some}
 use Rattle.running.proofs.Checked.{some-of, aside-moving}
 use Rattle.running.proofs.state.moving_again.Goals as goal
 

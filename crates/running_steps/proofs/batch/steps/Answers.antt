@@ -3,8 +3,8 @@ use Rattle.std.proofs.lemmas.Bool.{cases_lt}
 use Rattle.std.specs.Prelude.{IfSome}
 use Rattle.flat_history.specs.declared.events.Event.TheVariants.{Stepped}
 use Rattle.superblocks.specs.Reading.{list_length}
-use Rattle.running_replies.specs.Replies.{IsRefusalBy}
-use Rattle.running_replies.proofs.GoneOn.{gone-none}
+use Rattle.running.specs.running_replies_Replies.{IsRefusalBy}
+use Rattle.running.proofs.running_replies_GoneOn.{gone-none}
 use Rattle.running.specs.Calls.{running_left}
 use Rattle.running_steps.proofs.Went.{epoch-of}
 use Rattle.running_steps.proofs.Plain.{open-begins}

@@ -1,8 +1,8 @@
 use Rattle.std.proofs.Common.{inr, refl, sym, ◌∙◌, arith}
 use Rattle.flat_history.specs.Fits.{is_lost_event}
 use Rattle.flat_history.specs.Legal.{disturbs}
-use Rattle.running_replies.specs.Going.{is_finish}
-use Rattle.running_replies.proofs.GoneOn.{gone-then, gone-none}
+use Rattle.running.specs.running_replies_Going.{is_finish}
+use Rattle.running.proofs.running_replies_GoneOn.{gone-then, gone-none}
 use Rattle.running_steps.proofs.Plain.{going-of}
 use Rattle.running_steps.proofs.Replies.{cause-later}
 use Rattle.running_steps.proofs.StepsOf.{steps-none, steps-more, steps-refused, any-late, none-late, quiet-first, quiet-second}

@@ -2,8 +2,8 @@ use Rattle.std.proofs.Common.{◌≡◌, ◌≢◌, ◌+◌, ◌<◌, ◌≤◌,
 use Rattle.superblocks.specs.Reading.{is_reshaping}
 use Rattle.array_kept.specs.Calls.{IsEndOf, TellNoLoss, TellNoRoleLoss}
 use Rattle.kept_history.specs.Recorded.{IsCallGoing}
-use Rattle.still_laws.specs.Steps.{IsClosable}
-use Rattle.running_replies.specs.Going.{HasRunOn}
+use Rattle.running.specs.still_laws_Steps.{IsClosable}
+use Rattle.running.specs.running_replies_Going.{HasRunOn}
 use Rattle.running.specs.Calls.{running_left}
 use Rattle.running_steps.specs.Steps.{IsOpenFor, AreStepsOf}
 use Rattle.running_steps.proofs.batch.take_steps.Given as goal

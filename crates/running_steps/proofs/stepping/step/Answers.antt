@@ -1,7 +1,7 @@
 use Rattle.md_base.specs.declared.answers.Refusal.TheVariants.{Nothing}
 use Rattle.flat_history.specs.declared.events.Event.TheVariants.{Refused}
 use Rattle.array_kept.proofs.LossLaws.{behind-alone}
-use Rattle.running_replies.proofs.GoneOn.{gone-none}
+use Rattle.running.proofs.running_replies_GoneOn.{gone-none}
 use Rattle.std.proofs.Common.{ap}
 use Rattle.running_steps.proofs.Replies.{done-behind, answered-refused}
 use Rattle.running_steps.proofs.stepping.step.Goals as goal

@@ -1,5 +1,5 @@
 use Rattle.std.specs.Prelude.{⊤}
-use Rattle.moving_state.specs.Due.{due_of}
+use Rattle.running.specs.moving_state_Due.{due_of}
 use Rattle.running_steps.proofs.Refusals.{moved-by}
 use Rattle.running_steps.proofs.Moved.{moved-did, moved-done, moved-refused}
 use Rattle.running_steps.proofs.turns.move_step.Goals as goal

@@ -1,5 +1,5 @@
 use Rattle.std.specs.Prelude.{⊤}
-use Rattle.turning.proofs.Begun.{unturned-open}
+use Rattle.running.proofs.turning_Begun.{unturned-open}
 use Rattle.running_steps.proofs.Own.{own-done, own-refused}
 use Rattle.running_steps.proofs.turns.own_step.Goals as goal
 

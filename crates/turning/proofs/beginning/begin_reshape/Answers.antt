@@ -28,13 +28,13 @@ use Rattle.array_kept.proofs.LossLaws.{ended-behind}
 use Rattle.array_kept.proofs.ReadyLaws.{scope-same}
 use Rattle.grow_asked.specs.declared.window.Window.TheVariants.{Closed}
 use Rattle.grow_asked.specs.Left.{phases_of, grow_left}
-use Rattle.course_kept.specs.Laws.{closed}
-use Rattle.still.specs.running_words_Parts.{left_in}
-use Rattle.still.proofs.running_words_Lengths.{alone-keeps}
-use Rattle.still.specs.still_laws_Ready.{IsReady}
-use Rattle.still.proofs.still_laws_Kept.{ready, rows-same}
-use Rattle.still.proofs.still_laws_Plain.{turned-plain, turns-first}
-use Rattle.moving.proofs.moving_laws_Kept.{left_by}
+use Rattle.moving_steps.specs.course_kept_Laws.{closed}
+use Rattle.moving_steps.specs.running_words_Parts.{left_in}
+use Rattle.moving_steps.proofs.running_words_Lengths.{alone-keeps}
+use Rattle.still_steps.specs.still_laws_Ready.{IsReady}
+use Rattle.still_steps.proofs.still_laws_Kept.{ready, rows-same}
+use Rattle.still_steps.proofs.still_laws_Plain.{turned-plain, turns-first}
+use Rattle.moving_steps.proofs.moving_laws_Kept.{left_by}
 use Rattle.turning.specs.Begun.{begun_length, HasKeptLength, IsBackupAt}
 use Rattle.turning.proofs.Begun.{none-pending, plus-none, others-of, since-told, IsUpdated, next-sound, backup-here, begun-under, begun-left, begun-start, begun-losses, begun-ready}
 use Rattle.turning.proofs.GivenBack.{ahead-told, fault-stands}

@@ -2,7 +2,7 @@ use Rattle.std.proofs.Common.{List, ap}
 use Rattle.std.specs.Prelude.{IsErr}
 use Rattle.bank.specs.declared.bank.Operation.{Operation}
 use Rattle.row_io.specs.Rows.{present}
-use Rattle.still.proofs.still_laws_AddLaws.{ready-same}
+use Rattle.still_steps.proofs.still_laws_AddLaws.{ready-same}
 use Rattle.turning.proofs.GivenBack.{err-tape}
 use Rattle.turning.proofs.beginning.fail_backup.Goals as goal
 

@@ -3,9 +3,9 @@ use Rattle.flat_history.specs.declared.events.Event.TheVariants.{Refused}
 use Rattle.flat_history.specs.Plain.{entries_of}
 use Rattle.array_kept.specs.Kept.{scope_in}
 use Rattle.array_kept.proofs.ReadyLaws.{scope-same}
-use Rattle.still.proofs.running_words_Lengths.{alone-keeps}
-use Rattle.still.proofs.still_laws_Kept.{ready, rows-same}
-use Rattle.still.proofs.still_laws_Plain.{turned-plain, turns-first}
+use Rattle.moving_steps.proofs.running_words_Lengths.{alone-keeps}
+use Rattle.still_steps.proofs.still_laws_Kept.{ready, rows-same}
+use Rattle.still_steps.proofs.still_laws_Plain.{turned-plain, turns-first}
 use Rattle.turning.proofs.GivenBack.{plain-stands}
 use Rattle.turning.proofs.beginning.give_back.Goals as goal
 

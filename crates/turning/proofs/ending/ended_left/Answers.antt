@@ -1,5 +1,5 @@
 use Rattle.std.proofs.Common.{arith}
-use Rattle.still.proofs.still_laws_Left.{left-few}
+use Rattle.still_steps.proofs.still_laws_Left.{left-few}
 use Rattle.turning.proofs.ending.ended_left.Goals as goal
 
 pub overflow_add-result : goal.overflow_add-result

@@ -26,18 +26,18 @@ use Rattle.array_kept.proofs.LossLaws.{losses-behind, ended-behind, behind-alone
 use Rattle.array_kept.proofs.ReadyLaws.{scope-same}
 use Rattle.kept_history.specs.Recorded.{IsCallGoing}
 use Rattle.kept_history.specs.Safe.{world_in}
-use Rattle.still.proofs.moving_kept_Refusals.{quiet-refusal, refused-right}
-use Rattle.still.proofs.moving_kept_Resting.{resting-moves}
-use Rattle.still.proofs.moving_kept_Steps.{missing-since}
+use Rattle.moving_steps.proofs.moving_kept_Refusals.{quiet-refusal, refused-right}
+use Rattle.moving_steps.proofs.moving_kept_Resting.{resting-moves}
+use Rattle.moving_steps.proofs.moving_kept_Steps.{missing-since}
 use Rattle.moving_ends.proofs.Ending.{ending-last}
-use Rattle.moving_state.specs.Due.{due_of}
-use Rattle.moving_state.specs.declared.stepping.Due.TheVariants.{Finish}
-use Rattle.still.specs.running_words_Calls.{moving_world}
-use Rattle.still.specs.running_words_Parts.{left_in, still_left}
-use Rattle.still.proofs.running_words_Called.{not_254, called, alone-lossless}
-use Rattle.moving.specs.moving_laws_Ready.{bytes_in}
-use Rattle.moving.proofs.moving_laws_Kept.{ready, shapes-same, shapes-moved, alone-keeps, behind-keeps, behind-whole}
-use Rattle.still.specs.running_words_Plans.{ArePlansKept}
+use Rattle.moving_steps.specs.moving_state_Due.{due_of}
+use Rattle.moving_steps.specs.moving_state_the_Due_TheVariants.{Finish}
+use Rattle.moving_steps.specs.running_words_Calls.{moving_world}
+use Rattle.moving_steps.specs.running_words_Parts.{left_in, still_left}
+use Rattle.moving_steps.proofs.running_words_Called.{not_254, called, alone-lossless}
+use Rattle.moving_steps.specs.moving_laws_Ready.{bytes_in}
+use Rattle.moving_steps.proofs.moving_laws_Kept.{ready, shapes-same, shapes-moved, alone-keeps, behind-keeps, behind-whole}
+use Rattle.moving_steps.specs.running_words_Plans.{ArePlansKept}
 use Rattle.turning.specs.Ended.{ended_length}
 use Rattle.turning.proofs.Ended.{kept-or-failed, late-held, length-same, ended-ready, ended-losses}
 use Rattle.turning.proofs.EndedStill.{IsFinished, ended-long}

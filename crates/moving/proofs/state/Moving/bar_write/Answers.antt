@@ -9,7 +9,7 @@ use Rattle.flat_history.specs.Transfers.{last_end_from}
 use Rattle.views.specs.Rebuilding.{Held}
 use Rattle.views.proofs.MovedLaws.{grows-none, moved-same}
 use Rattle.array_kept.specs.Calls.{IsLossBy}
-use Rattle.region_mends.specs.Mends.{relied_sector}
+use Rattle.moving_laws.specs.region_mends_Mends.{relied_sector}
 use Rattle.moving_laws.specs.running_words_Parts.{left_in}
 use Rattle.moving_laws.proofs.running_words_Called.{called}
 use Rattle.moving_laws.specs.Writing.{IsRefusedAlone}

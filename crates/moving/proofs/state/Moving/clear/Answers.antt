@@ -13,8 +13,8 @@ use Rattle.array_kept.proofs.ReadyLaws.{scope-same}
 use Rattle.grow_asked.specs.declared.window.Window.{Window}
 use Rattle.grow_asked.specs.declared.window.Window.TheVariants.{Unsure}
 use Rattle.kept_history.specs.Recorded.{IsCallGoing}
-use Rattle.course_kept.specs.declared.course.Course.{Course}
-use Rattle.course_kept.specs.Course.{IsWindowOf, IsCourseOf}
+use Rattle.moving_laws.specs.course_kept_the_Course.{Course}
+use Rattle.moving_laws.specs.course_kept_Course.{IsWindowOf, IsCourseOf}
 use Rattle.moving_laws.specs.moving_kept_Moving.{AreReshaping}
 use Rattle.moving_laws.proofs.moving_kept_Refusals.{quiet-refusal}
 use Rattle.moving_laws.proofs.moving_kept_Resting.{resting-moves}

@@ -20,9 +20,9 @@ use Rattle.views.proofs.LackingLaws.{never-both}
 use Rattle.window_rows.specs.Copies.{tail_of, IsCopied}
 use Rattle.kept_history.specs.Recorded.{IsCallGoing}
 use Rattle.kept_history.specs.Safe.{world_in}
-use Rattle.course_kept.specs.declared.course.Course.{Course}
-use Rattle.course_kept.specs.Course.{IsWindowOf}
-use Rattle.moving_state.proofs.ReshapeLaws.{window-reach, list-short}
+use Rattle.moving_laws.specs.course_kept_the_Course.{Course}
+use Rattle.moving_laws.specs.course_kept_Course.{IsWindowOf}
+use Rattle.moving_laws.proofs.moving_state_ReshapeLaws.{window-reach, list-short}
 use Rattle.moving_laws.proofs.moving_kept_Refusals.{quiet-refusal, refused-right}
 use Rattle.moving_laws.proofs.moving_kept_Resting.{resting-moves}
 use Rattle.moving_laws.proofs.moving_kept_Steps.{missing-since}

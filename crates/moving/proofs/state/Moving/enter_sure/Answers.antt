@@ -19,9 +19,9 @@ use Rattle.array_kept.proofs.ReadyLaws.{scope-same}
 use Rattle.kept_history.specs.Recorded.{IsCallGoing}
 use Rattle.kept_history.specs.Safe.{world_in, OpensOnCourse}
 use Rattle.grow_asked.specs.declared.window.Window.TheVariants.{Unsure}
-use Rattle.course_kept.specs.declared.course.Course.{Course}
-use Rattle.course_kept.specs.Course.{IsStored}
-use Rattle.course_kept.specs.Laws.{entered}
+use Rattle.moving_laws.specs.course_kept_the_Course.{Course}
+use Rattle.moving_laws.specs.course_kept_Course.{IsStored}
+use Rattle.moving_laws.specs.course_kept_Laws.{entered}
 use Rattle.moving_laws.specs.moving_kept_Moving.{IsMoving}
 use Rattle.moving_laws.proofs.moving_kept_Refusals.{quiet-refusal, refused-right}
 use Rattle.moving_laws.proofs.moving_kept_Resting.{resting-moves}

@@ -16,11 +16,11 @@ use Rattle.array_kept.proofs.ReadyLaws.{scope-same, list-same}
 use Rattle.array_kept.proofs.ReplyLaws.{too-many-of, refused-for}
 use Rattle.kept_history.specs.Recorded.{IsCallGoing}
 use Rattle.kept_history.specs.Safe.{world_in}
-use Rattle.course_kept.specs.declared.course.Course.{Course}
+use Rattle.moving_laws.specs.course_kept_the_Course.{Course}
 use Rattle.grow_asked.specs.declared.window.Window.{Window}
-use Rattle.course_kept.specs.Course.{IsWindowOf}
+use Rattle.moving_laws.specs.course_kept_Course.{IsWindowOf}
 use Rattle.moving_laws.specs.course_mends_Mended.{IsAside, IsUnmended}
-use Rattle.moving_state.proofs.ReshapeLaws.{window-reach}
+use Rattle.moving_laws.proofs.moving_state_ReshapeLaws.{window-reach}
 use Rattle.moving_laws.proofs.moving_kept_FinishedCall.{IsFinishedBy}
 use Rattle.moving_laws.proofs.moving_kept_Going.{going-on}
 use Rattle.moving_laws.proofs.moving_kept_Refusals.{quiet-refusal, refused-right}

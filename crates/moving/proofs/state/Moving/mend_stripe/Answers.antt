@@ -13,7 +13,7 @@ use Rattle.array_kept.specs.Kept.{scope_in}
 use Rattle.array_kept.proofs.LossLaws.{losses-behind, ended-behind, behind-alone}
 use Rattle.array_kept.proofs.ReadyLaws.{scope-same}
 use Rattle.kept_history.specs.Recorded.{IsCallGoing}
-use Rattle.region_mends.specs.Mends.{mend_shape, mend_refusal, IsNotMended}
+use Rattle.moving_laws.specs.region_mends_Mends.{mend_shape, mend_refusal, IsNotMended}
 use Rattle.moving_laws.proofs.moving_kept_Steps.{missing-since}
 use Rattle.moving_laws.proofs.mending_kept_Resync.{untried-moves}
 use Rattle.moving_laws.specs.running_words_Parts.{left_in}

@@ -21,9 +21,9 @@ use Rattle.array_kept.specs.Calls.{IsLossBy, IsRefusedFor}
 use Rattle.array_kept.proofs.LossLaws.{ended-behind}
 use Rattle.array_kept.proofs.ReadyLaws.{scope-same, list-same}
 use Rattle.array_kept.proofs.ReplyLaws.{inside-losses, replied}
-use Rattle.region_mends.specs.Mends.{relied_sector}
-use Rattle.course_kept.specs.Course.{hidden_in}
-use Rattle.moving_state.specs.First.{IsUnreadAround}
+use Rattle.moving_laws.specs.region_mends_Mends.{relied_sector}
+use Rattle.moving_laws.specs.course_kept_Course.{hidden_in}
+use Rattle.moving_laws.specs.moving_state_First.{IsUnreadAround}
 use Rattle.kept_history.specs.Safe.{world_in}
 use Rattle.kept_history.proofs.Records.{begins-going}
 use Rattle.history_calls.specs.Reliable.{IsReliable}

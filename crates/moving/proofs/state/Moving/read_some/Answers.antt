@@ -26,10 +26,10 @@ use Rattle.array_kept.proofs.LossLaws.{losses-behind, ended-behind}
 use Rattle.array_kept.proofs.ReadyLaws.{scope-same}
 use Rattle.array_kept.proofs.ReplyLaws.{lost_reply, inside-losses, replied, read_kind, refused-for}
 use Rattle.calls_kept.proofs.ReadLaws.{some-of}
-use Rattle.region_mends.specs.Mends.{relied_sector}
-use Rattle.course_kept.specs.Course.{hidden_in}
-use Rattle.moving_state.specs.First.{IsUnreadAround}
-use Rattle.window_calls.specs.Fetching.{IsUnreadBeside}
+use Rattle.moving_laws.specs.region_mends_Mends.{relied_sector}
+use Rattle.moving_laws.specs.course_kept_Course.{hidden_in}
+use Rattle.moving_laws.specs.moving_state_First.{IsUnreadAround}
+use Rattle.moving_laws.specs.window_calls_Fetching.{IsUnreadBeside}
 use Rattle.kept_history.specs.Safe.{world_in}
 use Rattle.kept_history.proofs.Records.{begins-going}
 use Rattle.history_calls.specs.Reliable.{IsReliable}

@@ -17,7 +17,7 @@ use Rattle.kept_history.specs.Recorded.{IsCallGoing}
 use Rattle.kept_history.specs.Safe.{world_in}
 use Rattle.views.specs.Numbers.{is_carried}
 use Rattle.md_base.specs.declared.places.Span.{Span}
-use Rattle.course_kept.specs.declared.course.Course.{Course}
+use Rattle.moving_laws.specs.course_kept_the_Course.{Course}
 use Rattle.moving_laws.proofs.moving_kept_Refusals.{quiet-refusal, refused-right}
 use Rattle.moving_laws.proofs.moving_kept_Resting.{resting-moves}
 use Rattle.moving_laws.proofs.moving_kept_Steps.{missing-since}

@@ -18,7 +18,7 @@ use Rattle.array_kept.proofs.ReadyLaws.{scope-same}
 use Rattle.grow_asked.specs.declared.window.Window.{Window}
 use Rattle.grow_asked.specs.declared.window.Window.TheVariants.{Closed, Entered, Unsure}
 use Rattle.region_writes.specs.Runs.{IsListUnwritten}
-use Rattle.region_mends.specs.Mends.{relied_sector}
+use Rattle.moving_laws.specs.region_mends_Mends.{relied_sector}
 use Rattle.kept_history.specs.Recorded.{IsCallGoing}
 use Rattle.moving_laws.proofs.moving_kept_Refusals.{quiet-refusal}
 use Rattle.moving_laws.proofs.moving_kept_Resting.{resting-moves}

@@ -1,6 +1,6 @@
 use Rattle.std.proofs.Common.{◌≡◌, None, subst}
-use Rattle.moving_state.specs.Due.{IsDue}
-use Rattle.moving_state.specs.declared.stepping.Due.TheVariants.{Enter, Zero}
+use Rattle.moving_laws.specs.moving_state_Due.{IsDue}
+use Rattle.moving_laws.specs.moving_state_the_Due_TheVariants.{Enter, Zero}
 use Rattle.moving_laws.specs.running_words_Calls.{IsEnterDue}
 use Rattle.moving_laws.specs.Mending.{IsMendDue, IsResyncEndDue}
 use Rattle.moving_laws.proofs.DueSteps.{enter-due}

@@ -3,8 +3,8 @@ use Rattle.md_base.specs.Sectors.{sectors_of}
 use Rattle.md_base.specs.declared.places.Span.{Span}
 use Rattle.superblocks.specs.Reading.{list_length}
 use Rattle.flat_history.specs.Stands.{covers}
-use Rattle.moving_state.specs.Due.{unsure_in}
-use Rattle.region_mends.specs.Mends.{relied_sector}
+use Rattle.moving_laws.specs.moving_state_Due.{unsure_in}
+use Rattle.moving_laws.specs.region_mends_Mends.{relied_sector}
 use Rattle.moving_laws.specs.Writing.{TouchesUnsure}
 use Rattle.moving_laws.proofs.BarredLaws.{sure-caused, sure-replied, sure-never, err-ok}
 use Rattle.moving.proofs.state.Moving.write.Goals as goal

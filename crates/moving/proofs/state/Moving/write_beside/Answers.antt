@@ -20,10 +20,10 @@ use Rattle.array_kept.proofs.LossLaws.{losses-behind, losses-failure, ended-behi
 use Rattle.array_kept.proofs.ReadyLaws.{scope-same}
 use Rattle.array_kept.proofs.ReplyLaws.{refused-for}
 use Rattle.calls_kept.proofs.ReadLaws.{some-of}
-use Rattle.region_mends.specs.Mends.{relied_sector}
+use Rattle.moving_laws.specs.region_mends_Mends.{relied_sector}
 use Rattle.region_writes.specs.Runs.{IsTornTouched, IsListTorn, IsListUnwritten}
 use Rattle.kept_history.specs.Recorded.{IsCallGoing}
-use Rattle.course_kept.specs.Course.{span_in}
+use Rattle.moving_laws.specs.course_kept_Course.{span_in}
 use Rattle.moving_laws.proofs.moving_kept_Refusals.{quiet-refusal}
 use Rattle.moving_laws.proofs.moving_kept_Resting.{resting-moves}
 use Rattle.moving_laws.proofs.moving_kept_Steps.{missing-since}

@@ -13,9 +13,9 @@ use Rattle.flat_history.specs.Transfers.{last_end_from}
 use Rattle.views.specs.Rebuilding.{Held}
 use Rattle.views.proofs.MovedLaws.{grows-none, moved-same}
 use Rattle.array_kept.specs.Calls.{IsLossBy, IsBehind, IsCausedBy}
-use Rattle.course_kept.specs.Laws.{closed}
-use Rattle.moving_state.specs.Due.{open_in, unsure_in}
-use Rattle.region_mends.specs.Mends.{relied_sector}
+use Rattle.moving_laws.specs.course_kept_Laws.{closed}
+use Rattle.moving_laws.specs.moving_state_Due.{open_in, unsure_in}
+use Rattle.moving_laws.specs.region_mends_Mends.{relied_sector}
 use Rattle.moving_laws.specs.running_words_Parts.{left_in}
 use Rattle.moving_laws.specs.Writing.{TouchesWindow, IsWriteLacked, IsWriteEntered}
 use Rattle.moving_laws.proofs.running_words_Called.{called}

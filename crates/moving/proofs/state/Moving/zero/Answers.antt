@@ -16,14 +16,14 @@ use Rattle.array_kept.proofs.LossLaws.{losses-behind, ended-behind, behind-alone
 use Rattle.array_kept.proofs.ReadyLaws.{scope-same}
 use Rattle.array_kept.proofs.ReplyLaws.{refused-for, too-many-of}
 use Rattle.grow_asked.specs.Left.{zeroed_by}
-use Rattle.course_kept.specs.declared.course.Course.{Course}
+use Rattle.moving_laws.specs.course_kept_the_Course.{Course}
 use Rattle.kept_history.specs.Recorded.{IsCallGoing}
 use Rattle.kept_history.specs.Safe.{world_in}
 use Rattle.views.specs.Numbers.{is_carried}
 use Rattle.moving_laws.proofs.moving_kept_Refusals.{quiet-refusal, refused-right}
 use Rattle.moving_laws.proofs.moving_kept_Resting.{resting-moves}
 use Rattle.moving_laws.proofs.moving_kept_Steps.{missing-since}
-use Rattle.moving_state.proofs.ReshapeLaws.{through-of}
+use Rattle.moving_laws.proofs.moving_state_ReshapeLaws.{through-of}
 use Rattle.moving_laws.specs.running_words_Calls.{IsZeroDue}
 use Rattle.moving_laws.specs.running_words_Parts.{left_in}
 use Rattle.moving_laws.specs.Ready.{bytes_in}

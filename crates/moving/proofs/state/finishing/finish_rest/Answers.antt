@@ -6,7 +6,7 @@ use Rattle.superblocks.proofs.ValidFields.{few-roles}
 use Rattle.row_io.specs.Rows.{reading_of, present}
 use Rattle.shape_views.proofs.Stands.{span-order}
 use Rattle.views.specs.Lacking.{AreOtherRowsKept}
-use Rattle.window_calls.specs.Finishing.{IsOfRest, AreStripesCopied}
+use Rattle.moving_laws.specs.window_calls_Finishing.{IsOfRest, AreStripesCopied}
 use Rattle.moving_laws.proofs.WriteLaws.{finished-since}
 use Rattle.moving.proofs.state.finishing.finish_rest.Goals as goal
 

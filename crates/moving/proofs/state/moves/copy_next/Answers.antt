@@ -7,7 +7,7 @@ use Rattle.list_io.specs.Full.{RowStands}
 use Rattle.shape_views.proofs.Stands.{span-order}
 use Rattle.views.specs.Lacking.{AreOtherRowsKept, IsOfStripe}
 use Rattle.views.proofs.LackingLaws.{lost-since}
-use Rattle.course_kept.specs.Laws.{next_stripe}
+use Rattle.moving_laws.specs.course_kept_Laws.{next_stripe}
 use Rattle.moving.proofs.state.moves.copy_next.Goals as goal
 
 pub overflow_cast-count : goal.overflow_cast-count

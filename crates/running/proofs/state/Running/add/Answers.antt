@@ -2,8 +2,8 @@ use Rattle.std.proofs.Common.{length, refl}
 use Rattle.superblocks.specs.Reading.{list_length}
 use Rattle.flat_history.specs.declared.events.Event.TheVariants.{Added}
 use Rattle.flat_history.specs.declared.events.Request.TheVariants.{Add as AsksAdd}
-use Rattle.still_laws.proofs.PlansKept.{add-answered}
-use Rattle.running_words.specs.Adding.{IsAddCalled}
+use Rattle.growing.proofs.still_laws_PlansKept.{add-answered}
+use Rattle.growing.specs.running_words_Adding.{IsAddCalled}
 use Rattle.running.proofs.Kept.{rest-added, reshape-added}
 use Rattle.running.proofs.state.Running.add.Goals as goal
 use Rattle.running.proofs.state.Running.add.Goals.{in-Still, in-Moving}

@@ -2,11 +2,11 @@ use Rattle.std.proofs.Common.{◌≡◌, ◌≤◌, [], ◌∷◌, false, length
 use Rattle.superblocks.specs.Reading.{is_reshaping}
 use Rattle.views.specs.Placed.{AreWhole}
 use Rattle.kept_history.specs.Recorded.{IsCallGoing}
-use Rattle.still_laws.specs.Steps.{MayAnswer}
+use Rattle.growing.specs.still_laws_Steps.{MayAnswer}
 use Rattle.running.specs.State.{parts_in}
 use Rattle.running.specs.Calls.{IsReplyNow}
 use Rattle.running.proofs.Answered.{reply-still, reply-moving, reply-none, answered-called}
-use Rattle.still_laws.proofs.PlansKept.{add-entered}
+use Rattle.growing.proofs.still_laws_PlansKept.{add-entered}
 use Rattle.running.proofs.Kept.{rest-called, reshape-called}
 use Rattle.running.proofs.state.Running.answer.Goals as goal
 use Rattle.running.proofs.state.Running.answer.Goals.{in-Still, in-Moving}

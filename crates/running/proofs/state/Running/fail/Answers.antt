@@ -2,7 +2,7 @@ use Rattle.std.proofs.Common.{length, refl}
 use Rattle.superblocks.specs.Reading.{list_length}
 use Rattle.flat_history.specs.declared.events.Event.TheVariants.{Failed}
 use Rattle.flat_history.specs.declared.events.Request.TheVariants.{Fail as AsksFail}
-use Rattle.still_laws.proofs.PlansKept.{add-answered}
+use Rattle.growing.proofs.still_laws_PlansKept.{add-answered}
 use Rattle.running.proofs.Closed.{failed-whole}
 use Rattle.running.proofs.Kept.{rest-called, reshape-called}
 use Rattle.running.proofs.state.Running.fail.Goals as goal

@@ -1,6 +1,6 @@
 use Rattle.std.proofs.Common.{inl, length, refl}
 use Rattle.flat_history.specs.declared.events.Event.TheVariants.{Refused}
-use Rattle.still_laws.proofs.PlansKept.{add-behind}
+use Rattle.growing.proofs.still_laws_PlansKept.{add-behind}
 use Rattle.running.proofs.Ended.{ends-moving, closable-ended}
 use Rattle.running.proofs.Kept.{rest-ended, reshape-called}
 use Rattle.running.proofs.state.Running.finish.Goals as goal

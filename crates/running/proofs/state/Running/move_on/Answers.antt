@@ -1,8 +1,8 @@
 use Rattle.std.proofs.Common.{length}
 use Rattle.running.proofs.Ended.{moved-refused}
-use Rattle.still_laws.proofs.PlansKept.{add-step}
-use Rattle.moving_state.specs.Due.{due_of}
-use Rattle.moving_laws.specs.Steps.{kind_of}
+use Rattle.growing.proofs.still_laws_PlansKept.{add-step}
+use Rattle.growing.specs.moving_state_Due.{due_of}
+use Rattle.growing.specs.moving_laws_Steps.{kind_of}
 use Rattle.running.proofs.Kept.{reshape-stepped}
 use Rattle.running.proofs.state.Running.move_on.Goals as goal
 

@@ -7,8 +7,8 @@ use Rattle.flat_history.specs.declared.events.Event.TheVariants.{Planned, Refuse
 use Rattle.flat_history.specs.Flat.{next_number}
 use Rattle.growing.specs.Replied.{IsGrowReplied}
 use Rattle.growing.proofs.Replied.{grow-went}
-use Rattle.running_words.specs.Calls.{moving_world}
-use Rattle.running_words.specs.Parts.{still_left}
+use Rattle.growing.specs.running_words_Calls.{moving_world}
+use Rattle.growing.specs.running_words_Parts.{still_left}
 use Rattle.growing.specs.Planned.{asked_in}
 use Rattle.running.specs.Calls.{running_left}
 use Rattle.running.specs.State.{parts_in}

@@ -3,7 +3,7 @@ use Rattle.md_base.specs.Sectors.{sectors_of}
 use Rattle.superblocks.specs.Reading.{list_length}
 use Rattle.flat_history.specs.declared.events.Event.TheVariants.{Read}
 use Rattle.flat_history.specs.declared.events.Request.TheVariants.{Read as AsksRead}
-use Rattle.still_laws.proofs.PlansKept.{add-answered}
+use Rattle.growing.proofs.still_laws_PlansKept.{add-answered}
 use Rattle.running.proofs.Kept.{rest-called, reshape-called}
 use Rattle.running.proofs.Chosen.{read-still, read-moving}
 use Rattle.running.proofs.state.Running.read.Goals as goal

@@ -1,7 +1,7 @@
 use Rattle.std.proofs.Common.{length, refl}
 use Rattle.superblocks.specs.Reading.{list_length}
 use Rattle.flat_history.specs.declared.events.Event.TheVariants.{Stopped}
-use Rattle.still_laws.proofs.PlansKept.{add-behind}
+use Rattle.growing.proofs.still_laws_PlansKept.{add-behind}
 use Rattle.running.proofs.Closed.{unsettled-whole}
 use Rattle.running.proofs.Entered.{add-unsettled}
 use Rattle.running.proofs.Kept.{rest-called, reshape-called, turned-out}

@@ -2,7 +2,7 @@ use Rattle.std.proofs.Common.{ℕ, ◌/◌, Option, length, refl, subst}
 use Rattle.std.specs.Prelude.{IsSome}
 use Rattle.flat_history.specs.declared.events.Event.TheVariants.{Wrote}
 use Rattle.flat_history.specs.declared.events.Request.TheVariants.{Write as AsksWrite}
-use Rattle.still_laws.proofs.PlansKept.{add-answered}
+use Rattle.growing.proofs.still_laws_PlansKept.{add-answered}
 use Rattle.running.proofs.Entered.{add-written}
 use Rattle.running.proofs.Kept.{rest-called, reshape-called}
 use Rattle.md_base.specs.Sectors.{sectors_of}

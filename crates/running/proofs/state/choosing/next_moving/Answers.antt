@@ -1,4 +1,4 @@
-use Rattle.moving_laws.proofs.MendLaws.{left-some}
+use Rattle.growing.proofs.moving_laws_MendLaws.{left-some}
 use Rattle.running.proofs.Answered.{moving-some}
 use Rattle.running.proofs.state.choosing.next_moving.Goals as goal
 

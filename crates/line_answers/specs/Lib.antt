@@ -1,0 +1,19 @@
+pub use Rattle.run_laws.specs.Asked as run_laws_Asked
+pub use Rattle.run_laws.specs.Ended as run_laws_Ended
+pub use Rattle.run_laws.specs.Histories as run_laws_Histories
+pub use Rattle.run_laws.specs.Making as run_laws_Making
+pub use Rattle.run_laws.specs.Replies as run_laws_Replies
+pub use Rattle.run_laws.specs.Showing as run_laws_Showing
+pub use Rattle.run_laws.specs.States as run_laws_States
+pub use Rattle.run_laws.specs.Written as run_laws_Written
+pub use Rattle.run_laws.specs.declared.report.Answered as run_laws_the_Answered
+pub use Rattle.run_laws.specs.declared.report.Answered.TheVariants as run_laws_the_Answered_TheVariants
+pub use Rattle.run_laws.specs.declared.report.LineReply as run_laws_the_LineReply
+pub use Rattle.run_laws.specs.declared.report.Outside as run_laws_the_Outside
+pub use Rattle.run_laws.specs.declared.report.Outside.TheVariants as run_laws_the_Outside_TheVariants
+pub use Rattle.run_laws.specs.declared.states.State as run_laws_the_State
+pub use Rattle.run_laws.specs.declared.states.State.TheVariants as run_laws_the_State_TheVariants
+pub use Rattle.run_laws.specs.running_replies_Replies
+pub use Rattle.run_laws.specs.running_words_Parts
+pub use Rattle.run_laws.specs.running_words_Plans
+pub use Rattle.run_laws.specs.still_laws_Plain
