@@ -1,3 +1,4 @@
+pub mod Limited
 pub mod Planned
 pub mod Plans
 pub mod Replied

@@ -68,7 +68,7 @@ fn unplanned<B: Bank>(
 pub fn judge<B: Bank>(still: Still<B>, wish: &Wish) -> (Still<B>, Option<Refusal>)
     ensures same { result.0 ≡ still }
     ensures first { result.1 ≡ grow_refusal (asked_in (B.given still.parts.bank) still) wish.now }
-    ensures visible { visible_of (list_length still.parts.members.newest) still.parts.entries ≡ list_length still.parts.members.newest }
+    ensures visible { visible_of (list_length still.parts.members.newest) still.parts.entries ≡ visible_in still }
 {
     let pieces = still.take_apart();
     let resync = pieces.work.resync;

@@ -100,7 +100,7 @@ pub fn plan_grow<B: Bank>(
     requires caller { who.caller ≢ 254 }
     ensures answered { IsGrowAnswered B.tells (moving_world (B.given still.parts.bank) (B.tape still.parts.bank) still) (asked_in (B.given still.parts.bank) still) wish who still.parts.entries result.0.parts.entries
         (Planned (still_left result.0.parts.work result.0.parts.members result.0.ahead) wish) result.1 }
-    ensures visible { visible_of (list_length still.parts.members.newest) still.parts.entries ≡ list_length still.parts.members.newest }
+    ensures visible { visible_of (list_length still.parts.members.newest) still.parts.entries ≡ visible_in still }
     ensures judged { IsGrowJudged (asked_in (B.given still.parts.bank) still) wish result.1 }
     ensures unchanged { OnNoMemory result.1 (result.0 ≡ still) }
     ensures as_before { IsAsBefore still result.0 }

@@ -28,7 +28,7 @@ pub fn refuse_grow<B: Bank>(
     requires caller { who.caller ≢ 254 }
     ensures answered { IsGrowAnswered B.tells (moving_world (B.given moving.parts.bank) (B.tape moving.parts.bank) moving) (asked_in (B.given moving.parts.bank) moving) wish.now who moving.parts.entries result.0.parts.entries
         (Refused (Busy Reshape)) result.1 }
-    ensures visible { visible_of (list_length moving.parts.members.newest) moving.parts.entries ≡ list_length moving.parts.members.newest }
+    ensures visible { visible_of (list_length moving.parts.members.newest) moving.parts.entries ≡ visible_in moving }
     ensures refused { IsErr result.1 }
     ensures judged { IsGrowJudged (asked_in (B.given moving.parts.bank) moving) wish.now result.1 }
     ensures unchanged { OnNoMemory result.1 (result.0 ≡ moving) }
