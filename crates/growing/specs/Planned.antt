@@ -13,7 +13,7 @@ use Rattle.flat_history.specs.declared.events.Entry.{Entry}
 use Rattle.flat_history.specs.declared.events.Event.{Event}
 use Rattle.flat_history.specs.declared.events.Event.TheVariants.{Refused}
 use Rattle.flat_history.specs.declared.events.Request.{Request}
-use Rattle.flat_history.specs.declared.events.Request.TheVariants.{Grow as AsksGrow}
+use Rattle.flat_history.specs.declared.events.Request.TheVariants.{Visible as AsksVisible, Grow as AsksGrow}
 use Rattle.flat_history.specs.Fits.{Fits, WhereAsked, phases_left}
 use Rattle.flat_history.specs.Plain.{entries_of}
 use Rattle.flat_history.specs.World.{World}
@@ -65,6 +65,12 @@ abbrev pub IsReplied : {T : Type 0} → Type 0 → World → ℕ → Members →
 IsReplied tells world phases members request who old new event (Ok x) = IsReplyTo tells world phases members request who old new event
 IsReplied tells world phases members request who old new event (Err (IsRefusedWith refusal)) = IsReplyTo tells world phases members request who old new (Refused refusal)
 IsReplied tells world phases members request who old new event (Err NoMemory) = new ≡ old
+
+-- a reshape refuses the request
+abbrev pub IsRefusedInReshape : Request → Type 0
+IsRefusedInReshape (AsksGrow wish) = ⊤
+IsRefusedInReshape (AsksVisible limit) = ⊤
+IsRefusedInReshape request = ⊥
 
 -- so it is of a request to grow
 abbrev pub IsGrowReply : Type 0 → World → Asked → Wish → Who → List Entry → List Entry → Event → Type 0

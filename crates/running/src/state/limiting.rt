@@ -1,23 +1,24 @@
 //! How much of a running array's list can be read and written.
 
-ghost use Rattle.std.specs.Prelude.{◌≡◌, ◌≢◌, length, IfOk, OnErr, OnOk};
+ghost use Rattle.std.specs.Prelude.{◌≡◌, ◌≢◌, length};
 ghost use Rattle.superblocks.specs.Reading.{list_length};
 ghost use Rattle.flat_history.specs.Flat.{next_number};
 ghost use Rattle.flat_history.specs.declared.events.Event.TheVariants.{Visible};
 ghost use Rattle.flat_history.specs.declared.events.Request.TheVariants.{Visible as AsksVisible};
-ghost use Rattle.array_kept.specs.Calls.{OnNoMemory, IsEndOf};
+ghost use Rattle.array_kept.specs.Calls.{OnNoMemory, IsEndOf, by_answer};
 ghost use Rattle.grow_asked.specs.Left.{phases_of};
 ghost use Rattle.growing.specs.running_words_Parts.{visible_in};
 ghost use Rattle.growing.specs.running_words_Calls.{moving_world};
+ghost use Rattle.growing.specs.running_words_Visible.{IsVisibleJudged, IsLimitedAs};
 ghost use Rattle.growing.specs.running_replies_Going.{HasRunOn};
 ghost use Rattle.growing.specs.running_replies_Replies.{IsRepliedWith};
-ghost use Rattle.growing.specs.Limited.{limit_refusal};
-ghost use Rattle.growing.specs.Planned.{IsJudged, IsReplied, IsAsBefore};
+ghost use Rattle.growing.specs.running_replies_Limits.{limit_refusal};
+ghost use Rattle.growing.specs.Planned.{IsReplied};
 
 use crate::state::{Running, State, check_moving, check_still};
 use bank::Bank;
 use core::mem::replace_with;
-use growing::{limit_list, refuse_limit};
+use growing::refuse_limit;
 use md_base::{Fault, Who};
 
 impl<B: Bank> Running<B> {
@@ -30,26 +31,22 @@ impl<B: Bank> Running<B> {
         ensures answered { IsRepliedWith (list_length self.old.parts.members.newest) (AsksVisible limit) who self.old.parts.entries self.new.parts.entries (Visible limit (visible_in self.new)) result }
         ensures fits { IsReplied B.tells (moving_world (B.given self.old.parts.bank) (B.tape self.old.parts.bank) self.old) (length (phases_of self.old.ahead)) self.old.parts.members (AsksVisible limit) who self.old.parts.entries self.new.parts.entries
             (Visible limit (visible_in self.new)) result }
-        ensures judged { IsJudged (limit_refusal self.old limit) result }
+        ensures judged { IsVisibleJudged (limit_refusal self.old limit) (visible_in self.new) result }
         ensures unchanged { OnNoMemory result (self.new ≡ self.old) }
-        ensures limited { OnOk result (self.new.limit ≡ limit) }
-        ensures refused { OnErr result (self.new.limit ≡ self.old.limit) }
-        ensures visible { IfOk result (λ sectors. sectors ≡ visible_in self.new) }
-        ensures as_before { IsAsBefore self.old self.new }
-        ensures ahead { self.new.ahead ≡ self.old.ahead }
+        ensures limited { IsLimitedAs (by_answer result limit self.old.limit) self.old self.new }
         ensures ended { IsEndOf B.tells self.new.parts.first self.new.parts.entries (B.tape self.new.parts.bank) }
         ensures went { HasRunOn B.tells B.given B.tape B.faults_of self.old self.new }
     {
         match &mut self.state {
             State::Still(still) => {
-                let set = replace_with(still, (who, limit), limit_list);
+                let done = still.set_visible(who, limit);
                 check_still(still);
-                set
+                done
             }
             State::Moving(moving) => {
-                let refused = replace_with(moving, who, refuse_limit);
+                let done = replace_with(moving, (who, limit), refuse_limit);
                 check_moving(moving);
-                refused
+                done
             }
         }
     }
