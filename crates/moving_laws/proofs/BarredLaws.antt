@@ -78,20 +78,20 @@ barred-entered window at to body who old mid new left (Ok x) same alone = absurd
 barred-entered window at to body who old mid new left (Err (IsRefusedWith refusal)) same alone = let behind = behind-alone who alone.0 (Refused refusal) refl alone.1 in (mid, inr same, behind.roles, behind.spares, false, behind.end, behind.is)
 barred-entered window at to body who old mid new left (Err NoMemory) same alone = absurd alone
 
-module _ (window : Window) (size relied at to : ℕ) (body : List Sector) (who : Who) (old new : List Entry) (m m' : Members) (left : ℕ) (end-is : to ≡ at + length body)
-    (number : who.number ≡ next_number who.caller old) (sized : length_of size old ≡ size) (unlimited : limit_of old ≡ None) where
-  pub barred-replied : {T : Type 0} (result : Result T AnyFault) → IsRefusedAlone who old new result → IsCausedBy size to (IsWriteBarred window relied at to) m m' result → IsWriteReplied size at body who old new result
+module _ (window : Window) (size : ℕ) (limit : Option ℕ) (relied at to : ℕ) (body : List Sector) (who : Who) (old new : List Entry) (m m' : Members) (left : ℕ) (end-is : to ≡ at + length body)
+    (number : who.number ≡ next_number who.caller old) (sized : length_of size old ≡ size) (limited : limit_of old ≡ limit) where
+  pub barred-replied : {T : Type 0} (result : Result T AnyFault) → IsRefusedAlone who old new result → IsCausedBy (visible_by size limit) to (IsWriteBarred window relied at to) m m' result → IsWriteReplied size at body who old new result
   barred-replied (Ok x) alone caused = absurd alone
   barred-replied (Err (IsRefusedWith refusal)) alone caused = by refusal alone caused
     where
       entered : (refusal : Refusal) → IsRefusedAlone {T = ℕ} who old new (Err (IsRefusedWith refusal)) → IsWriteEntered {T = ℕ} window at to body who old new left (Err (IsRefusedWith refusal))
       entered refusal alone = let behind = behind-alone who alone.0 (Refused refusal) refl alone.1 in (old, inr refl, behind.roles, behind.spares, false, behind.end, behind.is)
 
-      by : (refusal : Refusal) → IsRefusedAlone {T = ℕ} who old new (Err (IsRefusedWith refusal)) → IsRefusedFor size to (IsWriteBarred window relied at to) m m' refusal
+      by : (refusal : Refusal) → IsRefusedAlone {T = ℕ} who old new (Err (IsRefusedWith refusal)) → IsRefusedFor (visible_by size limit) to (IsWriteBarred window relied at to) m m' refusal
           → IsWriteReplied {T = ℕ} size at body who old new (Err (IsRefusedWith refusal))
       by BackupFault alone why = alone
-      by (PastEnd told) alone why = write-answered window size relied at to body who old new m m' left end-is number sized unlimited {T = ℕ} (Err (IsRefusedWith (PastEnd told))) (entered (PastEnd told) alone) why
-      by refusal alone why = write-answered window size relied at to body who old new m m' left end-is number sized unlimited {T = ℕ} (Err (IsRefusedWith refusal)) (entered refusal alone)
+      by (PastEnd told) alone why = write-answered window size limit relied at to body who old new m m' left end-is number sized limited {T = ℕ} (Err (IsRefusedWith (PastEnd told))) (entered (PastEnd told) alone) why
+      by refusal alone why = write-answered window size limit relied at to body who old new m m' left end-is number sized limited {T = ℕ} (Err (IsRefusedWith refusal)) (entered refusal alone)
           (why.0, elim why.1 [ inl lacked ↦ lacked | inr barred ↦ absurd (let other = barred.1 in cc) ])
   barred-replied (Err NoMemory) alone caused = absurd alone
 

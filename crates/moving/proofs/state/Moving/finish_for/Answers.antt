@@ -39,7 +39,7 @@ invariant_of-self g c =
     c.args.who end (Refused refusal) was.kept goes (not_254 c.args.who.caller c.requires.caller) c.ops-end.ensures.count (quiet-refusal refusal) (λ told is. is)
     (λ t right. first-right was.kept was.unlimited c.relied_sector-relied.result c.args.at to refusal c.relied_sector-relied.ensures.value c.in-Some.ensures t right) in
     ready (entries_of c.args.who end (Refused refusal ∷ [])) was (grows-none (λ t. refl)) (shapes-same a.members.newest) kept
-    refl (λ slot. omega arith) (alone-keeps c.args.who end (Refused refusal) (λ n. refl) refl) (λ none whole. whole) refl (scope-same given (Some a.backup) refl c.enter.ensures.uuid c.enter.ensures.given) c.enter.ensures.first refl c.enter.ensures.items
+    refl (λ slot. omega arith) (alone-keeps c.args.who end (Refused refusal) (λ n. refl) (λ limit. refl)) (λ none whole. whole) refl (scope-same given (Some a.backup) refl c.enter.ensures.uuid c.enter.ensures.given) c.enter.ensures.first refl c.enter.ensures.items
     (let had = was.room_left in let room = c.enter.ensures.room in omega (arith, room, had, steps))
 
 pub returns-in-Some-clause-entered : goal.returns-in-Some-clause-entered
@@ -58,7 +58,7 @@ returns-in-Some-clause-called g c =
     (ended-behind (g.B.Bank.tape a.bank) c.enter.new.epoch.first a.epoch.entries.items c.args.who end [] (Refused refusal) c.enter.ensures.items c.ops-end.ensures.count)
     (alone-lossless a.members faults faults a.epoch.entries.items a.epoch.entries.items c.enter.new.epoch.entries.items c.args.who end (Refused refusal) tt refl c.enter.ensures.items)
     (λ slot. omega arith)
-    (record { uuid = c.enter.ensures.uuid; given = c.enter.ensures.given; first = c.enter.ensures.first; backup = refl; work = refl; ahead = refl })
+    (record { uuid = c.enter.ensures.uuid; given = c.enter.ensures.given; first = c.enter.ensures.first; backup = refl; work = refl; ahead = refl; limit = refl })
     (λ t. (was.kept.recorded t).begun))
 
 pub returns-in-Some-clause-caused : goal.returns-in-Some-clause-caused

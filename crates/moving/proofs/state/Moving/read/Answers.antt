@@ -69,7 +69,7 @@ invariant_of-self-in-Some g c =
     c.args.who end (Refused refusal) was.kept (begins-going a.epoch.entries.items c.args.who number) (not_254 c.args.who.caller c.requires.caller) c.ops-end.ensures.count (quiet-refusal refusal) (λ told is. is)
     (first-right was.kept was.unlimited hidden relied c.args.at (c.args.at + count) refusal c.relied_sector-relied.ensures.value why) in
     ready (entries_of c.args.who end (Refused refusal ∷ [])) was (grows-none (λ t. refl)) (shapes-same a.members.newest) kept
-    refl (λ slot. omega arith) (alone-keeps c.args.who end (Refused refusal) (λ n. refl) refl) (λ none whole. whole) refl (scope-same given (Some a.backup) refl c.enter.ensures.uuid c.enter.ensures.given) c.enter.ensures.first c.make_room.ensures.items c.enter.ensures.items
+    refl (λ slot. omega arith) (alone-keeps c.args.who end (Refused refusal) (λ n. refl) (λ limit. refl)) (λ none whole. whole) refl (scope-same given (Some a.backup) refl c.enter.ensures.uuid c.enter.ensures.given) c.enter.ensures.first c.make_room.ensures.items c.enter.ensures.items
     (omega (arith, c.enter.ensures.room, c.in-Ok-make_room.ensures.ok))
 
 pub returns-in-Some-clause-answered : goal.returns-in-Some-clause-answered
@@ -115,6 +115,7 @@ returns-in-Some-clause-called g c =
         final = refl;
         backward = refl;
         ahead = refl;
+        limit = refl;
       };
     })
 
@@ -148,7 +149,7 @@ invariant_of-self-then-asked-eq0 g c =
     c.args.who end (Read c.args.at body) was.kept (begins-going a.epoch.entries.items c.args.who number) (not_254 c.args.who.caller c.requires.caller) c.ops-end-then-asked-eq0.ensures.count (read-quiet c.args.at body) (λ told is. is)
     (none-read was.kept was.unlimited c.args.at body none within) in
     ready (entries_of c.args.who end (Read c.args.at body ∷ [])) was (grows-none (λ t. refl)) (shapes-same a.members.newest) kept
-    refl (λ slot. omega arith) (alone-keeps c.args.who end (Read c.args.at body) (λ n. refl) refl) (λ none whole. whole) refl (scope-same given (Some a.backup) refl c.enter-then-asked-eq0.ensures.uuid c.enter-then-asked-eq0.ensures.given)
+    refl (λ slot. omega arith) (alone-keeps c.args.who end (Read c.args.at body) (λ n. refl) (λ limit. refl)) (λ none whole. whole) refl (scope-same given (Some a.backup) refl c.enter-then-asked-eq0.ensures.uuid c.enter-then-asked-eq0.ensures.given)
     c.enter-then-asked-eq0.ensures.first c.make_room.ensures.items c.enter-then-asked-eq0.ensures.items
     (omega (arith, c.enter-then-asked-eq0.ensures.room, c.in-Ok-make_room.ensures.ok))
 
@@ -198,6 +199,7 @@ returns-then-asked-eq0-clause-called g c =
         final = refl;
         backward = refl;
         ahead = refl;
+        limit = refl;
       };
     })
 
@@ -225,7 +227,7 @@ returns-in-Err-make_room-clause-called g c =
     (λ t. ap (λ (l : List Entry). last_end_from a.epoch.first l) c.make_room.ensures.items ∙ (was.kept.recorded t).ended)
     (record { more = []; grown = c.make_room.ensures.items ∙ sym (append-nil a.epoch.entries.items); failed = All-nil (λ e. IsLossBy (Held a.members) faults faults e.event) })
     (λ slot. omega arith)
-    (record { uuid = refl; given = refl; first = refl; backup = refl; work = refl; ahead = refl })
+    (record { uuid = refl; given = refl; first = refl; backup = refl; work = refl; ahead = refl; limit = refl })
     (λ t. (was.kept.recorded t).begun))
 
 -- ---- the others
