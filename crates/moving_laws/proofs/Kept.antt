@@ -54,8 +54,8 @@ use Rattle.mending_kept.proofs.moving_kept_Steps.{AreMissingSince, missing-moved
 use Rattle.mending_kept.specs.region_mends_Left.{resync_left}
 use Rattle.mending_kept.proofs.region_mends_LeftLaws.{left-stays}
 use Rattle.running_words.specs.Parts.{left_in}
+use Rattle.running_words.proofs.Visible.{limit-kept}
 use Rattle.moving_laws.specs.Ready.{bytes_in, IsReady}
-use Rattle.moving_laws.proofs.Limits.{limit-kept}
 
 -- ---- superblocks of the same reshape
 
@@ -182,7 +182,7 @@ ready-moved {tells = tells} {given = given} {given' = given'} {tape' = tape'} {s
       kept = kept;
       sized = subst (λ (n : ℕ). length_of n (entries ++ added) ≡ n) (sym (long-same members.newest members'.newest same))
           (length-more (list_length members.newest) entries added was.sized (quiet.long (list_length members.newest)));
-      limited = limit-kept entries added limit was.limited (quiet.free limit);
+      limited = limit-kept limit entries added was.limited (quiet.free limit);
       full = λ t none. whole none (was.full t (takes-before given scope first entries added grows (λ t. (was.kept.recorded t).ends) t none));
       planned = subst (λ (n : ℕ). AreSound (final_shape members'.newest) n (phases_of ahead)) (sym same.size)
           (subst (λ s. AreSound s members.newest.size (phases_of ahead)) (sym same.final) was.planned);

@@ -85,8 +85,9 @@ use Rattle.mending_kept.proofs.moving_kept_Steps.{AreMissingSince, missing-moved
 use Rattle.moving_state.specs.First.{IsUnreadAround}
 use Rattle.moving_state.proofs.ReshapeLaws.{window-reach}
 use Rattle.running_words.specs.Parts.{visible_size}
+use Rattle.running_words.proofs.Visible.{visible-within}
+use Rattle.running_words.proofs.Replies.{refused_reply, read_kind}
 use Rattle.moving_laws.specs.Ready.{bytes_in}
-use Rattle.moving_laws.proofs.Limits.{visible-within, visible-told, refused-reply, read-refusable}
 use Rattle.moving_laws.proofs.Relied.{pending-at, pending-behind, unsynced-right, sector-role}
 
 -- ---- where nobody was lost
@@ -202,7 +203,7 @@ module _ {tells : Type 0} {given : Given} {tape : List Operation} {scope : Scope
     (was : IsMoving tells given tape scope first entries old carried resync course buffer left) (limited : limit_of entries ≡ limit) where
   -- so much of the list is visible
   seen : tells → visible_at (world_in given tape scope first) entries ≡ visible_size old limit
-  seen t = visible-told (list_length old.newest) (length (opening_list (world_in given tape scope first))) limit entries (was.recorded t).sized limited
+  seen t = λ i. option_map_or (λ most. min most ((was.recorded t).sized i)) (limited i) ((was.recorded t).sized i)
 
   -- ---- one that is refused before any sector is read
 
@@ -429,9 +430,9 @@ pub first-reply : (m : Members) (hidden : Option Span) (relied : ℕ) (limit : O
     → IsRefusedFor (visible_size m limit) (at + count) (IsUnreadAround hidden relied at (at + count)) m m refusal → new ≡ old ++ entries_of who end (Refused refusal ∷ []) → who.number ≡ next_number who.caller old
     → IsReplied (list_length m.newest) (AsksRead at count) who old new (Refused refusal)
 first-reply m hidden relied limit old sized limited who at count new end (PastEnd told) why is number =
-    refused-reply (list_length m.newest) limit old sized limited (AsksRead at count) who (at + count) (λ members refusal. IsOfMissing refusal) new end m (PastEnd told) (read-refusable at count) (λ of. of) why is number
+    refused_reply (list_length m.newest) limit old sized limited (AsksRead at count) who (at + count) (λ members refusal. IsOfMissing refusal) new end m (PastEnd told) (read_kind at count) (λ of. of) why is number
 first-reply m hidden relied limit old sized limited who at count new end refusal why is number =
-    refused-reply (list_length m.newest) limit old sized limited (AsksRead at count) who (at + count) (λ members refusal. IsOfMissing refusal) new end m refusal (read-refusable at count) (λ of. of)
+    refused_reply (list_length m.newest) limit old sized limited (AsksRead at count) who (at + count) (λ members refusal. IsOfMissing refusal) new end m refusal (read_kind at count) (λ of. of)
     (why.0, unread-missing hidden relied at (at + count) m refusal why.1) is number
 
 -- what is fetched by the bytes of the window's buffer is so by the list that stands in the course

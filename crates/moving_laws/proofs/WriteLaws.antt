@@ -74,8 +74,8 @@ use Rattle.mending_kept.proofs.moving_kept_Writing.{ArePut, AreWritten, AreUnwri
 use Rattle.running_words.specs.Calls.{IsCalled, IsStepTaken}
 use Rattle.running_words.specs.Parts.{RunningParts}
 use Rattle.running_words.specs.Parts.{visible_size}
+use Rattle.running_words.proofs.Visible.{visible-within}
 use Rattle.moving_laws.specs.Ready.{bytes_in, IsReady}
-use Rattle.moving_laws.proofs.Limits.{visible-within, visible-told}
 use Rattle.moving_laws.specs.Writing.{IsWindowOpen, steps_in, TouchesWindow, IsWriteLacked, IsPutEntered, IsWriteEntered}
 use Rattle.running_words.proofs.Called.{not_254}
 use Rattle.moving_laws.proofs.Kept.{IsLengthKept, behind-keeps, behind-whole, takes-lost, long-same, left_by, left-moved}
@@ -284,7 +284,7 @@ module _ {tells : Type 0} {given : Given} {tape : List Operation} {scope : Scope
     (was : IsMoving tells given tape scope first entries old carried resync course buffer left) (limited : limit_of entries ≡ limit) where
   -- so much of the list is visible
   pub all-seen : tells → visible_at (world_in given tape scope first) entries ≡ visible_size old limit
-  all-seen t = visible-told (list_length old.newest) (length (opening_list (world_in given tape scope first))) limit entries (was.recorded t).sized limited
+  all-seen t = λ i. option_map_or (λ most. min most ((was.recorded t).sized i)) (limited i) ((was.recorded t).sized i)
 
   -- why it is refused before any row is read
   pub first-right : (relied at to : ℕ) (refusal : Refusal) → relied ≡ relied_sector old.newest resync → IsRefusedFor (visible_size old limit) to (IsListUnwritten relied at to) old old refusal
@@ -444,15 +444,15 @@ wider-refused visible to why m (PastEnd told) is = is
 wider-refused visible to why m refusal is = (is.0, inl is.1)
 
 -- a window isn't finished: why the write isn't done, or neither speaks against it
-pub finish-caused : {T : Type 0} (visible to : ℕ) (why : Members → Refusal → Type 0) (old new : Members) (result : Result T AnyFault) → to ≤ visible → ((refusal : Refusal) → why old refusal → ⊥)
-    → IsCausedBy visible 0 AreTooMany old new result → IsCausedBy visible to (λ m refusal. why m refusal ⊎ AreTooMany m refusal) old new result
-finish-caused visible to why old new (Ok x) within fine caused = (within, λ refusal which. elim which [ inl asked ↦ fine refusal asked | inr many ↦ caused.1 refusal many ])
-finish-caused visible to why old new (Err (IsRefusedWith refusal)) within fine caused = by refusal caused
+pub finish-caused : {T : Type 0} (size visible to : ℕ) (why : Members → Refusal → Type 0) (old new : Members) (result : Result T AnyFault) → to ≤ visible → ((refusal : Refusal) → why old refusal → ⊥)
+    → IsCausedBy size 0 AreTooMany old new result → IsCausedBy visible to (λ m refusal. why m refusal ⊎ AreTooMany m refusal) old new result
+finish-caused size visible to why old new (Ok x) within fine caused = (within, λ refusal which. elim which [ inl asked ↦ fine refusal asked | inr many ↦ caused.1 refusal many ])
+finish-caused size visible to why old new (Err (IsRefusedWith refusal)) within fine caused = by refusal caused
   where
-    by : (refusal : Refusal) → IsRefusedFor visible 0 AreTooMany old new refusal → IsRefusedFor visible to (λ m refusal. why m refusal ⊎ AreTooMany m refusal) old new refusal
+    by : (refusal : Refusal) → IsRefusedFor size 0 AreTooMany old new refusal → IsRefusedFor visible to (λ m refusal. why m refusal ⊎ AreTooMany m refusal) old new refusal
     by (PastEnd told) is = absurd (let past = is.1 in omega (arith, past))
     by refusal is = (within, inr is.1)
-finish-caused visible to why old new (Err NoMemory) within fine caused = caused
+finish-caused size visible to why old new (Err NoMemory) within fine caused = caused
 
 -- a write beside the window, which it doesn't touch
 pub alone-caused : {T : Type 0} (window : Window) (visible relied at to : ℕ) (old new : Members) (result : Result T AnyFault) → (TouchesWindow window at to → ⊥)

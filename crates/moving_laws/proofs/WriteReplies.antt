@@ -1,5 +1,5 @@
 -- The reply of a write fits its request, also behind a window that it finished first.
-use Rattle.std.proofs.Common.{◌≡◌, inl, inr, ℕ, ◌+◌, ◌<◌, ◌≤◌, Bool, true, false, cond, Option, None, Result, Ok, Err, List, [], ◌∷◌, ◌++◌, length, refl, sym, ◌∙◌, ap, subst, append_assoc, append-nil}
+use Rattle.std.proofs.Common.{◌≡◌, inl, inr, ℕ, ◌+◌, ◌<◌, ◌≤◌, Bool, true, false, cond, Option, Result, Ok, Err, List, [], ◌∷◌, ◌++◌, length, refl, sym, ◌∙◌, ap, subst, append_assoc, append-nil}
 use Rattle.std.specs.Prelude.{fold, reverse}
 use Rattle.std.specs.List.{All}
 use Rattle.std.proofs.lemmas.List.{reverse-append}
@@ -33,7 +33,8 @@ use Rattle.grow_asked.specs.declared.window.Window.{Window}
 use Rattle.kept_history.specs.Recorded.{entry_of}
 use Rattle.moving_laws.specs.Writing.{IsWriteLacked, IsFinishedFirst, IsWriteEntered, IsRepliedBehind, IsWriteAnswered}
 use Rattle.moving_state.specs.Left.{visible_by}
-use Rattle.moving_laws.proofs.Limits.{visible-told, limit-kept, write-refusable}
+use Rattle.running_words.proofs.Visible.{visible-is, limit-kept}
+use Rattle.running_words.proofs.Replies.{write_kind}
 use Rattle.moving_laws.proofs.WriteLaws.{torn-missing}
 
 -- ---- the entries of a call before its reply
@@ -102,7 +103,7 @@ torn-own request e (z ∷ zs) tail none torn = by (is_same_call e z) (torn-own r
 
 module _ (size : ℕ) (limit : Option ℕ) (request : Request) (who : Who) (old : List Entry) (number : who.number ≡ next_number who.caller old) (sized : length_of size old ≡ size) (limited : limit_of old ≡ limit) where
   as-visible : (call : List Entry) → IsInner who request call → visible_of size (old ++ call) ≡ visible_by size limit
-  as-visible call inner = visible-told size size limit (old ++ call) (length-more size old call sized (inner.long size)) (limit-kept old call limit limited (inner.free limit))
+  as-visible call inner = visible-is size limit (old ++ call) (length-more size old call sized (inner.long size)) (limit-kept limit old call limited (inner.free limit))
 
   replied-behind : (new call : List Entry) (end : ℕ) (event : Event) → IsInner who request call → new ≡ old ++ (call ++ entry_of who end event ∷ [])
       → ((before : List Entry) → OneShapeAnswers size (old ++ call) before request event) → IsRepliedBehind size request who old new event
@@ -152,8 +153,8 @@ module _ (window : Window) (size : ℕ) (limit : Option ℕ) (relied at to : ℕ
   refused-fits : (refusal : Refusal) → IsRefusedFor (visible_by size limit) to (IsWriteLacked window relied at to) m m' refusal → (call : List Entry) → IsInner who (AsksWrite at body) call
       → (before : List Entry) → OneShapeAnswers size (old ++ call) before (AsksWrite at body) (Refused refusal)
   refused-fits (PastEnd told) why call inner =
-      (write-refusable at body).past size (visible_by size limit) told (old ++ call) (as-visible size limit (AsksWrite at body) who old number sized limited call inner) (subst (λ (n : ℕ). visible_by size limit < n) end-is why.1)
-  refused-fits refusal why call inner = (write-refusable at body).missing size (visible_by size limit) refusal (old ++ call) (as-visible size limit (AsksWrite at body) who old number sized limited call inner)
+      (write_kind at body).past size (visible_by size limit) told (old ++ call) (as-visible size limit (AsksWrite at body) who old number sized limited call inner) (subst (λ (n : ℕ). visible_by size limit < n) end-is why.1)
+  refused-fits refusal why call inner = (write_kind at body).missing size (visible_by size limit) refusal (old ++ call) (as-visible size limit (AsksWrite at body) who old number sized limited call inner)
       (subst (λ (n : ℕ). n ≤ visible_by size limit) end-is why.0) (lacked-missing window relied at to m' refusal why.1)
 
   -- behind the losses of the write
