@@ -60,7 +60,6 @@ impl<B: Bank> Still<B> {
         ensures ended { IsEndOf B.tells self.new.parts.first self.new.parts.entries (B.tape self.new.parts.bank) }
     {
         let size = self.length();
-        let refusal = unlimited(&self.ahead, size, limit);
         match self.epoch.entries.make_room(2) {
             Ok(()) => {}
             Err(_) => return Err(Fault::NoMemory),
@@ -68,7 +67,7 @@ impl<B: Bank> Still<B> {
         self.steps = 0;
         check_number(&self.epoch.entries, who);
         let end = self.bank.ops();
-        if let Some(refusal) = refusal {
+        if let Some(refusal) = unlimited(&self.ahead, size, limit) {
             enter(&mut self.epoch, who, end, Event::Refused { refusal });
             return Err(Fault::Refused(refusal));
         }
