@@ -11,7 +11,7 @@ use Rattle.bank.specs.declared.bank.Operation.{Operation}
 use Rattle.bank.specs.Given.{Given, Sizes, sizes}
 use Rattle.grow_plan.specs.Plans.{phases, phases_steps}
 use Rattle.superblocks.specs.declared.members.Members.{Members}
-use Rattle.superblocks.specs.Reading.{Scope, Reading, shape_of}
+use Rattle.superblocks.specs.Reading.{Scope, Reading, shape_of, list_length}
 use Rattle.flat_history.specs.declared.events.Entry.{Entry}
 use Rattle.flat_history.specs.declared.events.Event.{Event}
 use Rattle.flat_history.specs.declared.events.Event.TheVariants.{Planned, Refused}
@@ -21,7 +21,7 @@ use Rattle.flat_history.specs.Fits.{Fits, Answers, AreTornOf, WhereAsked, is_ask
 use Rattle.flat_history.specs.Growing.{EndBy}
 use Rattle.flat_history.specs.Flat.{limit_of, next_number}
 use Rattle.flat_history.specs.Plain.{entries_of}
-use Rattle.flat_history.specs.World.{World, until, reading_at}
+use Rattle.flat_history.specs.World.{World, until, reading_at, opening_list}
 use Rattle.views.specs.declared.work.Work.{Work}
 use Rattle.array_kept.proofs.ReplyLaws.{none_before}
 use Rattle.grow_asked.specs.Asked.{Asked, asked_of, IsFirst, IsUngrowable, grow_refusal}
@@ -34,6 +34,7 @@ use Rattle.kept_history.proofs.Turned.{filled-before}
 use Rattle.history_calls.specs.Reliable.{IsReliable}
 use Rattle.turning.specs.still_kept_Still.{AreNoneMissing, IsStill}
 use Rattle.turning.specs.running_words_Parts.{visible_size}
+use Rattle.turning.proofs.running_words_Visible.{visible-is}
 use Rattle.growing.specs.Planned.{IsReadWhereAsked, ArePhasesTold}
 use Rattle.growing.proofs.Read.{read-whole}
 
@@ -62,7 +63,7 @@ module _ {tells : Type 0} {given : Given} {tape : List Operation} {scope : Scope
     gone = λ role lt miss. was.gone t right role lt miss;
     unsynced = was.pending t;
     phases_are = ahead;
-    visible_is = λ i. option_map_or (λ n. min n ((was.recorded t).sized i)) (limited i) ((was.recorded t).sized i);
+    visible_is = visible-is (length (opening_list world)) (list_length m.newest) limit entries (was.recorded t).sized limited;
     backup_is = ap (λ (s : Sizes). option_map s.sectors scope.backup) (sym was.sizes_are);
   }
 
