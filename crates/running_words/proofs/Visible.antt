@@ -1,0 +1,23 @@
+-- How much of a list can be read and written, by the entries that tell its length and its limit.
+use Rattle.std.proofs.Common.{◌≡◌, ℕ, ◌≤◌, Option, Some, None, List, ◌++◌, min, ◌∙◌, ap, arith}
+use Rattle.std.proofs.Math.Nat.{min-le_right}
+use Rattle.std.proofs.lemmas.List.Sums.{fold-append}
+use Rattle.std.specs.Prelude.{fold}
+use Rattle.std.specs.Option.{option_map_or}
+use Rattle.flat_history.specs.declared.events.Entry.{Entry}
+use Rattle.flat_history.specs.Flat.{length_of, limit_of, limit_after, visible_of}
+use Rattle.moving_state.specs.Left.{visible_by}
+
+-- the visible size of a list of this length and limit
+pub visible-is : (n : ℕ) (limit : Option ℕ) (entries : List Entry) → length_of n entries ≡ n → limit_of entries ≡ limit → visible_of n entries ≡ visible_by n limit
+visible-is n limit entries sized limited = λ i. option_map_or (λ most. min most (sized i)) (limited i) (sized i)
+
+-- no more is visible than there is
+pub visible-within : (n : ℕ) (limit : Option ℕ) → visible_by n limit ≤ n
+visible-within n None = omega arith
+visible-within n (Some most) = min-le_right most n
+
+-- entries that tell no limit leave it
+pub limit-kept : (limit : Option ℕ) (entries added : List Entry) → limit_of entries ≡ limit → fold (λ (limit : Option ℕ) e. limit_after limit e.event) limit added ≡ limit → limit_of (entries ++ added) ≡ limit
+limit-kept limit entries added limited quiet =
+    fold-append (λ (limit : Option ℕ) e. limit_after limit e.event) None entries added ∙ ap (λ (limit : Option ℕ). fold (λ limit e. limit_after limit e.event) limit added) limited ∙ quiet
