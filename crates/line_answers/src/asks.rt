@@ -7,7 +7,6 @@ ghost use Rattle.md_base.specs.Sectors.{IsWhole};
 ghost use Rattle.std.specs.List.{list_any};
 ghost use Rattle.superblocks.specs.Reads.{has_spare};
 ghost use Rattle.superblocks.specs.Reading.{list_length};
-ghost use Rattle.flat_history.specs.Flat.{length_of, limit_of};
 ghost use Rattle.views.specs.Placed.{AreStillHeld};
 ghost use Rattle.array_kept.specs.Calls.{AreSparesFewer, AreLossesOf, IsEndOf};
 ghost use Rattle.views.specs.Moving.{Grows};
@@ -99,8 +98,6 @@ pub fn ask_write<B: Bank>(
     count: u32,
     seed: u32,
 ) -> Result<u64, NoMemory>
-    requires sized { length_of (list_length array.old.parts.members.newest) array.old.parts.entries ≡ list_length array.old.parts.members.newest }
-    requires unlimited { limit_of array.old.parts.entries ≡ None }
     requires some { 1 ≤ count }
     requires few { count ≤ 128 }
     requires short { at + count < 2 ^ 63 }
@@ -121,6 +118,8 @@ pub fn ask_write<B: Bank>(
         Ok(body) => body,
         Err(_) => return Err(NoMemory {}),
     };
+    // (the history and the array say the same of what can be read and written)
+    let _ = array.visible();
     let who = script_call(array);
     let answer = array.write(who, at, body.as_bytes());
     if wants_memory(&answer) {
