@@ -68,7 +68,7 @@ module _ (size : ℕ) (limit : Option ℕ) (old : List Entry) (sized : length_of
   -- as much is visible behind entries that leave the length and the limit
   pub seen-behind : (added : List Entry) → ((n : ℕ) → fold (λ m e. length_after m e.event) n added ≡ n)
       → ((limit : Option ℕ) → fold (λ (limit : Option ℕ) e. limit_after limit e.event) limit added ≡ limit) → visible_of size (old ++ added) ≡ visible_by size limit
-  seen-behind added quiet free = visible-is size limit (old ++ added) (length-more size old added sized (quiet size)) (limit-kept limit old added limited (free limit))
+  seen-behind added quiet free = visible-is size size limit (old ++ added) (length-more size old added sized (quiet size)) (limit-kept limit old added limited (free limit))
 
   pub seen-losses : (who : Who) (end roles spares : ℕ) → visible_of size (old ++ entries_of who end (losses_of roles spares)) ≡ visible_by size limit
   seen-losses who end roles spares = subst (λ (l : List Event). visible_of size (old ++ entries_of who end l) ≡ visible_by size limit) (no-tail (losses_of roles spares))

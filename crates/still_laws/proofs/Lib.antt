@@ -5,6 +5,7 @@ pub mod Kept
 pub mod Left
 pub mod Settled
 pub mod Reading
+pub mod Limiting
 pub mod Writing
 pub mod Going
 pub mod StepLaws

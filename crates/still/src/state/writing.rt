@@ -49,7 +49,8 @@ fn unwritten_here(
     ensures first { result ≡ call_refusal (visible_size members.now limit) (at + count) (write_refusal (shape_of members.now.newest) (are_mended (shape_of members.now.newest) (mended_rows resync members.now) (at + count)) members.now) }
     ensures why { IsRefusalOf (visible_size members.now limit) (at + count) (IsUnwritten (shape_of members.now.newest) (are_mended (shape_of members.now.newest) (mended_rows resync members.now) (at + count))) members.now result }
 {
-    let sectors = visible_of(visible(members), limit);
+    let size = visible(members);
+    let sectors = visible_of(size, limit);
     if sectors < at + count {
         return Some(Refusal::PastEnd(sectors));
     }
