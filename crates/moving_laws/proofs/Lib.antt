@@ -9,6 +9,7 @@ pub mod Copied
 pub mod RecordLaws
 pub mod AddLaws
 pub mod Examined
+pub mod FirstLaws
 pub mod WriteLaws
 pub mod WriteReplies
 pub mod BarredLaws

@@ -2,6 +2,7 @@ pub mod Ready
 pub mod Writing
 pub mod Steps
 pub mod Mending
+pub mod Refusing
 pub use Rattle.mending_kept.specs.course_mends_Mended
 pub use Rattle.mending_kept.specs.moving_kept_Moving
 pub use Rattle.running_words.specs.Adding as running_words_Adding

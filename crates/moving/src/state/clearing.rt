@@ -15,6 +15,7 @@ ghost use Rattle.kept_history.specs.Recorded.{IsCallGoing};
 ghost use Rattle.moving_laws.specs.region_mends_Mends.{relied_sector};
 ghost use Rattle.moving_laws.specs.running_words_Calls.{IsCalled};
 ghost use Rattle.moving_laws.specs.running_words_Parts.{visible_in, left_in};
+ghost use Rattle.moving_laws.specs.Refusing.{first_refusal, IsFirstFor};
 ghost use Rattle.moving_laws.specs.Writing.{TouchesUnsure, IsWriteBarred, IsRefusedAlone, IsWriteEntered, IsWriteReplied};
 
 use crate::state::Moving;
@@ -67,6 +68,7 @@ impl<B: Bank> Moving<B> {
         ensures called { IsCalled B.tells (B.given self.old.parts.bank) (B.tape self.old.parts.bank) (B.tape self.new.parts.bank) (B.faults_of self.old.parts.bank) (B.faults_of self.new.parts.bank) self.old self.new }
         ensures caused { IsCausedBy (visible_in self.old) (at + count)
             (IsWriteBarred self.old.course.window (relied_sector self.old.parts.members.newest self.old.parts.work.resync) at (at + count)) self.old.parts.members self.new.parts.members result }
+        ensures first { IsFirstFor (first_refusal self.old at count) result }
         ensures members { self.new.parts.members ≡ self.old.parts.members }
         ensures backup { result ≡ Err (IsRefusedWith BackupFault) → IfSome self.old.parts.backup (λ slot. IsFaulted slot (B.faults_of self.old.parts.bank) (B.faults_of self.new.parts.bank)) }
         ensures course { self.new.course ≡ self.old.course }
@@ -97,6 +99,7 @@ impl<B: Bank> Moving<B> {
         ensures called { IsCalled B.tells (B.given self.old.parts.bank) (B.tape self.old.parts.bank) (B.tape self.new.parts.bank) (B.faults_of self.old.parts.bank) (B.faults_of self.new.parts.bank) self.old self.new }
         ensures caused { IsCausedBy (visible_in self.old) (at + length from.now / 512)
             (IsWriteBarred self.old.course.window (relied_sector self.old.parts.members.newest self.old.parts.work.resync) at (at + length from.now / 512)) self.old.parts.members self.new.parts.members result }
+        ensures first { IsFirstFor (first_refusal self.old at (length from.now / 512)) result }
         ensures failed { HaveRolesFailed self.old.parts.members self.new.parts.members (B.faults_of self.old.parts.bank) (B.faults_of self.new.parts.bank) }
         ensures backup { result ≡ Err (IsRefusedWith BackupFault) → IfSome self.old.parts.backup (λ slot. IsFaulted slot (B.faults_of self.old.parts.bank) (B.faults_of self.new.parts.bank)) }
         ensures course { self.new.course ≡ self.old.course }

@@ -18,6 +18,7 @@ ghost use Rattle.moving_laws.specs.moving_state_First.{IsUnreadAround};
 ghost use Rattle.history_calls.specs.Reliable.{IsReliable};
 ghost use Rattle.moving_laws.specs.running_words_Calls.{moving_world, IsCalled};
 ghost use Rattle.moving_laws.specs.running_words_Parts.{visible_in};
+ghost use Rattle.moving_laws.specs.Refusing.{first_refusal, IsFirstFor};
 
 use crate::state::Moving;
 use array_state::room::zeros;
@@ -109,7 +110,7 @@ impl<B: Bank> Moving<B> {
 
     /// Fills `into`, of whole sectors, with those of the list from `at` on: those of a window whose section is stored from its buffer, and
     /// each other by the shape of its region; what a missing member held is filled in from the others. Refusals: `PastEnd`,
-    /// `TooManyMissing` where more roles are missing than a shape tolerates that places one of them, and `NotResynced` where a resync is
+    /// `TooManyMissing` where more roles are missing than a shape tolerates that places one of them, the first of these, and `NotResynced` where a resync is
     /// pending, of a missing role that has one of those others, in a stripe that isn't mended.
     pub fn read(&mut self, who: Who, at: u64, into: &mut [u8]) -> Result<(), Fault>
         requires next { who.number ≡ next_number who.caller self.old.parts.entries }
@@ -126,6 +127,7 @@ impl<B: Bank> Moving<B> {
         ensures clean { is_clean self.new.parts.members.newest ≡ is_clean self.old.parts.members.newest }
         ensures caused { IsCausedBy (visible_in self.old) (at + length into.old / 512) (IsUnreadAround (hidden_in self.old.course.window)
             (relied_sector self.old.parts.members.newest self.old.parts.work.resync) at (at + length into.old / 512)) self.old.parts.members self.new.parts.members result }
+        ensures first { IsFirstFor (first_refusal self.old at (length into.old / 512)) result }
         ensures failed { HaveRolesFailed self.old.parts.members self.new.parts.members (B.faults_of self.old.parts.bank) (B.faults_of self.new.parts.bank) }
         ensures course { self.new.course ≡ self.old.course }
         ensures given { B.given self.new.parts.bank ≡ B.given self.old.parts.bank }

@@ -1,6 +1,6 @@
 //! Writes to an array in a reshape.
 
-ghost use Rattle.std.specs.Prelude.{◌≡◌, ◌≢◌, ◌⊎◌, ◌+◌, ◌/◌, ◌^◌, ◌<◌, ◌≤◌, ℕ, length, false, Err, IfSome, OnOk};
+ghost use Rattle.std.specs.Prelude.{◌≡◌, ◌≢◌, ◌⊎◌, ◌+◌, ◌/◌, ◌^◌, ◌<◌, ◌≤◌, ℕ, length, false, Some, Err, IfSome, MatchOption, OnOk, ⊤};
 ghost use Rattle.md_base.specs.Sectors.{IsWhole, sectors_of};
 ghost use Rattle.md_base.specs.declared.answers.Fault.TheVariants.{Refused as IsRefusedWith};
 ghost use Rattle.md_base.specs.declared.answers.Refusal.TheVariants.{BackupFault};
@@ -20,6 +20,9 @@ ghost use Rattle.moving_laws.specs.course_kept_Laws.{closed};
 ghost use Rattle.moving_laws.specs.moving_state_Due.{unsure_in};
 ghost use Rattle.moving_laws.specs.running_words_Parts.{visible_size, visible_in, left_in};
 ghost use Rattle.moving_laws.specs.running_words_Calls.{IsCalled, IsStepTaken};
+ghost use Rattle.safe_updates.specs.First.{call_refusal};
+ghost use Rattle.moving_laws.specs.moving_state_First.{list_refusal};
+ghost use Rattle.moving_laws.specs.Refusing.{first_refusal, IsFirstFor};
 ghost use Rattle.moving_laws.specs.Writing.{IsWindowOpen, TouchesWindow, IsWriteLacked, IsWriteBarred, IsPutEntered, IsWriteEntered, IsWriteAnswered, IsWriteReplied};
 
 use crate::state::Moving;
@@ -50,7 +53,8 @@ pub(crate) fn unwritten_here(
     requires roles { length members.now.roles ≡ role_count members.now.newest }
     requires some { 0 < count }
     requires short { at + count < 2 ^ 63 }
-    ensures { IsRefusalOf (visible_size members.now limit) (at + count) (IsListUnwritten relied at (at + count)) members.now result }
+    ensures first { MatchOption (call_refusal (visible_size members.now limit) (at + count) (list_refusal at count members.now)) ⊤ (λ refusal. result ≡ Some refusal) }
+    ensures why { IsRefusalOf (visible_size members.now limit) (at + count) (IsListUnwritten relied at (at + count)) members.now result }
 {
     let sectors = visible(members, limit);
     unwritten_from(members, sectors, relied, at, count)
@@ -72,6 +76,7 @@ impl<B: Bank> Moving<B> {
         ensures called { IsCalled B.tells (B.given self.old.parts.bank) (B.tape self.old.parts.bank) (B.tape self.new.parts.bank) (B.faults_of self.old.parts.bank) (B.faults_of self.new.parts.bank) self.old self.new }
         ensures caused { IsCausedBy (visible_in self.old) (at + length from.now / 512) (IsListUnwritten (relied_sector self.old.parts.members.newest self.old.parts.work.resync) at (at + length from.now / 512))
             self.old.parts.members self.new.parts.members result }
+        ensures first { IsFirstFor (first_refusal self.old at (length from.now / 512)) result }
         ensures failed { HaveRolesFailed self.old.parts.members self.new.parts.members (B.faults_of self.old.parts.bank) (B.faults_of self.new.parts.bank) }
         ensures dirty { OnOk result (is_clean self.new.parts.members.newest ≡ false) }
         ensures left { left_in self.new.parts.work self.new.parts.members self.new.course self.new.ahead ≡ left_in self.old.parts.work self.old.parts.members self.old.course self.old.ahead }
@@ -134,6 +139,7 @@ impl<B: Bank> Moving<B> {
         ensures called { IsCalled B.tells (B.given self.old.parts.bank) (B.tape self.old.parts.bank) (B.tape self.new.parts.bank) (B.faults_of self.old.parts.bank) (B.faults_of self.new.parts.bank) self.old self.new }
         ensures caused { IsCausedBy (visible_in self.old) (at + count)
             (λ m refusal. IsListUnwritten (relied_sector self.old.parts.members.newest self.old.parts.work.resync) at (at + count) m refusal ⊎ AreTooMany m refusal) self.old.parts.members self.new.parts.members result }
+        ensures first { IsFirstFor (first_refusal self.old at count) result }
         ensures failed { HaveRolesFailed self.old.parts.members self.new.parts.members (B.faults_of self.old.parts.bank) (B.faults_of self.new.parts.bank) }
         ensures closed { OnOk result (self.new.course ≡ closed 0) }
         ensures relied { OnOk result (relied_sector self.new.parts.members.newest self.new.parts.work.resync ≡ relied_sector self.old.parts.members.newest self.old.parts.work.resync) }
@@ -166,6 +172,7 @@ impl<B: Bank> Moving<B> {
         ensures called { IsCalled B.tells (B.given self.old.parts.bank) (B.tape self.old.parts.bank) (B.tape self.new.parts.bank) (B.faults_of self.old.parts.bank) (B.faults_of self.new.parts.bank) self.old self.new }
         ensures caused { IsCausedBy (visible_in self.old) (at + length from.now / 512)
             (IsWriteLacked self.old.course.window (relied_sector self.old.parts.members.newest self.old.parts.work.resync) at (at + length from.now / 512)) self.old.parts.members self.new.parts.members result }
+        ensures first { IsFirstFor (first_refusal self.old at (length from.now / 512)) result }
         ensures failed { HaveRolesFailed self.old.parts.members self.new.parts.members (B.faults_of self.old.parts.bank) (B.faults_of self.new.parts.bank) }
         ensures dirty { OnOk result (is_clean self.new.parts.members.newest ≡ false) }
         ensures course { (TouchesWindow self.old.course.window at (at + length from.now / 512) → ⊥) → self.new.course ≡ self.old.course }
@@ -208,6 +215,7 @@ impl<B: Bank> Moving<B> {
         ensures called { IsCalled B.tells (B.given self.old.parts.bank) (B.tape self.old.parts.bank) (B.tape self.new.parts.bank) (B.faults_of self.old.parts.bank) (B.faults_of self.new.parts.bank) self.old self.new }
         ensures caused { IsCausedBy (visible_in self.old) (at + length from.now / 512)
             (IsWriteBarred self.old.course.window (relied_sector self.old.parts.members.newest self.old.parts.work.resync) at (at + length from.now / 512)) self.old.parts.members self.new.parts.members result }
+        ensures first { IsFirstFor (first_refusal self.old at (length from.now / 512)) result }
         ensures failed { HaveRolesFailed self.old.parts.members self.new.parts.members (B.faults_of self.old.parts.bank) (B.faults_of self.new.parts.bank) }
         ensures backup { result ≡ Err (IsRefusedWith BackupFault) → IfSome self.old.parts.backup (λ slot. IsFaulted slot (B.faults_of self.old.parts.bank) (B.faults_of self.new.parts.bank)) }
         ensures dirty { OnOk result (is_clean self.new.parts.members.newest ≡ false) }

@@ -16,6 +16,8 @@ use Rattle.moving_laws.specs.Writing.{IsRefusedAlone}
 use Rattle.moving_laws.proofs.Kept.{roomier}
 use Rattle.moving_laws.proofs.WriteLaws.{called-roomed}
 use Rattle.moving_laws.proofs.BarredLaws.{barred-entered, barred-replied}
+use Rattle.md_base.specs.declared.answers.Fault.TheVariants.{NoMemory}
+use Rattle.moving_laws.proofs.FirstLaws.{first-short}
 use Rattle.moving.proofs.state.Moving.bar_write.Goals as goal
 
 -- ---- memory is short
@@ -63,3 +65,11 @@ returns-clause-replied g c =
     old.parts.entries new.parts.entries old.parts.members new.parts.members (left_in new.parts.work new.parts.members new.course new.ahead) (omega (arith, long)) c.requires.next sized limited c.refuse_write.result
     (subst (λ (l : List Entry). IsRefusedAlone c.args.who l new.parts.entries c.refuse_write.result) (c.make_room.ensures.items ∙ ap (λ p. p.parts.entries) c.self.view_is) c.refuse_write.ensures.alone)
     (returns-clause-caused g c)
+
+-- ---- which refusal is the first
+
+pub returns-in-Err-clause-first : goal.returns-in-Err-clause-first
+returns-in-Err-clause-first g c = first-short _ NoMemory refl
+
+pub returns-clause-first : goal.returns-clause-first
+returns-clause-first g c = rw (← c.self.view_is) c.refuse_write.ensures.first

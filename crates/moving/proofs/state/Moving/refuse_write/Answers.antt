@@ -28,6 +28,7 @@ use Rattle.moving_laws.specs.Writing.{TouchesUnsure, IsWriteBarred}
 use Rattle.moving_laws.proofs.Kept.{ready, shapes-same, alone-keeps}
 use Rattle.moving_laws.proofs.WriteLaws.{first-right, torn-missing}
 use Rattle.moving_laws.proofs.BarredLaws.{unwritten-barred}
+use Rattle.moving_laws.proofs.FirstLaws.{first-told, first-none}
 use Rattle.moving.proofs.state.Moving.refuse_write.Goals as goal
 
 -- ---- refused before the backup is asked
@@ -45,7 +46,7 @@ invariant_of-self g c =
     let refusal = c.in-Some.refusal in
     let kept = resting-moves g.B.Bank.tells given tape scope a.epoch.first a.epoch.entries.items a.members (is_carried a.work) a.work.resync a.course (bytes_in a.course.window a.window.items) (left_in a.work a.members a.course a.ahead)
     c.args.who end (Refused refusal) was.kept goes (not_254 c.args.who.caller c.requires.caller) c.ops-end.ensures.count (quiet-refusal refusal) (λ told is. is)
-    (λ t right. first-right was.kept was.limited c.relied_sector-relied.result c.args.at (c.args.at + c.args.count) refusal c.relied_sector-relied.ensures.value c.in-Some.ensures t right) in
+    (λ t right. first-right was.kept was.limited c.relied_sector-relied.result c.args.at (c.args.at + c.args.count) refusal c.relied_sector-relied.ensures.value c.in-Some.ensures.why t right) in
     ready (entries_of c.args.who end (Refused refusal ∷ [])) was (grows-none (λ t. refl)) (shapes-same a.members.newest) kept
     refl (λ slot. omega arith) (alone-keeps c.args.who end (Refused refusal) (λ n. refl) (λ limit. refl)) (λ none whole. whole) refl (scope-same given (Some a.backup) refl c.enter.ensures.uuid c.enter.ensures.given) c.enter.ensures.first refl c.enter.ensures.items
     (let had = was.room_left in let room = c.enter.ensures.room in omega (arith, room, had, steps))
@@ -88,11 +89,11 @@ returns-in-Some-clause-caused g c =
     let to = c.args.at + c.args.count in
     let relied = relied_sector a.members.newest a.work.resync in
     rw (← c.self.view_is) (unwritten-barred a.course.window (visible_size a.members a.limit) relied c.args.at to a.members c.in-Some.refusal
-    (subst (λ (n : ℕ). IsRefusedFor (visible_size a.members a.limit) to (IsListUnwritten n c.args.at to) a.members a.members c.in-Some.refusal) c.relied_sector-relied.ensures.value c.in-Some.ensures))
+    (subst (λ (n : ℕ). IsRefusedFor (visible_size a.members a.limit) to (IsListUnwritten n c.args.at to) a.members a.members c.in-Some.refusal) c.relied_sector-relied.ensures.value c.in-Some.ensures.why))
 
 pub returns-in-Some-clause-backup : goal.returns-in-Some-clause-backup
 returns-in-Some-clause-backup g c = λ is.
-    unwritten-never (visible_size c.self.inside.members c.self.inside.limit) c.relied_sector-relied.result c.args.at (c.args.at + c.args.count) c.self.inside.members c.in-Some.refusal c.in-Some.ensures (let same = is in cc)
+    unwritten-never (visible_size c.self.inside.members c.self.inside.limit) c.relied_sector-relied.result c.args.at (c.args.at + c.args.count) c.self.inside.members c.in-Some.refusal c.in-Some.ensures.why (let same = is in cc)
 
 -- ---- the backup fails
 
@@ -103,6 +104,14 @@ pub returns-clause-caused : goal.returns-clause-caused
 returns-clause-caused g c =
     let old = c.args.self.now in
     let to = c.args.at + c.args.count in
-    let within = subst (λ p. to ≤ visible_in p) c.self.view_is c.in_default.ensures.0 in
+    let within = subst (λ p. to ≤ visible_in p) c.self.view_is c.in_default.ensures.why.0 in
     backup-caused old.course.window (visible_in old) (relied_sector old.parts.members.newest old.parts.work.resync) c.args.at to old.parts.members c.clear.new.self.parts.members c.clear.result
     c.clear.ensures.refused within c.requires.touches
+
+-- ---- which refusal is the first
+
+pub returns-in-Some-clause-first : goal.returns-in-Some-clause-first
+returns-in-Some-clause-first g c = rw (← c.self.view_is) (first-told _ c.in-Some.refusal c.in-Some.ensures.first)
+
+pub returns-clause-first : goal.returns-clause-first
+returns-clause-first g c = rw (← c.self.view_is) (first-none _ c.clear.result c.in_default.ensures.first)

@@ -35,6 +35,7 @@ use Rattle.moving_laws.proofs.running_words_Called.{not_254, called, alone-lossl
 use Rattle.moving_laws.proofs.Kept.{ready, shapes-same, shapes-moved, alone-keeps, behind-keeps, behind-whole, left-moved}
 use Rattle.moving_laws.proofs.Settled.{risen-told}
 use Rattle.moving_laws.proofs.WriteLaws.{first-right, wrote-kept, unwritten-kept, with-rooms, failure-keeps, failure-whole, torn-missing}
+use Rattle.moving_laws.proofs.FirstLaws.{first-told, first-none}
 use Rattle.moving.proofs.state.Moving.write_beside.Goals as goal
 
 -- ---- refused before any row is read
@@ -53,7 +54,7 @@ invariant_of-self g c =
     let refusal = c.in-Some.refusal in
     let kept = resting-moves g.B.Bank.tells given tape scope a.epoch.first a.epoch.entries.items a.members (is_carried a.work) a.work.resync a.course (bytes_in a.course.window a.window.items) (left_in a.work a.members a.course a.ahead)
     c.args.who end (Refused refusal) was.kept goes (not_254 c.args.who.caller c.requires.caller) c.ops-end.ensures.count (quiet-refusal refusal) (λ told is. is)
-    (λ t right. first-right was.kept was.limited c.relied_sector-relied.result c.args.at to refusal c.relied_sector-relied.ensures.value c.in-Some.ensures t right) in
+    (λ t right. first-right was.kept was.limited c.relied_sector-relied.result c.args.at to refusal c.relied_sector-relied.ensures.value c.in-Some.ensures.why t right) in
     ready (entries_of c.args.who end (Refused refusal ∷ [])) was (grows-none (λ t. refl)) (shapes-same a.members.newest) kept
     refl (λ slot. omega arith) (alone-keeps c.args.who end (Refused refusal) (λ n. refl) (λ limit. refl)) (λ none whole. whole) refl (scope-same given (Some a.backup) refl c.enter.ensures.uuid c.enter.ensures.given) c.enter.ensures.first refl c.enter.ensures.items
     (let had = was.room_left in let room = c.enter.ensures.room in omega (arith, room, had, steps))
@@ -83,7 +84,7 @@ pub returns-in-Some-clause-caused : goal.returns-in-Some-clause-caused
 returns-in-Some-clause-caused g c =
     let a = c.self.inside in
     let to = c.args.at + length c.args.from.now / 512 in
-    rw (← c.self.view_is) (subst (λ (n : ℕ). IsRefusedFor (visible_size a.members a.limit) to (IsListUnwritten n c.args.at to) a.members a.members c.in-Some.refusal) c.relied_sector-relied.ensures.value c.in-Some.ensures)
+    rw (← c.self.view_is) (subst (λ (n : ℕ). IsRefusedFor (visible_size a.members a.limit) to (IsListUnwritten n c.args.at to) a.members a.members c.in-Some.refusal) c.relied_sector-relied.ensures.value c.in-Some.ensures.why)
 
 -- ---- the roles, and the sectors
 
@@ -113,7 +114,7 @@ newly_vacant-roles-requires-clause-few g c =
 
 pub put_list-done-requires-clause-within : goal.put_list-done-requires-clause-within
 put_list-done-requires-clause-within g c =
-    let within = c.in_default.ensures.0 in
+    let within = c.in_default.ensures.why.0 in
     let below = visible-within (list_length c.self.inside.members.newest) c.self.inside.limit in
     omega (arith, within, below)
 
@@ -147,10 +148,10 @@ invariant_of-self-in-Some-refusal g c =
     let since : AreLostSince a.members m roles spares before after = lost-since given a.members m c.len-count.result c.vacant_roles-before.result roles spares before after here.placed did.moved did.failed
     (c.len-count.ensures ∙ here.backed.roles) c.vacant_roles-before.ensures c.newly_vacant-roles.ensures in
     let fine : (refusal : Refusal) → IsListUnwritten relied at to a.members refusal → ⊥ =
-    c.in_default.ensures.1 in
+    c.in_default.ensures.why.1 in
     let put : ArePut g.B.Bank.tells given tape tape' a.members m a.course at from relied roles begun =
     record {
-      within = let within = c.in_default.ensures.0 in let below = visible-within (list_length a.members.newest) a.limit in omega (arith, within, below);
+      within = let within = c.in_default.ensures.why.0 in let below = visible-within (list_length a.members.newest) a.limit in omega (arith, within, below);
       beside = subst (λ p. (x : ℕ) → at ≤ x → x < to → covers (span_in p.course.window) x ≡ false) (sym c.self.view_is) c.requires.beside;
       moved = did.moved;
       few = few-roles m.newest did.moved.placed.fit.valid;
@@ -160,7 +161,7 @@ invariant_of-self-in-Some-refusal g c =
       stays = did.stays;
       safe = did.safe;
     } in
-    let kept = unwritten-kept a.course a.ahead (bytes_in a.course.window a.window.items) c.args.who end roles spares at from relied begun was.kept goes c.requires.caller c.ops-end-2.ensures.count did.grows was.limited c.in_default.ensures.0 c.requires.some fine c.relied_sector-relied.ensures.value put refusal
+    let kept = unwritten-kept a.course a.ahead (bytes_in a.course.window a.window.items) c.args.who end roles spares at from relied begun was.kept goes c.requires.caller c.ops-end-2.ensures.count did.grows was.limited c.in_default.ensures.why.0 c.requires.some fine c.relied_sector-relied.ensures.value put refusal
     (record {
       refused = some-of (IsListUnwritten relied at to m) c.put_list-done.result.refusal refusal is did.refused;
       torn = λ begun. some-of (IsListTorn at to m) c.put_list-done.result.refusal refusal is (did.torn begun);
@@ -222,7 +223,7 @@ returns-in-Some-refusal-clause-caused g c =
     let refusal = c.in-Some-refusal.refusal in
     let why = subst (λ (n : ℕ). IsListUnwritten n at to m refusal) c.relied_sector-relied.ensures.value
     (some-of (IsListUnwritten c.relied_sector-relied.result at to m) c.put_list-done.result.refusal refusal c.in-Some-refusal.is c.put_list-done.ensures.refused) in
-    rw (← c.self.view_is) (refused-for (visible_size a.members a.limit) to (IsListUnwritten relied at to) a.members m refusal (torn-missing relied at to m refusal why) c.in_default.ensures.0 why)
+    rw (← c.self.view_is) (refused-for (visible_size a.members a.limit) to (IsListUnwritten relied at to) a.members m refusal (torn-missing relied at to m refusal why) c.in_default.ensures.why.0 why)
 
 pub returns-in-Some-refusal-clause-left : goal.returns-in-Some-refusal-clause-left
 returns-in-Some-refusal-clause-left g c =
@@ -258,10 +259,10 @@ invariant_of-self-2 g c =
     let since : AreLostSince a.members m roles spares before after = lost-since given a.members m c.len-count.result c.vacant_roles-before.result roles spares before after here.placed did.moved did.failed
     (c.len-count.ensures ∙ here.backed.roles) c.vacant_roles-before.ensures c.newly_vacant-roles.ensures in
     let fine : (refusal : Refusal) → IsListUnwritten relied at to a.members refusal → ⊥ =
-    c.in_default.ensures.1 in
+    c.in_default.ensures.why.1 in
     let put : ArePut g.B.Bank.tells given tape tape' a.members m a.course at from relied roles begun =
     record {
-      within = let within = c.in_default.ensures.0 in let below = visible-within (list_length a.members.newest) a.limit in omega (arith, within, below);
+      within = let within = c.in_default.ensures.why.0 in let below = visible-within (list_length a.members.newest) a.limit in omega (arith, within, below);
       beside = subst (λ p. (x : ℕ) → at ≤ x → x < to → covers (span_in p.course.window) x ≡ false) (sym c.self.view_is) c.requires.beside;
       moved = did.moved;
       few = few-roles m.newest did.moved.placed.fit.valid;
@@ -271,7 +272,7 @@ invariant_of-self-2 g c =
       stays = did.stays;
       safe = did.safe;
     } in
-    let kept = wrote-kept a.course a.ahead (bytes_in a.course.window a.window.items) c.args.who end roles spares at from relied begun was.kept goes c.requires.caller c.ops-end-2.ensures.count did.grows was.limited c.in_default.ensures.0 c.requires.some fine c.relied_sector-relied.ensures.value put
+    let kept = wrote-kept a.course a.ahead (bytes_in a.course.window a.window.items) c.args.who end roles spares at from relied begun was.kept goes c.requires.caller c.ops-end-2.ensures.count did.grows was.limited c.in_default.ensures.why.0 c.requires.some fine c.relied_sector-relied.ensures.value put
     (record { bytes = λ i. (c.type_inv.from i).fits; whole = c.requires.whole; put = did.put none; tail = did.tail none; ends = did.ends none; others = did.others; good = did.good none }) in
     with-rooms did.rows did.buffer did.far_rows did.far_buffer
     (ready (entries_of c.args.who end (losses_of roles spares ++ Wrote at (sectors_of from) ∷ [])) was did.grows (shapes-moved given a.members m did.moved) kept
@@ -321,8 +322,8 @@ returns-clause-caused g c =
     let a = c.self.inside in
     let to = c.args.at + length c.args.from.now / 512 in
     rw (← c.self.view_is) (
-      c.in_default.ensures.0,
-      λ refusal why. c.in_default.ensures.1 refusal (subst (λ (n : ℕ). IsListUnwritten n c.args.at to a.members refusal) (sym c.relied_sector-relied.ensures.value) why),
+      c.in_default.ensures.why.0,
+      λ refusal why. c.in_default.ensures.why.1 refusal (subst (λ (n : ℕ). IsListUnwritten n c.args.at to a.members refusal) (sym c.relied_sector-relied.ensures.value) why),
     )
 
 pub returns-clause-dirty : goal.returns-clause-dirty
@@ -343,3 +344,14 @@ returns-in-Some-refusal-clause-failed g c = rw (← c.self.view_is) c.put_list-d
 
 pub returns-clause-failed : goal.returns-clause-failed
 returns-clause-failed g c = rw (← c.self.view_is) c.put_list-done.ensures.failed.roles
+
+-- ---- which refusal is the first
+
+pub returns-in-Some-clause-first : goal.returns-in-Some-clause-first
+returns-in-Some-clause-first g c = rw (← c.self.view_is) (first-told _ c.in-Some.refusal c.in-Some.ensures.first)
+
+pub returns-in-Some-refusal-clause-first : goal.returns-in-Some-refusal-clause-first
+returns-in-Some-refusal-clause-first g c = rw (← c.self.view_is) (first-none _ _ c.in_default.ensures.first)
+
+pub returns-clause-first : goal.returns-clause-first
+returns-clause-first g c = rw (← c.self.view_is) (first-none _ _ c.in_default.ensures.first)

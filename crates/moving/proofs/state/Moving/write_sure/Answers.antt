@@ -23,6 +23,8 @@ use Rattle.moving_laws.proofs.running_words_Called.{called}
 use Rattle.moving_laws.proofs.Kept.{roomier, long-same}
 use Rattle.moving_laws.proofs.WriteLaws.{failed-then, beside-of, touched-open, roomed, called-then, called-roomed, alone-caused, refused-caused, behind-caused, alone-entered, refused-entered, behind-entered, untouched, never-ok}
 use Rattle.moving_laws.proofs.WriteReplies.{write-answered}
+use Rattle.md_base.specs.declared.answers.Fault.TheVariants.{NoMemory}
+use Rattle.moving_laws.proofs.FirstLaws.{first-short, first-done}
 use Rattle.moving.proofs.state.Moving.write_sure.Goals as goal
 
 -- ---- memory is short
@@ -200,3 +202,20 @@ returns-clause-answered g c =
     let limited = subst (λ p. limit_of p.parts.entries ≡ p.limit) c.self.view_is c.self.invariant.limited in
     write-answered old.course.window (list_length old.parts.members.newest) old.limit (relied_sector old.parts.members.newest old.parts.work.resync) at (at + length c.args.from.now / 512) (sectors_of c.args.from.now) c.args.who old.parts.entries new.parts.entries old.parts.members new.parts.members
     (left_in new.parts.work new.parts.members new.course new.ahead) (omega (arith, long)) c.requires.next sized limited c.write_beside-2.result (returns-clause-entered g c) (returns-clause-caused g c)
+
+-- ---- which refusal is the first
+
+pub returns-in-Err-clause-first : goal.returns-in-Err-clause-first
+returns-in-Err-clause-first g c = first-short _ NoMemory refl
+
+pub returns-in-Err-make_room-clause-first : goal.returns-in-Err-make_room-clause-first
+returns-in-Err-make_room-clause-first g c = first-short _ NoMemory refl
+
+pub returns-then-not-meets-clause-first : goal.returns-then-not-meets-clause-first
+returns-then-not-meets-clause-first g c = rw (← c.self.view_is) c.write_beside.ensures.first
+
+pub returns-in-Err-finish_for-clause-first : goal.returns-in-Err-finish_for-clause-first
+returns-in-Err-finish_for-clause-first g c = rw (← c.self.view_is) c.in-Err-finish_for.ensures.first
+
+pub returns-clause-first : goal.returns-clause-first
+returns-clause-first g c = rw (← c.self.view_is) (first-done _ _ c.write_beside-2.result c.in-Ok-finish_for.ensures.first)
