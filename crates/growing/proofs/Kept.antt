@@ -1,10 +1,8 @@
 -- What an array without a reshape keeps behind the reply to a request to grow.
-use Rattle.std.proofs.Common.{◌≡◌, ◌≢◌, inl, inr, ℕ, ◌+◌, ◌*◌, ◌<◌, ◌≤◌, length, Option, Some, None, List, [], ◌∷◌, ◌++◌, refl, sym, ◌∙◌, ap, subst, arith, min}
+use Rattle.std.proofs.Common.{◌≡◌, ◌≢◌, inl, inr, ℕ, ◌+◌, ◌*◌, ◌<◌, ◌≤◌, length, Option, Some, None, List, [], ◌∷◌, ◌++◌, refl, sym, ◌∙◌, ap, subst, arith}
 use Rattle.std.specs.Prelude.{Bool, true, false, nat_lt, if◌then◌else◌, IfSome, IfOk, Result, Ok, Err, option_map}
-use Rattle.std.specs.Option.{option_map_or}
 use Rattle.std.proofs.lemmas.Bool.{cases_lt}
 use Rattle.std.proofs.lemmas.Bool.Decides.{nat_tests}
-use Rattle.std.proofs.lemmas.List.Sums.{fold-append}
 use Rattle.md_base.specs.declared.answers.Refusal.TheVariants.{NeedBackup, BackupTooSmall}
 use Rattle.md_base.specs.declared.answers.Who.{Who}
 use Rattle.md_base.specs.declared.wishes.Wish.{Wish}
@@ -15,7 +13,7 @@ use Rattle.superblocks.specs.declared.members.Members.{Members}
 use Rattle.superblocks.specs.Reading.{Scope, shape_of, list_length}
 use Rattle.flat_history.specs.declared.events.Entry.{Entry}
 use Rattle.flat_history.specs.declared.events.Event.TheVariants.{Planned}
-use Rattle.flat_history.specs.Flat.{next_number, length_of, limit_after, limit_of, visible_of}
+use Rattle.flat_history.specs.Flat.{next_number}
 use Rattle.flat_history.specs.Plain.{entries_of}
 use Rattle.views.specs.declared.work.Work.{Work}
 use Rattle.call_entries.proofs.LeftLaws.{fold-left}
@@ -26,8 +24,9 @@ use Rattle.grow_asked.specs.Left.{phases_of}
 use Rattle.kept_history.proofs.Records.{begins-going}
 use Rattle.turning.specs.still_kept_Still.{IsStill}
 use Rattle.turning.proofs.still_kept_Resting.{resting-stands}
-use Rattle.turning.specs.running_words_Parts.{visible_size, still_left}
+use Rattle.turning.specs.running_words_Parts.{still_left}
 use Rattle.turning.proofs.running_words_Called.{not_254}
+use Rattle.turning.proofs.running_words_Visible.{limit-kept}
 use Rattle.turning.specs.still_laws_Ready.{IsReady}
 use Rattle.turning.proofs.still_laws_Kept.{plainly-more}
 use Rattle.turning.proofs.still_laws_Plain.{IsLeftPlain, turned-plain, turns-behind}
@@ -60,7 +59,7 @@ planned-ready {tells = tells} {given = given} {tape = tape} {scope = scope} {sco
     (record {
       kept = subst (λ (n : ℕ). IsStill tells given tape scope first (entries ++ entries_of who end (Planned left wish ∷ [])) m work n) left_is (planned-stands who end wish left was.kept number caller at_end);
       sized = length-more (list_length m.newest) entries (entries_of who end (Planned left wish ∷ [])) was.sized refl;
-      limited = fold-append (λ (limit : Option ℕ) e. limit_after limit e.event) None entries (entries_of who end (Planned left wish ∷ [])) ∙ was.limited;
+      limited = limit-kept limit entries (entries_of who end (Planned left wish ∷ [])) was.limited refl;
       planned = sound;
       failed = was.failed;
       room_left = room_left;
@@ -110,10 +109,3 @@ wide-backup given backup a wish same none some = by backup a.backup refl same
 pub ok-map : {T E : Type 0} (r : Result T E) (P Q : T → Type 0) → ((v : T) → P v → Q v) → IfOk r P → IfOk r Q
 ok-map (Ok v) P Q f is = f v is
 ok-map (Err e) P Q f is = tt
-
--- ---- the list
-
--- as much of it can be seen as the entries tell
-pub visible-told : (members : Members) (limit : Option ℕ) (entries : List Entry) → limit_of entries ≡ limit → length_of (list_length members.newest) entries ≡ list_length members.newest
-    → visible_of (list_length members.newest) entries ≡ visible_size members limit
-visible-told members limit entries limited sized i = option_map_or (λ n. min n (sized i)) (limited i) (sized i)

@@ -76,7 +76,10 @@ pub fn refuse_grow<B: Bank>(
 {
     let (moving, entered) = enter_busy(moving, who);
     match entered {
-        Ok(()) => (moving, Err(Fault::Refused(Refusal::Busy(BusyKind::Reshape)))),
+        Ok(()) => (
+            moving,
+            Err(Fault::Refused(Refusal::Busy(BusyKind::Reshape))),
+        ),
         Err(_) => (moving, Err(Fault::NoMemory)),
     }
 }
@@ -98,7 +101,10 @@ pub fn refuse_limit<B: Bank>(
 {
     let (moving, entered) = enter_busy(moving, asked.0);
     match entered {
-        Ok(()) => (moving, Err(Fault::Refused(Refusal::Busy(BusyKind::Reshape)))),
+        Ok(()) => (
+            moving,
+            Err(Fault::Refused(Refusal::Busy(BusyKind::Reshape))),
+        ),
         Err(_) => (moving, Err(Fault::NoMemory)),
     }
 }

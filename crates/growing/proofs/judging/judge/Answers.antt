@@ -1,10 +1,11 @@
 use Rattle.std.proofs.Common.{◌≡◌, ℕ, length, ◌∙◌, ap, subst}
 use Rattle.std.specs.Prelude.{option_map}
 use Rattle.bank.specs.Given.{sizes}
+use Rattle.superblocks.specs.Reading.{list_length}
 use Rattle.grow_asked.specs.Asked.{asked_of, grow_refusal}
 use Rattle.grow_asked.specs.Left.{phases_of}
 use Rattle.turning.specs.running_words_Parts.{visible_size, visible_in}
-use Rattle.growing.proofs.Kept.{visible-told}
+use Rattle.turning.proofs.running_words_Visible.{visible-is}
 use Rattle.growing.proofs.judging.judge.Goals as goal
 
 pub returns-clause-first : goal.returns-clause-first
@@ -20,4 +21,4 @@ pub returns-clause-visible : goal.returns-clause-visible
 returns-clause-visible g c =
     let was = c.take_apart-pieces.ensures.ready in
     let p = c.take_apart-pieces.result in
-    rw (c.take_apart-pieces.ensures.same) (visible-told p.members p.limit p.epoch.entries.items was.limited was.sized)
+    rw (c.take_apart-pieces.ensures.same) (visible-is (list_length p.members.newest) p.limit p.epoch.entries.items was.sized was.limited)

@@ -1,6 +1,7 @@
 use Rattle.std.proofs.Common.{◌≡◌, [], ◌∷◌, ◌++◌, List, refl, ◌∙◌, ap, subst, arith}
 use Rattle.md_base.specs.declared.answers.Refusal.TheVariants.{Busy}
 use Rattle.md_base.specs.declared.answers.BusyKind.TheVariants.{Reshape}
+use Rattle.superblocks.specs.Reading.{list_length}
 use Rattle.flat_history.specs.declared.events.Entry.{Entry}
 use Rattle.flat_history.specs.declared.events.Event.TheVariants.{Refused}
 use Rattle.flat_history.specs.Flat.{next_number}
@@ -10,7 +11,7 @@ use Rattle.array_kept.specs.Kept.{scope_in, world_in}
 use Rattle.array_kept.proofs.LossLaws.{ended-behind}
 use Rattle.array_kept.proofs.ReadyLaws.{scope-same}
 use Rattle.turning.proofs.moving_laws_Kept.{ready, roomier, shapes-same, alone-keeps}
-use Rattle.growing.proofs.Kept.{visible-told}
+use Rattle.turning.proofs.running_words_Visible.{visible-is}
 use Rattle.growing.proofs.Busy.{busy-fits, busy-moves}
 use Rattle.growing.proofs.refusing.enter_busy.Goals as goal
 
@@ -57,4 +58,4 @@ pub returns-clause-visible : goal.returns-clause-visible
 returns-clause-visible g c =
     let was = c.take_apart-pieces.ensures.ready in
     let p = c.take_apart-pieces.result.0 in
-    rw (c.take_apart-pieces.ensures.same) (visible-told p.members p.limit p.epoch.entries.items was.limited was.sized)
+    rw (c.take_apart-pieces.ensures.same) (visible-is (list_length p.members.newest) p.limit p.epoch.entries.items was.sized was.limited)
