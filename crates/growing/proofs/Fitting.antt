@@ -1,5 +1,5 @@
 -- The reply to a request to grow fits it.
-use Rattle.std.proofs.Common.{◌≤◌, append-nil, ◌≡◌, ℕ, Bool, true, min, take, take_all, Option, Some, None, List, [], ◌∷◌, ◌++◌, length, sym, ◌∙◌, ap, subst, arith}
+use Rattle.std.proofs.Common.{◌≤◌, append-nil, ◌≡◌, ℕ, Bool, true, take, take_all, Option, Some, None, List, [], ◌∷◌, ◌++◌, length, sym, ◌∙◌, ap, subst, arith}
 use Rattle.std.specs.Prelude.{IfSome, MatchBool, MatchOption, option_map, ⊤}
 use Rattle.std.specs.Option.{option_map_or}
 use Rattle.std.proofs.lemmas.List.Sums.{fold-append}
