@@ -53,8 +53,8 @@ FitsLine size before e (Step most) = RunningFits size before e (AsksSteps most)
 FitsLine size before e Wait = ⊥
 FitsLine size before e Stop = FitsStop e.event
 FitsLine size before e Halt = FitsHalt e.event
-FitsLine size before e Detail = IsShown size e.event
-FitsLine size before e Mdstat = IsShown size e.event
+FitsLine size before e Detail = IsShown size before e.event
+FitsLine size before e Mdstat = IsShown size before e.event
 FitsLine size before e (Examine slot) = ⊥
 FitsLine size before e (Assemble uuid) = ⊥
 
