@@ -1,5 +1,5 @@
 -- A request to limit how much of a list can be read and written: what is answered, and what it leaves.
-use Rattle.std.specs.Prelude.{◌≡◌, ℕ, ◌<◌, ◌×◌, ◌++◌, nat_lt, if◌then◌else◌, List, [], ◌∷◌, length, Option, Some, None, Result, Ok, Err, ⊤}
+use Rattle.std.specs.Prelude.{◌≡◌, ℕ, ◌<◌, ◌++◌, nat_lt, if◌then◌else◌, List, [], ◌∷◌, length, Option, Some, None, Result, Ok, Err, ⊤}
 use Rattle.std.specs.Option.{option_map_or}
 use Rattle.md_base.specs.declared.answers.BusyKind.TheVariants.{Plan}
 use Rattle.md_base.specs.declared.answers.Fault.{Fault}

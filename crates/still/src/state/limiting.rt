@@ -1,6 +1,6 @@
 //! How much of an array without an active reshape can be read and written.
 
-ghost use Rattle.std.specs.Prelude.{◌≡◌, ◌≢◌, ◌^◌, ◌<◌, length};
+ghost use Rattle.std.specs.Prelude.{◌≡◌, ◌≢◌, ◌^◌, ◌<◌, nat_lt, length};
 ghost use Rattle.flat_history.specs.Flat.{next_number};
 ghost use Rattle.flat_history.specs.declared.events.Event.TheVariants.{Visible};
 ghost use Rattle.array_kept.specs.Calls.{IsEndOf, OnNoMemory, by_answer};
@@ -17,17 +17,30 @@ use grow_asked::PhasesLeft;
 use md_base::{BusyKind, Fault, Refusal, Who};
 use moving_state::asking::visible_of;
 
+// Whether a phase of a plan hasn't begun.
+fn is_planned(ahead: &PhasesLeft) -> bool
+    ensures { result ≡ nat_lt 0 (length (phases_of ahead.now)) }
+{
+    match (ahead.next, ahead.last) {
+        (None, None) => false,
+        (Some(_), None) | (None, Some(_)) | (Some(_), Some(_)) => true,
+    }
+}
+
 // Why a list of so many sectors isn't limited so: the first of `Busy` with a plan and `PastSize`.
 fn unlimited(ahead: &PhasesLeft, size: u64, limit: Option<u64>) -> Option<Refusal>
     ensures { result ≡ visible_refusal (length (phases_of ahead.now)) size limit }
 {
-    if ahead.next.is_some() | ahead.last.is_some() {
+    if is_planned(ahead) {
         return Some(Refusal::Busy(BusyKind::Plan));
     }
-    match limit {
-        Some(wished) if size < wished => Some(Refusal::PastSize(size)),
-        _ => None,
+    let Some(wished) = limit else {
+        return None;
+    };
+    if size < wished {
+        return Some(Refusal::PastSize(size));
     }
+    None
 }
 
 impl<B: Bank> Still<B> {
