@@ -1,0 +1,6 @@
+mod Leaving
+mod Plain
+mod Told
+mod Held
+mod GoneOn
+mod Done
