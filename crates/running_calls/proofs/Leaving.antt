@@ -20,7 +20,7 @@ abbrev pub LeavesLength : Event → Type 0
 LeavesLength event = (n : ℕ) → length_after n event ≡ n
 
 -- entries that tell a length tell it whatever was before; others leave it
-tells-or-leaves : (entries : List Entry) → ((n : ℕ) → length_of n entries ≡ n) ⊎ ((n m : ℕ) → length_of n entries ≡ length_of m entries)
+pub tells-or-leaves : (entries : List Entry) → ((n : ℕ) → length_of n entries ≡ n) ⊎ ((n m : ℕ) → length_of n entries ≡ length_of m entries)
 tells-or-leaves [] = inl (λ n. refl)
 tells-or-leaves (e ∷ entries) = of e.event refl (tells-or-leaves entries)
   where

@@ -1,6 +1,7 @@
-mod Leaving
+pub mod Leaving
+pub mod Sizes
 mod Plain
 mod Told
 mod Held
-mod GoneOn
+pub mod GoneOn
 mod Done
