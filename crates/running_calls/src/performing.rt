@@ -114,7 +114,7 @@ fn add<B: Bank>(array: &mut Running<B>, who: Who, slot: u32) -> Result<Event, No
     told(answer, Event::Added { slot })
 }
 
-fn limit<B: Bank>(
+fn set_limit<B: Bank>(
     array: &mut Running<B>,
     who: Who,
     limit: Option<u64>,
@@ -185,7 +185,7 @@ fn answer<B: Bank>(
         Request::Flush => flush(array, who),
         Request::Fail { role } => fail(array, who, role),
         Request::Add { slot } => add(array, who, slot),
-        Request::Visible { limit: wished } => limit(array, who, wished),
+        Request::Visible { limit: wished } => set_limit(array, who, wished),
         Request::Grow { wish } => grow(array, who, wish),
         Request::Steps { most } => steps(array, who, most),
         Request::Show => show(array, who),

@@ -4,7 +4,7 @@ use Rattle.flat_history.specs.declared.events.Event.TheVariants.{Visible}
 use Rattle.flat_history.specs.declared.events.Request.TheVariants.{Visible as AsksVisible}
 use Rattle.running_steps.specs.running_replies_Replies.{IsAnsweredWith}
 use Rattle.running_calls.proofs.GoneOn.{gone-run}
-use Rattle.running_calls.proofs.performing.limit.Goals as goal
+use Rattle.running_calls.proofs.performing.set_limit.Goals as goal
 
 pub returns-in-Ok-clause-replied : goal.returns-in-Ok-clause-replied
 returns-in-Ok-clause-replied g c =
