@@ -86,7 +86,7 @@ visible-told size long limit entries sized limited i = option_map_or (λ most. m
 pub performed-called : {B : Type 0} (size : ℕ) (request : Request) (who : Who) (old : RunningParts B) (new : List Entry) (event : Event) → who.number ≡ next_number who.caller old.parts.entries
     → length_of size old.parts.entries ≡ sectors_of old → TellsSizes old → IsPerformed request who old new event → (c : IsCalled size who request old.parts.entries new) × (c.reply.event ≡ event)
 performed-called size AsksShow who old new event number sized told shown =
-    let sizes = shown-sizes old shown.status shown.told in (
+    let shows = shown-sizes old shown.status shown.told in (
       record {
         inner = [];
         reply = record { caller = who.caller; number = who.number; end = shown.end; event = event };
@@ -96,7 +96,7 @@ performed-called size AsksShow who old new event number sized told shown =
         is = shown.is;
         answers = subst (λ (l : List Entry). IsShownAs (length_of size l) (visible_of size l) event) (sym (append-nil old.parts.entries))
             (subst (λ (e : Event). IsShownAs (length_of size old.parts.entries) (visible_of size old.parts.entries) e) (sym shown.event_is)
-            (sizes.0 ∙ sym sized, sizes.1 ∙ sym (visible-told size (sectors_of old) old.limit old.parts.entries sized told.limited)));
+            (shows.0 ∙ sym sized, shows.1 ∙ sym (visible-told size (sectors_of old) old.limit old.parts.entries sized told.limited)));
       },
       refl,
     )

@@ -15,6 +15,7 @@ use Rattle.flat_history.specs.declared.events.Request.TheVariants.{Write as Asks
 use Rattle.flat_history.specs.Flat.{length_of, limit_of, visible_of}
 use Rattle.array_kept.specs.Calls.{IsCausedBy}
 use Rattle.running_steps.specs.running_words_Parts.{visible_in}
+use Rattle.running_steps.specs.running_Calls.{IsWriteLackedIn}
 use Rattle.running_steps.specs.moving_laws_Writing.{IsWriteReplied}
 use Rattle.running_calls.proofs.Plain.{IsCallAnswered, answered-written, told-answer}
 use Rattle.running_calls.proofs.Told.{told-answered, write-told, barred-still, barred-backup}
@@ -50,7 +51,7 @@ entered g c =
     let tells = c.tells_sizes.ensures in
     let count = count_in c.as_bytes.result.now c.args.body c.as_bytes.ensures.sectors in
     answered-written size c.args.at c.args.body c.args.who old.parts.entries c.write-answer.new.self.parts.entries c.write-answer.result c.requires.next
-    (λ is. let upto = within (visible_in old) (c.args.at + length c.as_bytes.result.now / 512) _ old.parts.members c.write-answer.new.self.parts.members c.write-answer.result c.write-answer.ensures.caused is in
+    (λ is. let upto = within (visible_in old) (c.args.at + length c.as_bytes.result.now / 512) (IsWriteLackedIn old c.args.at (length c.as_bytes.result.now / 512)) old.parts.members c.write-answer.new.self.parts.members c.write-answer.result c.write-answer.ensures.caused is in
       let all = all-visible size old.limit old.parts.entries tells.sized tells.limited in
       omega (arith, upto, count, all))
     (subst (λ (b : List Sector). IsWriteReplied size c.args.at b c.args.who old.parts.entries c.write-answer.new.self.parts.entries c.write-answer.result) c.as_bytes.ensures.sectors c.write-answer.ensures.answered)
