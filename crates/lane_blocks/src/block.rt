@@ -3,7 +3,7 @@ ghost use Rattle.std.specs.Prelude.{◌≡◌, ◌≢◌, ◌≤◌, ℕ, [], �
 ghost use Rattle.std.specs.List.{All};
 ghost use Rattle.array_kept.specs.Calls.{IsEndOf};
 ghost use Rattle.shared_lanes.specs.running_calls_Going.{HasGoneOn};
-ghost use Rattle.shared_lanes.specs.running_calls_Replies.{IsAskable, TellsLength};
+ghost use Rattle.shared_lanes.specs.running_calls_Replies.{IsAskable};
 ghost use Rattle.shared_lanes.specs.running_Calls.{running_left};
 ghost use Rattle.turn_lock.specs.Passes.{Ended};
 ghost use Rattle.shared_lanes.specs.lanes_Pace.{AnswersSteps, asked_by};
@@ -59,7 +59,6 @@ pub fn run_block<B: Bank + Drop + Send, F: Fn(u64, u64) -> u64 + Sync, R: Thread
     pace: &Pace<F>,
 ) -> Result<Joined<B>, Running<B>>
     requires ended { IsEndOf B.tells array.parts.first array.parts.entries (B.tape array.parts.bank) }
-    requires told { TellsLength array }
     requires askable { All IsAskable first.items × All IsAskable second.items }
     requires callable { F.IsAlwaysCallable (asked_by pace.now) }
     requires answers { AnswersSteps (F.post (asked_by pace.now)) }
@@ -67,7 +66,6 @@ pub fn run_block<B: Bank + Drop + Send, F: Fn(u64, u64) -> u64 + Sync, R: Thread
     ensures later { IfOk result (λ t. IsEarlier B.tells B.given B.tape array t.array) }
     ensures went { IfOk result (λ t. HasGoneOn B.tells B.given B.tape B.faults_of array t.array) }
     ensures ended { IfOk result (λ t. IsEndOf B.tells t.array.parts.first t.array.parts.entries (B.tape t.array.parts.bank)) }
-    ensures told { IfOk result (λ t. TellsLength t.array) }
     ensures first { IfOk result (λ t. HasRun array t.array 1 first.items t.first.items) }
     ensures second { IfOk result (λ t. HasRun array t.array 2 second.items t.second.items) }
     ensures worked { IfOk result (λ t. HasWorkedBy (HasRun array t.array 255) (F.post (asked_by pace.now)) (running_left array) t.worked) }

@@ -47,29 +47,3 @@ performed-some request who old new event was =
     either-done (1 ≤ length new) who old new event
     (λ shown. longer old.parts.entries [] new (one who shown.end event) shown.is)
     (λ asked done. longer old.parts.entries done.inner new (one who done.end event) done.is) request was
-
--- ---- it tells the list's length, and no limit
-
-limit-shown : (old new : List Entry) (e : Entry) (event : Event) → new ≡ old ++ e ∷ [] → e.event ≡ event → ((limit : Option ℕ) → limit_after limit event ≡ limit) → limit_of new ≡ limit_of old
-limit-shown old new e event is event_is leaves =
-    ap limit_of is ∙ fold-append (λ (limit : Option ℕ) (x : Entry). limit_after limit x.event) None old (e ∷ [])
-    ∙ ap (λ (x : Event). limit_after (limit_of old) x) event_is ∙ leaves (limit_of old)
-
-limit-performed : {B : Type 0} (request : Request) (who : Who) (old : RunningParts B) (new : List Entry) (event : Event) → IsPerformed request who old new event → limit_of new ≡ limit_of old.parts.entries
-limit-performed request who old new event was =
-    either-done (limit_of new ≡ limit_of old.parts.entries) who old new event
-    (λ shown. limit-shown old.parts.entries new (one who shown.end event) (Shown shown.status) shown.is shown.event_is (λ limit. refl))
-    (λ asked done. ap limit_of done.is ∙ limit-call old.parts.entries done.inner (one who done.end event) (list_length old.parts.members.newest) (old.parts.entries ++ done.inner)
-    (call_before (old.parts.entries ++ done.inner) (one who done.end event)) asked done.inside done.fits.answers)
-    request was
-
-pub done-tells : {B : Type 0} (tells : Type 0) (given : B → Given) (tape : B → List Operation) (faults : B → ℕ → ℕ) (request : Request) (who : Who) (old new : RunningParts B) (event : Event)
-    → TellsLength old → IsPerformed request who old new.parts.entries event → HasGoneOn tells given tape faults old new → TellsLength new
-done-tells tells given tape faults request who old new event was did went = record {
-  sized = ap (λ (l : List Entry). length_of (list_length new.parts.members.newest) l) went.grown
-      ∙ sized-again (list_length old.parts.members.newest) (list_length new.parts.members.newest) old.parts.entries went.more was.sized went.sized;
-  unlimited = limit-performed request who old new.parts.entries event did ∙ was.unlimited;
-}
-
-pub none-tells : {B : Type 0} (old new : RunningParts B) → TellsLength old → new ≡ old → TellsLength new
-none-tells old new was same = subst (λ (a : RunningParts B). TellsLength a) (sym same) was

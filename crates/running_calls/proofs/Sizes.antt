@@ -12,7 +12,7 @@ use Rattle.flat_history.specs.Fits.{IsReadRefused, IsWriteRefused}
 use Rattle.flat_history.specs.Flat.{length_after, length_of, limit_of, visible_of}
 use Rattle.flat_history.specs.Legal.{call_before}
 use Rattle.flat_history.specs.Transfers.{IsRefusedAt}
-use Rattle.running_steps.specs.running_replies_Replies.{MayRefuseGrow, RunningAnswers, RunningFits}
+use Rattle.running_steps.specs.running_replies_Replies.{MayRefuseGrow, MayRefuseLimit, RunningAnswers, RunningFits}
 use Rattle.running_calls.proofs.Leaving.{tells-or-leaves}
 
 -- by a length and by the one that more entries make of it, a history tells the same
@@ -53,6 +53,7 @@ answers-alike a b before call (AsksSteps most) (Refused Nothing) is was = was
 answers-alike a b before call (AsksSteps most) event is was = absurd was
 answers-alike a b before call (AsksGrow wish) (Refused refusal) is was = subst (λ (n : ℕ). MayRefuseGrow n refusal) (visible-alike a b before is) was
 answers-alike a b before call (AsksGrow wish) event is was = was
+answers-alike a b before call (AsksVisible limit) (Refused refusal) is was = subst (λ (n : ℕ). MayRefuseLimit n limit refusal) is was
 answers-alike a b before call (AsksVisible limit) event is was = was
 answers-alike a b before call AsksShow event is was = absurd was
 

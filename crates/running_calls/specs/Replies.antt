@@ -19,22 +19,22 @@ use Rattle.running_steps.specs.Steps.{IsStepCount}
 use Rattle.running_calls.specs.declared.reply.Reply.{Reply}
 use Rattle.running_calls.specs.declared.reply.Reply.TheVariants.{Done, NoMemory as Short}
 
--- A request that can be answered: 1 to 128 sectors are read or written, and a step is asked for at least. A wish keeps the level, and a limit can't be asked for yet.
+-- a request that can be answered: 1 to 128 sectors are read or written, a wish keeps the level, and a step is asked for at least
 abbrev pub IsAskable : Request → Type 0
 IsAskable (AsksRead at count) = (1 ≤ count) × (count ≤ 128) × (at + count < 2 ^ 63)
 IsAskable (AsksWrite at body) = (1 ≤ length body) × (length body ≤ 128) × (at + length body < 2 ^ 63)
 IsAskable AsksFlush = ⊤
 IsAskable (AsksFail role) = ⊤
 IsAskable (AsksAdd slot) = ⊤
-IsAskable (AsksVisible limit) = ⊥
+IsAskable (AsksVisible limit) = ⊤
 IsAskable (AsksGrow wish) = wish.level ≡ None
 IsAskable (AsksSteps most) = 1 ≤ most
 IsAskable AsksShow = ⊤
 
--- the history tells the list's length, wherever one counts from, and no limit
-pub record TellsLength {B : Type 0} (array : RunningParts B) : Type 0 where
+-- The history tells the list's length, where it tells one, and how much of it can be read and written.
+pub record TellsSizes {B : Type 0} (array : RunningParts B) : Type 0 where
   pub sized : length_of (list_length array.parts.members.newest) array.parts.entries ≡ list_length array.parts.members.newest
-  pub unlimited : limit_of array.parts.entries ≡ None
+  pub limited : limit_of array.parts.entries ≡ array.limit
 
 -- the event of a call's last entry, by its answer and the event of an Ok
 abbrev pub told_by : {T : Type 0} → Result T Fault → Event → Result Event NoMemory

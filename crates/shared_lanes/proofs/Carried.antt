@@ -77,7 +77,7 @@ module _ {B : Type 0} (tells : Type 0) (given : B → Given) (tape : B → List 
   entered at event told =
       let served = told.0 in
       let call = performed-called (sectors_of k.start) request (next_call pass.caller k.found.parts.entries) k.found k.after.parts.entries event refl
-      (sized-since k.start k.found k.before.went served.first) served.first served.replied.0 in
+      (sized-since k.start k.found k.before.went served.sizes) served.sizes served.replied.0 in
       let last : at + 1 ≡ length known'.seen.parts.entries = served.replied.1 ∙ ap (λ (x : RunningParts B). length x.parts.entries) (sym seen) in
       record {
         found = seen_of given tape k.found;

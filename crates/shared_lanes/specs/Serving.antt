@@ -8,7 +8,7 @@ use Rattle.flat_history.specs.Seen.{Seen}
 use Rattle.array_kept.specs.Calls.{world_for, IsEndOf}
 use Rattle.running_calls.specs.running_words_Parts.{RunningParts}
 use Rattle.running_calls.specs.Going.{HasGoneOn}
-use Rattle.running_calls.specs.Replies.{IsAskable, TellsLength, IsRepliedBy, IsCountedBy, OnReply}
+use Rattle.running_calls.specs.Replies.{IsAskable, TellsSizes, IsRepliedBy, IsCountedBy, OnReply}
 use Rattle.lanes.specs.running_calls_the_Reply.{Reply}
 use Rattle.lanes.specs.running_calls_the_Reply_TheVariants.{Done, NoMemory as Short}
 use Rattle.turn_lock.specs.declared.call.Call.{Call}
@@ -38,10 +38,9 @@ pub record IsEarlier {B : Type 0} (tells : Type 0) (given : B → Given) (tape :
   pub given_is : given new.parts.bank ≡ given old.parts.bank
   pub full : most_entries ≤ length old.parts.entries → new.parts.entries ≡ old.parts.entries
 
--- the tape ends where the last entry does, and the history tells the list's length
-pub record IsSound {B : Type 0} (tells : Type 0) (tape : B → List Operation) (x : RunningParts B) : Type 0 where
-  pub ended : IsEndOf tells x.parts.first x.parts.entries (tape x.parts.bank)
-  pub told : TellsLength x
+-- the tape ends where the last entry does
+abbrev pub IsSound : {B : Type 0} → Type 0 → (B → List Operation) → RunningParts B → Type 0
+IsSound tells tape x = IsEndOf tells x.parts.first x.parts.entries (tape x.parts.bank)
 
 -- a request that a caller may make: the opening's number is nobody's
 abbrev pub MayAsk : ℕ → Request → Type 0
@@ -59,8 +58,8 @@ pub record IsServed {B : Type 0} (tells : Type 0) (given : B → Given) (tape : 
   pub replied : IsRepliedBy request (next_call caller old.parts.entries) old new reply
   pub counted : OnReply reply (λ event. IsCountedBy request old new event)
   pub went : HasGoneOn tells given tape faults old new
-  pub first : TellsLength old
-  pub sound : IsSound tells tape new
+  pub sizes : TellsSizes old
+  pub ended : IsSound tells tape new
 
 -- each request with the place of its reply
 abbrev pub requests_of : List (Call Request) → List (Request × ℕ)

@@ -1,5 +1,5 @@
 -- The laws of an array, for a lock.
-use Rattle.std.proofs.Common.{◌≡◌, ◌≢◌, ◌⊎◌, inl, inr, ℕ, ◌-◌, ◌<◌, ◌≤◌, min, Bool, true, false, Option, None, List, [], ◌∷◌, ◌++◌, length, refl, sym, ap, ◌∙◌, subst, arith, append-nil, length-append}
+use Rattle.std.proofs.Common.{◌≡◌, ◌≢◌, ◌⊎◌, inl, inr, ℕ, ◌-◌, ◌<◌, ◌≤◌, min, Bool, true, false, Option, List, [], ◌∷◌, ◌++◌, length, refl, sym, ap, ◌∙◌, subst, arith, append-nil, length-append}
 use Rattle.std.proofs.lemmas.List.{map-append}
 use Rattle.std.proofs.lemmas.Bool.{cases_lt}
 use Rattle.std.proofs.lemmas.List.Elements.{All-nil}
@@ -17,12 +17,12 @@ use Rattle.flat_history.specs.declared.events.Request.TheVariants.{Show as AsksS
 use Rattle.flat_history.specs.Flat.{next_number, length_of, limit_of, visible_of}
 use Rattle.flat_history.specs.OneShape.{IsOfCall}
 use Rattle.flat_history.specs.Seen.{BeginsWith}
-use Rattle.running_calls.specs.running_words_Parts.{RunningParts}
+use Rattle.running_calls.specs.running_words_Parts.{RunningParts, visible_in}
 use Rattle.running_calls.specs.running_words_Calls.{IsStatusFor}
 use Rattle.running_calls.specs.running_words_Still.{IsStillStatus}
 use Rattle.running_calls.specs.running_Calls.{IsShownAs as IsShownOf}
 use Rattle.running_calls.specs.Going.{HasGoneOn}
-use Rattle.running_calls.specs.Replies.{TellsLength, IsShownBy, IsPerformed}
+use Rattle.running_calls.specs.Replies.{TellsSizes, IsShownBy, IsPerformed}
 use Rattle.running_calls.proofs.Sizes.{length-since, fits-since}
 use Rattle.running_calls.proofs.GoneOn.{gone-none, gone-then}
 use Rattle.lanes.specs.running_calls_the_Reply.{Reply}
@@ -63,28 +63,28 @@ module _ {B : Type 0} {tells : Type 0} {given : B → Given} {tape : B → List 
   earlier-of x y now whole whole' p q le =
       let few = fewer x y now p q le in
       record {
-        before = shorter-before (seen_of given tape x) (seen_of given tape y) (seen_of given tape now) whole.ended whole'.ended p.before q.before few;
+        before = shorter-before (seen_of given tape x) (seen_of given tape y) (seen_of given tape now) whole whole' p.before q.before few;
         given_is = sym q.given_is ∙ p.given_is;
         full = λ full. sym (q.full (omega (arith, full, few))) ∙ p.full full;
       }
 
 -- ---- a call
 
--- a status of the array tells the list's length, and that all of it can be read and written
-shown-sizes : {B : Type 0} (array : RunningParts B) (status : Status) → IsShownOf array status → (status.length ≡ sectors_of array) × (status.visible ≡ sectors_of array)
+-- a status of the array tells the list's length, and how much of it can be read and written
+shown-sizes : {B : Type 0} (array : RunningParts B) (status : Status) → IsShownOf array status → (status.length ≡ sectors_of array) × (status.visible ≡ visible_in array)
 shown-sizes array status = of (is_reshaping array.parts.members.newest)
   where
-    of : (b : Bool) → MatchBool b (IsStatusFor array status) (IsStillStatus array status) → (status.length ≡ sectors_of array) × (status.visible ≡ sectors_of array)
+    of : (b : Bool) → MatchBool b (IsStatusFor array status) (IsStillStatus array status) → (status.length ≡ sectors_of array) × (status.visible ≡ visible_in array)
     of true shown = (shown.length, shown.visible)
     of false shown = (shown.length, shown.visible)
 
--- of a list of this length, limited nowhere, all can be read and written
-all-visible : (size long : ℕ) (entries : List Entry) → length_of size entries ≡ long → limit_of entries ≡ None → visible_of size entries ≡ long
-all-visible size long entries sized unlimited = ap (λ (o : Option ℕ). option_map_or (λ limit. min limit (length_of size entries)) o (length_of size entries)) unlimited ∙ sized
+-- as much can be read and written as entries tell that tell this length and limit
+visible-told : (size long : ℕ) (limit : Option ℕ) (entries : List Entry) → length_of size entries ≡ long → limit_of entries ≡ limit → visible_of size entries ≡ option_map_or (λ most. min most long) limit long
+visible-told size long limit entries sized limited i = option_map_or (λ most. min most (sized i)) (limited i) (sized i)
 
 -- what is told of a call is one call of the history, which ends with that event, over a list that had so many sectors at a start
 pub performed-called : {B : Type 0} (size : ℕ) (request : Request) (who : Who) (old : RunningParts B) (new : List Entry) (event : Event) → who.number ≡ next_number who.caller old.parts.entries
-    → length_of size old.parts.entries ≡ sectors_of old → TellsLength old → IsPerformed request who old new event → (c : IsCalled size who request old.parts.entries new) × (c.reply.event ≡ event)
+    → length_of size old.parts.entries ≡ sectors_of old → TellsSizes old → IsPerformed request who old new event → (c : IsCalled size who request old.parts.entries new) × (c.reply.event ≡ event)
 performed-called size AsksShow who old new event number sized told shown =
     let shows = shown-sizes old shown.status shown.told in (
       record {
@@ -96,7 +96,7 @@ performed-called size AsksShow who old new event number sized told shown =
         is = shown.is;
         answers = subst (λ (l : List Entry). IsShownAs (length_of size l) (visible_of size l) event) (sym (append-nil old.parts.entries))
             (subst (λ (e : Event). IsShownAs (length_of size old.parts.entries) (visible_of size old.parts.entries) e) (sym shown.event_is)
-            (shows.0 ∙ sym sized, shows.1 ∙ sym (all-visible size (sectors_of old) old.parts.entries sized told.unlimited)));
+            (shows.0 ∙ sym sized, shows.1 ∙ sym (visible-told size (sectors_of old) old.limit old.parts.entries sized told.limited)));
       },
       refl,
     )
@@ -118,7 +118,7 @@ module _ {B : Type 0} {tells : Type 0} {given : B → Given} {tape : B → List 
   served-called : (size : ℕ) (old new : RunningParts B) (caller : ℕ) (request : Request) (reply : Reply) → length_of size old.parts.entries ≡ sectors_of old
       → IsServed tells given tape faults old new caller request reply → IsCalled size (next_call caller old.parts.entries) request old.parts.entries new.parts.entries
   served-called size old new caller request (Done at event) sized served =
-      (performed-called size request (next_call caller old.parts.entries) old new.parts.entries event refl sized served.first served.replied.0).0
+      (performed-called size request (next_call caller old.parts.entries) old new.parts.entries event refl sized served.sizes served.replied.0).0
   served-called size old new caller request Short sized served = absurd (no served.done)
     where
       no : false ≡ true → ⊥
@@ -127,7 +127,7 @@ module _ {B : Type 0} {tells : Type 0} {given : B → Given} {tape : B → List 
   -- by the list as it was found
   found-called : (old new : RunningParts B) (caller : ℕ) (request : Request) (reply : Reply) → IsServed tells given tape faults old new caller request reply
       → IsCalled (sectors_of old) (next_call caller old.parts.entries) request old.parts.entries new.parts.entries
-  found-called old new caller request reply served = served-called (sectors_of old) old new caller request reply served.first.sized served
+  found-called old new caller request reply served = served-called (sectors_of old) old new caller request reply served.sizes.sized served
 
   longer : (old new : RunningParts B) (caller : ℕ) (request : Request) (reply : Reply) → IsServed tells given tape faults old new caller request reply
       → length old.parts.entries < length new.parts.entries
@@ -158,7 +158,7 @@ module _ {B : Type 0} {tells : Type 0} {given : B → Given} {tape : B → List 
   earlier old new caller request reply served = record {
     before = calls-later (sectors_of old) (seen_of given tape old) (seen_of given tape new) (next_call caller old.parts.entries) request
         (found-called old new caller request reply served)
-        (begins-with old new caller request reply served) served.sound.ended;
+        (begins-with old new caller request reply served) served.ended;
     given_is = served.went.given_is;
     full = λ full. absurd (omega (arith, full, served.fits));
   }
@@ -166,7 +166,7 @@ module _ {B : Type 0} {tells : Type 0} {given : B → Given} {tape : B → List 
   -- ---- own calls
 
   -- by the list as it was at the start, the history tells how long it is now
-  pub sized-since : (start x : RunningParts B) → HasGoneOn tells given tape faults start x → TellsLength x → length_of (sectors_of start) x.parts.entries ≡ sectors_of x
+  pub sized-since : (start x : RunningParts B) → HasGoneOn tells given tape faults start x → TellsSizes x → length_of (sectors_of start) x.parts.entries ≡ sectors_of x
   sized-since start x went told =
       ap (λ (l : List Entry). length_of (sectors_of start) l) went.grown ∙ length-since (sectors_of start) (sectors_of x) start.parts.entries went.more went.sized
       ∙ ap (λ (l : List Entry). length_of (sectors_of x) l) (sym went.grown) ∙ told.sized
@@ -184,7 +184,7 @@ module _ {B : Type 0} {tells : Type 0} {given : B → Given} {tape : B → List 
         (sym (map-append (λ (c : Call Request). (c.request, c.at)) mine (record { request = request; at = size_of y - 1 } ∷ [])
         ∙ ap (λ (n : ℕ). requests_of mine ++ (request, n) ∷ []) at))
         (counted (sectors_of start) start.parts.entries made.went.more x.parts.entries y.parts.entries (next_call caller x.parts.entries) request made.went.grown
-        (served-called (sectors_of start) x y caller request reply (sized-since start x made.went served.first) served) (requests_of mine) (made.called before));
+        (served-called (sectors_of start) x y caller request reply (sized-since start x made.went served.sizes) served) (requests_of mine) (made.called before));
   }
 
   others : (start x y : RunningParts B) (caller other : ℕ) (request : Request) (reply : Reply) (mine : List (Call Request))
@@ -196,7 +196,7 @@ module _ {B : Type 0} {tells : Type 0} {given : B → Given} {tape : B → List 
         let more = longer x y caller request reply served in
         let before : length x.parts.entries ≤ most_entries = omega (arith, more, few) in
         unmoved (sectors_of start) start.parts.entries made.went.more x.parts.entries y.parts.entries (next_call caller x.parts.entries) request made.went.grown
-        (served-called (sectors_of start) x y caller request reply (sized-since start x made.went served.first) served) other (requests_of mine) ne (made.called before);
+        (served-called (sectors_of start) x y caller request reply (sized-since start x made.went served.sizes) served) other (requests_of mine) ne (made.called before);
   }
 
 pub array_lawful : {B : Type 0} (tells : Type 0) (given : B → Given) (tape : B → List Operation) (faults : B → ℕ → ℕ) → IsLawful (array_ways tells given tape faults)
@@ -205,7 +205,7 @@ array_lawful tells given tape faults = record {
   further = λ x y z p q. earlier-on x y z p q;
   either = λ x y now sx sy sn p q le. earlier-of x y now sx sy p q le;
   grows = λ x y caller request reply sound served. (
-    served.sound,
+    served.ended,
     earlier x y caller request reply served,
     (let more = longer x y caller request reply served in let fits = served.fits in omega (arith, more, fits)),
   );

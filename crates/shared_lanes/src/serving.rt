@@ -4,7 +4,7 @@ ghost use Rattle.std.specs.Prelude.{◌≡◌};
 use bank::Bank;
 use flat_history::Request;
 use lanes::running_calls::running::Running;
-use lanes::running_calls::{Reply, perform};
+use lanes::running_calls::{Reply, perform, tells_sizes};
 use md_base::Who;
 use std::alloc::Global;
 use std::marker::Model;
@@ -53,6 +53,7 @@ impl<B: Bank> Served<Request, Reply> for Answering<B> {
         if self.array.epoch().entries.len() as u64 >= 1 << 61 {
             return Reply::NoMemory;
         }
+        tells_sizes(&self.array);
         let number = self.array.next_number(caller);
         perform(alloc, &mut self.array, Who { caller, number }, request)
     }

@@ -1,7 +1,6 @@
 //! The lock round a running array, and the passes by which callers use it.
 ghost use Rattle.std.specs.Prelude.{◌≡◌, ◌<◌, length, IfOk, IfErr};
 ghost use Rattle.array_kept.specs.Calls.{IsEndOf};
-ghost use Rattle.running_calls.specs.Replies.{TellsLength};
 ghost use Rattle.turn_lock.specs.Turns.{AreDistinct, Met};
 ghost use Rattle.turn_lock.specs.Passes.{AreNew, EachPass, Ended};
 ghost use Rattle.shared_lanes.specs.Serving.{array_ways};
@@ -35,7 +34,6 @@ impl<B: Bank + Drop> Shared<B> {
         callers: &[u32],
     ) -> Result<(Shared<B>, Vec<Pass<B>>), Running<B>>
         requires ended { IsEndOf B.tells array.parts.first array.parts.entries (B.tape array.parts.bank) }
-        requires told { TellsLength array }
         requires some { 0 < length callers.now }
         requires distinct { AreDistinct callers.now }
         ensures lock { IfOk result (λ t. (t.0.lock.table.shared.key.value ≡ array) × (t.0.lock.table.shared.key.callers.items ≡ callers.now)) }

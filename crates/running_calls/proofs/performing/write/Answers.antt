@@ -1,4 +1,4 @@
-use Rattle.std.proofs.Common.{◌≡◌, ◌+◌, ◌≤◌, ◌/◌, min, ℕ, Option, None, List, length, Result, Err, sym, ◌∙◌, ap, subst, arith}
+use Rattle.std.proofs.Common.{◌≡◌, ◌+◌, ◌≤◌, ◌/◌, min, ℕ, Option, List, length, Result, Err, sym, ◌∙◌, ap, subst, arith}
 use Rattle.std.specs.Option.{option_map_or}
 use Rattle.md_base.specs.Sectors.{Sector, sectors_of}
 use Rattle.md_base.proofs.SectorLaws.{length-sectors_of}
@@ -14,6 +14,7 @@ use Rattle.flat_history.specs.declared.events.Event.TheVariants.{Wrote}
 use Rattle.flat_history.specs.declared.events.Request.TheVariants.{Write as AsksWrite}
 use Rattle.flat_history.specs.Flat.{length_of, limit_of, visible_of}
 use Rattle.array_kept.specs.Calls.{IsCausedBy}
+use Rattle.running_steps.specs.running_words_Parts.{visible_in}
 use Rattle.running_steps.specs.running_Calls.{IsWriteLackedIn}
 use Rattle.running_steps.specs.moving_laws_Writing.{IsWriteReplied}
 use Rattle.running_calls.proofs.Plain.{IsCallAnswered, answered-written, told-answer}
@@ -29,9 +30,9 @@ count_in bytes body is = sym (length-sectors_of bytes) ∙ ap (λ (l : List Sect
 within : {T : Type 0} (size to : ℕ) (why : Members → Refusal → Type 0) (old new : Members) (result : Result T Fault) → IsCausedBy size to why old new result → result ≡ Err (IsRefusedWith BackupFault) → to ≤ size
 within {T = T} size to why old new result caused is = (subst (λ (x : Result T Fault). IsCausedBy size to why old new x) is caused).0
 
--- all of a list that is limited nowhere can be read and written
-all-visible : (size : ℕ) (entries : List Entry) → length_of size entries ≡ size → limit_of entries ≡ None → visible_of size entries ≡ size
-all-visible size entries sized unlimited = ap (λ (o : Option ℕ). option_map_or (λ limit. min limit (length_of size entries)) o (length_of size entries)) unlimited ∙ sized
+-- as much can be read and written as the entries tell
+all-visible : (size : ℕ) (limit : Option ℕ) (entries : List Entry) → length_of size entries ≡ size → limit_of entries ≡ limit → visible_of size entries ≡ option_map_or (λ most. min most size) limit size
+all-visible size limit entries sized limited i = option_map_or (λ most. min most (sized i)) (limited i) (sized i)
 
 pub write-answer-requires-clause-some : goal.write-answer-requires-clause-some
 write-answer-requires-clause-some g c = let count = count_in c.as_bytes.result.now c.args.body c.as_bytes.ensures.sectors in omega (arith, count, c.requires.askable.0)
@@ -47,11 +48,11 @@ entered : (g : Over) (c : goal.After-told g)
 entered g c =
     let old = c.args.array.now in
     let size = list_length old.parts.members.newest in
-    let tells = c.requires.tells in
+    let tells = c.tells_sizes.ensures in
     let count = count_in c.as_bytes.result.now c.args.body c.as_bytes.ensures.sectors in
     answered-written size c.args.at c.args.body c.args.who old.parts.entries c.write-answer.new.self.parts.entries c.write-answer.result c.requires.next
-    (λ is. let upto = within size (c.args.at + length c.as_bytes.result.now / 512) (IsWriteLackedIn old c.args.at (length c.as_bytes.result.now / 512)) old.parts.members c.write-answer.new.self.parts.members c.write-answer.result c.write-answer.ensures.caused is in
-      let all = all-visible size old.parts.entries tells.sized tells.unlimited in
+    (λ is. let upto = within (visible_in old) (c.args.at + length c.as_bytes.result.now / 512) (IsWriteLackedIn old c.args.at (length c.as_bytes.result.now / 512)) old.parts.members c.write-answer.new.self.parts.members c.write-answer.result c.write-answer.ensures.caused is in
+      let all = all-visible size old.limit old.parts.entries tells.sized tells.limited in
       omega (arith, upto, count, all))
     (subst (λ (b : List Sector). IsWriteReplied size c.args.at b c.args.who old.parts.entries c.write-answer.new.self.parts.entries c.write-answer.result) c.as_bytes.ensures.sectors c.write-answer.ensures.answered)
 
