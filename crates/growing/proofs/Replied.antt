@@ -1,5 +1,5 @@
 -- A reply to a request to grow is one of a running array, whatever its superblocks say, and leaves it running.
-use Rattle.std.proofs.Common.{◌≡◌, inl, ℕ, true, Option, Result, Ok, Err, List, [], ◌∷◌, ◌++◌, refl, sym, ◌∙◌, ap, subst, append-nil, arith}
+use Rattle.std.proofs.Common.{◌≡◌, inl, ℕ, ◌||◌, Bool, true, false, Option, Result, Ok, Err, List, [], ◌∷◌, ◌++◌, OnErr, refl, sym, ◌∙◌, ap, subst, append-nil, arith}
 use Rattle.std.proofs.lemmas.List.Elements.{All-nil, All-cons}
 use Rattle.md_base.specs.declared.answers.Fault.{Fault}
 use Rattle.md_base.specs.declared.answers.Fault.TheVariants.{Refused as IsRefusedWith, NoMemory}
@@ -10,7 +10,7 @@ use Rattle.md_base.specs.declared.wishes.Wish.{Wish}
 use Rattle.bank.specs.declared.bank.Operation.{Operation}
 use Rattle.bank.specs.Given.{Given}
 use Rattle.superblocks.specs.declared.members.Members.{Members}
-use Rattle.superblocks.specs.Reading.{list_length}
+use Rattle.superblocks.specs.Reading.{is_reshaping, list_length}
 use Rattle.superblocks.specs.Reads.{has_spare}
 use Rattle.flat_history.specs.declared.events.Entry.{Entry}
 use Rattle.flat_history.specs.declared.events.Event.{Event}
@@ -21,11 +21,14 @@ use Rattle.flat_history.specs.Flat.{next_number, visible_of, length_after}
 use Rattle.flat_history.specs.Legal.{MayBeInner}
 use Rattle.flat_history.specs.OneShape.{IsOfCall}
 use Rattle.flat_history.specs.Plain.{entries_of}
+use Rattle.flat_history.specs.Reshaped.{is_planned}
 use Rattle.flat_history.specs.World.{World}
 use Rattle.views.specs.Rebuilding.{Held}
 use Rattle.array_kept.specs.Calls.{IsLossBy}
 use Rattle.array_kept.proofs.ReplyLaws.{none_before}
 use Rattle.grow_asked.specs.Asked.{Asked, IsUngrowable}
+use Rattle.grow_asked.specs.Left.{phases_of}
+use Rattle.grow_asked.specs.declared.window.PhasesLeft.{PhasesLeft}
 use Rattle.kept_history.specs.Recorded.{entry_of}
 use Rattle.turning.specs.running_words_Parts.{RunningParts}
 use Rattle.running_replies.specs.Replies.{MayRefuseGrow, RunningAnswers, RunningFits, IsAnsweredWith, IsRefusalBy, IsRefusalToldBy}
@@ -80,11 +83,14 @@ grow-blames a wish backup before now BackupFault is = absurd is
 grow-blames a wish backup before now refusal is = tt
 
 module _ {B : Type 0} (tells : Type 0) (given : B → Given) (tape : B → List Operation) (faults : B → ℕ → ℕ) (old new : RunningParts B) (before : IsAsBefore old new) where
-  -- one event alone was entered, which tells no loss and changes no length
+  still-same : is_reshaping old.parts.members.newest ≡ false → is_reshaping new.parts.members.newest ≡ false
+  still-same still = ap (λ (m : Members). is_reshaping m.newest) before.members ∙ still
+
+  -- One event alone was entered, which tells no loss and changes no length; unless it tells a plan, the same is ahead.
   went-alone : (who : Who) (end : ℕ) (event : Event) → new.parts.entries ≡ old.parts.entries ++ entries_of who end (event ∷ []) → ((n : ℕ) → length_after n event ≡ n)
       → IsLossBy (MayHoldBehind old.parts.members []) (faults old.parts.bank) (faults new.parts.bank) event → IsRefusalToldBy old.parts.backup (faults old.parts.bank) (faults new.parts.bank) event
-      → HasRunOn tells given tape faults old new
-  went-alone who end event is kept loss told = record {
+      → (is_planned event ≡ false → new.ahead ≡ old.ahead) → HasRunOn tells given tape faults old new
+  went-alone who end event is kept loss told ahead = record {
     more = entries_of who end (event ∷ []);
     grown = is;
     sized = ap (λ (m : Members). list_length m.newest) before.members ∙ sym (kept (list_length old.parts.members.newest));
@@ -103,11 +109,17 @@ module _ {B : Type 0} (tells : Type 0) (given : B → Given) (tape : B → List 
     never_falls = λ slot. (let same : faults new.parts.bank slot ≡ faults old.parts.bank slot = ap (λ b. faults b slot) before.bank in omega (arith, same));
     given_is = ap given before.bank;
     same = record { uuid = before.uuid; given = before.given; first = before.first; backup = before.backup };
+    active = λ still none. still-same still;
+    ahead = λ none unplanned. ap (λ (p : PhasesLeft). phases_of p) (ahead (unplanned-event (is_planned event) unplanned)) ∙ none;
   }
+    where
+      unplanned-event : (b : Bool) → (b || false) ≡ false → b ≡ false
+      unplanned-event false is = refl
+      unplanned-event true is = absurd (cc)
 
   -- nothing was entered
-  went-none : new.parts.entries ≡ old.parts.entries → HasRunOn tells given tape faults old new
-  went-none is = record {
+  went-none : new.parts.entries ≡ old.parts.entries → new.ahead ≡ old.ahead → HasRunOn tells given tape faults old new
+  went-none is ahead = record {
     more = [];
     grown = is ∙ sym (append-nil old.parts.entries);
     sized = ap (λ (m : Members). list_length m.newest) before.members;
@@ -125,11 +137,13 @@ module _ {B : Type 0} (tells : Type 0) (given : B → Given) (tape : B → List 
     never_falls = λ slot. (let same : faults new.parts.bank slot ≡ faults old.parts.bank slot = ap (λ b. faults b slot) before.bank in omega (arith, same));
     given_is = ap given before.bank;
     same = record { uuid = before.uuid; given = before.given; first = before.first; backup = before.backup };
+    active = λ still none. still-same still;
+    ahead = λ none unplanned. ap (λ (p : PhasesLeft). phases_of p) ahead ∙ none;
   }
 
   pub grow-went : {T : Type 0} (world : World) (a : Asked) (wish : Wish) (who : Who) (left : ℕ) (result : Result T Fault)
-      → IsGrowAnswered tells world a wish who old.parts.entries new.parts.entries (Planned left wish) result → IsGrowJudged a wish result → HasRunOn tells given tape faults old new
-  grow-went world a wish who left (Ok x) is judged = went-alone who is.end (Planned left wish) is.is (λ n. refl) tt tt
-  grow-went world a wish who left (Err (IsRefusedWith refusal)) is judged =
-      went-alone who is.end (Refused refusal) is.is (λ n. refl) tt (grow-blames a wish old.parts.backup (faults old.parts.bank) (faults new.parts.bank) refusal (first-of a wish refusal judged).holds)
-  grow-went world a wish who left (Err NoMemory) is judged = went-none is
+      → IsGrowAnswered tells world a wish who old.parts.entries new.parts.entries (Planned left wish) result → IsGrowJudged a wish result → OnErr result (new.ahead ≡ old.ahead) → HasRunOn tells given tape faults old new
+  grow-went world a wish who left (Ok x) is judged ahead = went-alone who is.end (Planned left wish) is.is (λ n. refl) tt tt (λ unplanned. absurd (cc))
+  grow-went world a wish who left (Err (IsRefusedWith refusal)) is judged ahead =
+      went-alone who is.end (Refused refusal) is.is (λ n. refl) tt (grow-blames a wish old.parts.backup (faults old.parts.bank) (faults new.parts.bank) refusal (first-of a wish refusal judged).holds) (λ unplanned. ahead)
+  grow-went world a wish who left (Err NoMemory) is judged ahead = went-none is ahead
