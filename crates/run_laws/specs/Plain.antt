@@ -3,7 +3,7 @@ use Rattle.std.specs.Prelude.{◌≡◌, ℕ, Bool, true, false, List, IsTrue}
 use Rattle.std.specs.List.{list_any}
 use Rattle.flat_history.specs.declared.events.Entry.{Entry}
 use Rattle.flat_history.specs.declared.events.Request.{Request}
-use Rattle.flat_history.specs.declared.events.Request.TheVariants.{Grow as AsksGrow}
+use Rattle.flat_history.specs.declared.events.Request.TheVariants.{Visible as AsksVisible, Grow as AsksGrow}
 use Rattle.flat_history.specs.Flat.{length_of}
 use Rattle.flat_history.specs.Legal.{call_before}
 use Rattle.flat_history.specs.OneShape.{OneShapeFits}
@@ -12,14 +12,15 @@ use Rattle.openings.specs.still_laws_Plain.{MayTellPlainly, AreToldPlainly}
 use Rattle.openings.specs.running_replies_Replies.{MayTellBy, RunningFits}
 use Rattle.run_laws.specs.Turning.{may_be_active, may_be_ahead}
 
--- the request asks for a reshape
-abbrev pub is_grow : Request → Bool
-is_grow (AsksGrow wish) = true
-is_grow request = false
+-- the request asks for a reshape, or to limit what can be read and written
+abbrev pub asks_to_turn : Request → Bool
+asks_to_turn (AsksVisible limit) = true
+asks_to_turn (AsksGrow wish) = true
+asks_to_turn request = false
 
--- Where no reshape was planned, begun or ended in its call before it, such a reply to another request fits it as one of an array of one shape, unless it tells what only a reshape may.
+-- Where neither a limit was told nor a reshape planned, begun or ended in its call before it, such a reply to another request fits it as one of an array of one shape, unless it tells what only a reshape may.
 abbrev pub PlainRepliesFit : Type 0
-PlainRepliesFit = (size : ℕ) (before : List Entry) (e : Entry) (request : Request) → list_any (λ e. turns_shape e.event) (call_before before e) ≡ false → MayTellPlainly e.event → is_grow request ≡ false
+PlainRepliesFit = (size : ℕ) (before : List Entry) (e : Entry) (request : Request) → list_any (λ e. turns_shape e.event) (call_before before e) ≡ false → MayTellPlainly e.event → asks_to_turn request ≡ false
     → RunningFits size before e request → OneShapeFits size before e request
 
 -- Where by the entries before it no reshape may be active, or ahead, it tells none of that, unless it tells more than they allow.
