@@ -326,14 +326,14 @@ asked-told {size = size} {old = old} request line asked no other as =
     asked-tellable asked (told-by size (old ++ asked.inner) (call_before (old ++ asked.inner) (one (script_who old) asked.end asked.event)) request asked.event no other (as asked.fits).answers)
 
 -- a status, and an end
-pub shown-unstepped : (size : ℕ) (event : Event) → IsShown size event → none_left event ≡ false
-shown-unstepped size (Stepped done left ended) is = absurd is
-shown-unstepped size event is = refl
+pub shown-unstepped : (size : ℕ) (before : List Entry) (event : Event) → IsShown size before event → none_left event ≡ false
+shown-unstepped size before (Stepped done left ended) is = absurd is
+shown-unstepped size before event is = refl
 
-pub shown-told : (size : ℕ) (event : Event) → IsShown size event → (Active Ahead : Type 0) → MayTellBy Active Ahead event
-shown-told size (Refused BackupFault) is Active Ahead = absurd is
-shown-told size (Stepped done left ended) is Active Ahead = absurd is
-shown-told size event is Active Ahead = tt
+pub shown-told : (size : ℕ) (before : List Entry) (event : Event) → IsShown size before event → (Active Ahead : Type 0) → MayTellBy Active Ahead event
+shown-told size before (Refused BackupFault) is Active Ahead = absurd is
+shown-told size before (Stepped done left ended) is Active Ahead = absurd is
+shown-told size before event is Active Ahead = tt
 
 pub stop-unstepped : (event : Event) → FitsStop event → none_left event ≡ false
 stop-unstepped (Stepped done left ended) is = absurd is

@@ -1,5 +1,5 @@
 use Rattle.line_answers.proofs.Statuses.{shown_detail, shown_mdstat, shown_told}
-use Rattle.std.proofs.Common.{refl, ap}
+use Rattle.std.proofs.Common.{◌++◌, refl, ap}
 use Rattle.run_laws.specs.running_words_Parts.{RunningParts}
 use Rattle.run_laws.proofs.Sizes.{sized-none, sized-entered}
 use Rattle.run_laws.proofs.Told.{told_none, told_entered}
@@ -43,12 +43,12 @@ pub returns-clause-turning : goal.returns-clause-turning
 returns-clause-turning g c =
     let asked = returns-clause-asked g c in
     let did = c.in-Ok.ensures in
-    told-same asked (shown-unstepped (list_length c.args.array.now.parts.members.newest) asked.event asked.fits) (ap (λ (m : Members). is_reshaping m.newest) did.members) (ap (λ (p : PhasesLeft). phases_of p) did.same.ahead) c.requires.turning
+    told-same asked (shown-unstepped (list_length c.args.array.now.parts.members.newest) (c.args.array.now.parts.entries ++ asked.inner) asked.event asked.fits) (ap (λ (m : Members). is_reshaping m.newest) did.members) (ap (λ (p : PhasesLeft). phases_of p) did.same.ahead) c.requires.turning
 
 pub returns-clause-tellable : goal.returns-clause-tellable
 returns-clause-tellable g c =
     let asked = returns-clause-asked g c in
-    asked-tellable asked (shown-told (list_length c.args.array.now.parts.members.newest) asked.event asked.fits)
+    asked-tellable asked (shown-told (list_length c.args.array.now.parts.members.newest) (c.args.array.now.parts.entries ++ asked.inner) asked.event asked.fits)
 
 pub returns-in-Err-clause-turning : goal.returns-in-Err-clause-turning
 returns-in-Err-clause-turning g c = told-still c.in-Err.ensures.unchanged c.requires.turning
