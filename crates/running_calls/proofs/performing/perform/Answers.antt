@@ -1,0 +1,16 @@
+use Rattle.std.proofs.Common.{List, length, ap, arith}
+use Rattle.flat_history.specs.declared.events.Entry.{Entry}
+use Rattle.running_calls.proofs.Done.{performed-some}
+use Rattle.running_calls.proofs.performing.perform.Goals as goal
+
+pub overflow_sub-result : goal.overflow_sub-result
+overflow_sub-result g c =
+    let some = performed-some c.args.request c.args.who c.args.array.now c.answer.new.array.parts.entries c.in-Ok.event c.in-Ok.ensures.replied in
+    let long = ap (λ (l : List Entry). length l) c.epoch.ensures.entries in
+    omega (arith, some, long, c.len.ensures)
+
+pub returns-in-Ok-clause-replied : goal.returns-in-Ok-clause-replied
+returns-in-Ok-clause-replied g c =
+    let some = performed-some c.args.request c.args.who c.args.array.now c.answer.new.array.parts.entries c.in-Ok.event c.in-Ok.ensures.replied in
+    let long = ap (λ (l : List Entry). length l) c.epoch.ensures.entries in
+    (c.in-Ok.ensures.replied, omega (arith, some, long, c.len.ensures))

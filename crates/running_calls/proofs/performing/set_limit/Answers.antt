@@ -1,0 +1,22 @@
+use Rattle.std.proofs.Common.{ℕ, sym, subst}
+use Rattle.superblocks.specs.Reading.{list_length}
+use Rattle.flat_history.specs.declared.events.Event.TheVariants.{Visible}
+use Rattle.flat_history.specs.declared.events.Request.TheVariants.{Visible as AsksVisible}
+use Rattle.running_steps.specs.running_replies_Replies.{IsAnsweredWith}
+use Rattle.running_calls.proofs.GoneOn.{gone-run}
+use Rattle.running_calls.proofs.performing.set_limit.Goals as goal
+
+pub returns-in-Ok-clause-replied : goal.returns-in-Ok-clause-replied
+returns-in-Ok-clause-replied g c =
+    let did = c.in-Ok.ensures in
+    subst (λ (count : ℕ). IsAnsweredWith (list_length c.args.array.now.parts.members.newest) (AsksVisible c.args.limit) c.args.who c.args.array.now.parts.entries c.set_visible.new.self.parts.entries (Visible c.args.limit count))
+    (sym did.judged.1) did.answered
+
+pub returns-in-Ok-clause-went : goal.returns-in-Ok-clause-went
+returns-in-Ok-clause-went g c = gone-run g.B.Bank.tells g.B.Bank.given g.B.Bank.tape g.B.Bank.faults_of c.args.array.now c.set_visible.new.self c.in-Ok.ensures.went
+
+pub returns-in-Err-Refused-clause-went : goal.returns-in-Err-Refused-clause-went
+returns-in-Err-Refused-clause-went g c = gone-run g.B.Bank.tells g.B.Bank.given g.B.Bank.tape g.B.Bank.faults_of c.args.array.now c.set_visible.new.self c.in-Err-Refused.ensures.went
+
+pub returns-in-Err-NoMemory-clause-went : goal.returns-in-Err-NoMemory-clause-went
+returns-in-Err-NoMemory-clause-went g c = gone-run g.B.Bank.tells g.B.Bank.given g.B.Bank.tape g.B.Bank.faults_of c.args.array.now c.set_visible.new.self c.in-Err-NoMemory.ensures.went
