@@ -1,5 +1,5 @@
 -- A reply to a request to grow, or to limit the list, is one of a running array, whatever its superblocks say, and leaves it running.
-use Rattle.std.proofs.Common.{◌≡◌, inl, ℕ, nat_lt, Bool, true, false, Option, Some, None, Result, Ok, Err, List, length, [], ◌∷◌, ◌++◌, refl, sym, ◌∙◌, ap, subst, append-nil, arith}
+use Rattle.std.proofs.Common.{◌≡◌, inl, ℕ, ◌||◌, nat_lt, Bool, true, false, Option, Some, None, Result, Ok, Err, List, length, [], ◌∷◌, ◌++◌, OnErr, refl, sym, ◌∙◌, ap, subst, append-nil, arith}
 use Rattle.std.proofs.lemmas.List.Elements.{All-nil, All-cons}
 use Rattle.std.specs.Prelude.{if◌then◌else◌}
 use Rattle.std.specs.Option.{option_map_or}
@@ -25,14 +25,16 @@ use Rattle.flat_history.specs.Flat.{next_number, length_of, visible_of, length_a
 use Rattle.flat_history.specs.Legal.{MayBeInner}
 use Rattle.flat_history.specs.OneShape.{IsOfCall}
 use Rattle.flat_history.specs.Plain.{entries_of}
+use Rattle.flat_history.specs.Reshaped.{is_planned}
 use Rattle.flat_history.specs.World.{World}
 use Rattle.views.specs.Rebuilding.{Held}
 use Rattle.array_kept.specs.Calls.{IsLossBy}
 use Rattle.array_kept.proofs.ReplyLaws.{none_before}
 use Rattle.grow_asked.specs.Asked.{Asked, IsUngrowable}
+use Rattle.grow_asked.specs.Left.{phases_of}
+use Rattle.grow_asked.specs.declared.window.PhasesLeft.{PhasesLeft}
 use Rattle.kept_history.specs.Recorded.{entry_of}
 use Rattle.turning.specs.running_words_Parts.{RunningParts}
-use Rattle.grow_asked.specs.Left.{phases_of}
 use Rattle.running_replies.specs.running_words_Visible.{visible_refusal, IsVisibleJudged}
 use Rattle.running_replies.specs.Limits.{limit_refusal}
 use Rattle.running_replies.specs.Replies.{MayRefuseGrow, MayRefuseLimit, RunningAnswers, RunningFits, IsAnsweredWith, IsRepliedWith, IsRefusalBy, IsRefusalToldBy}
@@ -120,11 +122,14 @@ limit-blames sectors limit backup before now BackupFault is = absurd is
 limit-blames sectors limit backup before now refusal is = tt
 
 module _ {B : Type 0} (tells : Type 0) (given : B → Given) (tape : B → List Operation) (faults : B → ℕ → ℕ) (old new : RunningParts B) (before : IsAsBefore old new) where
-  -- one event alone was entered, which tells no loss and changes no length
+  still-same : is_reshaping old.parts.members.newest ≡ false → is_reshaping new.parts.members.newest ≡ false
+  still-same still = ap (λ (m : Members). is_reshaping m.newest) before.members ∙ still
+
+  -- One event alone was entered, which tells no loss and changes no length; unless it tells a plan, the same is ahead.
   went-alone : (who : Who) (end : ℕ) (event : Event) → new.parts.entries ≡ old.parts.entries ++ entries_of who end (event ∷ []) → ((n : ℕ) → length_after n event ≡ n)
       → IsLossBy (MayHoldBehind old.parts.members []) (faults old.parts.bank) (faults new.parts.bank) event → IsRefusalToldBy old.parts.backup (faults old.parts.bank) (faults new.parts.bank) event
-      → HasRunOn tells given tape faults old new
-  went-alone who end event is kept loss told = record {
+      → (is_planned event ≡ false → new.ahead ≡ old.ahead) → HasRunOn tells given tape faults old new
+  went-alone who end event is kept loss told ahead = record {
     more = entries_of who end (event ∷ []);
     grown = is;
     sized = ap (λ (m : Members). list_length m.newest) before.members ∙ sym (kept (list_length old.parts.members.newest));
@@ -143,11 +148,17 @@ module _ {B : Type 0} (tells : Type 0) (given : B → Given) (tape : B → List 
     never_falls = λ slot. (let same : faults new.parts.bank slot ≡ faults old.parts.bank slot = ap (λ b. faults b slot) before.bank in omega (arith, same));
     given_is = ap given before.bank;
     same = record { uuid = before.uuid; given = before.given; first = before.first; backup = before.backup };
+    active = λ still none. still-same still;
+    ahead = λ none unplanned. ap (λ (p : PhasesLeft). phases_of p) (ahead (unplanned-event (is_planned event) unplanned)) ∙ none;
   }
+    where
+      unplanned-event : (b : Bool) → (b || false) ≡ false → b ≡ false
+      unplanned-event false is = refl
+      unplanned-event true is = absurd (cc)
 
   -- nothing was entered
-  went-none : new.parts.entries ≡ old.parts.entries → HasRunOn tells given tape faults old new
-  went-none is = record {
+  went-none : new.parts.entries ≡ old.parts.entries → new.ahead ≡ old.ahead → HasRunOn tells given tape faults old new
+  went-none is ahead = record {
     more = [];
     grown = is ∙ sym (append-nil old.parts.entries);
     sized = ap (λ (m : Members). list_length m.newest) before.members;
@@ -165,19 +176,21 @@ module _ {B : Type 0} (tells : Type 0) (given : B → Given) (tape : B → List 
     never_falls = λ slot. (let same : faults new.parts.bank slot ≡ faults old.parts.bank slot = ap (λ b. faults b slot) before.bank in omega (arith, same));
     given_is = ap given before.bank;
     same = record { uuid = before.uuid; given = before.given; first = before.first; backup = before.backup };
+    active = λ still none. still-same still;
+    ahead = λ none unplanned. ap (λ (p : PhasesLeft). phases_of p) ahead ∙ none;
   }
 
   pub grow-went : {T : Type 0} (world : World) (a : Asked) (wish : Wish) (who : Who) (left : ℕ) (result : Result T Fault)
-      → IsGrowAnswered tells world a wish who old.parts.entries new.parts.entries (Planned left wish) result → IsGrowJudged a wish result → HasRunOn tells given tape faults old new
-  grow-went world a wish who left (Ok x) is judged = went-alone who is.end (Planned left wish) is.is (λ n. refl) tt tt
-  grow-went world a wish who left (Err (IsRefusedWith refusal)) is judged =
-      went-alone who is.end (Refused refusal) is.is (λ n. refl) tt (grow-blames a wish old.parts.backup (faults old.parts.bank) (faults new.parts.bank) refusal (first-of a wish refusal judged).holds)
-  grow-went world a wish who left (Err NoMemory) is judged = went-none is
+      → IsGrowAnswered tells world a wish who old.parts.entries new.parts.entries (Planned left wish) result → IsGrowJudged a wish result → OnErr result (new.ahead ≡ old.ahead) → HasRunOn tells given tape faults old new
+  grow-went world a wish who left (Ok x) is judged ahead = went-alone who is.end (Planned left wish) is.is (λ n. refl) tt tt (λ unplanned. absurd (cc))
+  grow-went world a wish who left (Err (IsRefusedWith refusal)) is judged ahead =
+      went-alone who is.end (Refused refusal) is.is (λ n. refl) tt (grow-blames a wish old.parts.backup (faults old.parts.bank) (faults new.parts.bank) refusal (first-of a wish refusal judged).holds) (λ unplanned. ahead)
+  grow-went world a wish who left (Err NoMemory) is judged ahead = went-none is ahead
 
   pub limit-went : (world : World) (phases : ℕ) (members : Members) (limit : Option ℕ) (who : Who) (visible count : ℕ) (result : Result ℕ Fault)
-      → IsReplied tells world phases members (AsksVisible limit) who old.parts.entries new.parts.entries (Visible limit count) result → IsVisibleJudged (limit_refusal old limit) visible result → HasRunOn tells given tape faults old new
-  limit-went world phases members limit who visible count (Ok x) is judged = went-alone who is.end (Visible limit count) is.is (λ n. refl) tt tt
-  limit-went world phases members limit who visible count (Err (IsRefusedWith refusal)) is judged =
+      → IsReplied tells world phases members (AsksVisible limit) who old.parts.entries new.parts.entries (Visible limit count) result → IsVisibleJudged (limit_refusal old limit) visible result → new.ahead ≡ old.ahead → HasRunOn tells given tape faults old new
+  limit-went world phases members limit who visible count (Ok x) is judged ahead = went-alone who is.end (Visible limit count) is.is (λ n. refl) tt tt (λ unplanned. ahead)
+  limit-went world phases members limit who visible count (Err (IsRefusedWith refusal)) is judged ahead =
       went-alone who is.end (Refused refusal) is.is (λ n. refl) tt (limit-blames (list_length old.parts.members.newest) limit old.parts.backup (faults old.parts.bank) (faults new.parts.bank) refusal
-      (limit-may (is_reshaping old.parts.members.newest) (length (phases_of old.ahead)) (list_length old.parts.members.newest) (list_length old.parts.members.newest) limit refusal refl judged))
-  limit-went world phases members limit who visible count (Err NoMemory) is judged = went-none is
+      (limit-may (is_reshaping old.parts.members.newest) (length (phases_of old.ahead)) (list_length old.parts.members.newest) (list_length old.parts.members.newest) limit refusal refl judged)) (λ unplanned. ahead)
+  limit-went world phases members limit who visible count (Err NoMemory) is judged ahead = went-none is ahead

@@ -1,5 +1,5 @@
 -- What stands in the superblocks of an array that was made or found.
-use Rattle.std.proofs.Common.{◌≡◌, inl, ℕ, zero, suc, ◌+◌, ◌-◌, ◌/◌, ◌*◌, ◌<◌, min, max, not, nat_lt, Bool, true, false, Option, Some, None, List, [], ◌∷◌, ◌++◌, length, take, drop, replicate, slice_index_or, map, refl, sym, ◌∙◌, ap, ap₂, subst, arith}
+use Rattle.std.proofs.Common.{◌≡◌, inl, ℕ, zero, suc, ◌+◌, ◌-◌, ◌/◌, ◌*◌, ◌<◌, min, max, not, nat_lt, Bool, true, false, is_some, Option, Some, None, List, [], ◌∷◌, ◌++◌, length, take, drop, replicate, slice_index_or, map, refl, sym, ◌∙◌, ap, ap₂, subst, arith}
 use Rattle.std.specs.Prelude.{if◌then◌else◌, MatchOption, MatchBool, IfSome, IsFalse, IsTrue}
 use Rattle.std.specs.Option.{option_map_or}
 use Rattle.md_base.specs.Shapes.{data_disks}
@@ -227,6 +227,8 @@ pub record IsFoundHere {B : Type 0} (tells : Type 0) (given : Given) (tape : Lis
   pub held : tells → AreHeldSince (world_at given tape backup (running_history found.parts)) found.parts.entries found.parts.members
   pub stored : (status : Status) → IsShownAs found status → tells → IsStoredAs (found_world given tape backup found.parts) status (absent_losses r n)
   pub shown : (status : Status) → IsShownAs found status → list_length found.parts.members.newest ≡ status.length
+  pub targeted : (status : Status) → IsShownAs found status → is_some status.target ≡ false → is_reshaping found.parts.members.newest ≡ false
+  pub planless : phases_of found.ahead ≡ []
 
 -- a status tells the length of the list
 shown-length : {B : Type 0} (found : RunningParts B) (status : Status) → IsShownAs found status → list_length found.parts.members.newest ≡ status.length
@@ -235,6 +237,14 @@ shown-length found status told = by (is_reshaping found.parts.members.newest) to
     by : (b : Bool) → MatchBool b (IsStatusFor found status) (IsStillStatus found status) → list_length found.parts.members.newest ≡ status.length
     by true told = sym told.length
     by false told = sym told.length
+
+-- and whether a reshape is active
+shown-target : {B : Type 0} (found : RunningParts B) (status : Status) → IsShownAs found status → is_some status.target ≡ false → is_reshaping found.parts.members.newest ≡ false
+shown-target found status told none = by (is_reshaping found.parts.members.newest) told
+  where
+    by : (b : Bool) → MatchBool b (IsStatusFor found status) (IsStillStatus found status) → b ≡ false
+    by true told = absurd (let there = ap is_some told.target in let clash : true ≡ false = sym there ∙ none in cc)
+    by false told = refl
 
 -- one without a reshape
 module _ {B tells : Type 0} {before after : ℕ → ℕ} (given : Given) (tape : List Operation) (backup : Option ℕ) (asked : Option (List ℕ)) (found : RunningParts B)
@@ -302,6 +312,8 @@ module _ {B tells : Type 0} {before after : ℕ → ℕ} (given : Given) (tape :
     held = λ t. opened_held given tape backup asked found.parts found_one.begun found_one.opened t found_one.begun.uuid;
     stored = λ status told t. still_stored status (still_told status told) t;
     shown = shown-length found;
+    targeted = shown-target found;
+    planless = is.planless;
   }
 
 -- one in a reshape
@@ -469,6 +481,8 @@ module _ {B tells : Type 0} {before after : ℕ → ℕ} (given : Given) (tape :
     });
     stored = λ status told t. moving_stored status (moving_told status told) t;
     shown = shown-length found;
+    targeted = shown-target found;
+    planless = is.adopted.planless;
   }
     where
       world_here : tells → moving_world ≡ world_at given tape backup (running_history found.parts)

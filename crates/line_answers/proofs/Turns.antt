@@ -14,11 +14,14 @@ use Rattle.md_base.specs.declared.answers.Refusal.TheVariants.{Running as IsRunn
 use Rattle.md_base.specs.declared.status.Status.{Status}
 use Rattle.md_base.specs.declared.wishes.Wish.{Wish}
 use Rattle.md_base.specs.Shapes.{data_disks}
-use Rattle.superblocks.specs.Reading.{list_length}
+use Rattle.superblocks.specs.Reading.{is_reshaping, list_length}
+use Rattle.grow_asked.specs.Left.{phases_of}
+use Rattle.grow_asked.specs.declared.window.PhasesLeft.{PhasesLeft}
 use Rattle.run_laws.specs.running_words_Parts.{RunningParts}
 use Rattle.run_laws.specs.running_replies_Replies.{RunningAnswers}
 use Rattle.run_laws.specs.running_Calls.{IsShownAs}
 use Rattle.run_laws.proofs.Sizes.{leaves-all, sized-now}
+use Rattle.run_laws.proofs.Turned.{found-told}
 use Rattle.flat_history.specs.declared.events.Entry.{Entry}
 use Rattle.flat_history.specs.declared.events.Epoch.{Epoch}
 use Rattle.flat_history.specs.declared.events.Event.{Event}
@@ -49,6 +52,7 @@ use Rattle.run_laws.specs.declared.report.Outside.TheVariants.{Created, Assemble
 use Rattle.run_laws.specs.declared.report.Answered.TheVariants.{Inside, Outside as IsOutside}
 use Rattle.run_laws.specs.declared.states.State.TheVariants.{Idle, Running}
 use Rattle.run_laws.specs.Asked.{script_who, IsAskedAt, IsAsked, IsStillWaiting, IsWaited, IsSizedBy}
+use Rattle.run_laws.specs.Turning.{IsTellable, IsTurningTold}
 use Rattle.run_laws.specs.Histories.{History, history_of, histories_of, entry_at, is_end, AreGoing}
 use Rattle.run_laws.specs.Making.{Setting, held_at, history_world, MissingAtFirst, IsStoredNew, IsStoredAs}
 use Rattle.run_laws.specs.Replies.{Course, at_rest, begun, gone_on, course_behind, entries_to, course_after, steps_at_once, IsRepliedAt, IsAnsweredInside, IsRefusedOutside, spec_of}
@@ -97,7 +101,8 @@ grown_came [] new = tt
 grown_came (h ∷ hs) new = (grown_same h, grown_came hs new)
 
 -- a line was answered by calls of the script, the last of them at this place, over the history of the array that runs
-module _ {size : ℕ} {line last : Line} {place : ℕ} {mid : List Entry} (hs : List History) (old new : History) (asked : IsAskedAt size last mid new.entries place) (replied : IsRepliedAt size new.entries place (next_number 0 old.entries) line) where
+module _ {size : ℕ} {line last : Line} {place : ℕ} {mid : List Entry} (hs : List History) (old new : History) (asked : IsAskedAt size last mid new.entries place) (replied : IsRepliedAt size new.entries place (next_number 0 old.entries) line)
+    (tellable : IsTellable new.entries place) where
   pub answered_last : IsAnsweredInside (hs ++ new ∷ []) (record { opened = length hs + 1; running = true; calls = next_number 0 old.entries; size = size }) (length hs) place line
   answered_last = record {
     running = refl;
@@ -105,6 +110,7 @@ module _ {size : ℕ} {line last : Line} {place : ℕ} {mid : List Entry} (hs : 
     history = new;
     there = get_last hs new;
     replied = replied;
+    tellable = tellable;
   }
 
 -- the entry of its reply
@@ -217,7 +223,8 @@ at_the_end setting old new asked first t longer ended =
     last_end-snoc first xs e = ap (λ (o : Option Entry). option_map_or (λ (x : Entry). x.end) o first) (last-snoc xs e)
 
 module _ {B : Type 0} (setting : Setting) (old new : RunningParts B) (epochs : Vec Epoch) (own : RunsOwn (Running old epochs)) (lost : AreLossesSince setting old.parts.entries (running_history new.parts)) (uuid : new.parts.uuid ≡ old.parts.uuid) (given : new.parts.given ≡ old.parts.given)
-    (first : new.parts.first ≡ old.parts.first) (sized : IsSizedBy (list_length old.parts.members.newest) (list_length new.parts.members.newest) old.parts.entries new.parts.entries) where
+    (first : new.parts.first ≡ old.parts.first) (sized : IsSizedBy (list_length old.parts.members.newest) (list_length new.parts.members.newest) old.parts.entries new.parts.entries)
+    (turning : IsTurningTold (is_reshaping new.parts.members.newest) (phases_of new.ahead) new.parts.entries) where
   abbrev hs : List History
   hs = histories_of epochs.items
 
@@ -232,7 +239,7 @@ module _ {B : Type 0} (setting : Setting) (old new : RunningParts B) (epochs : V
 
   -- it was called, and goes on
   called_own_still : HasCalled old.parts.entries new.parts.entries → AreGoing new.parts.entries → RunsOwn (Running new epochs)
-  called_own_still called going = record { former = own.former; script = called_own called own.script; going = going; sized = now_sized.1; room = own.room; few = own.few }
+  called_own_still called going = record { former = own.former; script = called_own called own.script; going = going; sized = now_sized.1; turning = turning; room = own.room; few = own.few }
 
   called_grown_still : HasCalled old.parts.entries new.parts.entries → AreGrown (hs ++ running_history old.parts ∷ []) (hs ++ running_history new.parts ∷ [])
   called_grown_still called = grown_last hs (running_history old.parts) (running_history new.parts) (called_grown (running_history old.parts) (running_history new.parts) called uuid given first own.script)
@@ -249,22 +256,22 @@ module _ {B : Type 0} (setting : Setting) (old new : RunningParts B) (epochs : V
 
   -- it answered
   pub turn_called : {last : Line} {mid : List Entry} (line : Line) (place : ℕ) (asked : IsAskedAt (list_length old.parts.members.newest) last mid new.parts.entries place) → HasCalled old.parts.entries new.parts.entries → AreGoing new.parts.entries
-      → IsRepliedAt (list_length old.parts.members.newest) new.parts.entries place (next_number 0 old.parts.entries) line → (setting.tells → EndsWithin setting asked.end) → is_end asked.event ≡ false
+      → IsRepliedAt (list_length old.parts.members.newest) new.parts.entries place (next_number 0 old.parts.entries) line → IsTellable new.parts.entries place → (setting.tells → EndsWithin setting asked.end) → is_end asked.event ≡ false
       → IsTurn setting (Running old epochs) (Running new epochs) line (Inside k place)
-  turn_called line place asked called going replied ended goes = record {
+  turn_called line place asked called going replied tellable ended goes = record {
     own = called_own_still called going;
     losses = losses-last setting hs (running_history old.parts) (running_history new.parts) lost;
     grown = called_grown_still called;
     ends = λ t. subst (λ (n : ℕ). EndsBetween setting.began (length setting.tape) (hs ++ running_history new.parts ∷ []) (Inside n place)) len
         (between_last hs (running_history new.parts) asked setting.began (length setting.tape) (ended t).0 (ended t).1);
     answer = subst (λ (n : ℕ). IsAnsweredInside (hs ++ running_history new.parts ∷ []) (record { opened = n + 1; running = true; calls = next_number 0 old.parts.entries; size = list_length old.parts.members.newest }) n place line) len
-        (answered_last hs (running_history old.parts) (running_history new.parts) asked replied);
+        (answered_last hs (running_history old.parts) (running_history new.parts) asked replied tellable);
     course = course_asked line asked goes;
   }
 
-  pub turn_asked : (line : Line) (place : ℕ) (asked : IsAskedAt (list_length old.parts.members.newest) line old.parts.entries new.parts.entries place) → (setting.tells → EndsWithin setting asked.end) → is_end asked.event ≡ false
+  pub turn_asked : (line : Line) (place : ℕ) (asked : IsAskedAt (list_length old.parts.members.newest) line old.parts.entries new.parts.entries place) → IsTellable new.parts.entries place → (setting.tells → EndsWithin setting asked.end) → is_end asked.event ≡ false
       → IsTurn setting (Running old epochs) (Running new epochs) line (Inside k place)
-  turn_asked line place asked ended goes = turn_called line place asked (called_once asked) (gone_once asked goes own.going) (replied_at line asked) ended goes
+  turn_asked line place asked tellable ended goes = turn_called line place asked (called_once asked) (gone_once asked goes own.going) (replied_at line asked) tellable ended goes
 
   -- memory was short for it
   pub no_turn : (line : Line) → new.parts.entries ≡ old.parts.entries → IsNoTurn setting (Running old epochs) (Running new epochs) line
@@ -280,10 +287,10 @@ module _ {B : Type 0} (setting : Setting) (old new : RunningParts B) (epochs : V
           ∙ ap (λ (n : ℕ). record { opened = k + 1; running = true; calls = next_number 0 old.parts.entries; size = n }) (sym now_sized.0 ∙ ap (λ (l : List Entry). length_of (list_length old.parts.members.newest) l) same ∙ own.sized)
 
   pub turn_of_ask : (line : Line) (r : Result ℕ NoMemory) → ((place : ℕ) (asked : IsAskedAt (list_length old.parts.members.newest) line old.parts.entries new.parts.entries place) → is_end asked.event ≡ false)
-      → (setting.tells → setting.began ≤ length setting.tape) → IfOk r (λ place. IsEndOf setting.tells new.parts.first new.parts.entries setting.tape)
+      → (setting.tells → setting.began ≤ length setting.tape) → IfOk r (λ place. IsEndOf setting.tells new.parts.first new.parts.entries setting.tape) → IfOk r (λ place. IsTellable new.parts.entries place)
       → IsAsked (list_length old.parts.members.newest) line old.parts.entries new.parts.entries r → IsTurnOrNone setting (Running old epochs) (Running new epochs) line (answer_at k r)
-  turn_of_ask line (Ok place) going longer ended asked = turn_asked line place asked (λ t. at_the_end setting old.parts.entries new.parts.entries asked new.parts.first t (longer t) ended) (going place asked)
-  turn_of_ask line (Err fault) going longer ended asked = no_turn line asked
+  turn_of_ask line (Ok place) going longer ended tellable asked = turn_asked line place asked tellable (λ t. at_the_end setting old.parts.entries new.parts.entries asked new.parts.first t (longer t) ended) (going place asked)
+  turn_of_ask line (Err fault) going longer ended tellable asked = no_turn line asked
 
   -- memory was short for one of the calls of a wait
   no_turn_waiting : (earlier : List ℕ) → IsStillWaiting (list_length old.parts.members.newest) old.parts.entries earlier new.parts.entries → IsNoTurn setting (Running old epochs) (Running new epochs) Wait
@@ -307,13 +314,13 @@ module _ {B : Type 0} (setting : Setting) (old new : RunningParts B) (epochs : V
     };
   }
 
-  pub turn_of_wait : (r : Result ℕ NoMemory) → (setting.tells → setting.began ≤ length setting.tape) → IsEndOf setting.tells new.parts.first new.parts.entries setting.tape
+  pub turn_of_wait : (r : Result ℕ NoMemory) → (setting.tells → setting.began ≤ length setting.tape) → IsEndOf setting.tells new.parts.first new.parts.entries setting.tape → IfOk r (λ place. IsTellable new.parts.entries place)
       → IsWaited (list_length old.parts.members.newest) old.parts.entries new.parts.entries r → IsTurnOrNone setting (Running old epochs) (Running new epochs) Wait (answer_at k r)
-  turn_of_wait (Ok place) longer ended was =
+  turn_of_wait (Ok place) longer ended tellable was =
       turn_called Wait place was.asked (waited_called was)
       (gone_once was.asked (going_steps steps_at_once was.asked) (gone_waiting (list_length old.parts.members.newest) old.parts.entries was.between was.earlier was.waiting own.going))
-      (waited_reply own.script was) (λ t. at_the_end setting was.between new.parts.entries was.asked new.parts.first t (longer t) ended) (going_steps steps_at_once was.asked)
-  turn_of_wait (Err fault) longer ended (earlier, was) = no_turn_waiting earlier was
+      (waited_reply own.script was) tellable (λ t. at_the_end setting was.between new.parts.entries was.asked new.parts.first t (longer t) ended) (going_steps steps_at_once was.asked)
+  turn_of_wait (Err fault) longer ended tellable (earlier, was) = no_turn_waiting earlier was
 
 -- it was not called, and goes on
 pub turn_refused : {B : Type 0} (setting : Setting) (array : RunningParts B) (epochs : Vec Epoch) (line : Line) → RunsOwn (Running array epochs) → (setting.tells → setting.began ≤ length setting.tape) → IsRefusedOutside setting true (length setting.tape) line IsRunning
@@ -346,9 +353,9 @@ module _ {B : Type 0} (setting : Setting) (old : RunningParts B) (epoch : Epoch)
   now_many : length ended.items ≡ count + 1
   now_many = ap (λ (l : List Epoch). length l) items ∙ length-append epochs.items (epoch ∷ [])
 
-  pub turn_ended : (line : Line) (place : ℕ) (asked : IsAskedAt (list_length old.parts.members.newest) line old.parts.entries epoch.entries.items place) → (setting.tells → EndsWithin setting asked.end) → is_end asked.event ≡ true
+  pub turn_ended : (line : Line) (place : ℕ) (asked : IsAskedAt (list_length old.parts.members.newest) line old.parts.entries epoch.entries.items place) → IsTellable epoch.entries.items place → (setting.tells → EndsWithin setting asked.end) → is_end asked.event ≡ true
       → IsTurn setting (Running old epochs) (Idle bank ended) line (Inside count place)
-  turn_ended line place asked within ends =
+  turn_ended line place asked tellable within ends =
       let now = history_of epoch in
       let called = called_once asked in
       record {
@@ -361,7 +368,7 @@ module _ {B : Type 0} (setting : Setting) (old : RunningParts B) (epoch : Epoch)
             (between_last before now asked setting.began (length setting.tape) (within t).0 (within t).1));
         answer = subst (λ (l : List History). IsAnsweredInside l (course_with count old) count place line) (sym now_are)
             (subst (λ (n : ℕ). IsAnsweredInside (before ++ now ∷ []) (record { opened = n + 1; running = true; calls = next_number 0 old.parts.entries; size = list_length old.parts.members.newest }) n place line) counted
-            (answered_last before (running_history old.parts) now asked (replied_at line asked)));
+            (answered_last before (running_history old.parts) now asked (replied_at line asked) tellable));
         course = ap (λ (n : ℕ). at_rest n) now_many
             ∙ sym (ap (λ (l : List History). course_after l (course_with count old) line (Inside count place)) now_are
             ∙ ap (λ (n : ℕ). course_after (before ++ now ∷ []) (course_with count old) line (Inside n place)) (sym counted)
@@ -394,12 +401,14 @@ module _ {B : Type 0} (setting : Setting) (bank : B) (olds epochs : Vec Epoch) (
 
   -- an array was opened
   module _ (array : RunningParts B) (room : length epochs.items < vec_capacity epochs) (few : length epochs.items < 2 ^ 32) (longer : setting.tells → setting.began ≤ length setting.tape) where
-    opened_own : IsByScript (running_history array.parts) → AreGoing array.parts.entries → length_of (list_length array.parts.members.newest) array.parts.entries ≡ list_length array.parts.members.newest → RunsOwn (Running array epochs)
-    opened_own script going sized = record {
+    opened_own : IsByScript (running_history array.parts) → AreGoing array.parts.entries → length_of (list_length array.parts.members.newest) array.parts.entries ≡ list_length array.parts.members.newest
+        → IsTurningTold (is_reshaping array.parts.members.newest) (phases_of array.ahead) array.parts.entries → RunsOwn (Running array epochs)
+    opened_own script going sized turning = record {
       former = subst (λ (l : List Epoch). AreOfScript (histories_of l)) (sym same) own;
       script = script;
       going = going;
       sized = sized;
+      turning = turning;
       room = room;
       few = few;
     }
@@ -423,11 +432,11 @@ module _ {B : Type 0} (setting : Setting) (bank : B) (olds epochs : Vec Epoch) (
     no_entries : array.parts.entries ≡ [] → IsByScript (running_history array.parts)
     no_entries none = subst (λ (l : List Entry). AreByScript (next_number 0 l) l) (sym none) (All-nil (λ e. IsOwnEntry 0 e))
 
-    pub turn_created : (line : CreateLine) → create_refusal setting.given setting.backup (spec_of line) ≡ None → IsCreated setting.tells setting.given setting.tape setting.backup (spec_of line) array.parts
+    pub turn_created : (line : CreateLine) → create_refusal setting.given setting.backup (spec_of line) ≡ None → IsCreated setting.tells setting.given setting.tape setting.backup (spec_of line) array.parts → phases_of array.ahead ≡ []
         → (setting.tells → used_slot (scope_of setting.given setting.backup array.parts.given line.uuid) (held_at setting (length setting.tape)) line.shape.disks ≡ None)
         → IsTurn setting (Idle bank olds) (Running array epochs) (Create line) (IsOutside Created)
-    turn_created line unrefused made free = record {
-      own = opened_own (no_entries made.quiet) (subst (λ (l : List Entry). AreGoing l) (sym made.quiet) (All-nil (λ e. IsFalse (is_end e.event)))) (ap (λ (l : List Entry). length_of (list_length array.parts.members.newest) l) made.quiet);
+    turn_created line unrefused made planless free = record {
+      own = opened_own (no_entries made.quiet) (subst (λ (l : List Entry). AreGoing l) (sym made.quiet) (All-nil (λ e. IsFalse (is_end e.event)))) (ap (λ (l : List Entry). length_of (list_length array.parts.members.newest) l) made.quiet) (record { active_told = λ none. made.opened.still; ahead_told = λ none. planless });
       losses = opened_losses (losses-same setting [] (running_history array.parts) made.quiet);
       grown = opened_grown;
       ends = longer;
@@ -486,13 +495,13 @@ module _ {B : Type 0} (setting : Setting) (bank : B) (olds epochs : Vec Epoch) (
           same_world t = found_history setting found.parts (running_history array.parts) (sym is.uuid ∙ sym uuid) (sym given) (sym (first ∙ is.first t))
 
       -- it was asked for its status
-      pub turn_found : (status : Status) → IsShownAs found status → IsEntered setting.tells setting.tape (script_who found.parts.entries) found.parts.entries array.parts.entries (Shown status ∷ []) → array.parts.members ≡ found.parts.members
+      pub turn_found : (status : Status) → IsShownAs found status → IsEntered setting.tells setting.tape (script_who found.parts.entries) found.parts.entries array.parts.entries (Shown status ∷ []) → array.parts.members ≡ found.parts.members → array.ahead ≡ found.ahead
           → IsTurn setting (Idle bank olds) (Running array epochs) (Assemble asked) (IsOutside (Assembled (length epochs.items) status))
-      turn_found status told entered members = record {
+      turn_found status told entered members ahead = record {
         own = opened_own (subst (λ (l : List Entry). AreByScript (next_number 0 l) l) (sym entries) (subst (λ (n : ℕ). AreByScript n (entries_of opener array.parts.first losses ++ first_entry ∷ [])) (sym one_call)
             (All-append (λ e. IsOwnEntry 1 e) (entries_of opener array.parts.first losses) (first_entry ∷ []) (losses_own 1) (All-cons (λ e. IsOwnEntry 1 e) first_entry [] (inl (refl, omega arith)) (All-nil (λ e. IsOwnEntry 1 e))))))
             (subst (λ (l : List Entry). AreGoing l) (sym entries) (All-push (λ e. IsFalse (is_end e.event)) (entries_of opener array.parts.first losses) first_entry losses_go refl))
-            (ap (λ (l : List Entry). length_of (list_length array.parts.members.newest) l) entries ∙ losses_leave (list_length array.parts.members.newest) first_entry refl);
+            (ap (λ (l : List Entry). length_of (list_length array.parts.members.newest) l) entries ∙ losses_leave (list_length array.parts.members.newest) first_entry refl) turning;
         losses = opened_losses (found_lost (first_entry ∷ []) (tt, tt) entries);
         grown = opened_grown;
         ends = longer;
@@ -514,6 +523,11 @@ module _ {B : Type 0} (setting : Setting) (bank : B) (olds epochs : Vec Epoch) (
         course = opened_course 1 status.length (ap (λ (l : List Entry). next_number 0 l) entries ∙ one_call) (ap (λ (m : Members). list_length m.newest) members ∙ is.shown status told);
       }
         where
+          turning : IsTurningTold (is_reshaping array.parts.members.newest) (phases_of array.ahead) array.parts.entries
+          turning = subst (λ (l : List Entry). IsTurningTold (is_reshaping array.parts.members.newest) (phases_of array.ahead) l) (sym entries)
+              (found-told (is_reshaping array.parts.members.newest) (phases_of array.ahead) (entries_of opener array.parts.first losses) first_entry status refl
+              (λ none. ap (λ (m : Members). is_reshaping m.newest) members ∙ is.targeted status told none) (ap (λ (p : PhasesLeft). phases_of p) ahead ∙ is.planless))
+
           first_entry : Entry
           first_entry = record { caller = 0; number = 0; end = entered.end; event = Shown status }
 

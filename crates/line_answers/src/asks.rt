@@ -6,15 +6,17 @@ ghost use Rattle.bank.specs.Given.{NeverFalls};
 ghost use Rattle.md_base.specs.Sectors.{IsWhole};
 ghost use Rattle.std.specs.List.{list_any};
 ghost use Rattle.superblocks.specs.Reads.{has_spare};
-ghost use Rattle.superblocks.specs.Reading.{list_length};
+ghost use Rattle.superblocks.specs.Reading.{is_reshaping, list_length};
 ghost use Rattle.views.specs.Placed.{AreStillHeld};
 ghost use Rattle.array_kept.specs.Calls.{AreSparesFewer, AreLossesOf, IsEndOf};
 ghost use Rattle.views.specs.Moving.{Grows};
+ghost use Rattle.grow_asked.specs.Left.{phases_of};
 ghost use Rattle.run_laws.specs.running_replies_Going.{IsSameEpoch, HasRunOn};
 ghost use Rattle.run_laws.specs.running_replies_Replies.{HasToldBy};
 ghost use Rattle.run_laws.specs.Making.{is_added};
 ghost use Rattle.run_laws.specs.Asked.{IsAsked, IsSizedBy, IsWaited, script_who};
 ghost use Rattle.run_laws.specs.Replies.{leaves_more_at};
+ghost use Rattle.run_laws.specs.Turning.{IsTellable, IsTurningTold};
 ghost use Rattle.script.specs.declared.lines.Line.TheVariants.{Read as ReadLine, Write as WriteLine, Flush as FlushLine, Fail as FailLine, Add as AddLine, ArraySize as ArraySizeLine, Grow as GrowLine, Step as StepLine};
 
 use bank::Bank;
@@ -65,7 +67,10 @@ pub fn ask_read<B: Bank>(
 ) -> Result<u64, NoMemory>
     requires few { count ≤ 128 }
     requires short { at + count < 2 ^ 63 }
+    requires turning { IsTurningTold (is_reshaping array.old.parts.members.newest) (phases_of array.old.ahead) array.old.parts.entries }
     ensures asked { IsAsked (list_length array.old.parts.members.newest) (ReadLine at count) array.old.parts.entries array.new.parts.entries result }
+    ensures tellable { IfOk result (λ place. IsTellable array.new.parts.entries place) }
+    ensures turning { IsTurningTold (is_reshaping array.new.parts.members.newest) (phases_of array.new.ahead) array.new.parts.entries }
     ensures ended { IfOk result (λ place. IsEndOf B.tells array.new.parts.first array.new.parts.entries (B.tape array.new.parts.bank)) }
     ensures unchanged { IfErr result (λ none. array.new ≡ array.old) }
     ensures grows { Grows B.tells (B.tape array.old.parts.bank) (B.tape array.new.parts.bank) }
@@ -101,7 +106,10 @@ pub fn ask_write<B: Bank>(
     requires some { 1 ≤ count }
     requires few { count ≤ 128 }
     requires short { at + count < 2 ^ 63 }
+    requires turning { IsTurningTold (is_reshaping array.old.parts.members.newest) (phases_of array.old.ahead) array.old.parts.entries }
     ensures asked { IsAsked (list_length array.old.parts.members.newest) (WriteLine at count seed) array.old.parts.entries array.new.parts.entries result }
+    ensures tellable { IfOk result (λ place. IsTellable array.new.parts.entries place) }
+    ensures turning { IsTurningTold (is_reshaping array.new.parts.members.newest) (phases_of array.new.ahead) array.new.parts.entries }
     ensures ended { IfOk result (λ place. IsEndOf B.tells array.new.parts.first array.new.parts.entries (B.tape array.new.parts.bank)) }
     ensures unchanged { IfErr result (λ none. array.new ≡ array.old) }
     ensures grows { Grows B.tells (B.tape array.old.parts.bank) (B.tape array.new.parts.bank) }
@@ -130,7 +138,10 @@ pub fn ask_write<B: Bank>(
 
 /// Makes what was written durable. Ok is the place of the reply entry.
 pub fn ask_flush<B: Bank>(array: &mut Running<B>) -> Result<u64, NoMemory>
+    requires turning { IsTurningTold (is_reshaping array.old.parts.members.newest) (phases_of array.old.ahead) array.old.parts.entries }
     ensures asked { IsAsked (list_length array.old.parts.members.newest) FlushLine array.old.parts.entries array.new.parts.entries result }
+    ensures tellable { IfOk result (λ place. IsTellable array.new.parts.entries place) }
+    ensures turning { IsTurningTold (is_reshaping array.new.parts.members.newest) (phases_of array.new.ahead) array.new.parts.entries }
     ensures ended { IfOk result (λ place. IsEndOf B.tells array.new.parts.first array.new.parts.entries (B.tape array.new.parts.bank)) }
     ensures unchanged { IfErr result (λ none. array.new ≡ array.old) }
     ensures grows { Grows B.tells (B.tape array.old.parts.bank) (B.tape array.new.parts.bank) }
@@ -153,7 +164,10 @@ pub fn ask_flush<B: Bank>(array: &mut Running<B>) -> Result<u64, NoMemory>
 
 /// Fails a role. Ok is the place of the reply entry.
 pub fn ask_fail<B: Bank>(array: &mut Running<B>, role: u32) -> Result<u64, NoMemory>
+    requires turning { IsTurningTold (is_reshaping array.old.parts.members.newest) (phases_of array.old.ahead) array.old.parts.entries }
     ensures asked { IsAsked (list_length array.old.parts.members.newest) (FailLine role) array.old.parts.entries array.new.parts.entries result }
+    ensures tellable { IfOk result (λ place. IsTellable array.new.parts.entries place) }
+    ensures turning { IsTurningTold (is_reshaping array.new.parts.members.newest) (phases_of array.new.ahead) array.new.parts.entries }
     ensures ended { IfOk result (λ place. IsEndOf B.tells array.new.parts.first array.new.parts.entries (B.tape array.new.parts.bank)) }
     ensures unchanged { IfErr result (λ none. array.new ≡ array.old) }
     ensures grows { Grows B.tells (B.tape array.old.parts.bank) (B.tape array.new.parts.bank) }
@@ -176,7 +190,10 @@ pub fn ask_fail<B: Bank>(array: &mut Running<B>, role: u32) -> Result<u64, NoMem
 
 /// Makes a slot a spare. Ok is the place of the reply entry.
 pub fn ask_add<B: Bank>(array: &mut Running<B>, slot: u32) -> Result<u64, NoMemory>
+    requires turning { IsTurningTold (is_reshaping array.old.parts.members.newest) (phases_of array.old.ahead) array.old.parts.entries }
     ensures asked { IsAsked (list_length array.old.parts.members.newest) (AddLine slot) array.old.parts.entries array.new.parts.entries result }
+    ensures tellable { IfOk result (λ place. IsTellable array.new.parts.entries place) }
+    ensures turning { IsTurningTold (is_reshaping array.new.parts.members.newest) (phases_of array.new.ahead) array.new.parts.entries }
     ensures ended { IfOk result (λ place. IsEndOf B.tells array.new.parts.first array.new.parts.entries (B.tape array.new.parts.bank)) }
     ensures unchanged { IfErr result (λ none. array.new ≡ array.old) }
     ensures grows { Grows B.tells (B.tape array.old.parts.bank) (B.tape array.new.parts.bank) }
@@ -199,7 +216,10 @@ pub fn ask_add<B: Bank>(array: &mut Running<B>, slot: u32) -> Result<u64, NoMemo
 
 /// Limits what can be read and written of the list, or takes the limit away. Ok is the place of the reply entry. It makes no device call.
 pub fn ask_visible<B: Bank>(array: &mut Running<B>, limit: Option<u64>) -> Result<u64, NoMemory>
+    requires turning { IsTurningTold (is_reshaping array.old.parts.members.newest) (phases_of array.old.ahead) array.old.parts.entries }
     ensures asked { IsAsked (list_length array.old.parts.members.newest) (ArraySizeLine limit) array.old.parts.entries array.new.parts.entries result }
+    ensures tellable { IfOk result (λ place. IsTellable array.new.parts.entries place) }
+    ensures turning { IsTurningTold (is_reshaping array.new.parts.members.newest) (phases_of array.new.ahead) array.new.parts.entries }
     ensures ended { IfOk result (λ place. IsEndOf B.tells array.new.parts.first array.new.parts.entries (B.tape array.new.parts.bank)) }
     ensures unchanged { IfErr result (λ none. array.new ≡ array.old) }
     ensures went { HasRunOn B.tells B.given B.tape B.faults_of array.old array.new }
@@ -215,7 +235,10 @@ pub fn ask_visible<B: Bank>(array: &mut Running<B>, limit: Option<u64>) -> Resul
 /// Plans a grow. Ok is the place of the reply entry. It makes no device call.
 pub fn ask_grow<B: Bank>(array: &mut Running<B>, wish: Wish) -> Result<u64, NoMemory>
     requires level { wish.level ≡ None }
+    requires turning { IsTurningTold (is_reshaping array.old.parts.members.newest) (phases_of array.old.ahead) array.old.parts.entries }
     ensures asked { IsAsked (list_length array.old.parts.members.newest) (GrowLine wish) array.old.parts.entries array.new.parts.entries result }
+    ensures tellable { IfOk result (λ place. IsTellable array.new.parts.entries place) }
+    ensures turning { IsTurningTold (is_reshaping array.new.parts.members.newest) (phases_of array.new.ahead) array.new.parts.entries }
     ensures ended { IfOk result (λ place. IsEndOf B.tells array.new.parts.first array.new.parts.entries (B.tape array.new.parts.bank)) }
     ensures unchanged { IfErr result (λ none. array.new ≡ array.old) }
     ensures went { HasRunOn B.tells B.given B.tape B.faults_of array.old array.new }
@@ -231,7 +254,10 @@ pub fn ask_grow<B: Bank>(array: &mut Running<B>, wish: Wish) -> Result<u64, NoMe
 /// Asks for at most so many steps. Ok is the place of the reply entry.
 pub fn ask_steps<B: Bank>(array: &mut Running<B>, most: u32) -> Result<u64, NoMemory>
     requires some { 1 ≤ most }
+    requires turning { IsTurningTold (is_reshaping array.old.parts.members.newest) (phases_of array.old.ahead) array.old.parts.entries }
     ensures asked { IsAsked (list_length array.old.parts.members.newest) (StepLine most) array.old.parts.entries array.new.parts.entries result }
+    ensures tellable { IfOk result (λ place. IsTellable array.new.parts.entries place) }
+    ensures turning { IsTurningTold (is_reshaping array.new.parts.members.newest) (phases_of array.new.ahead) array.new.parts.entries }
     ensures more { IfOk result (λ place. length array.old.parts.entries < length array.new.parts.entries) }
     ensures ended { IfOk result (λ place. IsEndOf B.tells array.new.parts.first array.new.parts.entries (B.tape array.new.parts.bank)) }
     ensures unchanged { IfErr result (λ none. array.new ≡ array.old) }
@@ -262,7 +288,10 @@ fn leaves_more<B: Bank>(array: &Running<B>, at: u64) -> bool
 /// Asks for steps again and again, until none is left or one is refused. Ok is the place of the last reply entry.
 pub fn ask_wait<B: Bank>(array: &mut Running<B>) -> Result<u64, NoMemory>
     requires ended { IsEndOf B.tells array.old.parts.first array.old.parts.entries (B.tape array.old.parts.bank) }
+    requires turning { IsTurningTold (is_reshaping array.old.parts.members.newest) (phases_of array.old.ahead) array.old.parts.entries }
     ensures asked { IsWaited (list_length array.old.parts.members.newest) array.old.parts.entries array.new.parts.entries result }
+    ensures tellable { IfOk result (λ place. IsTellable array.new.parts.entries place) }
+    ensures turning { IsTurningTold (is_reshaping array.new.parts.members.newest) (phases_of array.new.ahead) array.new.parts.entries }
     ensures ended { IsEndOf B.tells array.new.parts.first array.new.parts.entries (B.tape array.new.parts.bank) }
     ensures went { HasRunOn B.tells B.given B.tape B.faults_of array.old array.new }
 {

@@ -2,14 +2,16 @@
 
 ghost use Rattle.std.specs.Prelude.{◌≡◌, ◌+◌, ◌≤◌, length, IfOk, IfErr};
 ghost use Rattle.bank.specs.Given.{NeverFalls};
-ghost use Rattle.superblocks.specs.Reading.{list_length};
+ghost use Rattle.superblocks.specs.Reading.{is_reshaping, list_length};
 ghost use Rattle.views.specs.Placed.{AreStillHeld};
 ghost use Rattle.views.specs.Moving.{Grows};
+ghost use Rattle.grow_asked.specs.Left.{phases_of};
 ghost use Rattle.array_kept.specs.Calls.{AreSparesFewer, AreLossesOf, IsEndOf};
 ghost use Rattle.run_laws.specs.running_replies_Going.{IsSameEpoch};
 ghost use Rattle.run_laws.specs.running_replies_Replies.{HasToldBy};
 ghost use Rattle.run_laws.specs.Asked.{IsAsked, IsSizedBy};
 ghost use Rattle.run_laws.specs.Showing.{IsToldAt};
+ghost use Rattle.run_laws.specs.Turning.{IsTellable, IsTurningTold};
 ghost use Rattle.script.specs.declared.lines.Line.TheVariants.{Detail as DetailLine, Mdstat as MdstatLine};
 
 use crate::asks::{last_place, script_call};
@@ -19,7 +21,10 @@ use run_laws::running::Running;
 
 /// Asks what the array tells of itself. Ok is the place of the reply entry. It makes no device call.
 pub fn ask_show<B: Bank>(array: &mut Running<B>) -> Result<u64, NoMemory>
+    requires turning { IsTurningTold (is_reshaping array.old.parts.members.newest) (phases_of array.old.ahead) array.old.parts.entries }
     ensures asked { IsAsked (list_length array.old.parts.members.newest) DetailLine array.old.parts.entries array.new.parts.entries result }
+    ensures tellable { IfOk result (λ place. IsTellable array.new.parts.entries place) }
+    ensures turning { IsTurningTold (is_reshaping array.new.parts.members.newest) (phases_of array.new.ahead) array.new.parts.entries }
     ensures asked_brief { IsAsked (list_length array.old.parts.members.newest) MdstatLine array.old.parts.entries array.new.parts.entries result }
     ensures shown { IfOk result (λ place. IsToldAt array.old array.new.parts.entries place) }
     ensures ended { IfOk result (λ place. IsEndOf B.tells array.new.parts.first array.new.parts.entries (B.tape array.new.parts.bank)) }

@@ -1,4 +1,4 @@
-//! The words of a script's line: numbers, words of the form key=value, and layouts by their names.
+//! The words of a script's line: numbers, words of the form key=value, layouts by their names, and the shapes and wishes that keys give.
 #![tactic(auto)]
 
 pub mod keys;

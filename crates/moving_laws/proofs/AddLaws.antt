@@ -50,7 +50,7 @@ number-known l number = elim (cases_lt number (length l)) [
 -- ---- room for more entries
 
 pub with-room : {tells : Type 0} {given : Given} {tape : List Operation} {scope : Scope} {first : ℕ} {entries entries' : List Entry} {members : Members} {work : Work} {course : Course} {ahead : PhasesLeft}
-    {window : List ℕ} {faults : ℕ → ℕ} {steps room room' rows buffer far_rows far_buffer : ℕ} → entries' ≡ entries → 50 * steps < room'
+    {limit : Option ℕ} {window : List ℕ} {faults : ℕ → ℕ} {steps room room' rows buffer far_rows far_buffer : ℕ} → entries' ≡ entries → 50 * steps < room'
     → IsReady tells given tape scope first entries members work course ahead limit window faults steps room rows buffer far_rows far_buffer
     → IsReady tells given tape scope first entries' members work course ahead limit window faults steps room' rows buffer far_rows far_buffer
 with-room {tells = tells} {given = given} {tape = tape} {scope = scope} {first = first} {members = members} {work = work} {course = course} {ahead = ahead} {limit = limit} {window = window} {faults = faults} {steps = steps} {room' = room'}

@@ -8,19 +8,19 @@ use Rattle.safe_updates.specs.First.{call_refusal}
 use Rattle.moving_laws.specs.Refusing.{IsFirstFor}
 
 -- as much is visible
-pub first-seen : {seen visible to : ℕ} {why told : Option Refusal} → seen ≡ visible → MatchOption (call_refusal seen to why) ⊤ (λ refusal. told ≡ Some refusal) → MatchOption (call_refusal visible to why) ⊤ (λ refusal. told ≡ Some refusal)
-first-seen {to = to} {why = why} {told = told} same is = subst (λ (n : ℕ). MatchOption (call_refusal n to why) ⊤ (λ refusal. told ≡ Some refusal)) same is
+pub first-seen : {seen visible : ℕ} (to : ℕ) (why told : Option Refusal) → seen ≡ visible → MatchOption (call_refusal seen to why) ⊤ (λ refusal. told ≡ Some refusal) → MatchOption (call_refusal visible to why) ⊤ (λ refusal. told ≡ Some refusal)
+first-seen to why told same is = subst (λ (n : ℕ). MatchOption (call_refusal n to why) ⊤ (λ refusal. told ≡ Some refusal)) same is
 
 -- memory is short
-pub first-short : {T : Type 0} (first : Option Refusal) (fault : AnyFault) → fault ≡ NoMemory → IsFirstFor {T = T} first (Err fault)
-first-short None fault short = tt
-first-short (Some refusal) NoMemory short = tt
-first-short (Some refusal) (IsRefusedWith told) short = absurd cc
+pub first-short : (T : Type 0) (first : Option Refusal) (fault : AnyFault) → fault ≡ NoMemory → IsFirstFor {T = T} first (Err fault)
+first-short T None fault short = tt
+first-short T (Some refusal) NoMemory short = tt
+first-short T (Some refusal) (IsRefusedWith told) short = absurd cc
 
 -- it is refused so
-pub first-told : {T : Type 0} (first : Option Refusal) (refusal : Refusal) → MatchOption first ⊤ (λ why. ◌≡◌ {A = Option Refusal} (Some refusal) (Some why)) → IsFirstFor {T = T} first (Err (IsRefusedWith refusal))
-first-told None refusal is = tt
-first-told (Some why) refusal is = cc
+pub first-told : (T : Type 0) (first : Option Refusal) (refusal : Refusal) → MatchOption first ⊤ (λ why. ◌≡◌ {A = Option Refusal} (Some refusal) (Some why)) → IsFirstFor {T = T} first (Err (IsRefusedWith refusal))
+first-told T None refusal is = tt
+first-told T (Some why) refusal is = cc
 
 -- nothing refuses it first
 pub first-none : {T : Type 0} (first : Option Refusal) (result : Result T AnyFault) → MatchOption first ⊤ (λ why. ◌≡◌ {A = Option Refusal} None (Some why)) → IsFirstFor first result

@@ -85,7 +85,7 @@ use Rattle.mending_kept.proofs.moving_kept_Steps.{AreMissingSince, missing-moved
 use Rattle.moving_state.specs.First.{IsUnreadAround}
 use Rattle.moving_state.proofs.ReshapeLaws.{window-reach}
 use Rattle.running_words.specs.Parts.{visible_size}
-use Rattle.running_words.proofs.Visible.{visible-within}
+use Rattle.running_words.proofs.Visible.{visible-is, visible-within}
 use Rattle.running_words.proofs.Replies.{refused_reply, read_kind}
 use Rattle.moving_laws.specs.Ready.{bytes_in}
 use Rattle.moving_laws.proofs.Relied.{pending-at, pending-behind, unsynced-right, sector-role}
@@ -203,7 +203,7 @@ module _ {tells : Type 0} {given : Given} {tape : List Operation} {scope : Scope
     (was : IsMoving tells given tape scope first entries old carried resync course buffer left) (limited : limit_of entries ≡ limit) where
   -- so much of the list is visible
   seen : tells → visible_at (world_in given tape scope first) entries ≡ visible_size old limit
-  seen t = λ i. option_map_or (λ most. min most ((was.recorded t).sized i)) (limited i) ((was.recorded t).sized i)
+  seen t = visible-is (length (opening_list (world_in given tape scope first))) (list_length old.newest) limit entries (was.recorded t).sized limited
 
   -- ---- one that is refused before any sector is read
 

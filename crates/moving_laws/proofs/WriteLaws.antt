@@ -1,7 +1,6 @@
 -- A write of an array in a reshape: the open window that it touches is finished, and then its sectors are put into the list. What is kept, done or refused.
 use Rattle.std.proofs.Common.{◌≡◌, ◌≢◌, ◌⊎◌, inl, inr, ℕ, ◌+◌, ◌-◌, ◌*◌, ◌/◌, ◌<◌, ◌≤◌, Bool, true, false, Option, Some, None, Result, Ok, Err, List, [], ◌∷◌, ◌++◌, length, take, refl, sym, ◌∙◌, ap, subst, arith, append_assoc}
-use Rattle.std.specs.Prelude.{min, MatchOption, OnOk}
-use Rattle.std.specs.Option.{option_map_or}
+use Rattle.std.specs.Prelude.{MatchOption, OnOk}
 use Rattle.std.proofs.lemmas.Bool.{cases_lt}
 use Rattle.std.proofs.lemmas.List.Elements.{All-append, All-weaker}
 use Rattle.md_base.specs.Sectors.{Sector, sectors_of}
@@ -24,7 +23,7 @@ use Rattle.flat_history.specs.declared.events.Event.TheVariants.{Lost, SpareLost
 use Rattle.flat_history.specs.declared.events.LostCause.{LostCause}
 use Rattle.flat_history.specs.declared.events.LostCause.TheVariants.{Command, Fault}
 use Rattle.flat_history.specs.declared.events.StepKind.TheVariants.{WindowFinished as FinishesWindow}
-use Rattle.flat_history.specs.Flat.{length_of, limit_of, visible_of}
+use Rattle.flat_history.specs.Flat.{limit_of, visible_of}
 use Rattle.flat_history.specs.Legal.{visible_at, IsRefusedRight}
 use Rattle.flat_history.specs.Plain.{entries_of}
 use Rattle.flat_history.specs.Stands.{covers, shape_for}
@@ -74,7 +73,7 @@ use Rattle.mending_kept.proofs.moving_kept_Writing.{ArePut, AreWritten, AreUnwri
 use Rattle.running_words.specs.Calls.{IsCalled, IsStepTaken}
 use Rattle.running_words.specs.Parts.{RunningParts}
 use Rattle.running_words.specs.Parts.{visible_size}
-use Rattle.running_words.proofs.Visible.{visible-within}
+use Rattle.running_words.proofs.Visible.{visible-is, visible-within}
 use Rattle.moving_laws.specs.Ready.{bytes_in, IsReady}
 use Rattle.moving_laws.specs.Writing.{IsWindowOpen, steps_in, TouchesWindow, IsWriteLacked, IsPutEntered, IsWriteEntered}
 use Rattle.running_words.proofs.Called.{not_254}
@@ -284,7 +283,7 @@ module _ {tells : Type 0} {given : Given} {tape : List Operation} {scope : Scope
     (was : IsMoving tells given tape scope first entries old carried resync course buffer left) (limited : limit_of entries ≡ limit) where
   -- so much of the list is visible
   pub all-seen : tells → visible_at (world_in given tape scope first) entries ≡ visible_size old limit
-  all-seen t = λ i. option_map_or (λ most. min most ((was.recorded t).sized i)) (limited i) ((was.recorded t).sized i)
+  all-seen t = visible-is (length (opening_list (world_in given tape scope first))) (list_length old.newest) limit entries (was.recorded t).sized limited
 
   -- why it is refused before any row is read
   pub first-right : (relied at to : ℕ) (refusal : Refusal) → relied ≡ relied_sector old.newest resync → IsRefusedFor (visible_size old limit) to (IsListUnwritten relied at to) old old refusal

@@ -103,7 +103,7 @@ torn-own request e (z ∷ zs) tail none torn = by (is_same_call e z) (torn-own r
 
 module _ (size : ℕ) (limit : Option ℕ) (request : Request) (who : Who) (old : List Entry) (number : who.number ≡ next_number who.caller old) (sized : length_of size old ≡ size) (limited : limit_of old ≡ limit) where
   as-visible : (call : List Entry) → IsInner who request call → visible_of size (old ++ call) ≡ visible_by size limit
-  as-visible call inner = visible-is size limit (old ++ call) (length-more size old call sized (inner.long size)) (limit-kept limit old call limited (inner.free limit))
+  as-visible call inner = visible-is size size limit (old ++ call) (length-more size old call sized (inner.long size)) (limit-kept limit old call limited (inner.free limit))
 
   replied-behind : (new call : List Entry) (end : ℕ) (event : Event) → IsInner who request call → new ≡ old ++ (call ++ entry_of who end event ∷ [])
       → ((before : List Entry) → OneShapeAnswers size (old ++ call) before request event) → IsRepliedBehind size request who old new event

@@ -11,6 +11,7 @@ pub use Rattle.running_steps.specs.course_kept_the_Course
 pub use Rattle.running_steps.specs.growing_Replied
 pub use Rattle.running_steps.specs.moving_laws_Writing
 pub use Rattle.running_steps.specs.region_mends_Left
+pub use Rattle.running_steps.specs.Steps as running_steps_Steps
 pub use Rattle.running_steps.specs.running_Calls
 pub use Rattle.running_steps.specs.running_replies_Going
 pub use Rattle.running_steps.specs.running_replies_Replies

@@ -44,6 +44,8 @@ use Rattle.run_laws.specs.Histories.{History, entry_at}
 use Rattle.run_laws.specs.Examining.{IsExaminedBy, IsUnexamined}
 use Rattle.run_laws.specs.Making.{Setting, held_at, history_world, IsUncreated, IsUnassembled, IsStoredNew, IsStoredAs, BeginsShown}
 use Rattle.run_laws.specs.Replies.{Course, spec_of, FitsLine, IsMadeBy, IsFoundBy, IsRefusedOutside, gone_on, course_behind, entries_to, course_after, course_of, leaves_more, leaves_more_at, IsReplyAt, IsWaitedAt, IsRepliedAt, IsAnsweredInside, IsAnswer, IsEnd, IsReplyTo, AreReplies}
+use Rattle.openings.specs.running_replies_Replies.{MayTellBy}
+use Rattle.run_laws.specs.Turning.{may_be_active, may_be_ahead, IsTellable}
 use Rattle.run_laws.specs.States.{IsGrown, AreGrown, IsNamed, IsWaitingAt, IsCutShort}
 use Rattle.run_laws.proofs.Causes.{faulted-wider, given-wider, create-later, assemble-later}
 use Rattle.run_laws.proofs.Worlds.{list-same, alike-later, sound-later, new-later, stored-later}
@@ -172,6 +174,17 @@ cut_stays olds news old Wait new grown was =
     }
 cut_stays olds news old line new grown was = absurd was
 
+-- and it tells nothing more
+tellable_longer : (entries more : List Entry) (place : ℕ) → IsTellable entries place → IsTellable (entries ++ more) place
+tellable_longer entries more place was = by_entry (slice_get entries place) refl was
+  where
+    by_entry : (o : Option Entry) → slice_get entries place ≡ o → MatchOption o ⊥ (λ e. MayTellBy (IsTrue (may_be_active (take place entries))) (IsTrue (may_be_ahead (take place entries))) e.event) → IsTellable (entries ++ more) place
+    by_entry None is told = absurd told
+    by_entry (Some e) is told =
+        let within = slice_get_within entries place e is in
+        subst (λ (o : Option Entry). MatchOption o ⊥ (λ x. MayTellBy (IsTrue (may_be_active (take place (entries ++ more)))) (IsTrue (may_be_ahead (take place (entries ++ more)))) x.event)) (sym (get_append entries more place e is))
+        (subst (λ (l : List Entry). MayTellBy (IsTrue (may_be_active l)) (IsTrue (may_be_ahead l)) e.event) (sym (take-append-le place entries more (omega (arith, within)))) told)
+
 inside_stays : (olds news : List History) (course : Course) {epoch place : ℕ} {line : Line} → AreGrown olds news → IsAnsweredInside olds course epoch place line → IsAnsweredInside news course epoch place line
 inside_stays olds news course {epoch = epoch} {place = place} {line = line} grown was =
     let now = history_stays olds news grown epoch was.history was.there in
@@ -181,6 +194,7 @@ inside_stays olds news course {epoch = epoch} {place = place} {line = line} grow
       history = now.0;
       there = now.1;
       replied = subst (λ (l : List Entry). IsRepliedAt course.size l place course.calls line) (sym now.2.grown) (replied_longer course.size place course.calls line was.history.entries now.2.more now.2.later was.replied);
+      tellable = subst (λ (l : List Entry). IsTellable l place) (sym now.2.grown) (tellable_longer was.history.entries now.2.more place was.tellable);
     }
 
 -- the same bank, over a longer time

@@ -6,6 +6,7 @@ pub mod Losses
 pub mod Plain
 pub mod PlainReplies
 pub mod Told
+pub mod Turned
 pub mod Worlds
 pub mod Writing
 pub mod Sizes

@@ -1,57 +1,31 @@
 -- Where no reshape was planned or begun, a reply is one of an array of one shape.
-use Rattle.std.proofs.Common.{◌≡◌, ◌⊎◌, inl, inr, ℕ, ◌+◌, ◌||◌, Bool, true, false, cond, Option, List, [], ◌∷◌, length, reverse, refl, sym, ◌∙◌, ap}
-use Rattle.std.proofs.lemmas.List.{reverse-append}
-use Rattle.std.proofs.lemmas.List.Folds.{list_any-append}
-use Rattle.std.specs.Prelude.{MatchBool, nat_lt, IsSome, IsTrue}
+use Rattle.std.proofs.Common.{◌≡◌, ◌⊎◌, inl, inr, ℕ, ◌+◌, ◌||◌, Bool, true, false, Option, Some, None, List, [], ◌∷◌, length, refl, sym, ◌∙◌, ap, true≢false}
+use Rattle.std.proofs.lemmas.List.Elements.{All-head, All-tail}
+use Rattle.std.specs.Prelude.{MatchBool, nat_lt, IfSome, IsSome, IsTrue}
 use Rattle.std.specs.List.{list_any}
 use Rattle.md_base.specs.declared.answers.Refusal.{Refusal}
-use Rattle.md_base.specs.declared.answers.Refusal.TheVariants.{BackupFault, Nothing}
+use Rattle.md_base.specs.declared.answers.Refusal.TheVariants.{TooManyMissing, NotResynced, BackupFault, Degraded, NeedSpares, Nothing}
 use Rattle.flat_history.specs.declared.events.Entry.{Entry}
 use Rattle.flat_history.specs.declared.events.Event.{Event}
-use Rattle.flat_history.specs.declared.events.Event.TheVariants.{Step, Stepped, Refused}
+use Rattle.flat_history.specs.declared.events.Event.TheVariants.{Resized, Step, Stepped, Refused}
 use Rattle.flat_history.specs.declared.events.StepKind.TheVariants.{Finished}
 use Rattle.flat_history.specs.declared.events.Request.{Request}
 use Rattle.flat_history.specs.declared.events.Request.TheVariants.{Read as AsksRead, Write as AsksWrite, Flush as AsksFlush, Fail as AsksFail, Add as AsksAdd, Visible as AsksVisible, Grow as AsksGrow, Steps as AsksSteps, Show as AsksShow}
-use Rattle.flat_history.specs.Flat.{rest_of_call, is_same_call, visible_of}
+use Rattle.flat_history.specs.Flat.{length_after, length_of, visible_of}
 use Rattle.flat_history.specs.Fits.{IsReadRefused, IsWriteRefused, is_lost_event}
 use Rattle.flat_history.specs.Legal.{call_before}
-use Rattle.flat_history.specs.OneShape.{DidOneShapeSteps, OneShapeAnswers, OneShapeFits}
+use Rattle.flat_history.specs.OneShape.{DidOneShapeSteps, EndsIdleSteps, OneShapeAnswers, OneShapeFits}
 use Rattle.flat_history.specs.Transfers.{IsRefusedAt, IsPastEnd}
 use Rattle.openings.specs.running_words_Plans.{turns_shape}
-use Rattle.openings.specs.running_replies_Replies.{may_end_early, DidRunningSteps, RunningAnswers, RunningFits}
-use Rattle.openings.specs.still_laws_Plain.{MayTellPlainly}
+use Rattle.openings.specs.running_replies_Replies.{may_end_early, EndsRunningSteps, MayEndBy, MayTellBy, DidRunningSteps, RunningAnswers, RunningFits}
+use Rattle.openings.specs.still_laws_Plain.{MayTellPlainly, AreToldPlainly}
 use Rattle.run_laws.specs.Plain.{asks_to_turn}
-
--- ---- what none of some entries is, none of one call before another is
-
-any-reverse : (p : Entry → Bool) (xs : List Entry) → list_any p (reverse xs) ≡ list_any p xs
-any-reverse p [] = refl
-any-reverse p (x ∷ xs) =
-    ap (λ (l : List Entry). list_any p l) (reverse-append (x ∷ []) xs) ∙ list_any-append p (reverse xs) (x ∷ [])
-    ∙ ap (λ (b : Bool). b || (p x || false)) (any-reverse p xs) ∙ turned (list_any p xs) (p x)
-  where
-    turned : (a b : Bool) → (a || (b || false)) ≡ (b || a)
-    turned true true = refl
-    turned true false = refl
-    turned false true = refl
-    turned false false = refl
+use Rattle.run_laws.specs.Turning.{may_be_active, may_be_ahead}
 
 -- neither of two is
 pub neither : (a b : Bool) → (a || b) ≡ false → (a ≡ false) × (b ≡ false)
 neither true b is = absurd (cc)
 neither false b is = (refl, is)
-
-none-of-call : (p : Entry → Bool) (e : Entry) (xs : List Entry) → list_any p xs ≡ false → list_any p (rest_of_call e xs) ≡ false
-none-of-call p e [] none = refl
-none-of-call p e (x ∷ xs) none = by (is_same_call e x) (none-of-call p e xs) (neither (p x) (list_any p xs) none)
-  where
-    by : (same : Bool) → (list_any p xs ≡ false → list_any p (rest_of_call e xs) ≡ false) → (p x ≡ false) × (list_any p xs ≡ false)
-        → list_any p (cond same (x ∷ rest_of_call e xs) []) ≡ false
-    by false rest none = refl
-    by true rest none = ap (λ (b : Bool). b || list_any p (rest_of_call e xs)) (none.0) ∙ rest (none.1)
-
-pub none-before : (p : Entry → Bool) (before : List Entry) (e : Entry) → list_any p before ≡ false → list_any p (call_before before e) ≡ false
-none-before p before e none = none-of-call p e (reverse before) (any-reverse p before ∙ none)
 
 -- ---- steps
 
@@ -121,9 +95,66 @@ answers-plain size before call (AsksVisible limit) event none plain other is = a
 answers-plain size before call (AsksGrow wish) event none plain other is = absurd (cc)
 answers-plain size before call AsksShow event none plain other is = absurd is
 
-pub plain-replies : (size : ℕ) (before : List Entry) (e : Entry) (request : Request) → list_any (λ e. turns_shape e.event) before ≡ false → MayTellPlainly e.event → asks_to_turn request ≡ false
+pub plain-replies : (size : ℕ) (before : List Entry) (e : Entry) (request : Request) → list_any (λ e. turns_shape e.event) (call_before before e) ≡ false → MayTellPlainly e.event → asks_to_turn request ≡ false
     → RunningFits size before e request → OneShapeFits size before e request
 plain-replies size before e request none plain other fits = record {
-  answers = answers-plain size before (call_before before e) request e.event (none-before (λ e. turns_shape e.event) before e none) plain other fits.answers;
+  answers = answers-plain size before (call_before before e) request e.event none plain other fits.answers;
   torn = fits.torn;
 }
+
+-- ---- where no reshape may be active, or ahead
+
+resized-none : (size : ℕ) (before call : List Entry) (request : Request) (n : ℕ) → RunningAnswers size before call request (Resized n) → ⊥
+resized-none size before call (AsksRead at count) n is = is
+resized-none size before call (AsksWrite at body) n is = is
+resized-none size before call AsksFlush n is = is
+resized-none size before call (AsksFail role) n is = is
+resized-none size before call (AsksAdd slot) n is = is
+resized-none size before call (AsksVisible limit) n is = is
+resized-none size before call (AsksGrow wish) n is = is
+resized-none size before call (AsksSteps most) n is = is
+resized-none size before call AsksShow n is = is
+
+ended-of : (size : ℕ) (before call : List Entry) (request : Request) (done left : ℕ) (ended : Option Refusal) → RunningAnswers size before call request (Stepped done left ended) → IfSome ended EndsRunningSteps
+ended-of size before call (AsksSteps most) done left ended is = is.1
+ended-of size before call (AsksRead at count) done left ended is = absurd is
+ended-of size before call (AsksWrite at body) done left ended is = absurd is
+ended-of size before call AsksFlush done left ended is = absurd is
+ended-of size before call (AsksFail role) done left ended is = absurd is
+ended-of size before call (AsksAdd slot) done left ended is = absurd is
+ended-of size before call (AsksVisible limit) done left ended is = absurd is
+ended-of size before call (AsksGrow wish) done left ended is = absurd is
+ended-of size before call AsksShow done left ended is = absurd is
+
+module _ (Active Ahead : Type 0) (active : Active → ⊥) (ahead : Ahead → ⊥) where
+  end-plainly : (refusal : Refusal) → MayEndBy Active Ahead refusal → EndsRunningSteps refusal → EndsIdleSteps refusal
+  end-plainly (TooManyMissing count most) may is = tt
+  end-plainly (NotResynced role) may is = tt
+  end-plainly BackupFault (inl now) is = absurd (active now)
+  end-plainly BackupFault (inr next) is = absurd (ahead next)
+  end-plainly (Degraded role) may is = absurd (ahead may)
+  end-plainly (NeedSpares have want) may is = absurd (ahead may)
+  end-plainly refusal may is = absurd is
+
+  tell-plainly : (size : ℕ) (before call : List Entry) (request : Request) (event : Event) → MayTellBy Active Ahead event → RunningAnswers size before call request event → MayTellPlainly event
+  tell-plainly size before call request (Resized n) may is = absurd (resized-none size before call request n is)
+  tell-plainly size before call request (Refused BackupFault) may is = absurd (active may)
+  tell-plainly size before call request (Stepped done left None) may is = tt
+  tell-plainly size before call request (Stepped done left (Some refusal)) may is = end-plainly refusal may (ended-of size before call request done left (Some refusal) is)
+  tell-plainly size before call request event may is = tt
+
+pub rest-tells : (size : ℕ) (before : List Entry) (e : Entry) (request : Request) → may_be_active before ≡ false → may_be_ahead before ≡ false → MayTellBy (IsTrue (may_be_active before)) (IsTrue (may_be_ahead before)) e.event
+    → RunningFits size before e request → MayTellPlainly e.event
+rest-tells size before e request still none may fits =
+    tell-plainly (IsTrue (may_be_active before)) (IsTrue (may_be_ahead before)) (λ active. true≢false (sym active ∙ still)) (λ ahead. true≢false (sym ahead ∙ none)) size before (call_before before e) request e.event may fits.answers
+
+-- ---- how long the list is
+
+event-stays : (event : Event) (n : ℕ) → MayTellPlainly event → length_after n event ≡ n
+event-stays (Resized m) n plain = absurd plain
+event-stays event n plain = refl
+
+pub lists-stay : (size : ℕ) (entries : List Entry) → AreToldPlainly entries → length_of size entries ≡ size
+lists-stay size [] plain = refl
+lists-stay size (e ∷ entries) plain =
+    ap (λ (n : ℕ). length_of n entries) (event-stays e.event size (All-head (λ e. MayTellPlainly e.event) e entries plain)) ∙ lists-stay size entries (All-tail (λ e. MayTellPlainly e.event) e entries plain)

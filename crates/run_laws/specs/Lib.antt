@@ -7,6 +7,7 @@ pub mod Plain
 pub mod Replies
 pub mod Showing
 pub mod States
+pub mod Turning
 pub mod Written
 pub use Rattle.openings.specs.Found as openings_Found
 pub use Rattle.openings.specs.array_the_CreateSpec
@@ -19,6 +20,7 @@ pub use Rattle.openings.specs.growing_Replied
 pub use Rattle.openings.specs.region_mends_Left
 pub use Rattle.openings.specs.reshape_openings_Finding
 pub use Rattle.openings.specs.running_Calls
+pub use Rattle.openings.specs.running_steps_Steps
 pub use Rattle.openings.specs.running_replies_Going
 pub use Rattle.openings.specs.running_replies_Replies
 pub use Rattle.openings.specs.running_words_Adding

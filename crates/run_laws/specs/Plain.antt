@@ -1,13 +1,16 @@
--- Which replies are those of an array of one shape.
-use Rattle.std.specs.Prelude.{◌≡◌, ℕ, Bool, true, false, List}
+-- Which replies are those of an array of one shape, and what its history tells.
+use Rattle.std.specs.Prelude.{◌≡◌, ℕ, Bool, true, false, List, IsTrue}
 use Rattle.std.specs.List.{list_any}
 use Rattle.flat_history.specs.declared.events.Entry.{Entry}
 use Rattle.flat_history.specs.declared.events.Request.{Request}
 use Rattle.flat_history.specs.declared.events.Request.TheVariants.{Visible as AsksVisible, Grow as AsksGrow}
+use Rattle.flat_history.specs.Flat.{length_of}
+use Rattle.flat_history.specs.Legal.{call_before}
 use Rattle.flat_history.specs.OneShape.{OneShapeFits}
 use Rattle.openings.specs.running_words_Plans.{turns_shape}
-use Rattle.openings.specs.still_laws_Plain.{MayTellPlainly}
-use Rattle.openings.specs.running_replies_Replies.{RunningFits}
+use Rattle.openings.specs.still_laws_Plain.{MayTellPlainly, AreToldPlainly}
+use Rattle.openings.specs.running_replies_Replies.{MayTellBy, RunningFits}
+use Rattle.run_laws.specs.Turning.{may_be_active, may_be_ahead}
 
 -- the request asks for a reshape, or to limit what can be read and written
 abbrev pub asks_to_turn : Request → Bool
@@ -15,7 +18,16 @@ asks_to_turn (AsksVisible limit) = true
 asks_to_turn (AsksGrow wish) = true
 asks_to_turn request = false
 
--- Where neither a limit was told nor a reshape planned or begun before it, such a reply to another request fits it as one of an array of one shape, unless it tells what only a reshape may.
+-- Where neither a limit was told nor a reshape planned, begun or ended in its call before it, such a reply to another request fits it as one of an array of one shape, unless it tells what only a reshape may.
 abbrev pub PlainRepliesFit : Type 0
-PlainRepliesFit = (size : ℕ) (before : List Entry) (e : Entry) (request : Request) → list_any (λ e. turns_shape e.event) before ≡ false → MayTellPlainly e.event → asks_to_turn request ≡ false
+PlainRepliesFit = (size : ℕ) (before : List Entry) (e : Entry) (request : Request) → list_any (λ e. turns_shape e.event) (call_before before e) ≡ false → MayTellPlainly e.event → asks_to_turn request ≡ false
     → RunningFits size before e request → OneShapeFits size before e request
+
+-- Where by the entries before it no reshape may be active, or ahead, it tells none of that, unless it tells more than they allow.
+abbrev pub RestTellsPlainly : Type 0
+RestTellsPlainly = (size : ℕ) (before : List Entry) (e : Entry) (request : Request) → may_be_active before ≡ false → may_be_ahead before ≡ false
+    → MayTellBy (IsTrue (may_be_active before)) (IsTrue (may_be_ahead before)) e.event → RunningFits size before e request → MayTellPlainly e.event
+
+-- Where entries tell nothing of a reshape, the list stays as long as it is.
+abbrev pub PlainListsStay : Type 0
+PlainListsStay = (size : ℕ) (entries : List Entry) → AreToldPlainly entries → length_of size entries ≡ size

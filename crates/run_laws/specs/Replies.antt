@@ -32,6 +32,7 @@ use Rattle.run_laws.specs.declared.report.Answered.TheVariants.{Inside, Outside 
 use Rattle.run_laws.specs.declared.report.LineReply.{LineReply}
 use Rattle.run_laws.specs.Histories.{History, entry_at, is_end}
 use Rattle.run_laws.specs.Showing.{IsShown}
+use Rattle.run_laws.specs.Turning.{IsTellable}
 use Rattle.run_laws.specs.Examining.{IsExaminedBy, IsUnexamined}
 use Rattle.run_laws.specs.Making.{Setting, held_at, history_world, IsUncreated, IsUnassembled, IsStoredNew, IsStoredAs, BeginsShown}
 
@@ -149,13 +150,14 @@ abbrev pub IsRepliedAt : ℕ → List Entry → ℕ → ℕ → Line → Type 0
 IsRepliedAt size entries place number Wait = (earlier : List ℕ) × IsWaitedAt size entries earlier place number
 IsRepliedAt size entries place number line = IsReplyAt size entries place number line
 
--- the line is answered by an entry of the array that runs, in the script's next call
+-- The line is answered by an entry of the array that runs, in the script's next call, which tells nothing that only a reshape could, unless by the entries before it one may be active, or ahead.
 pub record IsAnsweredInside (histories : List History) (course : Course) (epoch place : ℕ) (line : Line) : Type 0 where
   pub running : IsTrue course.running
   pub latest : epoch + 1 ≡ course.opened
   pub history : History
   pub there : slice_get histories epoch ≡ Some history
   pub replied : IsRepliedAt course.size history.entries place course.calls line
+  pub tellable : IsTellable history.entries place
 
 -- The next history is that of an array that was made as the line asks: nothing spoke against it, it has the uuid, all slots are given,
 -- and it begins where the reply was made; there its list is zero, it is sound, its superblocks are alike and say what was asked for, and

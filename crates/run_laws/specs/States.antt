@@ -1,8 +1,9 @@
 -- The bank of a run with or without an array on it, and what a line does to it.
-use Rattle.std.specs.Prelude.{◌≡◌, ◌⊎◌, ℕ, ◌+◌, ◌<◌, ◌≤◌, ◌^◌, ◌++◌, true, List, [], ◌∷◌, length, take, slice_get, vec_capacity, Option, Some, None, MatchOption, Result, Ok, Err, IfSome, IsSome, IsTrue, ⊤}
+use Rattle.std.specs.Prelude.{◌≡◌, ◌⊎◌, ℕ, ◌+◌, ◌<◌, ◌≤◌, ◌^◌, ◌++◌, Bool, true, List, [], ◌∷◌, length, take, slice_get, vec_capacity, Option, Some, None, MatchOption, Result, Ok, Err, IfSome, IsSome, IsTrue, ⊤}
 use Rattle.std.specs.List.{All}
 use Rattle.md_base.specs.declared.answers.NoMemory.{NoMemory}
 use Rattle.md_base.specs.declared.answers.Refusal.{Refusal}
+use Rattle.md_base.specs.declared.wishes.Phase.{Phase}
 use Rattle.bank.specs.Given.{Given, IsFaulted}
 use Rattle.flat_history.specs.declared.events.Entry.{Entry}
 use Rattle.flat_history.specs.declared.events.Event.{Event}
@@ -11,7 +12,8 @@ use Rattle.flat_history.specs.declared.events.LostCause.{LostCause}
 use Rattle.flat_history.specs.declared.events.LostCause.TheVariants.{Absent, Recovering, Command, Fault}
 use Rattle.flat_history.specs.Flat.{rest_of_call, next_number, length_of}
 use Rattle.views.specs.Parts.{Parts}
-use Rattle.superblocks.specs.Reading.{list_length}
+use Rattle.superblocks.specs.Reading.{is_reshaping, list_length}
+use Rattle.grow_asked.specs.Left.{phases_of}
 use Rattle.openings.specs.running_words_Parts.{RunningParts}
 use Rattle.openings.specs.running_replies_Replies.{IsRefusalBy}
 use Rattle.script.specs.declared.lines.Line.{Line}
@@ -23,6 +25,7 @@ use Rattle.run_laws.specs.declared.states.State.TheVariants.{Idle, Running}
 use Rattle.run_laws.specs.Histories.{History, histories_of, entry_at, AreGoing, EndsOnce}
 use Rattle.run_laws.specs.Making.{Setting, history_world, MayHaveHeld, MissingAtFirst}
 use Rattle.run_laws.specs.Replies.{Course, at_rest, gone_on, course_after, steps_at_once, leaves_more_at, IsReplyAt, IsAnswer}
+use Rattle.run_laws.specs.Turning.{IsTurningTold}
 
 -- the history of an array that runs
 abbrev pub running_history : {B : Type 0} → Parts B → History
@@ -72,18 +75,19 @@ pub record IsOfScript (history : History) : Type 0 where
 abbrev pub AreOfScript : List History → Type 0
 AreOfScript histories = All IsOfScript histories
 
--- the histories are of the script alone, and that of the array that runs is not ended and tells no other length than that of its list; and there is room for it
-pub record IsOwn (before : List History) (running : History) (size count capacity : ℕ) : Type 0 where
+-- the histories are of the script alone, and that of the array that runs is not ended, tells no other length than that of its list, and tells a reshape that is active, or ahead; and there is room for it
+pub record IsOwn (before : List History) (running : History) (size : ℕ) (active : Bool) (ahead : List Phase) (count capacity : ℕ) : Type 0 where
   pub former : AreOfScript before
   pub script : IsByScript running
   pub going : AreGoing running.entries
   pub sized : length_of size running.entries ≡ size
+  pub turning : IsTurningTold active ahead running.entries
   pub room : count < capacity
   pub few : count < 2 ^ 32
 
 abbrev pub RunsOwn : {B : Type 0} → State B → Type 0
 RunsOwn (Idle bank epochs) = AreOfScript (histories_of epochs.items)
-RunsOwn (Running array epochs) = IsOwn (histories_of epochs.items) (running_history array.parts) (list_length array.parts.members.newest) (length epochs.items) (vec_capacity epochs)
+RunsOwn (Running array epochs) = IsOwn (histories_of epochs.items) (running_history array.parts) (list_length array.parts.members.newest) (is_reshaping array.parts.members.newest) (phases_of array.ahead) (length epochs.items) (vec_capacity epochs)
 
 -- the bank has few slots, and the backup is the last
 pub record IsFitBank (given : Given) (backup : Option ℕ) : Type 0 where

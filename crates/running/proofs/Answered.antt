@@ -24,6 +24,7 @@ use Rattle.grow_asked.specs.Left.{phases_of}
 use Rattle.growing.proofs.Idle.{some-steps}
 use Rattle.growing.specs.running_words_Parts.{RunningParts, left_in, still_left}
 use Rattle.growing.specs.running_words_Calls.{IsCalled}
+use Rattle.growing.specs.running_replies_Going.{HasNoReshape}
 use Rattle.growing.specs.still_laws_Steps.{IsStepped, MayEndNow, IsStepsReplyNow}
 use Rattle.growing.proofs.still_laws_PlansKept.{PlanNone}
 use Rattle.growing.specs.moving_steps_Replies.{IsEndedInReshape, IsReplyInReshape}
@@ -79,6 +80,22 @@ answered-called old new did members work = record {
   work = work;
   same = did.same;
 }
+
+-- ---- where no step is left
+
+pub moving-left : {B : Type 0} (array : RunningParts B) {F : Type 0} → is_reshaping array.parts.members.newest ≡ true → 0 < left_in array.parts.work array.parts.members array.course array.ahead → running_left array ≡ 0 → F
+moving-left array active some none = absurd (let same = left-moving array active in omega (arith, same, some, none))
+
+-- neither is there a reshape ahead
+pub rest-left : {B : Type 0} (array : RunningParts B) → is_reshaping array.parts.members.newest ≡ false → running_left array ≡ 0 → HasNoReshape array
+rest-left array still none = record { active = still; ahead = by (phases_of array.ahead) refl }
+  where
+    unplanned : phases_steps (shape_of array.parts.members.newest) array.parts.members.newest.size (phases_of array.ahead) ≡ 0
+    unplanned = let left = left-still array still in omega (arith, left, none)
+
+    by : (phases : List Phase) → phases_of array.ahead ≡ phases → phases ≡ []
+    by [] is = refl
+    by (phase ∷ rest) is = absurd (let some = some-steps (shape_of array.parts.members.newest) array.parts.members.newest.size (phases_of array.ahead) rest phase (sym is) in omega (arith, some, unplanned))
 
 -- ---- what is next
 

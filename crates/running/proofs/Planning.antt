@@ -174,9 +174,9 @@ module _ {B : Type 0} (T tells : Type 0) (given : B → Given) (tape : B → Lis
             grow-replied {T = T} tells world asked (list_length old.parts.members.newest) wish who old.parts.entries new.parts.entries left (Err (IsRefusedWith refusal)) number visible is because
         by NoMemory is because = is
 
-    pub went-refused : IsAsBefore old new → HasRunOn tells given tape faults old new
-    went-refused before = by fault answered judged
+    pub went-refused : IsAsBefore old new → new.ahead ≡ old.ahead → HasRunOn tells given tape faults old new
+    went-refused before ahead = by fault answered judged
       where
         by : (fault : Fault) → IsGrowAnswered {T = T} tells world asked wish who old.parts.entries new.parts.entries event (Err fault) → IsGrowJudged {T = T} asked wish (Err fault) → HasRunOn tells given tape faults old new
-        by (IsRefusedWith refusal) is because = grow-went tells given tape faults old new before {T = T} world asked wish who left (Err (IsRefusedWith refusal)) is because
-        by NoMemory is because = grow-went tells given tape faults old new before {T = T} world asked wish who left (Err NoMemory) is because
+        by (IsRefusedWith refusal) is because = grow-went tells given tape faults old new before {T = T} world asked wish who left (Err (IsRefusedWith refusal)) is because ahead
+        by NoMemory is because = grow-went tells given tape faults old new before {T = T} world asked wish who left (Err NoMemory) is because ahead

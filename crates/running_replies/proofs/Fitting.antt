@@ -1,8 +1,8 @@
 -- A reply of an array of one shape is one of a running array.
-use Rattle.std.proofs.Common.{ℕ, ◌+◌, Bool, true, false, List, length}
+use Rattle.std.proofs.Common.{inl, inr, ℕ, ◌+◌, Bool, true, false, Option, Some, None, List, length}
 use Rattle.std.specs.Prelude.{MatchBool, nat_lt}
 use Rattle.md_base.specs.declared.answers.Refusal.{Refusal}
-use Rattle.md_base.specs.declared.answers.Refusal.TheVariants.{BackupFault, Nothing}
+use Rattle.md_base.specs.declared.answers.Refusal.TheVariants.{BackupFault, Degraded, NeedSpares, Nothing}
 use Rattle.flat_history.specs.declared.events.Entry.{Entry}
 use Rattle.flat_history.specs.declared.events.Event.{Event}
 use Rattle.flat_history.specs.declared.events.Event.TheVariants.{Resized, Stepped, Refused}
@@ -13,7 +13,7 @@ use Rattle.flat_history.specs.Legal.{MayBeInner, call_before}
 use Rattle.flat_history.specs.OneShape.{OneShapeAnswers, OneShapeFits}
 use Rattle.flat_history.specs.Transfers.{IsRefusedAt, IsPastEnd}
 use Rattle.array_kept.specs.Calls.{StandsInside}
-use Rattle.running_replies.specs.Replies.{RunningAnswers, RunningFits}
+use Rattle.running_replies.specs.Replies.{MayEndBy, MayTellBy, RunningAnswers, RunningFits}
 
 -- what stands inside a call there may stand in any
 pub inside-inner : (event : Event) → StandsInside event → MayBeInner event
@@ -55,6 +55,22 @@ wrote size before call at body event is = is
 
 pub fits-write : (size : ℕ) (before : List Entry) (e : Entry) (at : ℕ) (body : List (List ℕ)) → OneShapeFits size before e (AsksWrite at body) → RunningFits size before e (AsksWrite at body)
 fits-write size before e at body fits = record { answers = wrote size before (call_before before e) at body e.event fits.answers; torn = fits.torn }
+
+-- ---- what is told only in a reshape
+
+module _ (Active Ahead More Later : Type 0) (active : Active → More) (ahead : Ahead → Later) where
+  pub end-more : (refusal : Refusal) → MayEndBy Active Ahead refusal → MayEndBy More Later refusal
+  end-more BackupFault (inl is) = inl (active is)
+  end-more BackupFault (inr is) = inr (ahead is)
+  end-more (Degraded role) is = ahead is
+  end-more (NeedSpares have want) is = ahead is
+  end-more refusal is = tt
+
+  pub tell-more : (event : Event) → MayTellBy Active Ahead event → MayTellBy More Later event
+  tell-more (Refused BackupFault) is = active is
+  tell-more (Stepped done left None) is = tt
+  tell-more (Stepped done left (Some refusal)) is = end-more refusal is
+  tell-more event is = tt
 
 -- ---- steps
 

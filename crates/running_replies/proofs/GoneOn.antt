@@ -19,10 +19,11 @@ use Rattle.flat_history.specs.declared.events.Event.TheVariants.{Lost, SpareLost
 use Rattle.flat_history.specs.declared.events.LostCause.{LostCause}
 use Rattle.flat_history.specs.declared.events.LostCause.TheVariants.{Absent, Recovering, Command, Fault}
 use Rattle.flat_history.specs.Flat.{length_of, length_after}
+use Rattle.flat_history.specs.Reshaped.{is_planned}
 use Rattle.array_kept.specs.Calls.{IsRoleLossBy, IsLossBy}
 use Rattle.running_words.specs.Parts.{RunningParts}
 use Rattle.running_replies.specs.Replies.{IsRefusalBy, IsRefusalToldBy, HasToldBy}
-use Rattle.running_replies.specs.Going.{is_finish, MayBeDropped, MayHoldBehind, AreHeldBehind, AreLossesAlong, HasRunOn}
+use Rattle.running_replies.specs.Going.{is_finish, is_begin, MayBeDropped, MayHoldBehind, AreHeldBehind, AreLossesAlong, HasRunOn}
 
 -- ---- counts that rise later, and that rose before
 
@@ -145,6 +146,22 @@ along-wider members before now last done (x ∷ xs) rises late (loss, was) = (
   along-wider members before now last (done ++ x ∷ []) xs rises late was,
 )
 
+-- ---- what more steps don't tell, none of them does
+
+pub none-first : (p : Entry → Bool) (xs ys : List Entry) → list_any p (xs ++ ys) ≡ false → list_any p xs ≡ false
+none-first p xs ys none = by (list_any p xs) (sym (list_any-append p xs ys) ∙ none)
+  where
+    by : (a : Bool) → (a || list_any p ys) ≡ false → a ≡ false
+    by false is = refl
+    by true is = absurd (cc)
+
+none-second : (p : Entry → Bool) (xs ys : List Entry) → list_any p (xs ++ ys) ≡ false → list_any p ys ≡ false
+none-second p xs ys none = by (list_any p xs) (sym (list_any-append p xs ys) ∙ none)
+  where
+    by : (a : Bool) → (a || list_any p ys) ≡ false → list_any p ys ≡ false
+    by false is = is
+    by true is = absurd (cc)
+
 -- ---- all that they leave
 
 pub gone-then : {B : Type 0} (tells : Type 0) (given : B → Given) (tape : B → List Operation) (faults : B → ℕ → ℕ) (old mid new : RunningParts B) → HasRunOn tells given tape faults old mid → HasRunOn tells given tape faults mid new → HasRunOn tells given tape faults old new
@@ -169,6 +186,8 @@ gone-then tells given tape faults old mid new one two = record {
   never_falls = λ s. let low = one.never_falls s in let high = two.never_falls s in omega (arith, low, high);
   given_is = two.given_is ∙ one.given_is;
   same = record { uuid = two.same.uuid ∙ one.same.uuid; given = two.same.given ∙ one.same.given; first = two.same.first ∙ one.same.first; backup = two.same.backup ∙ one.same.backup };
+  active = λ still none. two.active (one.active still (none-first (λ e. is_begin e.event) one.more two.more none)) (none-second (λ e. is_begin e.event) one.more two.more none);
+  ahead = λ empty none. two.ahead (one.ahead empty (none-first (λ e. is_planned e.event) one.more two.more none)) (none-second (λ e. is_planned e.event) one.more two.more none);
 }
 
 -- no step
@@ -184,4 +203,6 @@ gone-none tells given tape faults array = record {
   never_falls = λ s. omega arith;
   given_is = refl;
   same = record { uuid = refl; given = refl; first = refl; backup = refl };
+  active = λ still none. still;
+  ahead = λ empty none. empty;
 }

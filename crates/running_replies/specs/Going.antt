@@ -5,14 +5,16 @@ use Rattle.bank.specs.declared.bank.Operation.{Operation}
 use Rattle.bank.specs.Given.{Given, NeverFalls}
 use Rattle.superblocks.specs.declared.members.Members.{Members}
 use Rattle.superblocks.specs.Reads.{has_spare}
-use Rattle.superblocks.specs.Reading.{list_length}
+use Rattle.superblocks.specs.Reading.{is_reshaping, list_length}
 use Rattle.flat_history.specs.declared.events.Entry.{Entry}
 use Rattle.flat_history.specs.declared.events.Event.{Event}
 use Rattle.flat_history.specs.declared.events.Event.TheVariants.{Step}
-use Rattle.flat_history.specs.declared.events.StepKind.TheVariants.{Finished}
+use Rattle.flat_history.specs.declared.events.StepKind.TheVariants.{Begun, Finished}
 use Rattle.flat_history.specs.Flat.{length_of}
+use Rattle.flat_history.specs.Reshaped.{is_planned}
 use Rattle.views.specs.Moving.{Grows}
 use Rattle.views.specs.Rebuilding.{Held, MayHold}
+use Rattle.grow_asked.specs.Left.{phases_of}
 use Rattle.array_kept.specs.Calls.{IsLossBy}
 use Rattle.running_words.specs.Parts.{RunningParts}
 use Rattle.running_replies.specs.Replies.{HasToldBy}
@@ -21,6 +23,11 @@ use Rattle.running_replies.specs.Replies.{HasToldBy}
 abbrev pub is_finish : Event → Bool
 is_finish (Step Finished left) = true
 is_finish event = false
+
+-- the event tells that a reshape began
+abbrev pub is_begin : Event → Bool
+is_begin (Step Begun left) = true
+is_begin event = false
 
 -- the slot had a role, and a reshape ended in these entries
 abbrev pub MayBeDropped : Members → List Entry → ℕ → Type 0
@@ -47,8 +54,13 @@ pub record IsSameEpoch {B : Type 0} (old new : RunningParts B) : Type 0 where
   pub first : new.parts.first ≡ old.parts.first
   pub backup : new.parts.backup ≡ old.parts.backup
 
+-- no reshape is active, and none is ahead
+pub record HasNoReshape {B : Type 0} (array : RunningParts B) : Type 0 where
+  pub active : is_reshaping array.parts.members.newest ≡ false
+  pub ahead : phases_of array.ahead ≡ []
+
 -- What steps leave of an array over its bank: more is entered, which tells what the list's length is then; roles are lost, or given to spares, each loss and refusal has its cause, and it is the
--- array of the same epoch.
+-- array of the same epoch. A reshape is active then only if one was, or is told to have begun; and one is ahead only if one was, or is told to be planned.
 pub record HasRunOn {B : Type 0} (tells : Type 0) (given : B → Given) (tape : B → List Operation) (faults : B → ℕ → ℕ) (old new : RunningParts B) : Type 0 where
   pub more : List Entry
   pub grown : new.parts.entries ≡ old.parts.entries ++ more
@@ -60,3 +72,5 @@ pub record HasRunOn {B : Type 0} (tells : Type 0) (given : B → Given) (tape : 
   pub never_falls : NeverFalls (faults old.parts.bank) (faults new.parts.bank)
   pub given_is : given new.parts.bank ≡ given old.parts.bank
   pub same : IsSameEpoch old new
+  pub active : is_reshaping old.parts.members.newest ≡ false → list_any (λ e. is_begin e.event) more ≡ false → is_reshaping new.parts.members.newest ≡ false
+  pub ahead : phases_of old.ahead ≡ [] → list_any (λ e. is_planned e.event) more ≡ false → phases_of new.ahead ≡ []

@@ -112,6 +112,21 @@ IsRepliedWith size request who old new event (Ok x) = IsAnsweredWith size reques
 IsRepliedWith size request who old new event (Err (IsRefusedWith refusal)) = IsAnsweredWith size request who old new (Refused refusal)
 IsRepliedWith size request who old new event (Err NoMemory) = new ≡ old
 
+-- ---- what a reply tells only in a reshape
+
+-- Steps are ended by a backup that failed only where a reshape is active or ahead, and for a role that is missing or for want of spares only where one is ahead, which can't begin.
+abbrev pub MayEndBy : (Active Ahead : Type 0) → Refusal → Type 0
+MayEndBy Active Ahead BackupFault = Active ⊎ Ahead
+MayEndBy Active Ahead (Degraded role) = Ahead
+MayEndBy Active Ahead (NeedSpares have want) = Ahead
+MayEndBy Active Ahead refusal = ⊤
+
+-- Another request is refused for the backup only where a reshape is active.
+abbrev pub MayTellBy : (Active Ahead : Type 0) → Event → Type 0
+MayTellBy Active Ahead (Refused BackupFault) = Active
+MayTellBy Active Ahead (Stepped done left ended) = IfSome ended (MayEndBy Active Ahead)
+MayTellBy Active Ahead event = ⊤
+
 -- ---- a refusal's cause
 
 -- a refusal for a slot that failed stands only where that slot has failed since, and one for the backup only where the backup has

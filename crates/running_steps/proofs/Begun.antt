@@ -43,7 +43,7 @@ use Rattle.reshape_updates.specs.Beginning.{beginning, goes_back}
 use Rattle.reshape_updates.proofs.NewRoles.{new-or}
 use Rattle.reshape_ends.specs.Begun.{begun_plan}
 use Rattle.grow_asked.specs.declared.window.PhasesLeft.{PhasesLeft}
-use Rattle.grow_asked.specs.Left.{IsAtStartOf}
+use Rattle.grow_asked.specs.Left.{IsAtStartOf, phases_of}
 use Rattle.kept_history.specs.Recorded.{MayGoOn, IsCallGoing}
 use Rattle.running.specs.running_words_Parts.{RunningParts, left_in}
 use Rattle.running.specs.turning_Begun.{is_resize, begun_length, IsReshapeBegun, IsGivenBack, IsBeginRefused}
@@ -141,10 +141,10 @@ IsUnfinished event = is_finish event ≡ false
 -- ---- it begins
 
 module _ {B : Type 0} (tells : Type 0) (given : B → Given) (tape : B → List Operation) (faults : B → ℕ → ℕ) (who : Who) (old new : RunningParts B) where
-  pub begin-done : (to : Shape) (behind : PhasesLeft) → is_reshaping old.parts.members.newest ≡ false → IsCallGoing old.parts.entries who
+  pub begin-done : (to : Shape) (behind : PhasesLeft) → phases_of behind ≡ [] → is_reshaping old.parts.members.newest ≡ false → IsCallGoing old.parts.entries who
       → IsReshapeBegun tells (given old.parts.bank) (tape old.parts.bank) (tape new.parts.bank) (faults old.parts.bank) (faults new.parts.bank) who to behind old new → given new.parts.bank ≡ given old.parts.bank
       → IsStepDone tells given tape faults who old new false
-  begin-done to behind still goes was given_is = record {
+  begin-done to behind empty still goes was given_is = record {
     inner = inner;
     is = was.entered.is;
     own = each-own MayGoOn who end events (each-begun MayGoOn left roles spares size back tt tt (each-losses MayGoOn (λ role. tt) (λ slot. tt) roles spares));
@@ -172,6 +172,8 @@ module _ {B : Type 0} (tells : Type 0) (given : B → Given) (tape : B → List 
       never_falls = was.never_falls;
       given_is = given_is;
       same = epoch-itself old new was.same;
+      active = λ none begun. absurd (let clash : true ≡ false = begun in cc);
+      ahead = λ none unplanned. ap (λ (p : PhasesLeft). phases_of p) was.ahead ∙ empty;
     };
     ended = was.ended;
   }
@@ -243,6 +245,8 @@ module _ {B : Type 0} (tells : Type 0) (given : B → Given) (tape : B → List 
         never_falls = rises;
         given_is = given_is;
         epoch = epoch-itself old new back.same;
+        active = λ still. ap (λ (m : Members). is_reshaping m.newest) back.members ∙ still;
+        ahead = back.ahead;
         ended = back.ended;
       })
       (behind-alone who back.end (Refused refusal) refl back.entered) goes (begin-ends (faults old.parts.bank) (faults new.parts.bank) to refusal caused)

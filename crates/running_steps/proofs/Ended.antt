@@ -1,5 +1,5 @@
 -- A step by which the active reshape ends.
-use Rattle.std.proofs.Common.{◌≡◌, ◌⊎◌, inl, inr, ℕ, ◌*◌, ◌≤◌, ◌||◌, ◌++◌, min, Bool, true, false, List, [], ◌∷◌, refl, sym, ◌∙◌, arith}
+use Rattle.std.proofs.Common.{◌≡◌, ◌⊎◌, inl, inr, ℕ, ◌*◌, ◌≤◌, ◌||◌, ◌++◌, min, Bool, true, false, List, [], ◌∷◌, refl, sym, ◌∙◌, ap, arith}
 use Rattle.std.proofs.Math.Nat.{min-le_right}
 use Rattle.std.proofs.lemmas.Bool.Decides.{nat_tests}
 use Rattle.std.specs.Prelude.{nat_lt, if◌then◌else◌, IsTrue}
@@ -23,6 +23,8 @@ use Rattle.call_entries.specs.Losing.{losses_of}
 use Rattle.call_entries.proofs.CallLaws.{losses-are, length-losses}
 use Rattle.views.specs.Placed.{AreStillHeld}
 use Rattle.views.specs.Rebuilding.{Held}
+use Rattle.grow_asked.specs.Left.{phases_of}
+use Rattle.grow_asked.specs.declared.window.PhasesLeft.{PhasesLeft}
 use Rattle.kept_history.specs.Recorded.{MayGoOn, IsCallGoing}
 use Rattle.running.specs.running_words_Parts.{RunningParts, still_left}
 use Rattle.running.specs.still_laws_Steps.{IsClosable}
@@ -121,6 +123,8 @@ module _ {B : Type 0} (tells : Type 0) (given : B → Given) (tape : B → List 
       never_falls = was.never_falls;
       given_is = given_is;
       same = epoch-itself old new was.same;
+      active = λ still none. was.over.still;
+      ahead = λ empty none. ap (λ (p : PhasesLeft). phases_of p) was.ahead ∙ empty;
     };
     ended = was.ended;
   }

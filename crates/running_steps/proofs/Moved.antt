@@ -29,8 +29,8 @@ use Rattle.running_steps.proofs.Own.{step-entries}
 
 pub moved-did : {B : Type 0} (tells : Type 0) (given : B → Given) (tape : B → List Operation) (faults : B → ℕ → ℕ) (old new : RunningParts B)
     → IsMendCalled tells (given old.parts.bank) (tape old.parts.bank) (tape new.parts.bank) (faults old.parts.bank) (faults new.parts.bank) old new → given new.parts.bank ≡ given old.parts.bank
-    → IsPlainStep tells given tape faults (Held old.parts.members) old new
-moved-did tells given tape faults old new was given_is = record {
+    → is_reshaping old.parts.members.newest ≡ true → IsPlainStep tells given tape faults (Held old.parts.members) old new
+moved-did tells given tape faults old new was given_is active = record {
   long = long-same old (record new { parts = record new.parts { work = old.parts.work } }) was.same;
   held = held-only old.parts.members new.parts.members was.held was.spares;
   had = λ role slot has. inl has;
@@ -39,6 +39,8 @@ moved-did tells given tape faults old new was given_is = record {
   never_falls = was.never_falls;
   given_is = given_is;
   epoch = record { uuid = was.same.array.uuid; given = was.same.array.given; first = was.same.array.first; backup = was.same.array.backup };
+  active = λ still. absurd (let clash : true ≡ false = sym active ∙ still in cc);
+  ahead = was.same.ahead;
   ended = was.ended;
 }
 
@@ -52,7 +54,7 @@ module _ {B : Type 0} (tells : Type 0) (given : B → Given) (tape : B → List 
       → IsBehind who old.parts.entries new.parts.entries (Step (kind_of due) (left_in new.parts.work new.parts.members new.course new.ahead))
       → left_in new.parts.work new.parts.members new.course new.ahead + 1 ≡ left_in old.parts.work old.parts.members old.course old.ahead → IsStepDone tells given tape faults who old new false
   moved-done due ne was given_is behind one =
-      plain-done tells given tape faults who old new (Held old.parts.members) (moved-did tells given tape faults old new was given_is)
+      plain-done tells given tape faults who old new (Held old.parts.members) (moved-did tells given tape faults old new was given_is active)
       (subst (λ (n : ℕ). IsStepEntries who old.parts.entries new.parts.entries n) (sym (active-runs new later))
       (step-entries who old.parts.entries new.parts.entries (kind_of due) (left_in new.parts.work new.parts.members new.course new.ahead) (due-kind due (left_in new.parts.work new.parts.members new.course new.ahead) ne) behind))
       (open-moving old who active goes) (later ∙ sym active)
@@ -65,10 +67,10 @@ module _ {B : Type 0} (tells : Type 0) (given : B → Given) (tape : B → List 
   moved-refused did refusal behind cause right = plain-refused tells given tape faults who old new (Held old.parts.members) refusal did behind goes (moved-ends new refusal later right) cause right
 
 -- the end of the reshape is refused
-pub ended-refused : {B : Type 0} (tells : Type 0) (given : B → Given) (tape : B → List Operation) (faults : B → ℕ → ℕ) (who : Who) (old new : RunningParts B) → IsCallGoing old.parts.entries who → is_reshaping new.parts.members.newest ≡ true
+pub ended-refused : {B : Type 0} (tells : Type 0) (given : B → Given) (tape : B → List Operation) (faults : B → ℕ → ℕ) (who : Who) (old new : RunningParts B) → IsCallGoing old.parts.entries who → is_reshaping old.parts.members.newest ≡ true → is_reshaping new.parts.members.newest ≡ true
     → IsCalled tells (given old.parts.bank) (tape old.parts.bank) (tape new.parts.bank) (faults old.parts.bank) (faults new.parts.bank) old new → given new.parts.bank ≡ given old.parts.bank
     → (refusal : Refusal) → IsBehind who old.parts.entries new.parts.entries (Refused refusal) → AreTooMany new.parts.members refusal → MayEndSteps new refusal → IsStepRefused tells given tape faults who old new refusal
-ended-refused tells given tape faults who old new goes later was given_is refusal behind many right =
+ended-refused tells given tape faults who old new goes active later was given_is refusal behind many right =
     plain-refused tells given tape faults who old new (Held old.parts.members) refusal
     (record {
       long = long-same old new was.same;
@@ -79,6 +81,8 @@ ended-refused tells given tape faults who old new goes later was given_is refusa
       never_falls = was.never_falls;
       given_is = given_is;
       epoch = epoch-of old new was.same;
+      active = λ still. absurd (let clash : true ≡ false = sym active ∙ still in cc);
+      ahead = was.same.ahead;
       ended = was.ended;
     })
     behind goes (moved-ends new refusal later right) (many-so (IsRefusalBy old.parts.backup (faults old.parts.bank) (faults new.parts.bank)) (λ count most. tt) new.parts.members refusal many) right

@@ -35,8 +35,8 @@ use Rattle.running_steps.proofs.Refusals.{own-ends, own-cause}
 
 own-did : {B : Type 0} (tells : Type 0) (given : B → Given) (tape : B → List Operation) (faults : B → ℕ → ℕ) (old new : RunningParts B)
     → IsStepped tells (given old.parts.bank) (tape old.parts.bank) (tape new.parts.bank) (IsHeldOrDue old.parts.work old.parts.members) (faults old.parts.bank) (faults new.parts.bank) old new
-    → AreHeldOrSpare old.parts.members new.parts.members → given new.parts.bank ≡ given old.parts.bank → IsPlainStep tells given tape faults (IsHeldOrDue old.parts.work old.parts.members) old new
-own-did tells given tape faults old new was held given_is = record {
+    → AreHeldOrSpare old.parts.members new.parts.members → given new.parts.bank ≡ given old.parts.bank → is_reshaping new.parts.members.newest ≡ false → IsPlainStep tells given tape faults (IsHeldOrDue old.parts.work old.parts.members) old new
+own-did tells given tape faults old new was held given_is later = record {
   long = long-same old new was.same;
   held = held;
   had = due-may old.parts.work old.parts.members;
@@ -45,6 +45,8 @@ own-did tells given tape faults old new was held given_is = record {
   never_falls = was.never_falls;
   given_is = given_is;
   epoch = epoch-of old new was.same;
+  active = λ still. later;
+  ahead = was.same.ahead;
   ended = was.ended;
 }
 
@@ -106,7 +108,7 @@ module _ {B : Type 0} (tells : Type 0) (given : B → Given) (tape : B → List 
   pub own-done : {T : Type 0} (x : T) → IsStepEntered {T = T} who old.parts.entries new.parts.entries old.parts.work old.parts.members new.parts.members (still_left new.parts.work new.parts.members new.ahead) (Ok x)
       → AreStepsFewer old.parts.entries new.parts.entries (still_left old.parts.work old.parts.members old.ahead) (still_left new.parts.work new.parts.members new.ahead) → IsClosable new → IsStepDone tells given tape faults who old new false
   own-done x entered fewer closes =
-      plain-done tells given tape faults who old new (IsHeldOrDue old.parts.work old.parts.members) (own-did tells given tape faults old new was held given_is)
+      plain-done tells given tape faults who old new (IsHeldOrDue old.parts.work old.parts.members) (own-did tells given tape faults old new was held given_is later)
       (subst (λ (n : ℕ). IsStepEntries who old.parts.entries new.parts.entries n) (sym (still-runs new later))
       (own-entries who old.parts.entries new.parts.entries old.parts.work old.parts.members new.parts.members (still_left new.parts.work new.parts.members new.ahead) x entered))
       (open-still old who still open_) (later ∙ sym still)
@@ -115,7 +117,7 @@ module _ {B : Type 0} (tells : Type 0) (given : B → Given) (tape : B → List 
   pub own-refused : (T : Type 0) (refusal : Refusal) → IsStepEntered {T = T} who old.parts.entries new.parts.entries old.parts.work old.parts.members new.parts.members (still_left new.parts.work new.parts.members new.ahead) (Err (IsRefusedWith refusal))
       → IsRefusedFor (list_length old.parts.members.newest) 0 (IsUndone old.parts.work old.parts.members) old.parts.members new.parts.members refusal → MayEndSteps new refusal → IsStepRefused tells given tape faults who old new refusal
   own-refused T refusal entered caused right =
-      plain-refused tells given tape faults who old new (IsHeldOrDue old.parts.work old.parts.members) refusal (own-did tells given tape faults old new was held given_is)
+      plain-refused tells given tape faults who old new (IsHeldOrDue old.parts.work old.parts.members) refusal (own-did tells given tape faults old new was held given_is later)
       (own-behind T who old.parts.entries new.parts.entries old.parts.work old.parts.members new.parts.members (still_left new.parts.work new.parts.members new.ahead) refusal entered) open_.goes
       (own-ends (list_length old.parts.members.newest) old.parts.work old.parts.members new.parts.members refusal caused)
       (own-cause (list_length old.parts.members.newest) old.parts.work old.parts.members new.parts.members refusal old.parts.backup (faults old.parts.bank) (faults new.parts.bank) caused) right

@@ -18,6 +18,8 @@ use Rattle.call_entries.specs.Losing.{losses_of}
 use Rattle.views.specs.Moving.{Grows}
 use Rattle.views.specs.Rebuilding.{MayHold}
 use Rattle.array_kept.specs.Calls.{AreHeldOrSpare, AreLossesBy, AreStepsFewer, IsBehind, IsEndOf}
+use Rattle.grow_asked.specs.Left.{phases_of}
+use Rattle.grow_asked.specs.declared.window.PhasesLeft.{PhasesLeft}
 use Rattle.kept_history.specs.Recorded.{MayGoOn, IsCallGoing}
 use Rattle.running.specs.running_words_Parts.{RunningParts, left_in, still_left}
 use Rattle.running.specs.still_laws_Steps.{IsClosable}
@@ -81,6 +83,8 @@ pub record IsPlainStep {B : Type 0} (tells : Type 0) (given : B → Given) (tape
   pub never_falls : NeverFalls (faults old.parts.bank) (faults new.parts.bank)
   pub given_is : given new.parts.bank ≡ given old.parts.bank
   pub epoch : IsSameEpoch old new
+  pub active : is_reshaping old.parts.members.newest ≡ false → is_reshaping new.parts.members.newest ≡ false
+  pub ahead : new.ahead ≡ old.ahead
   pub ended : IsEndOf tells new.parts.first new.parts.entries (tape new.parts.bank)
 
 module _ {B : Type 0} (tells : Type 0) (given : B → Given) (tape : B → List Operation) (faults : B → ℕ → ℕ) (who : Who) (old new : RunningParts B) where
@@ -114,6 +118,8 @@ module _ {B : Type 0} (tells : Type 0) (given : B → Given) (tape : B → List 
       never_falls = did.never_falls;
       given_is = did.given_is;
       same = did.epoch;
+      active = λ still none. did.active still;
+      ahead = λ empty none. ap (λ (p : PhasesLeft). phases_of p) did.ahead ∙ empty;
     };
     ended = did.ended;
   }
@@ -158,6 +164,8 @@ module _ {B : Type 0} (tells : Type 0) (given : B → Given) (tape : B → List 
       never_falls = did.never_falls;
       given_is = did.given_is;
       same = did.epoch;
+      active = λ still none. did.active still;
+      ahead = λ empty none. ap (λ (p : PhasesLeft). phases_of p) did.ahead ∙ empty;
     };
     ended = did.ended;
   }

@@ -1,9 +1,9 @@
 -- Why a step is refused: each refusal may end a request for steps, and has its cause.
-use Rattle.std.proofs.Common.{◌≡◌, inl, inr, ℕ, Bool, true, false, cond, Option, Some, None, Err, MatchBool, refl, sym, subst, arith}
+use Rattle.std.proofs.Common.{◌≡◌, ◌≢◌, inl, inr, ℕ, Bool, true, false, cond, Option, Some, None, [], Err, MatchBool, refl, sym, ◌∙◌, ap, subst, arith}
 use Rattle.std.specs.Prelude.{nat_lt, is_some, IfSome, IsSome, MatchOption}
 use Rattle.md_base.specs.declared.answers.Fault.TheVariants.{Refused as IsRefusedWith}
 use Rattle.md_base.specs.declared.answers.Refusal.{Refusal}
-use Rattle.md_base.specs.declared.answers.Refusal.TheVariants.{PastEnd, TooManyMissing, NotResynced, BackupFault}
+use Rattle.md_base.specs.declared.answers.Refusal.TheVariants.{PastEnd, TooManyMissing, NotResynced, BackupFault, Degraded, NeedSpares}
 use Rattle.md_base.specs.declared.places.Shape.{Shape}
 use Rattle.bank.specs.Given.{IsFaulted}
 use Rattle.sb1.specs.declared.sb.Sb.{Sb}
@@ -14,7 +14,8 @@ use Rattle.views.specs.Lacking.{AreTooMany, IsNotResynced}
 use Rattle.array_kept.specs.Calls.{IsRefusedFor, IsUnmendable}
 use Rattle.grow_asked.specs.declared.window.Window.{Window}
 use Rattle.grow_asked.specs.declared.window.Window.TheVariants.{Closed, Entered, Unsure}
-use Rattle.grow_asked.specs.Left.{stripes_in, zeroed_by}
+use Rattle.grow_asked.specs.declared.window.PhasesLeft.{PhasesLeft}
+use Rattle.grow_asked.specs.Left.{stripes_in, zeroed_by, phases_of}
 use Rattle.running.specs.region_mends_Mends.{mend_shape, IsNotMended}
 use Rattle.running.specs.course_kept_the_Course.{Course}
 use Rattle.running.specs.moving_state_Due.{due_in, due_of}
@@ -24,7 +25,9 @@ use Rattle.running.specs.running_words_Parts.{RunningParts}
 use Rattle.running.specs.moving_laws_Steps.{IsStepCaused}
 use Rattle.running.specs.still_steps_Stepping.{IsUndone}
 use Rattle.running.proofs.still_steps_NextLaws.{undone-unwritten}
-use Rattle.running.specs.running_replies_Replies.{EndsRunningSteps, IsRefusalBy}
+use Rattle.running.specs.running_replies_Replies.{EndsRunningSteps, MayEndBy, IsRefusalBy}
+use Rattle.running.specs.still_laws_Steps.{RefusesBegin, MayEndNow}
+use Rattle.running.proofs.running_replies_Fitting.{end-more}
 use Rattle.running.specs.moving_steps_Replies.{IsEndedInReshape}
 use Rattle.running.specs.Calls.{MayEndSteps}
 
@@ -68,6 +71,34 @@ ended-in array refusal active may = chosen (is_reshaping array.parts.members.new
 
 pub moved-ends : {B : Type 0} (array : RunningParts B) (refusal : Refusal) → is_reshaping array.parts.members.newest ≡ true → MayEndSteps array refusal → EndsRunningSteps refusal
 moved-ends array refusal active may = reshape-so EndsRunningSteps (λ count most. tt) (λ role. tt) tt array.parts.work array.parts.members refusal (ended-in array refusal active may)
+
+-- ---- what may have ended steps only in a reshape, or where one is ahead
+
+now-by : (Active : Type 0) (work : Work) (m : Members) (ahead : PhasesLeft) (refusal : Refusal) → MayEndNow work m ahead refusal → MayEndBy Active (phases_of ahead ≢ []) refusal
+now-by Active work m ahead refusal (inl right) = unmendable-so (MayEndBy Active (phases_of ahead ≢ [])) (λ count most. tt) (λ role. tt) m refusal right.0
+now-by Active work m ahead refusal (inr begins) = of refusal (begins.0)
+  where
+    of : (r : Refusal) → RefusesBegin r → MayEndBy Active (phases_of ahead ≢ []) r
+    of BackupFault is = inr (begins.1)
+    of (Degraded role) is = begins.1
+    of (NeedSpares have want) is = begins.1
+    of r is = absurd is
+
+ended-by : {B : Type 0} (array : RunningParts B) (refusal : Refusal) → MayEndSteps array refusal → MayEndBy (is_reshaping array.parts.members.newest ≡ true) (phases_of array.ahead ≢ []) refusal
+ended-by array refusal may = by (is_reshaping array.parts.members.newest) refl may
+  where
+    by : (b : Bool) → is_reshaping array.parts.members.newest ≡ b → MatchBool b (IsEndedInReshape array.parts.work array.parts.members refusal) (MayEndNow array.parts.work array.parts.members array.ahead refusal)
+        → MayEndBy (is_reshaping array.parts.members.newest ≡ true) (phases_of array.ahead ≢ []) refusal
+    by true active is = reshape-so (MayEndBy (is_reshaping array.parts.members.newest ≡ true) (phases_of array.ahead ≢ [])) (λ count most. tt) (λ role. tt) (inl active) array.parts.work array.parts.members refusal is
+    by false still is = now-by (is_reshaping array.parts.members.newest ≡ true) array.parts.work array.parts.members array.ahead refusal is
+
+-- so tells the reply of the same array
+pub steps-may : {B : Type 0} (mid new : RunningParts B) (ended : Option Refusal) → new.parts.members ≡ mid.parts.members → new.ahead ≡ mid.ahead → IfSome ended (MayEndSteps mid)
+    → IfSome ended (MayEndBy (is_reshaping new.parts.members.newest ≡ true) (phases_of new.ahead ≢ []))
+steps-may mid new None members ahead right = tt
+steps-may mid new (Some refusal) members ahead right =
+    end-more (is_reshaping mid.parts.members.newest ≡ true) (phases_of mid.ahead ≢ []) (is_reshaping new.parts.members.newest ≡ true) (phases_of new.ahead ≢ [])
+    (λ active. ap (λ (m : Members). is_reshaping m.newest) members ∙ active) (λ some none. some (ap (λ (p : PhasesLeft). phases_of p) (sym ahead) ∙ none)) refusal (ended-by mid refusal right)
 
 -- a resync is pending where its next step is due
 not-mend : (newest : Sb) (cleared : ℕ) → due_in newest Closed cleared None ≡ Mend → ⊥

@@ -15,7 +15,7 @@ use Rattle.md_base.specs.declared.answers.Who.{Who}
 use Rattle.bank.specs.declared.bank.Operation.{Operation}
 use Rattle.bank.specs.Given.{Given, NeverFalls}
 use Rattle.superblocks.specs.declared.members.Members.{Members}
-use Rattle.superblocks.specs.Reading.{list_length}
+use Rattle.superblocks.specs.Reading.{is_reshaping, list_length}
 use Rattle.superblocks.specs.Reads.{has_spare}
 use Rattle.flat_history.specs.declared.events.Entry.{Entry}
 use Rattle.flat_history.specs.declared.events.Event.{Event}
@@ -28,6 +28,7 @@ use Rattle.flat_history.specs.Flat.{rest_of_call, next_number, length_of, length
 use Rattle.flat_history.specs.Legal.{MayBeInner, call_before}
 use Rattle.flat_history.specs.OneShape.{IsOfCall}
 use Rattle.flat_history.specs.Plain.{entries_of}
+use Rattle.flat_history.specs.Reshaped.{is_planned}
 use Rattle.call_entries.proofs.PlainLaws.{one}
 use Rattle.call_entries.proofs.CallLaws.{torn-reverse}
 use Rattle.views.specs.declared.work.Work.{Work}
@@ -35,13 +36,15 @@ use Rattle.views.specs.Moving.{Grows}
 use Rattle.views.specs.Rebuilding.{Held}
 use Rattle.array_kept.specs.Calls.{IsEntered, IsLossBy, AreStepsFewer, IsBehind, TellNoRoleLoss}
 use Rattle.array_kept.proofs.ReplyLaws.{none_before}
+use Rattle.grow_asked.specs.Left.{phases_of}
 use Rattle.grow_asked.specs.declared.window.PhasesLeft.{PhasesLeft}
+use Rattle.running.specs.course_kept_the_Course.{Course}
 use Rattle.kept_history.specs.Recorded.{MayGoOn}
-use Rattle.running.specs.running_words_Parts.{RunningParts}
+use Rattle.running.specs.running_words_Parts.{RunningParts, left_in, still_left}
 use Rattle.running.specs.still_laws_Steps.{MayAnswer}
 use Rattle.running.specs.running_replies_Replies.{may_end_early, DidRunningSteps, EndsRunningSteps, IsRefusalBy, IsRefusalToldBy, HasToldBy, IsAnsweredWith}
-use Rattle.running.specs.running_replies_Going.{is_finish, MayHoldBehind, AreLossesAlong, HasRunOn, IsSameEpoch}
-use Rattle.running.proofs.running_replies_GoneOn.{refusal-wider, told-then, along-append, may-then, spares-then, gone-then}
+use Rattle.running.specs.running_replies_Going.{is_finish, is_begin, MayHoldBehind, AreLossesAlong, HasNoReshape, HasRunOn, IsSameEpoch}
+use Rattle.running.proofs.running_replies_GoneOn.{refusal-wider, told-then, along-append, may-then, spares-then, none-first, gone-then}
 use Rattle.running.specs.Calls.{running_left}
 use Rattle.running_steps.specs.Steps.{IsStepDone, IsStepRefused, IsStepAnswered, AreStepsOf, has_finished}
 use Rattle.running_steps.proofs.Events.{count-both}
@@ -255,13 +258,15 @@ module _ {B : Type 0} (tells : Type 0) (given : B → Given) (tape : B → List 
     never_falls = λ s. omega arith;
     given_is = refl;
     same = record { uuid = refl; given = refl; first = refl; backup = refl };
+    active = λ still none. still;
+    ahead = λ empty none. empty;
   })
 
   -- the reply changes no length, and tells no loss; what it tells to be refused has its cause
   pub gone-answered : (old mid new : RunningParts B) (who : Who) (event : Event) (end : ℕ) → HasRunOn tells given tape faults old mid → new.parts.entries ≡ mid.parts.entries ++ entries_of who end (event ∷ [])
-      → new.parts.bank ≡ mid.parts.bank → new.parts.members ≡ mid.parts.members → IsSameEpoch mid new → ((n : ℕ) → length_after n event ≡ n) → ((Had : ℕ → ℕ → Type 0) (before now : ℕ → ℕ) → IsLossBy Had before now event)
+      → new.parts.bank ≡ mid.parts.bank → new.parts.members ≡ mid.parts.members → new.ahead ≡ mid.ahead → IsSameEpoch mid new → ((n : ℕ) → length_after n event ≡ n) → ((Had : ℕ → ℕ → Type 0) (before now : ℕ → ℕ) → IsLossBy Had before now event)
       → IsRefusalToldBy old.parts.backup (faults old.parts.bank) (faults mid.parts.bank) event → HasRunOn tells given tape faults old new
-  gone-answered old mid new who event end was entered bank members epoch lengthless lossless cause = record {
+  gone-answered old mid new who event end was entered bank members ahead epoch lengthless lossless cause = record {
     more = was.more ++ last;
     grown = entered ∙ ap (λ (l : List Entry). l ++ last) was.grown ∙ append_assoc old.parts.entries was.more last;
     sized = ap (λ (m : Members). list_length m.newest) members ∙ was.sized ∙ sym (fold-append (λ n e. length_after n e.event) (list_length old.parts.members.newest) was.more last ∙ lengthless (length_of (list_length old.parts.members.newest) was.more));
@@ -281,10 +286,30 @@ module _ {B : Type 0} (tells : Type 0) (given : B → Given) (tape : B → List 
     never_falls = subst (λ (b : B). NeverFalls (faults old.parts.bank) (faults b)) (sym bank) was.never_falls;
     given_is = ap given bank ∙ was.given_is;
     same = record { uuid = epoch.uuid ∙ was.same.uuid; given = epoch.given ∙ was.same.given; first = epoch.first ∙ was.same.first; backup = epoch.backup ∙ was.same.backup };
+    active = λ still none. ap (λ (m : Members). is_reshaping m.newest) members ∙ was.active still (none-first (λ e. is_begin e.event) was.more last none);
+    ahead = λ empty none. ap (λ (p : PhasesLeft). phases_of p) ahead ∙ was.ahead empty (none-first (λ e. is_planned e.event) was.more last none);
   }
     where
       last : List Entry
       last = entries_of who end (event ∷ [])
+
+-- ---- what the reply tells of a reshape
+
+-- the steps that are left, by what the array is
+running-same : {B : Type 0} (mid new : RunningParts B) → new.parts.members ≡ mid.parts.members → new.parts.work ≡ mid.parts.work → new.course ≡ mid.course → new.ahead ≡ mid.ahead → running_left new ≡ running_left mid
+running-same mid new members work course ahead =
+    ap (λ (m : Members). left m new.parts.work new.course new.ahead) members ∙ ap (λ (w : Work). left mid.parts.members w new.course new.ahead) work
+    ∙ ap (λ (c : Course). left mid.parts.members mid.parts.work c new.ahead) course ∙ ap (λ (p : PhasesLeft). left mid.parts.members mid.parts.work mid.course p) ahead
+  where
+    left : Members → Work → Course → PhasesLeft → ℕ
+    left m w c p = cond (is_reshaping m.newest) (left_in w m c p) (still_left w m p)
+
+-- where none is left behind it, no reshape is active, and none is ahead
+pub rest-answered : {B : Type 0} (mid new : RunningParts B) → new.parts.members ≡ mid.parts.members → new.parts.work ≡ mid.parts.work → new.course ≡ mid.course → new.ahead ≡ mid.ahead
+    → (running_left mid ≡ 0 → HasNoReshape mid) → running_left new ≡ 0 → HasNoReshape new
+rest-answered mid new members work course ahead rest none =
+    let was = rest (sym (running-same mid new members work course ahead) ∙ none) in
+    record { active = ap (λ (m : Members). is_reshaping m.newest) members ∙ was.active; ahead = ap (λ (p : PhasesLeft). phases_of p) ahead ∙ was.ahead }
 
 -- the reply may close the plans that are open
 pub may-answer : (entries : List Entry) (work : Work) (members : Members) (ahead : PhasesLeft) (done left : ℕ) (ended : Option Refusal) → (ended ≡ None → MayAnswer entries work members ahead (Stepped done left None))

@@ -1,14 +1,15 @@
 //! As many background steps as a caller asks for.
 
-ghost use Rattle.std.specs.Prelude.{◌≡◌, ◌≢◌, ◌⊎◌, ◌+◌, ◌<◌, ◌≤◌, true, false, None, IfOk, IfErr, IfSome, MatchOption, ⊤};
+ghost use Rattle.std.specs.Prelude.{◌≡◌, ◌≢◌, ◌⊎◌, ◌+◌, ◌<◌, ◌≤◌, [], true, false, None, IfOk, IfErr, IfSome, MatchOption, ⊤};
 ghost use Rattle.superblocks.specs.Reading.{is_reshaping, list_length};
 ghost use Rattle.flat_history.specs.Flat.{next_number};
 ghost use Rattle.flat_history.specs.declared.events.Request.TheVariants.{Steps as AsksSteps};
 ghost use Rattle.array_kept.specs.Calls.{IsEndOf, TellNoLoss, TellNoRoleLoss};
+ghost use Rattle.grow_asked.specs.Left.{phases_of};
 ghost use Rattle.kept_history.specs.Recorded.{IsCallGoing};
 ghost use Rattle.running.specs.still_laws_Steps.{IsClosable};
-ghost use Rattle.running.specs.running_replies_Replies.{IsAnsweredWith, EndsRunningSteps, IsRefusalBy};
-ghost use Rattle.running.specs.running_replies_Going.{HasRunOn};
+ghost use Rattle.running.specs.running_replies_Replies.{IsAnsweredWith, EndsRunningSteps, MayTellBy, IsRefusalBy};
+ghost use Rattle.running.specs.running_replies_Going.{HasNoReshape, HasRunOn};
 ghost use Rattle.running.specs.Calls.{running_left, MayEndSteps};
 ghost use Rattle.running_steps.specs.Steps.{IsOpenFor, AreStepsOf, IsStepCount, has_finished};
 
@@ -74,13 +75,16 @@ fn take_steps<B: Bank>(array: &mut Running<B>, who: Who, count: u64) -> Batch
 
 /// Answers the request for at most so many background steps: does them until so many are done, or as many as were left at its start;
 /// until none is left, one is refused, or a reshape has ended. Ok is a copy of the reply's event, which tells `Nothing` where
-/// none was left. Memory is wanted before the first step alone.
+/// none was left. Memory is wanted before the first step alone. A backup ends steps only in a reshape or before one, and a missing
+/// role or want of spares only before one; and where none is left, there is neither.
 pub fn steps<B: Bank>(array: &mut Running<B>, who: Who, most: u64) -> Result<Event, NoMemory>
     requires next { who.number ≡ next_number who.caller array.old.parts.entries }
     requires caller { who.caller ≢ 254 }
     requires some { 1 ≤ most }
     ensures replied { IfOk result (λ event. IsAnsweredWith (list_length array.old.parts.members.newest) (AsksSteps most) who array.old.parts.entries array.new.parts.entries event) }
     ensures counted { IfOk result (λ event. IsStepCount array.old.parts.entries array.new.parts.entries (running_left array.old) (running_left array.new) event) }
+    ensures may { IfOk result (λ event. MayTellBy (is_reshaping array.new.parts.members.newest ≡ true) (phases_of array.new.ahead ≢ []) event) }
+    ensures rest { IfOk result (λ event. running_left array.new ≡ 0 → HasNoReshape array.new) }
     ensures unchanged { IfErr result (λ none. array.new ≡ array.old) }
     ensures ended { IfOk result (λ event. IsEndOf B.tells array.new.parts.first array.new.parts.entries (B.tape array.new.parts.bank)) }
     ensures went { HasRunOn B.tells B.given B.tape B.faults_of array.old array.new }

@@ -10,15 +10,16 @@ use Rattle.superblocks.specs.Reading.{shape_of}
 use Rattle.flat_history.specs.declared.events.Entry.{Entry}
 use Rattle.flat_history.specs.declared.events.Epoch.{Epoch}
 use Rattle.flat_history.specs.declared.events.Event.{Event}
-use Rattle.flat_history.specs.declared.events.Event.TheVariants.{Refused, Stepped}
+use Rattle.flat_history.specs.declared.events.Event.TheVariants.{Resized, Refused, Stepped}
 use Rattle.flat_history.specs.Epochs.{world_of}
 use Rattle.flat_history.specs.OneShape.{opening_in, IsOneShapeLegal, EndsIdleSteps}
 use Rattle.flat_history.specs.Sound.{FillsRight}
 use Rattle.flat_history.specs.World.{World}
 use Rattle.array_kept.specs.Kept.{AreTold, AreOnlyTold, AreUsed}
 
--- The event tells no refusal that a reshape alone can have: nothing for a backup that failed, and no end of steps but for what is missing or not synced.
+-- The event tells nothing that a reshape alone can: no other length of the list, no refusal for a backup that failed, and no end of steps but for what is missing or not synced.
 abbrev pub MayTellPlainly : Event → Type 0
+MayTellPlainly (Resized n) = ⊥
 MayTellPlainly (Refused BackupFault) = ⊥
 MayTellPlainly (Stepped done left ended) = IfSome ended EndsIdleSteps
 MayTellPlainly event = ⊤

@@ -1,5 +1,5 @@
 -- What was lost in the update that takes a level over.
-use Rattle.std.proofs.Common.{◌≡◌, ◌⊎◌, inl, inr, ℕ, ◌<◌, ◌&&◌, Bool, true, false, not, Option, Some, List, get_or, length, refl, sym, ◌∙◌, ap, arith}
+use Rattle.std.proofs.Common.{◌≡◌, ◌⊎◌, inl, inr, ℕ, ◌<◌, ◌&&◌, Bool, true, false, not, Some, List, get_or, refl, sym, ◌∙◌, ap, arith}
 use Rattle.std.specs.Prelude.{IsTrue}
 use Rattle.md_base.specs.Shapes.{has_slot, is_valid_shape}
 use Rattle.md_base.specs.declared.places.Shape.{Shape}

@@ -1,13 +1,11 @@
 -- The change that takes a level over is what the laws of a takeover ask for.
 use Rattle.std.proofs.Common.{◌≡◌, ◌≢◌, ◌⊎◌, inl, inr, ℕ, ◌+◌, ◌-◌, ◌==◌, ◌<◌, ◌≤◌, ◌||◌, Bool, true, false, not, cond, max, replicate, length, Option, Some, None, unwrap_or, is_some, List, get_or, refl, sym, ◌∙◌, ap, subst, arith}
 use Rattle.std.specs.Prelude.{pos, ◌-ℤ◌, IsTrue}
-use Rattle.std.specs.List.{list_any}
 use Rattle.std.proofs.lemmas.Bool.{cases_eq, cases_lt}
 use Rattle.std.proofs.lemmas.List.{length-replicate, get_or-set_same, get_or-set_other, get_or_past}
 use Rattle.md_base.specs.Shapes.{has_slot, is_valid_shape, is_multiple}
 use Rattle.md_base.specs.declared.places.Shape.{Shape}
 use Rattle.md_base.specs.declared.answers.Refusal.TheVariants.{PositionNotOnUnit}
-use Rattle.md_base.specs.declared.status.Role.{Role}
 use Rattle.md_base.specs.declared.status.Role.TheVariants.{Whole, Missing}
 use Rattle.bank.specs.declared.bank.Operation.{Operation}
 use Rattle.bank.specs.Given.{Given}
@@ -23,7 +21,7 @@ use Rattle.superblocks.specs.declared.members.Members.{Members}
 use Rattle.superblocks.specs.Reading.{Scope, is_reshaping, shape_of, final_shape, role_count, list_length, role_state, holder, count_of}
 use Rattle.superblocks.specs.Reads.{SaysSame, has_spare}
 use Rattle.superblocks.specs.Verdict.{unit_of}
-use Rattle.superblocks.specs.Update.{IsRoleGive, give_of, is_recovery, is_held_by, role_from, planned_role, is_planned_spare}
+use Rattle.superblocks.specs.Update.{IsRoleGive, give_of, is_recovery, role_from, planned_role, is_planned_spare}
 use Rattle.superblocks.specs.Updating.{planned_newest}
 use Rattle.superblocks.specs.Outcome.{AreGivesOfLive}
 use Rattle.superblocks.proofs.SlotSets.{some_role}

@@ -1,6 +1,6 @@
 //! A level is taken over: 5 to 6, or 6 to 5.
 
-ghost use Rattle.std.specs.Prelude.{◌≡◌, ◌⊎◌, ◌<◌, ◌≤◌, ℕ, true, false, length, Some, IsTrue};
+ghost use Rattle.std.specs.Prelude.{◌≡◌, ◌⊎◌, ◌<◌, ◌≤◌, ◌^◌, ℕ, true, false, length, Some, IsTrue};
 ghost use Rattle.bank.specs.Given.{NeverFalls};
 ghost use Rattle.md_base.specs.Shapes.{has_slot, is_valid_shape};
 ghost use Rattle.superblocks.specs.Reading.{is_reshaping, role_state, holder};

@@ -7,7 +7,8 @@ ghost use Rattle.kept_history.specs.Recorded.{IsCallGoing};
 ghost use Rattle.growing.specs.running_words_Calls.{IsCalled};
 ghost use Rattle.growing.specs.still_laws_Steps.{MayAnswer};
 ghost use Rattle.growing.specs.moving_steps_Replies.{IsReplyInReshape};
-ghost use Rattle.running.specs.Calls.{IsReplyNow};
+ghost use Rattle.growing.specs.running_replies_Going.{HasNoReshape};
+ghost use Rattle.running.specs.Calls.{running_left, IsReplyNow};
 
 use crate::state::{Running, State, check_moving, check_still};
 use bank::Bank;
@@ -37,7 +38,7 @@ fn answer_in<B: Bank>(moving: Moving<B>, reply: (Who, Event)) -> (Moving<B>, ())
 impl<B: Bank> Running<B> {
     /// Answers a request for steps: that nothing was left to do, or how many were done and what refused one. Without a reshape, and where none
     /// is left and none was refused, what is missing is to be told by the superblocks, or no plan is open. It makes no device call, and takes
-    /// no memory.
+    /// no memory. Where no step is left, no reshape is active, and none is ahead.
     pub fn answer(&mut self, who: Who, event: Event)
         requires open { IsCallGoing self.old.parts.entries who }
         requires caller { who.caller ≢ 254 }
@@ -48,6 +49,7 @@ impl<B: Bank> Running<B> {
         ensures room { self.new.parts.steps + 1 ≡ self.old.parts.steps }
         ensures bank { self.new.parts.bank ≡ self.old.parts.bank }
         ensures members { self.new.parts.members ≡ self.old.parts.members }
+        ensures rest { running_left self.old ≡ 0 → HasNoReshape self.old }
         ensures course { self.new.course ≡ self.old.course }
         ensures called { IsCalled B.tells (B.given self.old.parts.bank) (B.tape self.old.parts.bank) (B.tape self.new.parts.bank) (B.faults_of self.old.parts.bank) (B.faults_of self.new.parts.bank) self.old self.new }
     {

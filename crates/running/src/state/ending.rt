@@ -88,6 +88,7 @@ impl<B: Bank> Running<B> {
         ensures caused { IfErr result (λ e. IsFaultFor (list_length self.parts.members.newest) 0 AreTooMany self.parts.members e.0.parts.members e.1) }
         ensures called { IfErr result (λ e. IsCalled B.tells (B.given self.parts.bank) (B.tape self.parts.bank) (B.tape e.0.parts.bank) (B.faults_of self.parts.bank) (B.faults_of e.0.parts.bank) self e.0) }
         ensures left_failed { IfErr result (λ e. HaveRolesFailed self.parts.members e.0.parts.members (B.faults_of self.parts.bank) (B.faults_of e.0.parts.bank)) }
+        ensures left_active { IfErr result (λ e. is_reshaping e.0.parts.members.newest ≡ is_reshaping self.parts.members.newest) }
         ensures left_given { IfErr result (λ e. B.given e.0.parts.bank ≡ B.given self.parts.bank) }
         ensures course { IfErr result (λ e. e.0.course ≡ self.course) }
     {

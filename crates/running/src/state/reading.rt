@@ -44,6 +44,7 @@ impl<B: Bank> Running<B> {
         ensures first { is_reshaping self.old.parts.members.newest ≡ false → IsFirstRefused (λ members. call_refusal (visible_in self.old) (at + length into.old / 512)
             (read_refusal (shape_of self.old.parts.members.newest) (mended_rows self.old.parts.work.resync self.old.parts.members) at (length into.old / 512) members)) self.old.parts.members self.new.parts.members result }
         ensures failed { HaveRolesFailed self.old.parts.members self.new.parts.members (B.faults_of self.old.parts.bank) (B.faults_of self.new.parts.bank) }
+        ensures active { is_reshaping self.new.parts.members.newest ≡ is_reshaping self.old.parts.members.newest }
         ensures course { self.new.course ≡ self.old.course }
         ensures given { B.given self.new.parts.bank ≡ B.given self.old.parts.bank }
     {

@@ -1,7 +1,7 @@
 //! Flushes of a running array.
 
 ghost use Rattle.std.specs.Prelude.{◌≡◌, ◌≢◌, true, None, OnOk};
-ghost use Rattle.superblocks.specs.Reading.{is_clean, list_length};
+ghost use Rattle.superblocks.specs.Reading.{is_reshaping, is_clean, list_length};
 ghost use Rattle.row_io.specs.Rows.{reading_of, present};
 ghost use Rattle.flat_history.specs.Flat.{next_number};
 ghost use Rattle.flat_history.specs.declared.events.Event.TheVariants.{Flushed};
@@ -28,6 +28,7 @@ impl<B: Bank> Running<B> {
         ensures clean { OnOk result (self.old.parts.work.resync ≡ None → is_clean self.new.parts.members.newest ≡ true) }
         ensures caused { IsCausedBy (list_length self.old.parts.members.newest) 0 AreTooMany self.old.parts.members self.new.parts.members result }
         ensures failed { HaveRolesFailed self.old.parts.members self.new.parts.members (B.faults_of self.old.parts.bank) (B.faults_of self.new.parts.bank) }
+        ensures active { is_reshaping self.new.parts.members.newest ≡ is_reshaping self.old.parts.members.newest }
         ensures course { self.new.course ≡ self.old.course }
         ensures given { B.given self.new.parts.bank ≡ B.given self.old.parts.bank }
     {

@@ -52,6 +52,8 @@ impl<B: Bank> Running<B> {
             self.old.parts.members self.new.parts.members result }
         ensures backed { is_reshaping self.old.parts.members.newest ≡ true → IsSome self.old.parts.backup }
         ensures backup { result ≡ Err (IsRefusedWith BackupFault) → IfSome self.old.parts.backup (λ slot. IsFaulted slot (B.faults_of self.old.parts.bank) (B.faults_of self.new.parts.bank)) }
+        ensures barred { result ≡ Err (IsRefusedWith BackupFault) → is_reshaping self.old.parts.members.newest ≡ true }
+        ensures active { is_reshaping self.new.parts.members.newest ≡ is_reshaping self.old.parts.members.newest }
         ensures failed { HaveRolesFailed self.old.parts.members self.new.parts.members (B.faults_of self.old.parts.bank) (B.faults_of self.new.parts.bank) }
         ensures course { (TouchesWindow self.old.course.window at (at + length from.now / 512) → ⊥) → self.new.course ≡ self.old.course }
         ensures closed { OnOk result (TouchesWindow self.old.course.window at (at + length from.now / 512) → self.new.course ≡ closed 0) }

@@ -96,7 +96,13 @@ impl<B: Bank> Still<B> {
         self.steps = 0;
         check_number(&self.epoch.entries, who);
         let count = (from.len() / 512) as u64;
-        if let Some(refusal) = unwritten_here(&self.members, self.limit, self.work.resync, at, count) {
+        if let Some(refusal) = unwritten_here(
+            &self.members,
+            self.limit,
+            self.work.resync,
+            at,
+            count,
+        ) {
             let end = self.bank.ops();
             enter(&mut self.epoch, who, end, Event::Refused { refusal });
             return Err(Fault::Refused(refusal));

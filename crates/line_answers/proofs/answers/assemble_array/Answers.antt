@@ -49,7 +49,7 @@ returns-in-Ok-status-clause-answered g c =
     (subst (λ (n : ℕ). IsTurn setting (IsIdle c.args.bank c.args.epochs) (IsRunning array c.has_room.new.epochs) (AsksAssemble c.args.uuid) (AnsweredOutside (Assembled n c.in-Ok-status.status))) (sym c.next_epoch-epoch.ensures)
     (turn_found setting c.args.bank c.args.epochs c.has_room.new.epochs c.has_room.ensures.same c.requires.own array
     (c.has_room.ensures.room yes) (c.has_room.ensures.few yes) (grows_longer (flushes-grow did.tape)) found c.args.uuid (found_here (g.B.Bank.given c.args.bank) (g.B.Bank.tape found.parts.bank) c.args.backup c.args.uuid found did.found) told.same.array.uuid told.same.array.given told.same.array.first c.in-Ok-status.status told.told
-    (subst (λ (w : Who). IsEntered g.B.Bank.tells (g.B.Bank.tape found.parts.bank) w found.parts.entries array.parts.entries (Shown c.in-Ok-status.status ∷ [])) c.script_call-who.ensures told.entered) told.members))
+    (subst (λ (w : Who). IsEntered g.B.Bank.tells (g.B.Bank.tape found.parts.bank) w found.parts.entries array.parts.entries (Shown c.in-Ok-status.status ∷ [])) c.script_call-who.ensures told.entered) told.members told.same.ahead))
 
 pub returns-in-Err-status-clause-answered : goal.returns-in-Err-status-clause-answered
 returns-in-Err-status-clause-answered g c =

@@ -11,6 +11,9 @@ use Rattle.run_laws.proofs.Sizes.{sized-answered}
 use Rattle.line_answers.proofs.Called.{added-length}
 use Rattle.run_laws.proofs.Told.{told_added}
 use Rattle.run_laws.proofs.running_replies_Fitting.{fits-add}
+use Rattle.grow_asked.specs.Left.{phases_of}
+use Rattle.grow_asked.specs.declared.window.PhasesLeft.{PhasesLeft}
+use Rattle.run_laws.proofs.Turned.{told-same, told-still, asked-unstepped, asked-told}
 use Rattle.line_answers.proofs.asks.ask_add.Goals as goal
 
 pub returns-then-wants_memory-clause-asked : goal.returns-then-wants_memory-clause-asked
@@ -60,3 +63,15 @@ returns-clause-told g c =
 pub returns-clause-sized : goal.returns-clause-sized
 returns-clause-sized g c =
     sized-answered (list_length c.args.array.now.parts.members.newest) (AsksAdd c.args.slot) c.script_call-who.result (Added c.args.slot) c.add-answer.result (added-length c.add-answer.ensures.called) (λ n. refl) c.add-answer.ensures.answered
+
+pub returns-then-wants_memory-clause-turning : goal.returns-then-wants_memory-clause-turning
+returns-then-wants_memory-clause-turning g c =
+    told-still (on_no_memory c.add-answer.result c.add-answer.ensures.unchanged (c.wants_memory.ensures.yes c.if-wants_memory.true)) c.requires.turning
+
+pub returns-clause-turning : goal.returns-clause-turning
+returns-clause-turning g c =
+    let asked = returns-clause-asked g c in
+    told-same asked (asked-unstepped (AsksAdd c.args.slot) (AddLine c.args.slot) asked refl (λ fits. fits)) c.add-answer.ensures.active (ap (λ (p : PhasesLeft). phases_of p) c.add-answer.ensures.called.same.ahead) c.requires.turning
+
+pub returns-clause-tellable : goal.returns-clause-tellable
+returns-clause-tellable g c = asked-told (AsksAdd c.args.slot) (AddLine c.args.slot) (returns-clause-asked g c) refl refl (λ fits. fits)

@@ -1,4 +1,4 @@
-use Rattle.std.proofs.Common.{List, refl}
+use Rattle.std.proofs.Common.{List, refl, ap}
 use Rattle.flat_history.specs.declared.events.Entry.{Entry}
 use Rattle.flat_history.specs.declared.events.Event.TheVariants.{Flushed}
 use Rattle.flat_history.specs.declared.events.Request.TheVariants.{Flush as AsksFlush}
@@ -10,6 +10,9 @@ use Rattle.run_laws.proofs.Sizes.{sized-answered}
 use Rattle.line_answers.proofs.Called.{called-length}
 use Rattle.run_laws.proofs.Told.{told_answered, flush_told}
 use Rattle.run_laws.proofs.running_replies_Fitting.{fits-flush}
+use Rattle.grow_asked.specs.Left.{phases_of}
+use Rattle.grow_asked.specs.declared.window.PhasesLeft.{PhasesLeft}
+use Rattle.run_laws.proofs.Turned.{told-same, told-still, asked-unstepped, asked-told}
 use Rattle.line_answers.proofs.asks.ask_flush.Goals as goal
 
 pub returns-then-wants_memory-clause-asked : goal.returns-then-wants_memory-clause-asked
@@ -47,3 +50,15 @@ returns-clause-told g c =
 pub returns-clause-sized : goal.returns-clause-sized
 returns-clause-sized g c =
     sized-answered (list_length c.args.array.now.parts.members.newest) AsksFlush c.script_call-who.result Flushed c.flush-answer.result (called-length c.flush-answer.ensures.called) (λ n. refl) c.flush-answer.ensures.answered
+
+pub returns-then-wants_memory-clause-turning : goal.returns-then-wants_memory-clause-turning
+returns-then-wants_memory-clause-turning g c =
+    told-still (on_no_memory c.flush-answer.result c.flush-answer.ensures.unchanged (c.wants_memory.ensures.yes c.if-wants_memory.true)) c.requires.turning
+
+pub returns-clause-turning : goal.returns-clause-turning
+returns-clause-turning g c =
+    let asked = returns-clause-asked g c in
+    told-same asked (asked-unstepped AsksFlush FlushLine asked refl (λ fits. fits)) c.flush-answer.ensures.active (ap (λ (p : PhasesLeft). phases_of p) c.flush-answer.ensures.called.same.ahead) c.requires.turning
+
+pub returns-clause-tellable : goal.returns-clause-tellable
+returns-clause-tellable g c = asked-told AsksFlush FlushLine (returns-clause-asked g c) refl refl (λ fits. fits)

@@ -1,3 +1,4 @@
+use Rattle.std.proofs.Common.{refl}
 use Rattle.superblocks.specs.Reading.{list_length}
 use Rattle.flat_history.specs.declared.events.Event.TheVariants.{Planned}
 use Rattle.flat_history.specs.declared.events.Request.TheVariants.{Grow as AsksGrow}
@@ -5,6 +6,7 @@ use Rattle.script.specs.declared.lines.Line.TheVariants.{Grow as GrowLine}
 use Rattle.run_laws.specs.running_Calls.{running_left}
 use Rattle.run_laws.proofs.AskLaws.{on_no_memory, asked_with, with-grew}
 use Rattle.line_answers.proofs.Called.{replied-some, replied-none}
+use Rattle.run_laws.proofs.Turned.{told-still, told-grown, asked-unstepped, asked-told}
 use Rattle.line_answers.proofs.asks.ask_grow.Goals as goal
 
 pub returns-then-wants_memory-clause-asked : goal.returns-then-wants_memory-clause-asked
@@ -26,3 +28,16 @@ returns-clause-asked g c =
 
 pub returns-then-wants_memory-clause-unchanged : goal.returns-then-wants_memory-clause-unchanged
 returns-then-wants_memory-clause-unchanged g c = on_no_memory c.plan_grow-answer.result c.plan_grow-answer.ensures.unchanged (c.wants_memory.ensures.yes c.if-wants_memory.true)
+
+pub returns-then-wants_memory-clause-turning : goal.returns-then-wants_memory-clause-turning
+returns-then-wants_memory-clause-turning g c =
+    told-still (on_no_memory c.plan_grow-answer.result c.plan_grow-answer.ensures.unchanged (c.wants_memory.ensures.yes c.if-wants_memory.true)) c.requires.turning
+
+pub returns-clause-turning : goal.returns-clause-turning
+returns-clause-turning g c =
+    let asked = returns-clause-asked g c in
+    told-grown g.B.Bank.tells g.B.Bank.given g.B.Bank.tape g.B.Bank.faults_of c.args.array.now c.plan_grow-answer.new.self c.plan_grow-answer.ensures.went c.requires.turning asked
+    (asked-unstepped (AsksGrow c.args.wish) (GrowLine c.args.wish) asked refl (λ fits. fits))
+
+pub returns-clause-tellable : goal.returns-clause-tellable
+returns-clause-tellable g c = asked-told (AsksGrow c.args.wish) (GrowLine c.args.wish) (returns-clause-asked g c) refl refl (λ fits. fits)

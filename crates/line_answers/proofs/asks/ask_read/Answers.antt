@@ -1,4 +1,4 @@
-use Rattle.std.proofs.Common.{refl, ◌≡◌, ◌*◌, ◌/◌, ℕ, List, length, ◌∙◌, subst, arith}
+use Rattle.std.proofs.Common.{refl, ◌≡◌, ◌*◌, ◌/◌, ℕ, List, length, ◌∙◌, subst, arith, ap}
 use Rattle.md_base.specs.Sectors.{sectors_of}
 use Rattle.flat_history.specs.declared.events.Entry.{Entry}
 use Rattle.flat_history.specs.declared.events.Event.TheVariants.{Read}
@@ -12,6 +12,9 @@ use Rattle.line_answers.proofs.Called.{called-length}
 use Rattle.run_laws.proofs.Told.{told_none, told_answered, read_told}
 use Rattle.run_laws.specs.running_replies_Replies.{RunningFits}
 use Rattle.run_laws.proofs.running_replies_Fitting.{fits-read}
+use Rattle.grow_asked.specs.Left.{phases_of}
+use Rattle.grow_asked.specs.declared.window.PhasesLeft.{PhasesLeft}
+use Rattle.run_laws.proofs.Turned.{told-same, told-still, asked-unstepped, asked-told}
 use Rattle.line_answers.proofs.asks.ask_read.Goals as goal
 
 sectors_in : (n len : ℕ) → len ≡ n * 512 → len / 512 ≡ n
@@ -60,3 +63,15 @@ returns-in-Err-clause-told g c = told_none c.args.array.now.parts.backup (g.B.Ba
 
 pub returns-in-Err-clause-sized : goal.returns-in-Err-clause-sized
 returns-in-Err-clause-sized g c = sized-none refl refl
+
+pub returns-then-wants_memory-clause-turning : goal.returns-then-wants_memory-clause-turning
+returns-then-wants_memory-clause-turning g c =
+    told-still (on_no_memory c.read-answer.result c.read-answer.ensures.unchanged (c.wants_memory.ensures.yes c.if-wants_memory.true)) c.requires.turning
+
+pub returns-clause-turning : goal.returns-clause-turning
+returns-clause-turning g c =
+    let asked = returns-clause-asked g c in
+    told-same asked (asked-unstepped (AsksRead c.args.at c.args.count) (ReadLine c.args.at c.args.count) asked refl (λ fits. fits)) c.read-answer.ensures.active (ap (λ (p : PhasesLeft). phases_of p) c.read-answer.ensures.called.same.ahead) c.requires.turning
+
+pub returns-clause-tellable : goal.returns-clause-tellable
+returns-clause-tellable g c = asked-told (AsksRead c.args.at c.args.count) (ReadLine c.args.at c.args.count) (returns-clause-asked g c) refl refl (λ fits. fits)

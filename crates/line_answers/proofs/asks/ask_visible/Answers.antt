@@ -1,3 +1,4 @@
+use Rattle.std.proofs.Common.{refl}
 use Rattle.superblocks.specs.Reading.{list_length}
 use Rattle.flat_history.specs.declared.events.Event.TheVariants.{Visible}
 use Rattle.flat_history.specs.declared.events.Request.TheVariants.{Visible as AsksVisible}
@@ -5,6 +6,7 @@ use Rattle.script.specs.declared.lines.Line.TheVariants.{ArraySize as ArraySizeL
 use Rattle.run_laws.specs.running_words_Parts.{visible_in}
 use Rattle.run_laws.proofs.AskLaws.{on_no_memory, asked_with, with-grew}
 use Rattle.line_answers.proofs.Called.{replied-some, replied-none}
+use Rattle.run_laws.proofs.Turned.{told-still, told-grown, asked-unstepped, asked-told}
 use Rattle.line_answers.proofs.asks.ask_visible.Goals as goal
 
 pub returns-then-wants_memory-clause-asked : goal.returns-then-wants_memory-clause-asked
@@ -26,3 +28,16 @@ returns-clause-asked g c =
 
 pub returns-then-wants_memory-clause-unchanged : goal.returns-then-wants_memory-clause-unchanged
 returns-then-wants_memory-clause-unchanged g c = on_no_memory c.set_visible-answer.result c.set_visible-answer.ensures.unchanged (c.wants_memory.ensures.yes c.if-wants_memory.true)
+
+pub returns-then-wants_memory-clause-turning : goal.returns-then-wants_memory-clause-turning
+returns-then-wants_memory-clause-turning g c =
+    told-still (on_no_memory c.set_visible-answer.result c.set_visible-answer.ensures.unchanged (c.wants_memory.ensures.yes c.if-wants_memory.true)) c.requires.turning
+
+pub returns-clause-turning : goal.returns-clause-turning
+returns-clause-turning g c =
+    let asked = returns-clause-asked g c in
+    told-grown g.B.Bank.tells g.B.Bank.given g.B.Bank.tape g.B.Bank.faults_of c.args.array.now c.set_visible-answer.new.self c.set_visible-answer.ensures.went c.requires.turning asked
+    (asked-unstepped (AsksVisible c.args.limit) (ArraySizeLine c.args.limit) asked refl (λ fits. fits))
+
+pub returns-clause-tellable : goal.returns-clause-tellable
+returns-clause-tellable g c = asked-told (AsksVisible c.args.limit) (ArraySizeLine c.args.limit) (returns-clause-asked g c) refl refl (λ fits. fits)

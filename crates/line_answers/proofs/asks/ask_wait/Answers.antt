@@ -23,6 +23,7 @@ loop-at-preserved g c =
     record {
       waiting = waiting_on was.waiting c.in-Ok.ensures.asked (sym c.leaves_more.ensures ∙ c.if-not-leaves_more.false);
       ended = c.in-Ok.ensures.ended;
+      turning = c.in-Ok.ensures.turning;
       went = gone-then g.B.Bank.tells g.B.Bank.given g.B.Bank.tape g.B.Bank.faults_of c.args.array.now c.loop-at.array c.ask_steps.new.array was.went c.in-Ok.ensures.went;
     }
 
@@ -30,6 +31,7 @@ pub loop-at-init : goal.loop-at-init
 loop-at-init g c = record {
   waiting = ([], refl);
   ended = c.requires.ended;
+  turning = c.requires.turning;
   went = gone-none g.B.Bank.tells g.B.Bank.given g.B.Bank.tape g.B.Bank.faults_of c.args.array.now;
 }
 

@@ -1,4 +1,4 @@
-use Rattle.std.proofs.Common.{refl, ◌∙◌, subst, arith}
+use Rattle.std.proofs.Common.{refl, ◌∙◌, subst, arith, ap}
 use Rattle.std.proofs.Common.{◌/◌, List, length}
 use Rattle.bank.specs.Given.{IsFaulted}
 use Rattle.md_base.specs.Sectors.{Sector, sectors_of}
@@ -15,6 +15,10 @@ use Rattle.run_laws.proofs.Sizes.{sized-none, sized-written}
 use Rattle.run_laws.proofs.Told.{told_none, write_told_by}
 use Rattle.line_answers.proofs.Barred.{barred-backup, barred-still, barred-end}
 use Rattle.line_answers.proofs.Called.{called-length, script-numbered, all-seen}
+use Rattle.grow_asked.specs.Left.{phases_of}
+use Rattle.grow_asked.specs.declared.window.PhasesLeft.{PhasesLeft}
+use Rattle.script.specs.Seeds.{seeded}
+use Rattle.run_laws.proofs.Turned.{told-same, told-still, asked-unstepped, told-active, write-tellable}
 use Rattle.line_answers.proofs.asks.ask_write.Goals as goal
 
 pub write-answer-requires-clause-some : goal.write-answer-requires-clause-some
@@ -96,3 +100,19 @@ returns-in-Err-clause-told g c = told_none c.args.array.now.parts.backup (g.B.Ba
 
 pub returns-in-Err-clause-sized : goal.returns-in-Err-clause-sized
 returns-in-Err-clause-sized g c = sized-none refl refl
+
+pub returns-then-wants_memory-clause-turning : goal.returns-then-wants_memory-clause-turning
+returns-then-wants_memory-clause-turning g c =
+    told-still (on_no_memory c.write-answer.result c.write-answer.ensures.unchanged (c.wants_memory.ensures.yes c.if-wants_memory.true)) c.requires.turning
+
+pub returns-clause-turning : goal.returns-clause-turning
+returns-clause-turning g c =
+    let asked = returns-clause-asked g c in
+    told-same asked (asked-unstepped (AsksWrite c.args.at (seeded c.args.seed c.args.at c.args.count)) (WriteLine c.args.at c.args.count c.args.seed) asked refl (λ fits. fits)) c.write-answer.ensures.active (ap (λ (p : PhasesLeft). phases_of p) c.write-answer.ensures.called.same.ahead) c.requires.turning
+
+pub returns-clause-tellable : goal.returns-clause-tellable
+returns-clause-tellable g c =
+    let old = c.args.array.now in
+    let did = c.write-answer.ensures in
+    write-tellable (list_length old.parts.members.newest) c.args.at (sectors_of c.as_bytes.result.now) c.script_call-who.result old.parts.entries c.write-answer.new.self.parts.entries c.write-answer.result c.last_place.result
+    did.answered (c.wants_memory.ensures.no c.if-wants_memory.false) (λ barred. told-active (is_reshaping old.parts.members.newest) (phases_of old.ahead) old.parts.entries c.requires.turning (did.barred barred)) c.last_place.ensures

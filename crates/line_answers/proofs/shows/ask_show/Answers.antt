@@ -1,9 +1,14 @@
 use Rattle.line_answers.proofs.Statuses.{shown_detail, shown_mdstat, shown_told}
-use Rattle.std.proofs.Common.{refl, ap}
+use Rattle.std.proofs.Common.{◌++◌, refl, ap}
 use Rattle.run_laws.specs.running_words_Parts.{RunningParts}
 use Rattle.run_laws.proofs.Sizes.{sized-none, sized-entered}
 use Rattle.run_laws.proofs.Told.{told_none, told_entered}
 use Rattle.line_answers.proofs.Called.{reshape-length}
+use Rattle.superblocks.specs.declared.members.Members.{Members}
+use Rattle.superblocks.specs.Reading.{is_reshaping, list_length}
+use Rattle.grow_asked.specs.Left.{phases_of}
+use Rattle.grow_asked.specs.declared.window.PhasesLeft.{PhasesLeft}
+use Rattle.run_laws.proofs.Turned.{told-same, told-still, asked-tellable, shown-unstepped, shown-told}
 use Rattle.line_answers.proofs.shows.ask_show.Goals as goal
 
 pub returns-clause-asked : goal.returns-clause-asked
@@ -33,3 +38,17 @@ returns-clause-sized g c = sized-entered (reshape-length c.in-Ok.ensures.same) (
 
 pub returns-in-Err-clause-sized : goal.returns-in-Err-clause-sized
 returns-in-Err-clause-sized g c = sized-none (reshape-length c.in-Err.ensures.same) (ap (λ (a : RunningParts g.row.B.Denot). a.parts.entries) c.in-Err.ensures.unchanged)
+
+pub returns-clause-turning : goal.returns-clause-turning
+returns-clause-turning g c =
+    let asked = returns-clause-asked g c in
+    let did = c.in-Ok.ensures in
+    told-same asked (shown-unstepped (list_length c.args.array.now.parts.members.newest) (c.args.array.now.parts.entries ++ asked.inner) asked.event asked.fits) (ap (λ (m : Members). is_reshaping m.newest) did.members) (ap (λ (p : PhasesLeft). phases_of p) did.same.ahead) c.requires.turning
+
+pub returns-clause-tellable : goal.returns-clause-tellable
+returns-clause-tellable g c =
+    let asked = returns-clause-asked g c in
+    asked-tellable asked (shown-told (list_length c.args.array.now.parts.members.newest) (c.args.array.now.parts.entries ++ asked.inner) asked.event asked.fits)
+
+pub returns-in-Err-clause-turning : goal.returns-in-Err-clause-turning
+returns-in-Err-clause-turning g c = told-still c.in-Err.ensures.unchanged c.requires.turning

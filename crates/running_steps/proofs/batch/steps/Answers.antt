@@ -8,7 +8,8 @@ use Rattle.running.proofs.running_replies_GoneOn.{gone-none}
 use Rattle.running.specs.Calls.{running_left}
 use Rattle.running_steps.proofs.Went.{epoch-of}
 use Rattle.running_steps.proofs.Plain.{open-begins}
-use Rattle.running_steps.proofs.Replies.{answered-nothing, answered-stepped, gone-behind, gone-answered, may-answer}
+use Rattle.running_steps.proofs.Refusals.{steps-may}
+use Rattle.running_steps.proofs.Replies.{rest-answered, answered-nothing, answered-stepped, gone-behind, gone-answered, may-answer}
 use Rattle.running_steps.proofs.batch.steps.Goals as goal
 
 least-is : (count most start : ℕ) → count ≡ min most start → (count ≡ most) ⊎ (count ≡ start)
@@ -50,6 +51,21 @@ returns-clause-replied g c =
     })
     (λ quiet none unrefused. let falls = s.fewer quiet none unrefused in omega (arith, falls, c.left-left.ensures, c.left.ensures, start)) s.why
 
+pub returns-clause-may : goal.returns-clause-may
+returns-clause-may g c =
+    let a = c.answer-2.ensures in
+    steps-may c.take_steps-done.new.array c.answer-2.new.self c.take_steps-done.result.ended a.members a.called.same.ahead c.take_steps-done.ensures.right
+
+pub returns-clause-rest : goal.returns-clause-rest
+returns-clause-rest g c =
+    let a = c.answer-2.ensures in
+    rest-answered c.take_steps-done.new.array c.answer-2.new.self a.members a.called.work a.course a.called.same.ahead a.rest
+
+pub returns-then-count-eq0-clause-rest : goal.returns-then-count-eq0-clause-rest
+returns-then-count-eq0-clause-rest g c =
+    let a = c.answer.ensures in
+    rest-answered c.make_room.new.self c.answer.new.self a.members a.called.work a.course a.called.same.ahead a.rest
+
 pub returns-clause-went : goal.returns-clause-went
 returns-clause-went g c =
     let s = c.take_steps-done.ensures in
@@ -60,5 +76,5 @@ returns-clause-went g c =
     let a = c.answer-2.ensures in
     gone-answered g.B.Bank.tells g.B.Bank.given g.B.Bank.tape g.B.Bank.faults_of old mid new c.args.who (Stepped c.take_steps-done.result.done c.left-left.result c.take_steps-done.result.ended) a.entered.end
     (gone-behind g.B.Bank.tells g.B.Bank.given g.B.Bank.tape g.B.Bank.faults_of old begun mid c.in-Some.room c.in-Ok.ensures.room s.went)
-    a.entered.is a.bank a.members (epoch-of mid new a.called.same) (λ n. refl) (λ Had before now. tt)
+    a.entered.is a.bank a.members a.called.same.ahead (epoch-of mid new a.called.same) (λ n. refl) (λ Had before now. tt)
     (subst (λ b. IfSome c.take_steps-done.result.ended (IsRefusalBy b.parts.backup (g.B.Bank.faults_of b.parts.bank) (g.B.Bank.faults_of mid.parts.bank))) c.in-Ok.ensures.room s.cause)

@@ -4,7 +4,7 @@ use Rattle.running_steps.proofs.turns.begin.Goals as goal
 pub returns-in-Ok-clause-taken : goal.returns-in-Ok-clause-taken
 returns-in-Ok-clause-taken g c =
     let s = c.in-Ok.ensures in
-    begin-done g.B.Bank.tells g.B.Bank.given g.B.Bank.tape g.B.Bank.faults_of c.args.begin.0 c.args.array c.in-Ok.array c.args.begin.1 s.begun.0 c.requires.still c.requires.open.goes s.begun.2 s.given
+    begin-done g.B.Bank.tells g.B.Bank.given g.B.Bank.tape g.B.Bank.faults_of c.args.begin.0 c.args.array c.in-Ok.array c.args.begin.1 s.begun.0 s.begun.1 c.requires.still c.requires.open.goes s.begun.2 s.given
 
 pub returns-in-Err-clause-taken : goal.returns-in-Err-clause-taken
 returns-in-Err-clause-taken g c =

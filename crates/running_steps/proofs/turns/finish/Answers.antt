@@ -10,4 +10,4 @@ returns-in-Ok-clause-taken g c =
 pub returns-in-Err-clause-taken : goal.returns-in-Err-clause-taken
 returns-in-Err-clause-taken g c =
     let s = c.in-Err.ensures in
-    ended-refused g.B.Bank.tells g.B.Bank.given g.B.Bank.tape g.B.Bank.faults_of c.args.who c.args.array c.in-Err.array c.requires.open s.left_active s.called s.left_given c.in-Err.refusal s.refused s.caused s.ends
+    ended-refused g.B.Bank.tells g.B.Bank.given g.B.Bank.tape g.B.Bank.faults_of c.args.who c.args.array c.in-Err.array c.requires.open c.requires.active s.left_active s.called s.left_given c.in-Err.refusal s.refused s.caused s.ends

@@ -1,7 +1,6 @@
-use Rattle.std.proofs.Common.{◌≡◌, ◌≤◌, ◌<◌, ◌&&◌, inl, inr, ℕ, not, Bool, List, length, Some, refl, sym, ◌∙◌, ap, subst, arith}
+use Rattle.std.proofs.Common.{◌≡◌, ◌≤◌, ◌&&◌, inl, inr, ℕ, true, not, Bool, Some, refl, sym, ◌∙◌, ap, subst, arith}
 use Rattle.std.proofs.lemmas.Bool.{cases_lt}
 use Rattle.md_base.specs.Shapes.{has_slot}
-use Rattle.bank.specs.declared.bank.Operation.{Operation}
 use Rattle.bank.specs.Given.{Given}
 use Rattle.bank.specs.Tape.{disk}
 use Rattle.layout.proofs.Limits.{limited}
@@ -34,11 +33,11 @@ use Rattle.reshape_updates.proofs.MoreLess.{less-then}
 use Rattle.views.proofs.MarkedLaws.{grows-marks, others-updated}
 use Rattle.reshape_ends.proofs.Made.{IsMade, new-moved, new-free}
 use Rattle.reshape_ends.proofs.Named.{names-all}
-use Rattle.takeover_updates.specs.TakingOver.{CanTakeUp, CanTakeDown, taking_over}
+use Rattle.takeover_updates.specs.TakingOver.{CanTakeUp, taking_over}
 use Rattle.takeover_updates.proofs.TakenPlan.{taken-alike, small, few, role-gives, live, fit-update, one-holder, planned-to, planned-fits, plan-is, plan-placed, made}
 use Rattle.takeover_updates.proofs.TakenLosses.{taken-failed}
 use Rattle.takeover_updates.proofs.taking.take_over.Given.{Over}
-use Rattle.takeover_updates.proofs.taking.take_over.Goals.{After-update-lost}
+use Rattle.takeover_updates.proofs.taking.take_over.Goals.{After-without}
 use Rattle.takeover_updates.proofs.taking.take_over.Goals as goal
 
 pub holders_then-held-requires-clause-slot : goal.holders_then-held-requires-clause-slot
@@ -74,7 +73,7 @@ pub update-lost-requires-clause-alone : goal.update-lost-requires-clause-alone
 update-lost-requires-clause-alone g c = subst (λ (ch : Change). AreGivesOfLive c.args.members.now ch) (sym c.taking_over-change.ensures)
     (live (g.B.Bank.given c.args.bank.now) c.args.members.now c.args.to.now c.args.slot c.requires.placed c.requires.free c.requires.still c.requires.valid c.requires.can)
 
-module _ (g : Over) (c : After-update-lost g) where
+module _ (g : Over) (c : After-without g) where
   abbrev m : Members
   m = c.args.members.now
 

@@ -69,7 +69,7 @@ returns-clause-replied g c =
 -- ---- which refusal is the first
 
 pub returns-in-Err-clause-first : goal.returns-in-Err-clause-first
-returns-in-Err-clause-first g c = first-short _ NoMemory refl
+returns-in-Err-clause-first g c = first-short _ _ NoMemory refl
 
 pub returns-clause-first : goal.returns-clause-first
 returns-clause-first g c = rw (← c.self.view_is) c.refuse_write.ensures.first

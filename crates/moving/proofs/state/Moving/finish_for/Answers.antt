@@ -87,7 +87,7 @@ returns-in-Some-clause-failed g c = rw (← c.self.view_is) (λ role slot held. 
 -- ---- which refusal is the first
 
 pub returns-in-Some-clause-first : goal.returns-in-Some-clause-first
-returns-in-Some-clause-first g c = rw (← c.self.view_is) (first-told _ c.in-Some.refusal c.in-Some.ensures.first)
+returns-in-Some-clause-first g c = rw (← c.self.view_is) (first-told _ _ c.in-Some.refusal c.in-Some.ensures.first)
 
 pub returns-clause-first : goal.returns-clause-first
 returns-clause-first g c = rw (← c.self.view_is) (first-none _ c.finish_window.result c.in_default.ensures.first)

@@ -294,16 +294,16 @@ returns-clause-given g c = rw (← c.self.view_is) c.read_some.ensures.given
 -- ---- which refusal is the first
 
 pub returns-in-Err-clause-first : goal.returns-in-Err-clause-first
-returns-in-Err-clause-first g c = first-short _ c.in-Err.fault c.in-Err.ensures.no_memory
+returns-in-Err-clause-first g c = first-short _ _ c.in-Err.fault c.in-Err.ensures.no_memory
 
 pub returns-in-Err-make_room-clause-first : goal.returns-in-Err-make_room-clause-first
-returns-in-Err-make_room-clause-first g c = first-short _ NoMemory refl
+returns-in-Err-make_room-clause-first g c = first-short _ _ NoMemory refl
 
 pub returns-in-Some-clause-first : goal.returns-in-Some-clause-first
-returns-in-Some-clause-first g c = rw (← c.self.view_is) (first-told _ c.in-Some.refusal (first-seen c.visible-sectors.ensures.value c.in-Some.ensures.first))
+returns-in-Some-clause-first g c = rw (← c.self.view_is) (first-told _ _ c.in-Some.refusal (first-seen _ _ _ c.visible-sectors.ensures.value c.in-Some.ensures.first))
 
 pub returns-then-asked-eq0-clause-first : goal.returns-then-asked-eq0-clause-first
-returns-then-asked-eq0-clause-first g c = rw (← c.self.view_is) (first-none _ _ (first-seen c.visible-sectors.ensures.value c.in_default.ensures.first))
+returns-then-asked-eq0-clause-first g c = rw (← c.self.view_is) (first-none _ _ (first-seen _ _ _ c.visible-sectors.ensures.value c.in_default.ensures.first))
 
 pub returns-clause-first : goal.returns-clause-first
-returns-clause-first g c = rw (← c.self.view_is) (first-none _ c.read_some.result (first-seen c.visible-sectors.ensures.value c.in_default.ensures.first))
+returns-clause-first g c = rw (← c.self.view_is) (first-none _ c.read_some.result (first-seen _ _ _ c.visible-sectors.ensures.value c.in_default.ensures.first))

@@ -348,7 +348,7 @@ returns-clause-failed g c = rw (← c.self.view_is) c.put_list-done.ensures.fail
 -- ---- which refusal is the first
 
 pub returns-in-Some-clause-first : goal.returns-in-Some-clause-first
-returns-in-Some-clause-first g c = rw (← c.self.view_is) (first-told _ c.in-Some.refusal c.in-Some.ensures.first)
+returns-in-Some-clause-first g c = rw (← c.self.view_is) (first-told _ _ c.in-Some.refusal c.in-Some.ensures.first)
 
 pub returns-in-Some-refusal-clause-first : goal.returns-in-Some-refusal-clause-first
 returns-in-Some-refusal-clause-first g c = rw (← c.self.view_is) (first-none _ _ c.in_default.ensures.first)

@@ -206,10 +206,10 @@ returns-clause-answered g c =
 -- ---- which refusal is the first
 
 pub returns-in-Err-clause-first : goal.returns-in-Err-clause-first
-returns-in-Err-clause-first g c = first-short _ NoMemory refl
+returns-in-Err-clause-first g c = first-short _ _ NoMemory refl
 
 pub returns-in-Err-make_room-clause-first : goal.returns-in-Err-make_room-clause-first
-returns-in-Err-make_room-clause-first g c = first-short _ NoMemory refl
+returns-in-Err-make_room-clause-first g c = first-short _ _ NoMemory refl
 
 pub returns-then-not-meets-clause-first : goal.returns-then-not-meets-clause-first
 returns-then-not-meets-clause-first g c = rw (← c.self.view_is) c.write_beside.ensures.first

@@ -1,4 +1,4 @@
-use Rattle.std.proofs.Common.{length, refl}
+use Rattle.std.proofs.Common.{length, refl, sym, ◌∙◌}
 use Rattle.superblocks.specs.Reading.{list_length}
 use Rattle.flat_history.specs.declared.events.Event.TheVariants.{Added}
 use Rattle.flat_history.specs.declared.events.Request.TheVariants.{Add as AsksAdd}
@@ -23,6 +23,16 @@ returns-clause-called g c = elim c.match-self.branch [
         same = did.stepped.same;
       })
   | in-Moving w ↦ rw (← c.self.view_is, w.in-Moving.is, w.self-inside-is, w.check_moving.ensures.same) w.add-done-in-Moving.ensures.called
+]
+
+pub returns-clause-active : goal.returns-clause-active
+returns-clause-active g c = elim c.match-self.branch [
+  | in-Still w ↦
+      let was = rw w.in-Still.is at c.self.invariant in
+      rw (← c.self.view_is, w.in-Still.is, w.self-inside-is, w.check_still.ensures.same) (w.check_still.ensures.rest.still ∙ sym was.now.still)
+  | in-Moving w ↦
+      let was = rw w.in-Moving.is at c.self.invariant in
+      rw (← c.self.view_is, w.in-Moving.is, w.self-inside-is, w.check_moving.ensures.same) (w.check_moving.ensures.active ∙ sym was.active)
 ]
 
 pub invariant_of-self : goal.invariant_of-self

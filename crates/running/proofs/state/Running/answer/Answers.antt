@@ -5,7 +5,7 @@ use Rattle.kept_history.specs.Recorded.{IsCallGoing}
 use Rattle.growing.specs.still_laws_Steps.{MayAnswer}
 use Rattle.running.specs.State.{parts_in}
 use Rattle.running.specs.Calls.{IsReplyNow}
-use Rattle.running.proofs.Answered.{reply-still, reply-moving, reply-none, answered-called}
+use Rattle.running.proofs.Answered.{reply-still, reply-moving, reply-none, answered-called, rest-left, moving-left}
 use Rattle.growing.proofs.still_laws_PlansKept.{add-entered}
 use Rattle.running.proofs.Kept.{rest-called, reshape-called}
 use Rattle.running.proofs.state.Running.answer.Goals as goal
@@ -40,6 +40,16 @@ returns-clause-called g c = elim c.match-self.branch [
       rw (← c.self.view_is, w.in-Still.is, w.self-inside-is, w.check_still.ensures.same) (answered-called w.in-Still.still w.answer.new.self did.stepped did.members did.work)
   | in-Moving w ↦
       rw (← c.self.view_is, w.in-Moving.is, w.self-inside-is, w.check_moving-in-Moving.ensures.same, ← w.check_moving.ensures.same) w.replace_with.ensures.1.1.1.1.1
+]
+
+pub returns-clause-rest : goal.returns-clause-rest
+returns-clause-rest g c = elim c.match-self.branch [
+  | in-Still w ↦
+      let was = rw w.in-Still.is at c.self.invariant in
+      rw (← c.self.view_is, w.in-Still.is) (rest-left w.in-Still.still was.now.still)
+  | in-Moving w ↦
+      let here = w.check_moving.ensures in
+      rw (← c.self.view_is, w.in-Moving.is) (moving-left w.in-Moving.moving here.active here.some)
 ]
 
 pub returns-clause-entered : goal.returns-clause-entered

@@ -1,4 +1,4 @@
-use Rattle.std.proofs.Common.{length, refl}
+use Rattle.std.proofs.Common.{length, refl, sym, ◌∙◌}
 use Rattle.superblocks.specs.Reading.{list_length}
 use Rattle.flat_history.specs.declared.events.Event.TheVariants.{Failed}
 use Rattle.flat_history.specs.declared.events.Request.TheVariants.{Fail as AsksFail}
@@ -12,6 +12,16 @@ pub returns-clause-called : goal.returns-clause-called
 returns-clause-called g c = elim c.match-self.branch [
   | in-Still w ↦ rw (← c.self.view_is, w.in-Still.is, w.self-inside-is, w.check_still.ensures.same) w.fail-done.ensures.called
   | in-Moving w ↦ rw (← c.self.view_is, w.in-Moving.is, w.self-inside-is, w.check_moving.ensures.same) w.fail-done-in-Moving.ensures.called
+]
+
+pub returns-clause-active : goal.returns-clause-active
+returns-clause-active g c = elim c.match-self.branch [
+  | in-Still w ↦
+      let was = rw w.in-Still.is at c.self.invariant in
+      rw (← c.self.view_is, w.in-Still.is, w.self-inside-is, w.check_still.ensures.same) (w.check_still.ensures.rest.still ∙ sym was.now.still)
+  | in-Moving w ↦
+      let was = rw w.in-Moving.is at c.self.invariant in
+      rw (← c.self.view_is, w.in-Moving.is, w.self-inside-is, w.check_moving.ensures.same) (w.check_moving.ensures.active ∙ sym was.active)
 ]
 
 pub invariant_of-self : goal.invariant_of-self

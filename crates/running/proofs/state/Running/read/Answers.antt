@@ -1,4 +1,4 @@
-use Rattle.std.proofs.Common.{◌/◌, length, refl}
+use Rattle.std.proofs.Common.{◌/◌, length, refl, sym, ◌∙◌}
 use Rattle.md_base.specs.Sectors.{sectors_of}
 use Rattle.superblocks.specs.Reading.{list_length}
 use Rattle.flat_history.specs.declared.events.Event.TheVariants.{Read}
@@ -33,6 +33,16 @@ returns-clause-caused g c = elim c.match-self.branch [
   | in-Moving w ↦
       let active = rw w.in-Moving.is at c.self.invariant in
       rw (← c.self.view_is, w.in-Moving.is, w.self-inside-is, w.check_moving.ensures.same, w.result-is) (read-moving w.in-Moving.moving c.args.at (length c.args.into.now / 512) w.in-Moving.moving.parts.members w.read-done-in-Moving.new.self.parts.members w.read-done-in-Moving.result active.active w.read-done-in-Moving.ensures.caused)
+]
+
+pub returns-clause-active : goal.returns-clause-active
+returns-clause-active g c = elim c.match-self.branch [
+  | in-Still w ↦
+      let was = rw w.in-Still.is at c.self.invariant in
+      rw (← c.self.view_is, w.in-Still.is, w.self-inside-is, w.check_still.ensures.same) (w.check_still.ensures.rest.still ∙ sym was.now.still)
+  | in-Moving w ↦
+      let was = rw w.in-Moving.is at c.self.invariant in
+      rw (← c.self.view_is, w.in-Moving.is, w.self-inside-is, w.check_moving.ensures.same) (w.check_moving.ensures.active ∙ sym was.active)
 ]
 
 pub invariant_of-self : goal.invariant_of-self

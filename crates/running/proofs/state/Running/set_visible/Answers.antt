@@ -78,7 +78,7 @@ returns-clause-went g c = elim c.match-self.branch [
       let world = moving_world (g.B.Bank.given old.parts.bank) (g.B.Bank.tape old.parts.bank) old in
       rw (← c.self.view_is, w.in-Still.is, w.self-inside-is, w.check_still.ensures.same)
       (limit-went g.B.Bank.tells g.B.Bank.given g.B.Bank.tape g.B.Bank.faults_of old new (as-before w.set_visible-done.ensures.limited) world (length (phases_of old.ahead)) old.parts.members c.args.limit c.args.who (visible_in new) (visible_in new) result
-      (replied-still old.parts.members result w.set_visible-done.ensures.answered) (judged-still old c.args.limit (visible_in new) result was.now.still w.set_visible-done.ensures.judged))
+      (replied-still old.parts.members result w.set_visible-done.ensures.answered) (judged-still old c.args.limit (visible_in new) result was.now.still w.set_visible-done.ensures.judged) w.set_visible-done.ensures.limited.ahead)
   | in-Moving w ↦
       let was = rw w.in-Moving.is at c.self.invariant in
       let old = w.in-Moving.moving in
@@ -88,7 +88,7 @@ returns-clause-went g c = elim c.match-self.branch [
       let world = moving_world (g.B.Bank.given old.parts.bank) (g.B.Bank.tape old.parts.bank) old in
       rw (← c.self.view_is, w.in-Moving.is, w.self-inside-is, w.check_moving.ensures.same)
       (limit-went g.B.Bank.tells g.B.Bank.given g.B.Bank.tape g.B.Bank.faults_of old new (as-before did.1.1.1.1.0) world (length (phases_of old.ahead)) old.parts.members c.args.limit c.args.who (visible_in new) (visible_in new) result
-      (replied-moving (Visible c.args.limit (visible_in new)) result did.1.0 did.0) (judged-moving old c.args.limit (visible_in new) result was.active did.1.0 did.1.1.0))
+      (replied-moving (Visible c.args.limit (visible_in new)) result did.1.0 did.0) (judged-moving old c.args.limit (visible_in new) result was.active did.1.0 did.1.1.0) did.1.1.1.1.0.ahead)
 ]
 
 pub invariant_of-self : goal.invariant_of-self

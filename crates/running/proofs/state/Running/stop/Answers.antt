@@ -1,4 +1,4 @@
-use Rattle.std.proofs.Common.{length, refl}
+use Rattle.std.proofs.Common.{length, refl, sym, ◌∙◌}
 use Rattle.superblocks.specs.Reading.{list_length}
 use Rattle.flat_history.specs.declared.events.Event.TheVariants.{Stopped}
 use Rattle.growing.proofs.still_laws_PlansKept.{add-behind}
@@ -41,6 +41,16 @@ returns-in-Ok-stop-clause-plainly g c =
     let was = rw c.in-Moving.is at c.self.invariant in
     let active = was.active in
     rw (← c.self.view_is, c.in-Moving.is) (λ still. absurd (cc (active, still)))
+
+pub returns-in-Err-clause-left_active : goal.returns-in-Err-clause-left_active
+returns-in-Err-clause-left_active g c =
+    let was = rw c.in-Still.is at c.self.invariant in
+    rw (← c.self.view_is, c.in-Still.is, c.check_still.ensures.same) (c.check_still.ensures.rest.still ∙ sym was.now.still)
+
+pub returns-in-Err-stop-clause-left_active : goal.returns-in-Err-stop-clause-left_active
+returns-in-Err-stop-clause-left_active g c =
+    let was = rw c.in-Moving.is at c.self.invariant in
+    rw (← c.self.view_is, c.in-Moving.is, c.check_moving.ensures.same) (c.check_moving.ensures.active ∙ sym was.active)
 
 pub invariant_of-running : goal.invariant_of-running
 invariant_of-running g c =

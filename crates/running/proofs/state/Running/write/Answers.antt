@@ -1,4 +1,4 @@
-use Rattle.std.proofs.Common.{ℕ, ◌/◌, Option, length, refl, subst}
+use Rattle.std.proofs.Common.{ℕ, ◌/◌, Option, length, refl, subst, sym, ◌∙◌}
 use Rattle.std.specs.Prelude.{IsSome}
 use Rattle.flat_history.specs.declared.events.Event.TheVariants.{Wrote}
 use Rattle.flat_history.specs.declared.events.Request.TheVariants.{Write as AsksWrite}
@@ -58,6 +58,15 @@ returns-clause-backup g c = elim c.match-self.branch [
   | in-Moving w ↦ rw (← c.self.view_is, w.in-Moving.is, w.self-inside-is, w.check_moving.ensures.same, w.result-is) w.write-done-in-Moving.ensures.backup
 ]
 
+pub returns-clause-barred : goal.returns-clause-barred
+returns-clause-barred g c = elim c.match-self.branch [
+  | in-Still w ↦
+      rw (w.result-is) (λ fault. no-backup_fault _ _ _ _ w.in-Still.still.parts.members w.write-done.new.self.parts.members w.write-done.result fault w.write-done.ensures.caused)
+  | in-Moving w ↦
+      let was = rw w.in-Moving.is at c.self.invariant in
+      rw (← c.self.view_is, w.in-Moving.is) (λ fault. was.active)
+]
+
 pub returns-clause-closed : goal.returns-clause-closed
 returns-clause-closed g c = elim c.match-self.branch [
   | in-Still w ↦
@@ -74,6 +83,16 @@ returns-clause-untouched g c = elim c.match-self.branch [
       let active = rw w.in-Moving.is at c.self.invariant in
       let moving = active.active in
       rw (← c.self.view_is, w.in-Moving.is, w.result-is) (on-err w.write-done-in-Moving.result (λ still. absurd (cc (moving, still))))
+]
+
+pub returns-clause-active : goal.returns-clause-active
+returns-clause-active g c = elim c.match-self.branch [
+  | in-Still w ↦
+      let was = rw w.in-Still.is at c.self.invariant in
+      rw (← c.self.view_is, w.in-Still.is, w.self-inside-is, w.check_still.ensures.same) (w.check_still.ensures.rest.still ∙ sym was.now.still)
+  | in-Moving w ↦
+      let was = rw w.in-Moving.is at c.self.invariant in
+      rw (← c.self.view_is, w.in-Moving.is, w.self-inside-is, w.check_moving.ensures.same) (w.check_moving.ensures.active ∙ sym was.active)
 ]
 
 pub invariant_of-self : goal.invariant_of-self

@@ -1,4 +1,4 @@
-use Rattle.std.proofs.Common.{ℕ, ◌∙◌, ap, arith}
+use Rattle.std.proofs.Common.{ℕ, sym, ◌∙◌, ap, arith}
 use Rattle.superblocks.specs.Reading.{list_length}
 use Rattle.moving_state.specs.Left.{visible_by}
 use Rattle.still.proofs.state.Still.visible.Goals as goal

@@ -1,0 +1,383 @@
+-- What the entries of a line tell of a reshape: whether one may be active behind them, or ahead; and that its reply tells none of what only a reshape can where there is none.
+use Rattle.std.proofs.Common.{◌≡◌, ◌≢◌, inl, inr, ℕ, ◌+◌, ◌&&◌, ◌||◌, ◌==◌, not, Bool, true, false, is_some, Option, Some, None, List, [], ◌∷◌, ◌++◌, length, take, drop, fold, Result, Ok, Err, refl, sym, ◌∙◌, ap, subst, arith, append_assoc, append-nil, length-append, All, MatchBool, MatchOption, IsTrue}
+use Rattle.std.proofs.Math.Seq.{drop-append_seam}
+use Rattle.std.proofs.lemmas.List.{take_at}
+use Rattle.std.proofs.lemmas.Bool.Decides.{nat_tests}
+use Rattle.std.proofs.lemmas.List.Folds.{list_any-append}
+use Rattle.std.proofs.lemmas.List.Sums.{fold-append}
+use Rattle.std.proofs.lemmas.List.Elements.{All-nil, All-cons, All-head, All-tail, All-push, All-weaker}
+use Rattle.std.specs.Prelude.{slice_get, nat_lt}
+use Rattle.std.specs.List.{list_any}
+use Rattle.md_base.specs.declared.answers.Fault.{Fault}
+use Rattle.md_base.specs.declared.answers.Fault.TheVariants.{Refused as IsRefusedWith, NoMemory}
+use Rattle.md_base.specs.declared.answers.Refusal.{Refusal}
+use Rattle.md_base.specs.declared.answers.Refusal.TheVariants.{BackupFault}
+use Rattle.md_base.specs.declared.answers.Who.{Who}
+use Rattle.md_base.specs.declared.status.Status.{Status}
+use Rattle.md_base.specs.declared.wishes.Phase.{Phase}
+use Rattle.bank.specs.declared.bank.Operation.{Operation}
+use Rattle.bank.specs.Given.{Given}
+use Rattle.superblocks.specs.Reading.{is_reshaping}
+use Rattle.flat_history.specs.declared.events.Entry.{Entry}
+use Rattle.flat_history.specs.declared.events.Event.{Event}
+use Rattle.flat_history.specs.declared.events.Event.TheVariants.{Wrote, Planned, Step, Stepped, Shown, Refused}
+use Rattle.flat_history.specs.declared.events.StepKind.TheVariants.{Begun}
+use Rattle.flat_history.specs.declared.events.Request.{Request}
+use Rattle.flat_history.specs.declared.events.Request.TheVariants.{Read as AsksRead, Write as AsksWrite, Flush as AsksFlush, Fail as AsksFail, Add as AsksAdd, Visible as AsksVisible, Grow as AsksGrow, Steps as AsksSteps, Show as AsksShow}
+use Rattle.flat_history.specs.Flat.{visible_of}
+use Rattle.flat_history.specs.Fits.{IsReadRefused, FitsStop, FitsHalt}
+use Rattle.flat_history.specs.Legal.{MayBeInner, call_before}
+use Rattle.flat_history.specs.Reshaped.{is_planned}
+use Rattle.flat_history.specs.Transfers.{IsRefusedAt, IsPastEnd}
+use Rattle.kept_history.specs.Recorded.{entry_of}
+use Rattle.grow_asked.specs.Left.{phases_of}
+use Rattle.openings.specs.moving_laws_Writing.{IsRepliedBehind, IsWriteReplied}
+use Rattle.openings.specs.running_words_Parts.{RunningParts}
+use Rattle.openings.specs.running_replies_Going.{is_begin, HasNoReshape, HasRunOn}
+use Rattle.openings.specs.running_replies_Replies.{MayTellBy, RunningAnswers, RunningFits, IsAnsweredWith}
+use Rattle.openings.proofs.running_replies_Fitting.{tell-more}
+use Rattle.openings.specs.running_Calls.{running_left}
+use Rattle.script.specs.declared.lines.Line.{Line}
+use Rattle.script.specs.declared.lines.Line.TheVariants.{Create, Read, Write, Flush, Fail, Add, Grow, Step as StepLine, Wait, Stop, Halt, Detail, Mdstat, Examine, Assemble}
+use Rattle.script.specs.Seeds.{seeded}
+use Rattle.run_laws.specs.Asked.{script_who, IsAskedAt}
+use Rattle.run_laws.specs.Replies.{FitsLine}
+use Rattle.run_laws.specs.Showing.{IsShown}
+use Rattle.run_laws.specs.Turning.{active_after, ahead_after, may_be_active, may_be_ahead, IsTellable, IsTurningTold}
+use Rattle.run_laws.proofs.AskLaws.{one}
+
+-- ---- an event that doesn't tell that no step is left ends nothing
+
+abbrev pub none_left : Event → Bool
+none_left (Stepped done left ended) = left == 0
+none_left event = false
+
+-- where it leaves none that may be active, or ahead, there was none before
+record IsKept (event : Event) : Type 0 where
+  active : (b : Bool) → active_after b event ≡ false → b ≡ false
+  ahead : (b : Bool) → ahead_after b event ≡ false → b ≡ false
+
+neither-first : (a b : Bool) → (a || b) ≡ false → a ≡ false
+neither-first false b is = refl
+neither-first true b is = absurd (cc)
+
+still-some : (b none : Bool) → none ≡ false → (b && not none) ≡ false → b ≡ false
+still-some false none is no = refl
+still-some true false is no = absurd (cc)
+still-some true true is no = absurd (cc)
+
+kept : (event : Event) → none_left event ≡ false → IsKept event
+kept (Shown status) some = record { active = λ b none. neither-first b (is_some status.target) none; ahead = λ b none. none }
+kept (Step Begun left) some = record { active = λ b none. absurd (cc); ahead = λ b none. none }
+kept (Planned left wish) some = record { active = λ b none. none; ahead = λ b none. absurd (cc) }
+kept (Stepped done left ended) some = record { active = λ b none. still-some b (left == 0) some none; ahead = λ b none. still-some b (left == 0) some none }
+kept event some = record { active = λ b none. none; ahead = λ b none. none }
+
+abbrev TellsSome : Entry → Type 0
+TellsSome e = none_left e.event ≡ false
+
+active-kept : (entries : List Entry) → All TellsSome entries → (b : Bool) → fold (λ active e. active_after active e.event) b entries ≡ false → b ≡ false
+active-kept [] all b none = none
+active-kept (e ∷ entries) all b none =
+    (kept e.event (All-head TellsSome e entries all)).active b (active-kept entries (All-tail TellsSome e entries all) (active_after b e.event) none)
+
+ahead-kept : (entries : List Entry) → All TellsSome entries → (b : Bool) → fold (λ ahead e. ahead_after ahead e.event) b entries ≡ false → b ≡ false
+ahead-kept [] all b none = none
+ahead-kept (e ∷ entries) all b none =
+    (kept e.event (All-head TellsSome e entries all)).ahead b (ahead-kept entries (All-tail TellsSome e entries all) (ahead_after b e.event) none)
+
+-- nor do they tell one then that begins, or is planned
+both-none : (a b : Bool) → a ≡ false → b ≡ false → (a || b) ≡ false
+both-none false b first second = second
+both-none true b first second = absurd (cc)
+
+begun-active : (event : Event) (b : Bool) → active_after b event ≡ false → is_begin event ≡ false
+begun-active (Step Begun left) b none = absurd (cc)
+begun-active event b none = refl
+
+planned-ahead : (event : Event) (b : Bool) → ahead_after b event ≡ false → is_planned event ≡ false
+planned-ahead (Planned left wish) b none = absurd (cc)
+planned-ahead event b none = refl
+
+begins-none : (entries : List Entry) → All TellsSome entries → (b : Bool) → fold (λ active e. active_after active e.event) b entries ≡ false → list_any (λ e. is_begin e.event) entries ≡ false
+begins-none [] all b none = refl
+begins-none (e ∷ entries) all b none =
+    both-none (is_begin e.event) (list_any (λ x. is_begin x.event) entries)
+    (begun-active e.event b (active-kept entries (All-tail TellsSome e entries all) (active_after b e.event) none)) (begins-none entries (All-tail TellsSome e entries all) (active_after b e.event) none)
+
+plans-none : (entries : List Entry) → All TellsSome entries → (b : Bool) → fold (λ ahead e. ahead_after ahead e.event) b entries ≡ false → list_any (λ e. is_planned e.event) entries ≡ false
+plans-none [] all b none = refl
+plans-none (e ∷ entries) all b none =
+    both-none (is_planned e.event) (list_any (λ x. is_planned x.event) entries)
+    (planned-ahead e.event b (ahead-kept entries (All-tail TellsSome e entries all) (ahead_after b e.event) none)) (plans-none entries (All-tail TellsSome e entries all) (ahead_after b e.event) none)
+
+-- behind a history
+module _ (old more : List Entry) (all : All TellsSome more) where
+  active-split : may_be_active (old ++ more) ≡ false → fold (λ active e. active_after active e.event) (may_be_active old) more ≡ false
+  active-split none = sym (fold-append (λ active e. active_after active e.event) false old more) ∙ none
+
+  ahead-split : may_be_ahead (old ++ more) ≡ false → fold (λ ahead e. ahead_after ahead e.event) (may_be_ahead old) more ≡ false
+  ahead-split none = sym (fold-append (λ ahead e. ahead_after ahead e.event) false old more) ∙ none
+
+  active-before : may_be_active (old ++ more) ≡ false → may_be_active old ≡ false
+  active-before none = active-kept more all (may_be_active old) (active-split none)
+
+  ahead-before : may_be_ahead (old ++ more) ≡ false → may_be_ahead old ≡ false
+  ahead-before none = ahead-kept more all (may_be_ahead old) (ahead-split none)
+
+  active-unbegun : may_be_active (old ++ more) ≡ false → list_any (λ e. is_begin e.event) more ≡ false
+  active-unbegun none = begins-none more all (may_be_active old) (active-split none)
+
+  ahead-unplanned : may_be_ahead (old ++ more) ≡ false → list_any (λ e. is_planned e.event) more ≡ false
+  ahead-unplanned none = plans-none more all (may_be_ahead old) (ahead-split none)
+
+inner-some : (event : Event) → MayBeInner event → none_left event ≡ false
+inner-some (Stepped done left ended) is = absurd is
+inner-some event is = refl
+
+inside-some : (entries : List Entry) → All (λ e. MayBeInner e.event) entries → All TellsSome entries
+inside-some entries inside = All-weaker (λ e. MayBeInner e.event) TellsSome (λ e is. inner-some e.event is) entries inside
+
+-- ---- the reply at its place
+
+get-last : (xs : List Entry) (e : Entry) → slice_get (xs ++ e ∷ []) (length xs) ≡ Some e
+get-last [] e = refl
+get-last (x ∷ xs) e = get-last xs e
+
+-- the last entry is one that its history may tell
+tellable-last : (old new inner : List Entry) (e : Entry) (place : ℕ) → new ≡ old ++ (inner ++ e ∷ []) → place + 1 ≡ length new
+    → MayTellBy (IsTrue (may_be_active (old ++ inner))) (IsTrue (may_be_ahead (old ++ inner))) e.event → IsTellable new place
+tellable-last old new inner e place is at_end may =
+    let before : List Entry = old ++ inner in
+    let whole : new ≡ before ++ e ∷ [] = is ∙ sym (append_assoc old inner (e ∷ [])) in
+    let long = ap (λ (l : List Entry). length l) whole ∙ length-append before (e ∷ []) in
+    let at : place ≡ length before = omega (arith, at_end, long) in
+    let there : slice_get new place ≡ Some e = ap (λ (l : List Entry). slice_get l place) whole ∙ ap (λ (n : ℕ). slice_get (before ++ e ∷ []) n) at ∙ get-last before e in
+    let first : take place new ≡ before = ap (λ (l : List Entry). take place l) whole ∙ take_at before (e ∷ []) place (sym at) in
+    subst (λ (o : Option Entry). MatchOption o ⊥ (λ x. MayTellBy (IsTrue (may_be_active (take place new))) (IsTrue (may_be_ahead (take place new))) x.event)) (sym there)
+    (subst (λ (l : List Entry). MayTellBy (IsTrue (may_be_active l)) (IsTrue (may_be_ahead l)) e.event) (sym first) may)
+
+pub asked-tellable : {size place : ℕ} {line : Line} {old new : List Entry} (asked : IsAskedAt size line old new place) → ((Active Ahead : Type 0) → MayTellBy Active Ahead asked.event) → IsTellable new place
+asked-tellable {place = place} {old = old} {new = new} asked may =
+    tellable-last old new asked.inner (one (script_who old) asked.end asked.event) place asked.is asked.at_end (may (IsTrue (may_be_active (old ++ asked.inner))) (IsTrue (may_be_ahead (old ++ asked.inner))))
+
+-- ---- what is told behind a call
+
+-- the same array
+pub told-same : {size place : ℕ} {line : Line} {old new : List Entry} {active later : Bool} {ahead behind : List Phase} (asked : IsAskedAt size line old new place) → none_left asked.event ≡ false → later ≡ active → behind ≡ ahead
+    → IsTurningTold active ahead old → IsTurningTold later behind new
+told-same {old = old} {new = new} asked some same_active same_ahead was =
+    let e = one (script_who old) asked.end asked.event in
+    let more = asked.inner ++ e ∷ [] in
+    let all = All-push TellsSome asked.inner e (inside-some asked.inner asked.inside) some in
+    record {
+      active_told = λ none. same_active ∙ was.active_told (active-before old more all (sym (ap (λ (l : List Entry). may_be_active l) asked.is) ∙ none));
+      ahead_told = λ none. same_ahead ∙ was.ahead_told (ahead-before old more all (sym (ap (λ (l : List Entry). may_be_ahead l) asked.is) ∙ none));
+    }
+
+-- nothing was entered
+pub told-alike : {old new : List Entry} {active later : Bool} {ahead behind : List Phase} → new ≡ old → later ≡ active → behind ≡ ahead → IsTurningTold active ahead old → IsTurningTold later behind new
+told-alike same same_active same_ahead was = record {
+  active_told = λ none. same_active ∙ was.active_told (ap (λ (l : List Entry). may_be_active l) (sym same) ∙ none);
+  ahead_told = λ none. same_ahead ∙ was.ahead_told (ap (λ (l : List Entry). may_be_ahead l) (sym same) ∙ none);
+}
+
+-- it is the array that it was
+pub told-still : {B : Type 0} {old new : RunningParts B} → new ≡ old → IsTurningTold (is_reshaping old.parts.members.newest) (phases_of old.ahead) old.parts.entries → IsTurningTold (is_reshaping new.parts.members.newest) (phases_of new.ahead) new.parts.entries
+told-still same was = subst (λ a. IsTurningTold (is_reshaping a.parts.members.newest) (phases_of a.ahead) a.parts.entries) (sym same) was
+
+-- as steps leave it, where none of their entries tells that none is left
+module _ {B : Type 0} (tells : Type 0) (given : B → Given) (tape : B → List Operation) (faults : B → ℕ → ℕ) (old new : RunningParts B) (went : HasRunOn tells given tape faults old new)
+    (was : IsTurningTold (is_reshaping old.parts.members.newest) (phases_of old.ahead) old.parts.entries) where
+  more-is : (rest : List Entry) → new.parts.entries ≡ old.parts.entries ++ rest → went.more ≡ rest
+  more-is rest is = sym (drop-append_seam old.parts.entries went.more) ∙ ap (drop (length old.parts.entries)) (sym went.grown ∙ is) ∙ drop-append_seam old.parts.entries rest
+
+  told-went : (rest : List Entry) → new.parts.entries ≡ old.parts.entries ++ rest → All TellsSome rest → IsTurningTold (is_reshaping new.parts.members.newest) (phases_of new.ahead) new.parts.entries
+  told-went rest is all = record {
+    active_told = λ none.
+        let now = sym (ap (λ (l : List Entry). may_be_active l) is) ∙ none in
+        went.active (was.active_told (active-before old.parts.entries rest all now)) (ap (list_any (λ e. is_begin e.event)) (more-is rest is) ∙ active-unbegun old.parts.entries rest all now);
+    ahead_told = λ none.
+        let now = sym (ap (λ (l : List Entry). may_be_ahead l) is) ∙ none in
+        went.ahead (was.ahead_told (ahead-before old.parts.entries rest all now)) (ap (list_any (λ e. is_planned e.event)) (more-is rest is) ∙ ahead-unplanned old.parts.entries rest all now);
+  }
+
+  -- a plan, or why it isn't made
+  pub told-grown : {size place : ℕ} {line : Line} (asked : IsAskedAt size line old.parts.entries new.parts.entries place) → none_left asked.event ≡ false
+      → IsTurningTold (is_reshaping new.parts.members.newest) (phases_of new.ahead) new.parts.entries
+  told-grown asked some =
+      let e = one (script_who old.parts.entries) asked.end asked.event in
+      told-went (asked.inner ++ e ∷ []) asked.is (All-push TellsSome asked.inner e (inside-some asked.inner asked.inside) some)
+
+  -- the reply to a request for steps, which may tell that none is left
+  module _ {size most : ℕ} {who : Who} {event : Event} (replied : IsAnsweredWith size (AsksSteps most) who old.parts.entries new.parts.entries event) where
+    pub told-steps : ((done left : ℕ) (ended : Option Refusal) → event ≡ Stepped done left ended → left ≡ running_left new) → (running_left new ≡ 0 → HasNoReshape new)
+        → IsTurningTold (is_reshaping new.parts.members.newest) (phases_of new.ahead) new.parts.entries
+    told-steps left_is rest = by event refl
+      where
+        on : none_left event ≡ false → IsTurningTold (is_reshaping new.parts.members.newest) (phases_of new.ahead) new.parts.entries
+        on some = told-went (replied.inner ++ one who replied.end event ∷ []) replied.is (All-push TellsSome replied.inner (one who replied.end event) (inside-some replied.inner replied.inside) some)
+
+        zero : (n : ℕ) → (n == 0) ≡ true → n ≡ 0
+        zero n is = grind (arith, nat_tests, is)
+
+        over : (left : ℕ) → left ≡ running_left new → (b : Bool) → (left == 0) ≡ b → (none_left event ≡ (left == 0)) → IsTurningTold (is_reshaping new.parts.members.newest) (phases_of new.ahead) new.parts.entries
+        over left now true is none = let at = rest (sym now ∙ zero left is) in record { active_told = λ told. at.active; ahead_told = λ told. at.ahead }
+        over left now false is none = on (none ∙ is)
+
+        by : (x : Event) → event ≡ x → IsTurningTold (is_reshaping new.parts.members.newest) (phases_of new.ahead) new.parts.entries
+        by (Stepped done left ended) is = over left (left_is done left ended is) (left == 0) refl (ap none_left is)
+        by x is = on (ap none_left is)
+
+    -- it tells nothing that a reshape alone could
+    unturned : (x : Event) → RunningAnswers size (old.parts.entries ++ replied.inner) (call_before (old.parts.entries ++ replied.inner) (one who replied.end event)) (AsksSteps most) x → (is_begin x ≡ false) × (is_planned x ≡ false)
+    unturned (Step Begun left) is = absurd is
+    unturned (Planned left wish) is = absurd is
+    unturned x is = (refl, refl)
+
+    last-none : (p : Event → Bool) → list_any (λ e. p e.event) replied.inner ≡ false → p event ≡ false → list_any (λ e. p e.event) (replied.inner ++ one who replied.end event ∷ []) ≡ false
+    last-none p inner last = list_any-append (λ e. p e.event) replied.inner (one who replied.end event ∷ []) ∙ both-none (list_any (λ e. p e.event) replied.inner) (p event || false) inner (both-none (p event) false last refl)
+
+    all : All TellsSome replied.inner
+    all = inside-some replied.inner replied.inside
+
+    active-told : is_reshaping new.parts.members.newest ≡ true → IsTrue (may_be_active (old.parts.entries ++ replied.inner))
+    active-told is = by (may_be_active (old.parts.entries ++ replied.inner)) refl
+      where
+        by : (b : Bool) → may_be_active (old.parts.entries ++ replied.inner) ≡ b → IsTrue b
+        by true told = refl
+        by false none = absurd (let still = went.active (was.active_told (active-before old.parts.entries replied.inner all none))
+            (ap (list_any (λ e. is_begin e.event)) (more-is (replied.inner ++ one who replied.end event ∷ []) replied.is)
+            ∙ last-none is_begin (active-unbegun old.parts.entries replied.inner all none) (unturned event replied.fits.answers).0) in let clash : true ≡ false = sym is ∙ still in cc)
+
+    ahead-told : phases_of new.ahead ≢ [] → IsTrue (may_be_ahead (old.parts.entries ++ replied.inner))
+    ahead-told some = by (may_be_ahead (old.parts.entries ++ replied.inner)) refl
+      where
+        by : (b : Bool) → may_be_ahead (old.parts.entries ++ replied.inner) ≡ b → IsTrue b
+        by true told = refl
+        by false none = absurd (some (went.ahead (was.ahead_told (ahead-before old.parts.entries replied.inner all none))
+            (ap (list_any (λ e. is_planned e.event)) (more-is (replied.inner ++ one who replied.end event ∷ []) replied.is)
+            ∙ last-none is_planned (ahead-unplanned old.parts.entries replied.inner all none) (unturned event replied.fits.answers).1)))
+
+    pub steps-tellable : (place : ℕ) → place + 1 ≡ length new.parts.entries → MayTellBy (is_reshaping new.parts.members.newest ≡ true) (phases_of new.ahead ≢ []) event → IsTellable new.parts.entries place
+    steps-tellable place at_end may =
+        tellable-last old.parts.entries new.parts.entries replied.inner (one who replied.end event) place replied.is at_end
+        (tell-more (is_reshaping new.parts.members.newest ≡ true) (phases_of new.ahead ≢ []) (IsTrue (may_be_active (old.parts.entries ++ replied.inner))) (IsTrue (may_be_ahead (old.parts.entries ++ replied.inner))) active-told ahead-told event may)
+
+-- ---- the replies to the lines that ask no step
+
+-- the request asks for steps, or writes
+abbrev pub is_steps : Request → Bool
+is_steps (AsksSteps most) = true
+is_steps request = false
+
+abbrev pub is_write : Request → Bool
+is_write (AsksWrite at body) = true
+is_write request = false
+
+-- none is refused for the backup, but a write
+unbarred : (visible to : ℕ) → IsRefusedAt visible to IsReadRefused BackupFault → ⊥
+unbarred visible to is = by (nat_lt visible to) is
+  where
+    by : (b : Bool) → MatchBool b (IsPastEnd BackupFault) (IsReadRefused BackupFault × (IsPastEnd BackupFault → ⊥)) → ⊥
+    by true is = is
+    by false is = is.0
+
+unstepped : (size : ℕ) (before call : List Entry) (request : Request) (event : Event) → is_steps request ≡ false → RunningAnswers size before call request event → none_left event ≡ false
+unstepped size before call (AsksSteps most) event no is = absurd (cc)
+unstepped size before call (AsksRead at count) (Stepped done left ended) no is = absurd is
+unstepped size before call (AsksWrite at body) (Stepped done left ended) no is = absurd is
+unstepped size before call AsksFlush (Stepped done left ended) no is = absurd is
+unstepped size before call (AsksFail role) (Stepped done left ended) no is = absurd is
+unstepped size before call (AsksAdd slot) (Stepped done left ended) no is = absurd is
+unstepped size before call (AsksVisible limit) (Stepped done left ended) no is = absurd is
+unstepped size before call (AsksGrow wish) (Stepped done left ended) no is = absurd is
+unstepped size before call AsksShow (Stepped done left ended) no is = absurd is
+unstepped size before call request event no is = refl
+
+told-by : (size : ℕ) (before call : List Entry) (request : Request) (event : Event) → is_steps request ≡ false → is_write request ≡ false → RunningAnswers size before call request event → (Active Ahead : Type 0) → MayTellBy Active Ahead event
+told-by size before call (AsksSteps most) event no other is Active Ahead = absurd (cc)
+told-by size before call (AsksWrite at body) event no other is Active Ahead = absurd (cc)
+told-by size before call (AsksRead at count) (Refused BackupFault) no other is Active Ahead = absurd (unbarred (visible_of size before) (at + count) is)
+told-by size before call AsksFlush (Refused BackupFault) no other is Active Ahead = absurd is
+told-by size before call (AsksFail role) (Refused BackupFault) no other is Active Ahead = absurd is
+told-by size before call (AsksAdd slot) (Refused BackupFault) no other is Active Ahead = absurd is
+told-by size before call (AsksVisible limit) (Refused BackupFault) no other is Active Ahead = absurd is
+told-by size before call (AsksGrow wish) (Refused BackupFault) no other is Active Ahead = absurd is
+told-by size before call AsksShow (Refused BackupFault) no other is Active Ahead = absurd is
+told-by size before call (AsksRead at count) (Stepped done left ended) no other is Active Ahead = absurd is
+told-by size before call AsksFlush (Stepped done left ended) no other is Active Ahead = absurd is
+told-by size before call (AsksFail role) (Stepped done left ended) no other is Active Ahead = absurd is
+told-by size before call (AsksAdd slot) (Stepped done left ended) no other is Active Ahead = absurd is
+told-by size before call (AsksVisible limit) (Stepped done left ended) no other is Active Ahead = absurd is
+told-by size before call (AsksGrow wish) (Stepped done left ended) no other is Active Ahead = absurd is
+told-by size before call AsksShow (Stepped done left ended) no other is Active Ahead = absurd is
+told-by size before call request event no other is Active Ahead = tt
+
+-- by the lines
+pub asked-unstepped : {size place : ℕ} {old new : List Entry} (request : Request) (line : Line) (asked : IsAskedAt size line old new place) → is_steps request ≡ false
+    → (FitsLine size (old ++ asked.inner) (one (script_who old) asked.end asked.event) line → RunningFits size (old ++ asked.inner) (one (script_who old) asked.end asked.event) request) → none_left asked.event ≡ false
+asked-unstepped {size = size} {old = old} request line asked no as =
+    unstepped size (old ++ asked.inner) (call_before (old ++ asked.inner) (one (script_who old) asked.end asked.event)) request asked.event no (as asked.fits).answers
+
+pub asked-told : {size place : ℕ} {old new : List Entry} (request : Request) (line : Line) (asked : IsAskedAt size line old new place) → is_steps request ≡ false → is_write request ≡ false
+    → (FitsLine size (old ++ asked.inner) (one (script_who old) asked.end asked.event) line → RunningFits size (old ++ asked.inner) (one (script_who old) asked.end asked.event) request) → IsTellable new place
+asked-told {size = size} {old = old} request line asked no other as =
+    asked-tellable asked (told-by size (old ++ asked.inner) (call_before (old ++ asked.inner) (one (script_who old) asked.end asked.event)) request asked.event no other (as asked.fits).answers)
+
+-- a status, and an end
+pub shown-unstepped : (size : ℕ) (before : List Entry) (event : Event) → IsShown size before event → none_left event ≡ false
+shown-unstepped size before (Stepped done left ended) is = absurd is
+shown-unstepped size before event is = refl
+
+pub shown-told : (size : ℕ) (before : List Entry) (event : Event) → IsShown size before event → (Active Ahead : Type 0) → MayTellBy Active Ahead event
+shown-told size before (Refused BackupFault) is Active Ahead = absurd is
+shown-told size before (Stepped done left ended) is Active Ahead = absurd is
+shown-told size before event is Active Ahead = tt
+
+pub stop-unstepped : (event : Event) → FitsStop event → none_left event ≡ false
+stop-unstepped (Stepped done left ended) is = absurd is
+stop-unstepped event is = refl
+
+pub stop-told : (event : Event) → FitsStop event → (Active Ahead : Type 0) → MayTellBy Active Ahead event
+stop-told (Refused BackupFault) is Active Ahead = absurd is
+stop-told (Stepped done left ended) is Active Ahead = absurd is
+stop-told event is Active Ahead = tt
+
+pub halt-told : (event : Event) → FitsHalt event → (Active Ahead : Type 0) → MayTellBy Active Ahead event
+halt-told (Refused BackupFault) is Active Ahead = absurd is
+halt-told (Stepped done left ended) is Active Ahead = absurd is
+halt-told event is Active Ahead = tt
+
+-- ---- a write, which is refused for the backup only in a reshape
+
+pub write-tellable : (size at : ℕ) (body : List (List ℕ)) (who : Who) (old new : List Entry) (r : Result (Unit {0}) Fault) (place : ℕ) → IsWriteReplied size at body who old new r → r ≢ Err NoMemory
+    → (r ≡ Err (IsRefusedWith BackupFault) → IsTrue (may_be_active old)) → place + 1 ≡ length new → IsTellable new place
+write-tellable size at body who old new (Ok x) place was some active at_end = tellable-last old new was.call (entry_of who was.end (Wrote at body)) place was.is at_end tt
+write-tellable size at body who old new (Err (IsRefusedWith BackupFault)) place was some active at_end =
+    tellable-last old new [] (entry_of who (was.0) (Refused BackupFault)) place was.1 at_end (subst (λ (l : List Entry). IsTrue (may_be_active l)) (sym (append-nil old)) (active refl))
+write-tellable size at body who old new (Err (IsRefusedWith refusal)) place was some active at_end = tellable-last old new was.call (entry_of who was.end (Refused refusal)) place was.is at_end tt
+write-tellable size at body who old new (Err NoMemory) place was some active at_end = absurd (some refl)
+
+-- by what its history tells
+pub told-active : (active : Bool) (ahead : List Phase) (entries : List Entry) → IsTurningTold active ahead entries → active ≡ true → IsTrue (may_be_active entries)
+told-active active ahead entries was is = by (may_be_active entries) refl
+  where
+    by : (b : Bool) → may_be_active entries ≡ b → IsTrue b
+    by true told = refl
+    by false none = absurd (let still = was.active_told none in let clash : true ≡ false = sym is ∙ still in cc)
+
+-- ---- an array that was opened
+
+-- what an opening told of losses, and its status
+pub found-told : (active : Bool) (ahead : List Phase) (losses : List Entry) (e : Entry) (status : Status) → e.event ≡ Shown status → (is_some status.target ≡ false → active ≡ false) → ahead ≡ []
+    → IsTurningTold active ahead (losses ++ e ∷ [])
+found-told active ahead losses e status is target none = record {
+  active_told = λ told. target (second (may_be_active losses) (is_some status.target)
+      (sym (ap (λ (x : Event). active_after (may_be_active losses) x) is) ∙ sym (fold-append (λ active e. active_after active e.event) false losses (e ∷ [])) ∙ told));
+  ahead_told = λ told. none;
+}
+  where
+    second : (a b : Bool) → (a || b) ≡ false → b ≡ false
+    second false b is = is
+    second true b is = absurd (cc)

@@ -1,0 +1,3 @@
+pub mod TakenMembers
+pub mod Taking
+pub mod TakenStill

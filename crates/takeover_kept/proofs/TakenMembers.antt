@@ -1,0 +1,114 @@
+-- The members behind a takeover, from those that its update plans: the list stands on them as before, and is as long.
+use Rattle.std.proofs.Common.{◌≡◌, ◌⊎◌, inl, inr, ℕ, ◌+◌, ◌*◌, ◌<◌, false, sym, ◌∙◌, ap, refl, arith, None}
+use Rattle.std.specs.Prelude.{IsTrue}
+use Rattle.std.proofs.lemmas.Bool.{cases_lt}
+use Rattle.md_base.specs.Sectors.{Sector}
+use Rattle.md_base.specs.Shapes.{data_disks, is_valid_shape}
+use Rattle.md_base.specs.declared.places.Shape.{Shape}
+use Rattle.bank.specs.Given.{Given}
+use Rattle.bank.specs.Tape.{Contents}
+use Rattle.grow_plan.specs.Plans.{taken_up}
+use Rattle.superblocks.specs.declared.members.Members.{Members}
+use Rattle.superblocks.specs.Reading.{Scope, is_reshaping, shape_of, list_length, role_count}
+use Rattle.shape_views.specs.Regions.{ArePlaced}
+use Rattle.shape_views.specs.Windows.{ListStands, RowsStand}
+use Rattle.shape_views.proofs.Stands.{list-still}
+use Rattle.shape_changes.specs.Marking.{AreOthersPresent}
+use Rattle.shape_changes.specs.Steady.{AreUnlost}
+use Rattle.shape_ends.specs.Ends.{ArePlacesAlike}
+use Rattle.shape_ends.specs.Takeovers.{IsTakenUp, IsTakenDown}
+use Rattle.shape_ends.proofs.EndLaws.{places-alike-stand}
+use Rattle.shape_ends.proofs.TakenShapes.{taken-over}
+use Rattle.shape_ends.proofs.Takeovers.{place-alike}
+use Rattle.safe_updates.proofs.Under.{shown-moved, shown-rows-moved}
+use Rattle.views.specs.Moving.{IsMoved}
+use Rattle.views.specs.Placed.{IsPlaced}
+use Rattle.views.proofs.HeldRows.{held-moved, missing-moved}
+use Rattle.views.proofs.MovedLaws.{moved-same}
+use Rattle.views.proofs.Still.{count-still}
+use Rattle.moving_ends.proofs.EndedRows.{alone_of, alone-placed}
+
+-- it goes one way or the other
+abbrev pub IsTaken : Members → Members → Type 0
+IsTaken old new = IsTakenUp old new ⊎ IsTakenDown old new
+
+pub still-before : (old new : Members) → IsTaken old new → is_reshaping old.newest ≡ false
+still-before old new (inl up) = up.still
+still-before old new (inr down) = down.still
+
+pub still-then : (old new : Members) → IsTaken old new → is_reshaping new.newest ≡ false
+still-then old new (inl up) = up.still_too
+still-then old new (inr down) = down.still_too
+
+-- what the plan takes over the members have that it leaves
+pub taken-then : (given : Given) (old plan new : Members) → IsTaken old plan → IsMoved given plan new → new.newest.resync_offset ≡ old.newest.resync_offset → IsTaken old new
+taken-then given old plan new (inl up) moved clean = inl (record {
+  still = up.still;
+  still_too = moved.reshape.reshaping ∙ up.still_too;
+  five = up.five;
+  shape = moved.shape ∙ up.shape;
+  size = moved.size ∙ up.size;
+  clean = clean;
+  kept = λ role row slot lt held. let k = up.kept role row slot lt (held-moved moved role row slot held) in record { within = k.within; held = k.held; offset = moved.offsets slot ∙ k.offset };
+  missing = λ role lt miss. missing-moved moved role (up.missing role lt miss);
+  last = missing-moved moved (shape_of old.newest).disks up.last;
+})
+taken-then given old plan new (inr down) moved clean = inr (record {
+  still = down.still;
+  still_too = moved.reshape.reshaping ∙ down.still_too;
+  five = ap (λ (s : Shape). s.level) moved.shape ∙ down.five;
+  shape = down.shape ∙ ap taken_up (sym moved.shape);
+  size = moved.size ∙ down.size;
+  clean = clean;
+  kept = λ role row slot lt held.
+      let same = ap (λ (s : Shape). s.disks) moved.shape in
+      let k = down.kept role row slot (omega (arith, lt, same)) (held-moved moved role row slot held) in
+      record { within = (let w = k.within in omega (arith, w, same)); held = k.held; offset = moved.offsets slot ∙ k.offset };
+  missing = λ role lt miss. (let same = ap (λ (s : Shape). s.disks) moved.shape in missing-moved moved role (down.missing role (omega (arith, lt, same)) miss));
+})
+
+-- the list is as long
+pub taken-long : (old new : Members) → IsTaken old new → IsTrue (is_valid_shape (shape_of old.newest)) → IsTrue (is_valid_shape (shape_of new.newest)) → list_length new.newest ≡ list_length old.newest
+taken-long old new (inl up) valid valid' =
+    list-still new.newest up.still_too ∙ (λ i. data_disks (up.shape i) * up.size i) ∙ ap (λ (n : ℕ). n * old.newest.size) (taken-over (shape_of old.newest) valid up.five).deep ∙ sym (list-still old.newest up.still)
+taken-long old new (inr down) valid valid' = sym (
+    list-still old.newest down.still ∙ (λ i. data_disks (down.shape i) * sym down.size i) ∙ ap (λ (n : ℕ). n * new.newest.size) (taken-over (shape_of new.newest) valid' down.five).deep
+    ∙ sym (list-still new.newest down.still_too))
+
+-- a role that stays was one before, and may have been missing
+pub taken-missing : (old new : Members) → IsTaken old new → (role : ℕ) → role < role_count new.newest → (role < role_count old.newest) ⊎ ((role ≡ role_count old.newest) × (role_count new.newest ≡ role_count old.newest + 1))
+taken-missing old new (inl up) role lt =
+    let before = count-still old.newest up.still in
+    let then = count-still new.newest up.still_too in
+    let more : (shape_of new.newest).disks ≡ (shape_of old.newest).disks + 1 = ap (λ (s : Shape). s.disks) up.shape in
+    of (omega (arith, before, then, more)) lt
+  where
+    of : role_count new.newest ≡ role_count old.newest + 1 → role < role_count new.newest → (role < role_count old.newest) ⊎ ((role ≡ role_count old.newest) × (role_count new.newest ≡ role_count old.newest + 1))
+    of is lt = elim (cases_lt role (role_count old.newest)) [ inl below ↦ inl below | inr past ↦ inr (omega (arith, is, lt, past), is) ]
+taken-missing old new (inr down) role lt =
+    let before = count-still old.newest down.still in
+    let then = count-still new.newest down.still_too in
+    let more : (shape_of old.newest).disks ≡ (shape_of new.newest).disks + 1 = ap (λ (s : Shape). s.disks) down.shape in
+    inl (omega (arith, before, then, more, lt))
+
+-- ---- the list
+
+module _ (scope : Scope) (given : Given) (old new : Members) (taken : IsTaken old new) (was : IsPlaced given old) (unlost : AreUnlost old) (placed : IsPlaced given new) (c c' : Contents) (list : ℕ → Sector)
+    (others : AreOthersPresent c c') where
+  placed-old : ArePlaced (alone_of scope) given old
+  placed-old = alone-placed scope given old was (still-before old new taken) c
+
+  placed-new : ArePlaced (alone_of scope) given new
+  placed-new = alone-placed scope given new placed (still-then old new taken) c
+
+  alike : ArePlacesAlike old new
+  alike = place-alike (alone_of scope) given old new placed-old placed-new taken
+
+  there : IsMoved given old old
+  there = moved-same given given old old refl refl was unlost
+
+  pub stands-then : ListStands None old c list → ListStands None new c' list
+  stands-then stands = (places-alike-stand (alone_of scope) given old new c' list placed-new alike).0 (shown-moved given old old c c' list there was others None stands)
+
+  pub rows-then : RowsStand None old c list → RowsStand None new c' list
+  rows-then rows = (places-alike-stand (alone_of scope) given old new c' list placed-new alike).1 (shown-rows-moved given old old c c' list there was others None rows)

@@ -1,0 +1,2 @@
+//! Laws: a level is taken over, and the array that kept its record keeps it; no definitions and no code.
+#![tactic(auto)]
