@@ -1,8 +1,8 @@
 -- What callers' calls leave, one after another, and from what each kind of call says.
-use Rattle.std.proofs.Common.{◌≡◌, ◌⊎◌, inl, inr, ℕ, ◌*◌, ◌==◌, min, Bool, true, false, Option, List, [], ◌∷◌, ◌++◌, Result, Ok, Err, refl, sym, ◌∙◌, ap, subst, arith, append_assoc, append-nil}
+use Rattle.std.proofs.Common.{◌≡◌, ◌⊎◌, inl, inr, ℕ, ◌*◌, min, true, false, Option, List, [], ◌∷◌, ◌++◌, Result, Ok, Err, refl, sym, ◌∙◌, ap, subst, arith, append_assoc, append-nil}
 use Rattle.std.proofs.lemmas.Bool.Decides.{nat_tests}
 use Rattle.std.proofs.lemmas.List.Sums.{fold-append}
-use Rattle.std.specs.Prelude.{IsTrue, IfErr}
+use Rattle.std.specs.Prelude.{IsTrue}
 use Rattle.std.specs.List.{list_any}
 use Rattle.md_base.specs.Shapes.{data_disks}
 use Rattle.md_base.specs.declared.answers.Who.{Who}
@@ -34,7 +34,7 @@ use Rattle.running_steps.specs.running_words_Adding.{IsAddCalled}
 use Rattle.running_steps.specs.running_replies_Replies.{HasToldBy}
 use Rattle.running_steps.specs.running_replies_Going.{IsSameEpoch, HasRunOn}
 use Rattle.running_steps.proofs.running_replies_GoneOn.{has-told-wider, told-then}
-use Rattle.running_calls.specs.Going.{is_added, AreHeldSince, AreLossesSince, HasGoneOn}
+use Rattle.running_calls.specs.Going.{is_added, AreLossesSince, HasGoneOn}
 use Rattle.running_calls.proofs.Leaving.{call-leaves}
 use Rattle.running_calls.proofs.Plain.{IsCallEntered, IsCallAnswered, inside-of}
 use Rattle.running_calls.proofs.Held.{any-right, may-then, spares-then, losses-later, since-append, since-wider, held-behind, losses-behind, held-kept, losses-of}
