@@ -166,7 +166,7 @@ fn refused_requests(rt: HostRuntime) -> Result<(), Fail> {
         let relied = list_sectors(&members);
         assert!(rt; unread_from(&members, None, visible, relied, at, count) == *wanted);
         if count > 0 {
-            assert!(rt; unwritten_from(&members, visible, relied, at, count) == *wanted);
+            assert!(rt; unwritten_from(&members, None, visible, relied, at, count) == *wanted);
         }
     }
     Ok(())
@@ -213,7 +213,7 @@ fn refused_in_a_resync(rt: HostRuntime) -> Result<(), Fail> {
         let (at, count) = (u64::from(*at), u64::from(*count));
         let relied = u64::from(*relied);
         assert!(rt; unread_from(&members, None, visible, relied, at, count) == *read);
-        assert!(rt; unwritten_from(&members, visible, relied, at, count) == *write);
+        assert!(rt; unwritten_from(&members, None, visible, relied, at, count) == *write);
         let hidden = Some(Span { lo: 0, hi: 1 });
         let beside = unread_from(&members, hidden, visible, relied, at, count);
         match read {
