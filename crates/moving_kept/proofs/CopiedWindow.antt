@@ -29,7 +29,7 @@ use Rattle.flat_history.specs.Flat.{now}
 use Rattle.flat_history.specs.Plain.{entries_of}
 use Rattle.flat_history.specs.Stands.{covers, shape_for}
 use Rattle.flat_history.specs.World.{opening_list}
-use Rattle.shape_views.specs.Regions.{AreShapesFit, ArePlaced, DoWithout, place_by}
+use Rattle.shape_views.specs.Regions.{AreShapesFit, DoWithout, place_by}
 use Rattle.shape_views.specs.Windows.{moved_past}
 use Rattle.shape_views.proofs.Alike.{row-below}
 use Rattle.shape_views.proofs.UnderWay.{under-way, is-reshaping, shape-on}
