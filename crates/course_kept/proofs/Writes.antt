@@ -44,7 +44,7 @@ use Rattle.course_kept.proofs.Frames.{copied-before, zeroed-before, stands-on}
 -- ---- a row by another list
 
 -- it stands by a list that is the same in it
-pub row-by : (m : Members) (c : Contents) (shape : Shape) (list list' : ℕ → Sector) (row : ℕ) → is_valid_shape shape ≡ true → ((y : ℕ) → (place shape y).row ≡ row → list' y ≡ list y)
+row-by : (m : Members) (c : Contents) (shape : Shape) (list list' : ℕ → Sector) (row : ℕ) → is_valid_shape shape ≡ true → ((y : ℕ) → (place shape y).row ≡ row → list' y ≡ list y)
     → RowStands (reading_of m) c shape list row → RowStands (reading_of m) c shape list' row
 row-by m c shape list list' row valid same stands = record {
   whole = λ y at. subst IsSector (sym (same y at)) (stands.whole y at);

@@ -7,7 +7,6 @@ pub use Rattle.course_kept.proofs.Courses as course_kept_Courses
 pub use Rattle.course_kept.proofs.Frames as course_kept_Frames
 pub use Rattle.course_kept.proofs.Spares as course_kept_Spares
 pub use Rattle.course_kept.proofs.Under as course_kept_Under
-pub use Rattle.course_kept.proofs.Writes as course_kept_Writes
 pub use Rattle.course_kept.proofs.window_steps_CopyLaws
 pub use Rattle.course_kept.proofs.window_steps_PastLaws
 pub use Rattle.course_kept.proofs.window_steps_ZeroLaws

@@ -2,8 +2,8 @@
 use Rattle.std.proofs.Common.{◌≡◌, ◌≢◌, inl, inr, ℕ, ◌*◌, ◌<◌, ◌≤◌, ◌&&◌, nat_le, nat_lt, min, Bool, true, false, if◌then◌else◌, Option, Some, None, List, [], ◌∷◌, ◌++◌, refl, sym, ◌∙◌, ap, subst, arith}
 use Rattle.std.proofs.lemmas.Bool.{cases_lt}
 use Rattle.std.proofs.lemmas.Bool.Decides.{nat_tests}
-use Rattle.md_base.specs.Sectors.{Sector}
-use Rattle.md_base.specs.Shapes.{data_disks}
+use Rattle.md_base.specs.Sectors.{Sector, IsSector}
+use Rattle.md_base.specs.Shapes.{data_disks, is_valid_shape}
 use Rattle.md_base.specs.declared.answers.Who.{Who}
 use Rattle.md_base.specs.declared.places.Shape.{Shape}
 use Rattle.md_base.specs.declared.places.Side.TheVariants.{Old, New}
@@ -22,6 +22,7 @@ use Rattle.superblocks.specs.declared.members.Members.{Members}
 use Rattle.superblocks.specs.Reading.{Scope, is_backward, is_reshaping, shape_of, final_shape, list_length, next_window}
 use Rattle.row_io.specs.Rows.{reading_of, present}
 use Rattle.list_io.specs.Full.{RowStands}
+use Rattle.list_io.proofs.FullLaws.{full-same}
 use Rattle.flat_history.specs.declared.events.Entry.{Entry}
 use Rattle.flat_history.specs.declared.events.Event.TheVariants.{Step}
 use Rattle.flat_history.specs.declared.events.StepKind.TheVariants.{WindowFinished as FinishesWindow}
@@ -45,7 +46,6 @@ use Rattle.kept_history.proofs.Growing.{opening-grown}
 use Rattle.kept_history.proofs.Turned.{filled-before}
 use Rattle.course_mends.specs.course_kept_Laws.{entered}
 use Rattle.course_mends.proofs.course_kept_Courses.{courses-copied}
-use Rattle.course_mends.proofs.course_kept_Writes.{row-by}
 use Rattle.course_mends.specs.region_writes_Runs.{WindowRowsStand}
 use Rattle.history_calls.proofs.Behind.{IsAmong, early-losses}
 use Rattle.history_calls.proofs.Quiet.{quiet-now}
@@ -105,6 +105,15 @@ same-behind newest fit active one two same one-zero two-zero y below = elim (cas
     by true back past = absurd (let inside = none-behind newest fit active back y below in omega (arith, inside, past))
 
 -- ---- its rows
+
+-- a row stands by a list that is the same in it
+row-by : (m : Members) (c : Contents) (shape : Shape) (one two : ℕ → Sector) (row : ℕ) → is_valid_shape shape ≡ true → ((y : ℕ) → (place shape y).row ≡ row → two y ≡ one y)
+    → RowStands (reading_of m) c shape one row → RowStands (reading_of m) c shape two row
+row-by m c shape one two row valid same stands = record {
+  whole = λ y at. subst IsSector (sym (same y at)) (stands.whole y at);
+  sectors = λ role slot lt here held. stands.sectors role slot lt here held ∙ full-same shape one two row valid same role lt;
+  parity = λ role slot lt here held. stands.parity role slot lt here held ∙ full-same shape one two row valid same role lt;
+}
 
 module _ (given : Given) (old new : Members) (span : Span) (placed : AreShapesFit old.newest) (next : next_window old.newest ≡ Some span) (moved : IsMoved given (moved_past span old) new) where
   window-long : list_length new.newest ≡ list_length old.newest
