@@ -1,4 +1,4 @@
--- A request to grow an array in a reshape is refused for that.
+-- A request to an array in a reshape is refused for that.
 use Rattle.std.proofs.Common.{◌≡◌, ◌≢◌, ℕ, Bool, true, Option, Some, List, [], ◌∷◌, ◌++◌, length, ◌∙◌, arith}
 use Rattle.std.specs.Prelude.{IsTrue}
 use Rattle.md_base.specs.declared.answers.Refusal.TheVariants.{Busy}
@@ -11,8 +11,9 @@ use Rattle.superblocks.specs.declared.members.Members.{Members}
 use Rattle.superblocks.specs.Reading.{Scope, is_reshaping}
 use Rattle.flat_history.specs.declared.events.Entry.{Entry}
 use Rattle.flat_history.specs.declared.events.Event.TheVariants.{Refused}
-use Rattle.flat_history.specs.declared.events.Request.TheVariants.{Grow as AsksGrow}
-use Rattle.flat_history.specs.Fits.{Fits}
+use Rattle.flat_history.specs.declared.events.Request.{Request}
+use Rattle.flat_history.specs.declared.events.Request.TheVariants.{Visible as AsksVisible, Grow as AsksGrow}
+use Rattle.flat_history.specs.Fits.{IsBusy, Fits}
 use Rattle.flat_history.specs.Flat.{next_number}
 use Rattle.flat_history.specs.Plain.{entries_of}
 use Rattle.flat_history.specs.World.{World}
@@ -27,7 +28,7 @@ use Rattle.turning.specs.moving_kept_Moving.{IsMoving}
 use Rattle.turning.proofs.moving_kept_Refusals.{quiet-refusal}
 use Rattle.turning.proofs.moving_kept_Resting.{resting-moves}
 use Rattle.turning.proofs.running_words_Called.{not_254}
-use Rattle.growing.specs.Planned.{IsReadWhereAsked}
+use Rattle.growing.specs.Planned.{IsReadWhereAsked, IsRefusedInReshape}
 use Rattle.growing.proofs.Fitting.{where-is, reply-fits}
 
 -- it is the first reason
@@ -35,11 +36,18 @@ pub busy-first : (a : Asked) (wish : Wish) → is_reshaping a.members.newest ≡
 busy-first a wish active =
     (exactly a wish (grow_refusal a wish) (judged a wish) (Busy Reshape)).1 (record { holds = active; first = λ other lt is. absurd (omega (arith, lt)) })
 
-pub busy-fits : (world : World) (before : List Entry) (who : Who) (end : ℕ) (wish : Wish) (m : Members) → who.number ≡ next_number who.caller before → end ≡ length world.tape → is_reshaping m.newest ≡ true
-    → IsReadWhereAsked world before end m → Fits world before (entry_of who end (Refused (Busy Reshape))) (AsksGrow wish)
-busy-fits world before who end wish m number at_end active read =
-    reply-fits world before who end wish (Refused (Busy Reshape)) number at_end
-    (where-asked world before end (λ r. IsTrue (is_reshaping r.newest)) (λ r is asked. (where-is world before end (λ r. IsReadLike r m) read r is asked).array.reshaping ∙ active))
+-- and it fits each request that a reshape refuses
+pub busy-fits : (world : World) (before : List Entry) (who : Who) (end : ℕ) (request : Request) (m : Members) → IsRefusedInReshape request → who.number ≡ next_number who.caller before → end ≡ length world.tape
+    → is_reshaping m.newest ≡ true → IsReadWhereAsked world before end m → Fits world before (entry_of who end (Refused (Busy Reshape))) request
+busy-fits world before who end request m may number at_end active read = by request may
+  where
+    pending : IsBusy world before end Reshape
+    pending = where-asked world before end (λ r. IsTrue (is_reshaping r.newest)) (λ r is asked. (where-is world before end (λ r. IsReadLike r m) read r is asked).array.reshaping ∙ active)
+
+    by : (request : Request) → IsRefusedInReshape request → Fits world before (entry_of who end (Refused (Busy Reshape))) request
+    by (AsksGrow wish) may = reply-fits world before who end (AsksGrow wish) (Refused (Busy Reshape)) number at_end pending
+    by (AsksVisible limit) may = reply-fits world before who end (AsksVisible limit) (Refused (Busy Reshape)) number at_end pending
+    by request may = absurd may
 
 -- the array keeps its record behind it
 pub busy-moves : {tells : Type 0} {given : Given} {tape : List Operation} {scope : Scope} {first : ℕ} {entries : List Entry} {m : Members} {carried : ℕ → Bool} {resync : Option ℕ} {course : Course} {buffer : List ℕ} {left : ℕ} (who : Who) (end : ℕ)

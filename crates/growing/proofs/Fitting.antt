@@ -1,5 +1,5 @@
 -- The reply to a request to grow fits it.
-use Rattle.std.proofs.Common.{◌≤◌, append-nil, ◌≡◌, ℕ, Bool, true, min, take, take_all, Option, Some, None, List, [], ◌∷◌, ◌++◌, length, sym, ◌∙◌, ap, subst, arith}
+use Rattle.std.proofs.Common.{◌≤◌, append-nil, ◌≡◌, ℕ, Bool, true, take, take_all, Option, Some, None, List, [], ◌∷◌, ◌++◌, length, sym, ◌∙◌, ap, subst, arith}
 use Rattle.std.specs.Prelude.{IfSome, MatchBool, MatchOption, option_map, ⊤}
 use Rattle.std.specs.Option.{option_map_or}
 use Rattle.std.proofs.lemmas.List.Sums.{fold-append}
@@ -15,10 +15,11 @@ use Rattle.superblocks.specs.Reading.{Scope, Reading, shape_of, list_length}
 use Rattle.flat_history.specs.declared.events.Entry.{Entry}
 use Rattle.flat_history.specs.declared.events.Event.{Event}
 use Rattle.flat_history.specs.declared.events.Event.TheVariants.{Planned, Refused}
+use Rattle.flat_history.specs.declared.events.Request.{Request}
 use Rattle.flat_history.specs.declared.events.Request.TheVariants.{Grow as AsksGrow}
 use Rattle.flat_history.specs.Fits.{Fits, Answers, AreTornOf, WhereAsked, is_asked, phases_after, phases_left}
 use Rattle.flat_history.specs.Growing.{EndBy}
-use Rattle.flat_history.specs.Flat.{length_of, limit_of, next_number}
+use Rattle.flat_history.specs.Flat.{limit_of, next_number}
 use Rattle.flat_history.specs.Plain.{entries_of}
 use Rattle.flat_history.specs.World.{World, until, reading_at, opening_list}
 use Rattle.views.specs.declared.work.Work.{Work}
@@ -32,6 +33,8 @@ use Rattle.kept_history.specs.Safe.{world_in, IsFilledRight}
 use Rattle.kept_history.proofs.Turned.{filled-before}
 use Rattle.history_calls.specs.Reliable.{IsReliable}
 use Rattle.turning.specs.still_kept_Still.{AreNoneMissing, IsStill}
+use Rattle.turning.specs.running_words_Parts.{visible_size}
+use Rattle.turning.proofs.running_words_Visible.{visible-is}
 use Rattle.growing.specs.Planned.{IsReadWhereAsked, ArePhasesTold}
 use Rattle.growing.proofs.Read.{read-whole}
 
@@ -45,12 +48,12 @@ same-reading : (o : Option Reading) (q r : Reading) → o ≡ Some q → o ≡ S
 same-reading o q r one two = let both : ◌≡◌ {A = Option Reading} (Some q) (Some r) = sym one ∙ two in cc
 
 module _ {tells : Type 0} {given : Given} {tape : List Operation} {scope : Scope} {first : ℕ} {entries : List Entry} {m : Members} {work : Work} {left : ℕ} (phases : ℕ) (end : ℕ)
-    (was : IsStill tells given tape scope first entries m work left) (unlimited : limit_of entries ≡ None) (t : tells) (right : IsReliable (world_in given tape scope first) entries)
+    (was : IsStill tells given tape scope first entries m work left) {limit : Option ℕ} (limited : limit_of entries ≡ limit) (t : tells) (right : IsReliable (world_in given tape scope first) entries)
     (at_end : end ≡ length tape) (ahead : ArePhasesTold (world_in given tape scope first) entries phases) (read : IsReadWhereAsked (world_in given tape scope first) entries end m) where
   abbrev world : World
   world = world_in given tape scope first
 
-  pub told-by : IsToldBy (world_in given tape scope first) entries end (asked_of m work.resync phases (list_length m.newest) (option_map (sizes given).sectors scope.backup))
+  pub told-by : IsToldBy (world_in given tape scope first) entries end (asked_of m work.resync phases (visible_size m limit) (option_map (sizes given).sectors scope.backup))
   told-by = record {
     asked = λ r is asked. where-is world entries end (λ r. IsReadLike r m) read r is asked;
     whole = λ r is whole.
@@ -60,7 +63,7 @@ module _ {tells : Type 0} {given : Given} {tape : List Operation} {scope : Scope
     gone = λ role lt miss. was.gone t right role lt miss;
     unsynced = was.pending t;
     phases_are = ahead;
-    visible_is = ap (λ (o : Option ℕ). option_map_or (λ limit. min limit (length_of (length (opening_list world)) entries)) o (length_of (length (opening_list world)) entries)) unlimited ∙ (was.recorded t).sized;
+    visible_is = visible-is (length (opening_list world)) (list_length m.newest) limit entries (was.recorded t).sized limited;
     backup_is = ap (λ (s : Sizes). option_map s.sectors scope.backup) (sym was.sizes_are);
   }
 
@@ -71,12 +74,12 @@ until-now world end is =
     let all : take end world.tape ≡ world.tape = ap (λ (n : ℕ). take n world.tape) is ∙ take_all (length world.tape) world.tape (omega arith) in
     λ i. record { start = world.start; tape = all i; scope = world.scope; first = world.first }
 
--- what answers it fits it, where the call begins with it
-pub reply-fits : (world : World) (before : List Entry) (who : Who) (end : ℕ) (wish : Wish) (event : Event) → who.number ≡ next_number who.caller before → end ≡ length world.tape
-    → Answers world before (entry_of who end event) (AsksGrow wish) event → Fits world before (entry_of who end event) (AsksGrow wish)
-reply-fits world before who end wish event number at_end answers = record {
-  answers = subst (λ (w : World). Answers w before (entry_of who end event) (AsksGrow wish) event) (sym (until-now world end at_end)) answers;
-  torn = subst (AreTornOf (AsksGrow wish)) (sym (none_before before who end event number)) tt;
+-- what answers a request fits it, where the call begins with it
+pub reply-fits : (world : World) (before : List Entry) (who : Who) (end : ℕ) (request : Request) (event : Event) → who.number ≡ next_number who.caller before → end ≡ length world.tape
+    → Answers world before (entry_of who end event) request event → Fits world before (entry_of who end event) request
+reply-fits world before who end request event number at_end answers = record {
+  answers = subst (λ (w : World). Answers w before (entry_of who end event) request event) (sym (until-now world end at_end)) answers;
+  torn = subst (AreTornOf request) (sym (none_before before who end event number)) tt;
 }
 
 pub first-of : (a : Asked) (wish : Wish) (refusal : Refusal) → grow_refusal a wish ≡ Some refusal → IsFirst a wish refusal
@@ -85,13 +88,13 @@ first-of a wish refusal is = subst (λ (o : Option Refusal). MatchOption o ((r :
 pub refusal-fits : (world : World) (before : List Entry) (who : Who) (end : ℕ) (a : Asked) (wish : Wish) (refusal : Refusal) → who.number ≡ next_number who.caller before → end ≡ length world.tape
     → IsToldBy world before end a → grow_refusal a wish ≡ Some refusal → Fits world before (entry_of who end (Refused refusal)) (AsksGrow wish)
 refusal-fits world before who end a wish refusal number at_end told is =
-    reply-fits world before who end wish (Refused refusal) number at_end (refusals-fit world before end a wish refusal told (first-of a wish refusal is))
+    reply-fits world before who end (AsksGrow wish) (Refused refusal) number at_end (refusals-fit world before end a wish refusal told (first-of a wish refusal is))
 
 pub plan-fits : (world : World) (before : List Entry) (who : Who) (end : ℕ) (a : Asked) (wish : Wish) (left : ℕ) → who.number ≡ next_number who.caller before → end ≡ length world.tape
     → IsToldBy world before end a → grow_refusal a wish ≡ None → left ≡ phases_steps (shape_of a.members.newest) a.members.newest.size (phases (shape_of a.members.newest) wish)
     → Fits world before (entry_of who end (Planned left wish)) (AsksGrow wish)
 plan-fits world before who end a wish left number at_end told none steps =
-    reply-fits world before who end wish (Planned left wish) number at_end (plans-fit world before (entry_of who end (Planned left wish)) a wish left told none steps)
+    reply-fits world before who end (AsksGrow wish) (Planned left wish) number at_end (plans-fit world before (entry_of who end (Planned left wish)) a wish left told none steps)
 
 -- ---- the phases that it tells
 

@@ -1,7 +1,6 @@
 -- What an array without a reshape keeps behind the reply to a request to grow.
-use Rattle.std.proofs.Common.{◌≡◌, ◌≢◌, inl, inr, ℕ, ◌+◌, ◌*◌, ◌<◌, ◌≤◌, length, Option, Some, None, List, [], ◌∷◌, ◌++◌, refl, sym, ◌∙◌, ap, subst, arith, min}
+use Rattle.std.proofs.Common.{◌≡◌, ◌≢◌, inl, inr, ℕ, ◌+◌, ◌*◌, ◌<◌, ◌≤◌, length, Option, Some, None, List, [], ◌∷◌, ◌++◌, refl, sym, ◌∙◌, ap, subst, arith}
 use Rattle.std.specs.Prelude.{Bool, true, false, nat_lt, if◌then◌else◌, IfSome, IfOk, Result, Ok, Err, option_map}
-use Rattle.std.specs.Option.{option_map_or}
 use Rattle.std.proofs.lemmas.Bool.{cases_lt}
 use Rattle.std.proofs.lemmas.Bool.Decides.{nat_tests}
 use Rattle.md_base.specs.declared.answers.Refusal.TheVariants.{NeedBackup, BackupTooSmall}
@@ -14,11 +13,11 @@ use Rattle.superblocks.specs.declared.members.Members.{Members}
 use Rattle.superblocks.specs.Reading.{Scope, shape_of, list_length}
 use Rattle.flat_history.specs.declared.events.Entry.{Entry}
 use Rattle.flat_history.specs.declared.events.Event.TheVariants.{Planned}
-use Rattle.flat_history.specs.Flat.{next_number, length_of, limit_of, visible_of}
+use Rattle.flat_history.specs.Flat.{next_number}
 use Rattle.flat_history.specs.Plain.{entries_of}
 use Rattle.views.specs.declared.work.Work.{Work}
 use Rattle.call_entries.proofs.LeftLaws.{fold-left}
-use Rattle.array_kept.proofs.NowLaws.{length-more, limit-more}
+use Rattle.array_kept.proofs.NowLaws.{length-more}
 use Rattle.grow_asked.specs.declared.window.PhasesLeft.{PhasesLeft}
 use Rattle.grow_asked.specs.Asked.{Asked, window_for, grow_refusal}
 use Rattle.grow_asked.specs.Left.{phases_of}
@@ -27,6 +26,7 @@ use Rattle.turning.specs.still_kept_Still.{IsStill}
 use Rattle.turning.proofs.still_kept_Resting.{resting-stands}
 use Rattle.turning.specs.running_words_Parts.{still_left}
 use Rattle.turning.proofs.running_words_Called.{not_254}
+use Rattle.turning.proofs.running_words_Visible.{limit-kept}
 use Rattle.turning.specs.still_laws_Ready.{IsReady}
 use Rattle.turning.proofs.still_laws_Kept.{plainly-more}
 use Rattle.turning.proofs.still_laws_Plain.{IsLeftPlain, turned-plain, turns-behind}
@@ -44,22 +44,22 @@ planned-stands {tells = tells} {given = given} {tape = tape} {scope = scope} {fi
     (subst (λ (o : Option ℕ). IfSome o (λ n. n ≡ left)) (sym (fold-left None entries (entries_of who end (Planned left wish ∷ [])))) refl)
     (λ t right. tt)
 
-pub planned-ready : {tells : Type 0} {given : Given} {tape : List Operation} {scope scope' : Scope} {first first' : ℕ} {entries entries' : List Entry} {m : Members} {work : Work} {ahead ahead' : PhasesLeft}
+pub planned-ready : {tells : Type 0} {given : Given} {tape : List Operation} {scope scope' : Scope} {first first' : ℕ} {entries entries' : List Entry} {m : Members} {work : Work} {ahead ahead' : PhasesLeft} {limit : Option ℕ}
     {faults : ℕ → ℕ} {steps steps' room room' rows buffer far_rows far_buffer : ℕ} (who : Who) (end : ℕ) (wish : Wish) (left : ℕ)
-    → IsReady tells given tape scope first entries m work ahead faults steps room rows buffer far_rows far_buffer
+    → IsReady tells given tape scope first entries m work ahead limit faults steps room rows buffer far_rows far_buffer
     → who.number ≡ next_number who.caller entries → who.caller ≢ 254 → (tells → end ≡ length tape)
     → AreSound (shape_of m.newest) m.newest.size (phases_of ahead') → left ≡ still_left work m ahead'
     → scope' ≡ scope → first' ≡ first → entries' ≡ entries ++ entries_of who end (Planned left wish ∷ []) → 50 * steps' < room'
-    → IsReady tells given tape scope' first' entries' m work ahead' faults steps' room' rows buffer far_rows far_buffer
-planned-ready {tells = tells} {given = given} {tape = tape} {scope = scope} {scope' = scope'} {first = first} {first' = first'} {entries = entries} {entries' = entries'} {m = m} {work = work} {ahead' = ahead'}
+    → IsReady tells given tape scope' first' entries' m work ahead' limit faults steps' room' rows buffer far_rows far_buffer
+planned-ready {tells = tells} {given = given} {tape = tape} {scope = scope} {scope' = scope'} {first = first} {first' = first'} {entries = entries} {entries' = entries'} {m = m} {work = work} {ahead' = ahead'} {limit = limit}
     {faults = faults} {steps' = steps'} {room' = room'} {rows = rows} {buffer = buffer} {far_rows = far_rows} {far_buffer = far_buffer} who end wish left was number caller at_end sound left_is scope_is first_is is room_left =
-    subst (λ (l : List Entry). IsReady tells given tape scope' first' l m work ahead' faults steps' room' rows buffer far_rows far_buffer) (sym is)
-    (subst (λ (n : ℕ). IsReady tells given tape scope' n (entries ++ entries_of who end (Planned left wish ∷ [])) m work ahead' faults steps' room' rows buffer far_rows far_buffer) (sym first_is)
-    (subst (λ (s : Scope). IsReady tells given tape s first (entries ++ entries_of who end (Planned left wish ∷ [])) m work ahead' faults steps' room' rows buffer far_rows far_buffer) (sym scope_is)
+    subst (λ (l : List Entry). IsReady tells given tape scope' first' l m work ahead' limit faults steps' room' rows buffer far_rows far_buffer) (sym is)
+    (subst (λ (n : ℕ). IsReady tells given tape scope' n (entries ++ entries_of who end (Planned left wish ∷ [])) m work ahead' limit faults steps' room' rows buffer far_rows far_buffer) (sym first_is)
+    (subst (λ (s : Scope). IsReady tells given tape s first (entries ++ entries_of who end (Planned left wish ∷ [])) m work ahead' limit faults steps' room' rows buffer far_rows far_buffer) (sym scope_is)
     (record {
       kept = subst (λ (n : ℕ). IsStill tells given tape scope first (entries ++ entries_of who end (Planned left wish ∷ [])) m work n) left_is (planned-stands who end wish left was.kept number caller at_end);
       sized = length-more (list_length m.newest) entries (entries_of who end (Planned left wish ∷ [])) was.sized refl;
-      unlimited = limit-more entries (entries_of who end (Planned left wish ∷ [])) was.unlimited refl;
+      limited = limit-kept limit entries (entries_of who end (Planned left wish ∷ [])) was.limited refl;
       planned = sound;
       failed = was.failed;
       room_left = room_left;
@@ -88,7 +88,7 @@ known : (slots sectors want : ℕ) (b : Bool) → 0 < want → want ≤ (if b th
 known slots sectors want true some le = (refl, le)
 known slots sectors want false some le = absurd (omega (arith, some, le))
 
-is-below : (a b : ℕ) → nat_lt a b ≡ true → a < b
+pub is-below : (a b : ℕ) → nat_lt a b ≡ true → a < b
 is-below a b e = grind (arith, nat_tests, e)
 
 pub wide-backup : (given : Given) (backup : Option ℕ) (a : Asked) (wish : Wish) → a.backup ≡ option_map (sizes given).sectors backup → grow_refusal a wish ≡ None → HasWideBackup given backup (window_for a wish)
@@ -109,9 +109,3 @@ wide-backup given backup a wish same none some = by backup a.backup refl same
 pub ok-map : {T E : Type 0} (r : Result T E) (P Q : T → Type 0) → ((v : T) → P v → Q v) → IfOk r P → IfOk r Q
 ok-map (Ok v) P Q f is = f v is
 ok-map (Err e) P Q f is = tt
-
--- ---- the list
-
--- all of a list that nothing limits can be seen
-pub all-visible : (n : ℕ) (entries : List Entry) → limit_of entries ≡ None → length_of n entries ≡ n → visible_of n entries ≡ n
-all-visible n entries unlimited sized = ap (λ (o : Option ℕ). option_map_or (λ limit. min limit (length_of n entries)) o (length_of n entries)) unlimited ∙ sized

@@ -1,23 +1,27 @@
--- A reply to a request to grow is one of a running array, whatever its superblocks say, and leaves it running.
-use Rattle.std.proofs.Common.{◌≡◌, inl, ℕ, true, Option, Result, Ok, Err, List, [], ◌∷◌, ◌++◌, refl, sym, ◌∙◌, ap, subst, append-nil, arith}
+-- A reply to a request to grow, or to limit the list, is one of a running array, whatever its superblocks say, and leaves it running.
+use Rattle.std.proofs.Common.{◌≡◌, inl, ℕ, nat_lt, Bool, true, false, Option, Some, None, Result, Ok, Err, List, length, [], ◌∷◌, ◌++◌, refl, sym, ◌∙◌, ap, subst, append-nil, arith}
 use Rattle.std.proofs.lemmas.List.Elements.{All-nil, All-cons}
+use Rattle.std.specs.Prelude.{if◌then◌else◌}
+use Rattle.std.specs.Option.{option_map_or}
+use Rattle.md_base.specs.declared.answers.BusyKind.TheVariants.{Reshape, Plan}
 use Rattle.md_base.specs.declared.answers.Fault.{Fault}
 use Rattle.md_base.specs.declared.answers.Fault.TheVariants.{Refused as IsRefusedWith, NoMemory}
 use Rattle.md_base.specs.declared.answers.Refusal.{Refusal}
-use Rattle.md_base.specs.declared.answers.Refusal.TheVariants.{Busy, Degraded, SameShape, BadShape, SizeNotMultiple, NeedSpares, NeedBackup, BackupTooSmall, ArraySizeFirst, BackupFault, SlotFault}
+use Rattle.md_base.specs.declared.answers.Refusal.TheVariants.{Busy, Degraded, SameShape, BadShape, SizeNotMultiple, NeedSpares, NeedBackup, BackupTooSmall, ArraySizeFirst, BackupFault, SlotFault, PastSize}
 use Rattle.md_base.specs.declared.answers.Who.{Who}
 use Rattle.md_base.specs.declared.wishes.Wish.{Wish}
 use Rattle.bank.specs.declared.bank.Operation.{Operation}
 use Rattle.bank.specs.Given.{Given}
 use Rattle.superblocks.specs.declared.members.Members.{Members}
-use Rattle.superblocks.specs.Reading.{list_length}
+use Rattle.superblocks.specs.Reading.{is_reshaping, list_length}
 use Rattle.superblocks.specs.Reads.{has_spare}
 use Rattle.flat_history.specs.declared.events.Entry.{Entry}
 use Rattle.flat_history.specs.declared.events.Event.{Event}
-use Rattle.flat_history.specs.declared.events.Event.TheVariants.{Planned, Refused}
-use Rattle.flat_history.specs.declared.events.Request.TheVariants.{Grow as AsksGrow}
+use Rattle.flat_history.specs.declared.events.Event.TheVariants.{Visible, Planned, Refused}
+use Rattle.flat_history.specs.declared.events.Request.{Request}
+use Rattle.flat_history.specs.declared.events.Request.TheVariants.{Visible as AsksVisible, Grow as AsksGrow}
 use Rattle.flat_history.specs.Fits.{AreTornOf}
-use Rattle.flat_history.specs.Flat.{next_number, visible_of, length_after}
+use Rattle.flat_history.specs.Flat.{next_number, length_of, visible_of, length_after}
 use Rattle.flat_history.specs.Legal.{MayBeInner}
 use Rattle.flat_history.specs.OneShape.{IsOfCall}
 use Rattle.flat_history.specs.Plain.{entries_of}
@@ -28,13 +32,20 @@ use Rattle.array_kept.proofs.ReplyLaws.{none_before}
 use Rattle.grow_asked.specs.Asked.{Asked, IsUngrowable}
 use Rattle.kept_history.specs.Recorded.{entry_of}
 use Rattle.turning.specs.running_words_Parts.{RunningParts}
-use Rattle.running_replies.specs.Replies.{MayRefuseGrow, RunningAnswers, RunningFits, IsAnsweredWith, IsRefusalBy, IsRefusalToldBy}
+use Rattle.grow_asked.specs.Left.{phases_of}
+use Rattle.running_replies.specs.running_words_Visible.{visible_refusal, IsVisibleJudged}
+use Rattle.running_replies.specs.Limits.{limit_refusal}
+use Rattle.running_replies.specs.Replies.{MayRefuseGrow, MayRefuseLimit, RunningAnswers, RunningFits, IsAnsweredWith, IsRepliedWith, IsRefusalBy, IsRefusalToldBy}
 use Rattle.running_replies.specs.Going.{MayHoldBehind, HasRunOn}
-use Rattle.growing.specs.Planned.{IsGrowJudged, IsGrowAnswered, IsAsBefore}
+use Rattle.growing.specs.Planned.{IsReplied, IsGrowJudged, IsGrowAnswered, IsAsBefore}
 use Rattle.growing.specs.Replied.{IsGrowReplied}
 use Rattle.growing.proofs.Fitting.{first-of}
+use Rattle.growing.proofs.Kept.{is-below}
 
 -- ---- the reply
+
+same-refusal : (a b : Refusal) → ◌≡◌ {A = Option Refusal} (Some a) (Some b) → a ≡ b
+same-refusal a b is = cc
 
 -- what is true of an array may refuse it
 grow-may : (a : Asked) (wish : Wish) (visible : ℕ) (refusal : Refusal) → a.visible ≡ visible → IsUngrowable a wish refusal → MayRefuseGrow visible refusal
@@ -49,27 +60,51 @@ grow-may a wish visible (BackupTooSmall have want) same is = is.2
 grow-may a wish visible (ArraySizeFirst told least) same is = (is.0 ∙ same, is.2)
 grow-may a wish visible refusal same is = absurd is
 
+-- so it is with what may refuse a limit
+limit-may : (reshaping : Bool) (phases size sectors : ℕ) (limit : Option ℕ) (refusal : Refusal) → sectors ≡ size → (if reshaping then Some (Busy Reshape) else visible_refusal phases size limit) ≡ Some refusal → MayRefuseLimit sectors limit refusal
+limit-may true phases size sectors limit refusal same is = subst (MayRefuseLimit sectors limit) (same-refusal (Busy Reshape) refusal is) tt
+limit-may false phases size sectors limit refusal same is = by (nat_lt 0 phases) limit is
+  where
+    past : (wished : ℕ) (b : Bool) → nat_lt size wished ≡ b → (if b then Some (PastSize size) else None) ≡ Some refusal → MayRefuseLimit sectors (Some wished) refusal
+    past wished true lt is = subst (MayRefuseLimit sectors (Some wished)) (same-refusal (PastSize size) refusal is) (sym same, is-below size wished lt)
+    past wished false lt is = absurd cc
+
+    by : (b : Bool) (limit : Option ℕ) → (if b then Some (Busy Plan) else option_map_or (λ wished. if nat_lt size wished then Some (PastSize size) else None) limit None) ≡ Some refusal → MayRefuseLimit sectors limit refusal
+    by true limit is = subst (MayRefuseLimit sectors limit) (same-refusal (Busy Plan) refusal is) tt
+    by false None is = absurd cc
+    by false (Some wished) is = past wished (nat_lt size wished) refl is
+
 -- a reply that is the only entry of its call
-replied-alone : {old new : List Entry} (size : ℕ) (wish : Wish) (who : Who) (end : ℕ) (event : Event) → who.number ≡ next_number who.caller old → new ≡ old ++ entry_of who end event ∷ [] → RunningAnswers size old [] (AsksGrow wish) event
-    → IsAnsweredWith size (AsksGrow wish) who old new event
-replied-alone {old = old} {new = new} size wish who end event number is answers = record {
+replied-alone : {old new : List Entry} (size : ℕ) (request : Request) (who : Who) (end : ℕ) (event : Event) → who.number ≡ next_number who.caller old → new ≡ old ++ entry_of who end event ∷ [] → RunningAnswers size old [] request event
+    → IsAnsweredWith size request who old new event
+replied-alone {old = old} {new = new} size request who end event number is answers = record {
   inner = [];
   end = end;
   own = All-nil (λ e. IsOfCall who e);
   inside = All-nil (λ e. MayBeInner e.event);
   is = is;
-  fits = subst (λ (l : List Entry). RunningFits size l (entry_of who end event) (AsksGrow wish)) (sym (append-nil old)) (record {
-    answers = subst (λ (call : List Entry). RunningAnswers size old call (AsksGrow wish) event) (sym (none_before old who end event number)) answers;
-    torn = subst (AreTornOf (AsksGrow wish)) (sym (none_before old who end event number)) tt;
+  fits = subst (λ (l : List Entry). RunningFits size l (entry_of who end event) request) (sym (append-nil old)) (record {
+    answers = subst (λ (call : List Entry). RunningAnswers size old call request event) (sym (none_before old who end event number)) answers;
+    torn = subst (AreTornOf request) (sym (none_before old who end event number)) tt;
   });
 }
 
 pub grow-replied : {T : Type 0} (tells : Type 0) (world : World) (a : Asked) (size : ℕ) (wish : Wish) (who : Who) (old new : List Entry) (left : ℕ) (result : Result T Fault) → who.number ≡ next_number who.caller old
-    → a.visible ≡ size → visible_of size old ≡ size → IsGrowAnswered tells world a wish who old new (Planned left wish) result → IsGrowJudged a wish result → IsGrowReplied size wish who old new left result
-grow-replied tells world a size wish who old new left (Ok x) number same visible is judged = replied-alone size wish who is.end (Planned left wish) number is.is refl
-grow-replied tells world a size wish who old new left (Err (IsRefusedWith refusal)) number same visible is judged =
-    replied-alone size wish who is.end (Refused refusal) number is.is (grow-may a wish (visible_of size old) refusal (same ∙ sym visible) (first-of a wish refusal judged).holds)
-grow-replied tells world a size wish who old new left (Err NoMemory) number same visible is judged = is
+    → visible_of size old ≡ a.visible → IsGrowAnswered tells world a wish who old new (Planned left wish) result → IsGrowJudged a wish result → IsGrowReplied size wish who old new left result
+grow-replied tells world a size wish who old new left (Ok x) number visible is judged = replied-alone size (AsksGrow wish) who is.end (Planned left wish) number is.is refl
+grow-replied tells world a size wish who old new left (Err (IsRefusedWith refusal)) number visible is judged =
+    replied-alone size (AsksGrow wish) who is.end (Refused refusal) number is.is (grow-may a wish (visible_of size old) refusal (sym visible) (first-of a wish refusal judged).holds)
+grow-replied tells world a size wish who old new left (Err NoMemory) number visible is judged = is
+
+-- so is one to a request to limit the list
+pub limit-replied : {B : Type 0} (array : RunningParts B) (tells : Type 0) (world : World) (phases : ℕ) (members : Members) (size : ℕ) (limit : Option ℕ) (who : Who) (old new : List Entry) (visible count : ℕ) (result : Result ℕ Fault)
+    → who.number ≡ next_number who.caller old → length_of size old ≡ list_length array.parts.members.newest → IsReplied tells world phases members (AsksVisible limit) who old new (Visible limit count) result
+    → IsVisibleJudged (limit_refusal array limit) visible result → IsRepliedWith size (AsksVisible limit) who old new (Visible limit count) result
+limit-replied array tells world phases members size limit who old new visible count (Ok x) number sized is judged = replied-alone size (AsksVisible limit) who is.end (Visible limit count) number is.is refl
+limit-replied array tells world phases members size limit who old new visible count (Err (IsRefusedWith refusal)) number sized is judged =
+    replied-alone size (AsksVisible limit) who is.end (Refused refusal) number is.is
+    (limit-may (is_reshaping array.parts.members.newest) (length (phases_of array.ahead)) (list_length array.parts.members.newest) (length_of size old) limit refusal sized judged)
+limit-replied array tells world phases members size limit who old new visible count (Err NoMemory) number sized is judged = is
 
 -- ---- what it leaves
 
@@ -78,6 +113,11 @@ grow-blames : (a : Asked) (wish : Wish) (backup : Option ℕ) (before now : ℕ 
 grow-blames a wish backup before now (SlotFault slot) is = absurd is
 grow-blames a wish backup before now BackupFault is = absurd is
 grow-blames a wish backup before now refusal is = tt
+
+limit-blames : (sectors : ℕ) (limit backup : Option ℕ) (before now : ℕ → ℕ) (refusal : Refusal) → MayRefuseLimit sectors limit refusal → IsRefusalBy backup before now refusal
+limit-blames sectors limit backup before now (SlotFault slot) is = absurd is
+limit-blames sectors limit backup before now BackupFault is = absurd is
+limit-blames sectors limit backup before now refusal is = tt
 
 module _ {B : Type 0} (tells : Type 0) (given : B → Given) (tape : B → List Operation) (faults : B → ℕ → ℕ) (old new : RunningParts B) (before : IsAsBefore old new) where
   -- one event alone was entered, which tells no loss and changes no length
@@ -133,3 +173,11 @@ module _ {B : Type 0} (tells : Type 0) (given : B → Given) (tape : B → List 
   grow-went world a wish who left (Err (IsRefusedWith refusal)) is judged =
       went-alone who is.end (Refused refusal) is.is (λ n. refl) tt (grow-blames a wish old.parts.backup (faults old.parts.bank) (faults new.parts.bank) refusal (first-of a wish refusal judged).holds)
   grow-went world a wish who left (Err NoMemory) is judged = went-none is
+
+  pub limit-went : (world : World) (phases : ℕ) (members : Members) (limit : Option ℕ) (who : Who) (visible count : ℕ) (result : Result ℕ Fault)
+      → IsReplied tells world phases members (AsksVisible limit) who old.parts.entries new.parts.entries (Visible limit count) result → IsVisibleJudged (limit_refusal old limit) visible result → HasRunOn tells given tape faults old new
+  limit-went world phases members limit who visible count (Ok x) is judged = went-alone who is.end (Visible limit count) is.is (λ n. refl) tt tt
+  limit-went world phases members limit who visible count (Err (IsRefusedWith refusal)) is judged =
+      went-alone who is.end (Refused refusal) is.is (λ n. refl) tt (limit-blames (list_length old.parts.members.newest) limit old.parts.backup (faults old.parts.bank) (faults new.parts.bank) refusal
+      (limit-may (is_reshaping old.parts.members.newest) (length (phases_of old.ahead)) (list_length old.parts.members.newest) (list_length old.parts.members.newest) limit refusal refl judged))
+  limit-went world phases members limit who visible count (Err NoMemory) is judged = went-none is

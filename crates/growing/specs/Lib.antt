@@ -2,7 +2,9 @@ pub mod Planned
 pub mod Plans
 pub mod Replied
 pub use Rattle.running_replies.specs.Going as running_replies_Going
+pub use Rattle.running_replies.specs.Limits as running_replies_Limits
 pub use Rattle.running_replies.specs.Replies as running_replies_Replies
+pub use Rattle.running_replies.specs.running_words_Visible
 pub use Rattle.turning.specs.Begun as turning_Begun
 pub use Rattle.turning.specs.Ended as turning_Ended
 pub use Rattle.turning.specs.course_kept_Course

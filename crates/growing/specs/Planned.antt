@@ -1,17 +1,19 @@
--- A request to grow an array without a reshape: what is asked, what is answered, and what a plan leaves.
+-- A request to grow an array: what is asked, what is answered, and what a plan leaves.
 use Rattle.std.specs.Prelude.{◌≡◌, ℕ, ◌+◌, ◌<◌, ◌≤◌, ◌++◌, List, [], ◌∷◌, length, Option, Some, None, option_map, Result, Ok, Err, ⊤}
 use Rattle.md_base.specs.declared.answers.Fault.{Fault}
 use Rattle.md_base.specs.declared.answers.Fault.TheVariants.{Refused as IsRefusedWith, NoMemory}
+use Rattle.md_base.specs.declared.answers.Refusal.{Refusal}
 use Rattle.md_base.specs.declared.answers.Who.{Who}
 use Rattle.md_base.specs.declared.wishes.Wish.{Wish}
 use Rattle.bank.specs.Given.{Given, sizes}
 use Rattle.grow_plan.specs.Plans.{phases, phases_steps, largest_window, AreSound}
 use Rattle.superblocks.specs.declared.members.Members.{Members}
-use Rattle.superblocks.specs.Reading.{shape_of, list_length}
+use Rattle.superblocks.specs.Reading.{shape_of}
 use Rattle.flat_history.specs.declared.events.Entry.{Entry}
 use Rattle.flat_history.specs.declared.events.Event.{Event}
 use Rattle.flat_history.specs.declared.events.Event.TheVariants.{Refused}
-use Rattle.flat_history.specs.declared.events.Request.TheVariants.{Grow as AsksGrow}
+use Rattle.flat_history.specs.declared.events.Request.{Request}
+use Rattle.flat_history.specs.declared.events.Request.TheVariants.{Visible as AsksVisible, Grow as AsksGrow}
 use Rattle.flat_history.specs.Fits.{Fits, WhereAsked, phases_left}
 use Rattle.flat_history.specs.Plain.{entries_of}
 use Rattle.flat_history.specs.World.{World}
@@ -22,19 +24,23 @@ use Rattle.grow_asked.specs.Left.{phases_of}
 use Rattle.kept_history.specs.Recorded.{entry_of}
 use Rattle.history_calls.specs.Reliable.{IsReliable}
 use Rattle.turning.specs.still_kept_Still.{AreNoneMissing}
-use Rattle.turning.specs.running_words_Parts.{RunningParts}
+use Rattle.turning.specs.running_words_Parts.{RunningParts, visible_in}
 
 -- ---- what is asked
 
--- what is asked to grow of an array without a reshape, all of whose list can be seen
+-- what is asked to grow of an array
 abbrev pub asked_in : {B : Type 0} → Given → RunningParts B → Asked
-asked_in given array = asked_of array.parts.members array.parts.work.resync (length (phases_of array.ahead)) (list_length array.parts.members.newest) (option_map (sizes given).sectors array.parts.backup)
+asked_in given array = asked_of array.parts.members array.parts.work.resync (length (phases_of array.ahead)) (visible_in array) (option_map (sizes given).sectors array.parts.backup)
 
--- It is planned exactly where nothing speaks against it, and refused for the first that does; memory may be short for either.
+-- A request is done exactly where nothing speaks against it, and refused for the first that does; memory may be short for either.
+abbrev pub IsJudged : {T : Type 0} → Option Refusal → Result T Fault → Type 0
+IsJudged first (Ok x) = first ≡ None
+IsJudged first (Err (IsRefusedWith refusal)) = first ≡ Some refusal
+IsJudged first (Err NoMemory) = ⊤
+
+-- so a grow is planned
 abbrev pub IsGrowJudged : {T : Type 0} → Asked → Wish → Result T Fault → Type 0
-IsGrowJudged a wish (Ok x) = grow_refusal a wish ≡ None
-IsGrowJudged a wish (Err (IsRefusedWith refusal)) = grow_refusal a wish ≡ Some refusal
-IsGrowJudged a wish (Err NoMemory) = ⊤
+IsGrowJudged a wish result = IsJudged (grow_refusal a wish) result
 
 -- ---- what is answered
 
@@ -46,23 +52,36 @@ IsReadWhereAsked world before end members = WhereAsked world before end (λ r. I
 abbrev pub ArePhasesTold : World → List Entry → ℕ → Type 0
 ArePhasesTold world entries phases = 0 < phases → 0 < phases_left world entries
 
--- The reply to a request to grow is entered where the tape ends. It fits the request, where what the history says can be relied on and it tells the phases that are ahead, and where the superblocks
--- say what the members do as far as they are asked.
-pub record IsGrowReply (tells : Type 0) (world : World) (a : Asked) (wish : Wish) (who : Who) (old new : List Entry) (event : Event) : Type 0 where
+-- The reply to a request is entered where the tape ends. It fits the request, where what the history says can be relied on and it tells the phases that are ahead, so many of them, and where the
+-- superblocks say what the members do as far as they are asked.
+pub record IsReplyTo (tells : Type 0) (world : World) (phases : ℕ) (members : Members) (request : Request) (who : Who) (old new : List Entry) (event : Event) : Type 0 where
   pub end : ℕ
   pub at_end : tells → end ≡ length world.tape
   pub is : new ≡ old ++ entries_of who end (event ∷ [])
-  pub fits : tells → IsReliable world old → ArePhasesTold world old a.phases → IsReadWhereAsked world old end a.members → Fits world old (entry_of who end event) (AsksGrow wish)
+  pub fits : tells → IsReliable world old → ArePhasesTold world old phases → IsReadWhereAsked world old end members → Fits world old (entry_of who end event) request
 
 -- the reply by the answer, with the event of an Ok
+abbrev pub IsReplied : {T : Type 0} → Type 0 → World → ℕ → Members → Request → Who → List Entry → List Entry → Event → Result T Fault → Type 0
+IsReplied tells world phases members request who old new event (Ok x) = IsReplyTo tells world phases members request who old new event
+IsReplied tells world phases members request who old new event (Err (IsRefusedWith refusal)) = IsReplyTo tells world phases members request who old new (Refused refusal)
+IsReplied tells world phases members request who old new event (Err NoMemory) = new ≡ old
+
+-- a reshape refuses the request
+abbrev pub IsRefusedInReshape : Request → Type 0
+IsRefusedInReshape (AsksGrow wish) = ⊤
+IsRefusedInReshape (AsksVisible limit) = ⊤
+IsRefusedInReshape request = ⊥
+
+-- so it is of a request to grow
+abbrev pub IsGrowReply : Type 0 → World → Asked → Wish → Who → List Entry → List Entry → Event → Type 0
+IsGrowReply tells world a wish who old new event = IsReplyTo tells world a.phases a.members (AsksGrow wish) who old new event
+
 abbrev pub IsGrowAnswered : {T : Type 0} → Type 0 → World → Asked → Wish → Who → List Entry → List Entry → Event → Result T Fault → Type 0
-IsGrowAnswered tells world a wish who old new event (Ok x) = IsGrowReply tells world a wish who old new event
-IsGrowAnswered tells world a wish who old new event (Err (IsRefusedWith refusal)) = IsGrowReply tells world a wish who old new (Refused refusal)
-IsGrowAnswered tells world a wish who old new event (Err NoMemory) = new ≡ old
+IsGrowAnswered tells world a wish who old new event result = IsReplied tells world a.phases a.members (AsksGrow wish) who old new event result
 
 -- ---- what it leaves
 
--- the array is as it was, but for its history and its plan
+-- the array is as it was, but for its history, its plan and its limit
 pub record IsAsBefore {B : Type 0} (old new : RunningParts B) : Type 0 where
   pub bank : new.parts.bank ≡ old.parts.bank
   pub uuid : new.parts.uuid ≡ old.parts.uuid

@@ -8,13 +8,13 @@ ghost use Rattle.superblocks.specs.Verdict.{AreValidShapes};
 ghost use Rattle.flat_history.specs.Flat.{visible_of};
 ghost use Rattle.grow_asked.specs.Asked.{asked_of, grow_refusal};
 ghost use Rattle.grow_asked.specs.Left.{phases_of};
+ghost use Rattle.turning.specs.running_words_Parts.{visible_in};
 ghost use Rattle.growing.specs.Planned.{asked_in};
 
 use bank::Bank;
 use grow_asked::{PhasesLeft, judge_grow};
 use md_base::{Refusal, Wish};
 use superblocks::Members;
-use turning::array_state::asking::visible;
 use turning::still::Still;
 
 // How many sectors the backup slot has; none where the bank has no such slot.
@@ -51,25 +51,27 @@ fn unplanned<B: Bank>(
     members: &Members,
     resync: Option<u64>,
     ahead: &PhasesLeft,
+    visible: u64,
     wish: &Wish,
 ) -> Option<Refusal>
     requires still { is_reshaping members.now.newest ≡ false }
     requires shapes { AreValidShapes members.now.newest }
     requires size { IsTrue (is_size members.now.newest.size (shape_of members.now.newest).chunk) }
     requires roles { length members.now.roles ≡ role_count members.now.newest }
-    ensures { result ≡ grow_refusal (asked_of members.now resync (length (phases_of ahead.now)) (list_length members.now.newest) (option_map (sizes (B.given bank.now)).sectors backup)) wish.now }
+    ensures { result ≡ grow_refusal (asked_of members.now resync (length (phases_of ahead.now)) visible (option_map (sizes (B.given bank.now)).sectors backup)) wish.now }
 {
     let phases = phase_count(ahead);
     let backed = backup_sectors(bank, backup);
-    judge_grow(members, resync, phases, visible(members), backed, wish)
+    judge_grow(members, resync, phases, visible, backed, wish)
 }
 
 /// The first reason why an array isn't planned to grow so, if there is one; the array is as it was.
 pub fn judge<B: Bank>(still: Still<B>, wish: &Wish) -> (Still<B>, Option<Refusal>)
     ensures same { result.0 ≡ still }
     ensures first { result.1 ≡ grow_refusal (asked_in (B.given still.parts.bank) still) wish.now }
-    ensures visible { visible_of (list_length still.parts.members.newest) still.parts.entries ≡ list_length still.parts.members.newest }
+    ensures visible { visible_of (list_length still.parts.members.newest) still.parts.entries ≡ visible_in still }
 {
+    let visible = still.visible();
     let pieces = still.take_apart();
     let resync = pieces.work.resync;
     let refusal = unplanned(
@@ -78,6 +80,7 @@ pub fn judge<B: Bank>(still: Still<B>, wish: &Wish) -> (Still<B>, Option<Refusal
         &pieces.members,
         resync,
         &pieces.ahead,
+        visible,
         wish,
     );
     (Still::of_pieces(pieces), refusal)

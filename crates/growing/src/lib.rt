@@ -1,4 +1,5 @@
-//! A request to grow an array: it is judged, and planned where nothing speaks against it; in a reshape it is refused.
+//! A request to grow an array: it is judged, and planned where nothing speaks against it. In a reshape it is refused, as one to limit
+//! the list is.
 #![tactic(auto)]
 
 mod backing;
@@ -8,7 +9,7 @@ mod refusing;
 
 pub use backing::can_back;
 pub use planning::{PlannedGrow, plan_grow};
-pub use refusing::refuse_grow;
+pub use refusing::{refuse_grow, refuse_limit};
 pub use turning;
 pub use turning::{
     array_state, course_kept, moving, moving_state, moving_steps, still, still_steps,

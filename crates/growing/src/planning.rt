@@ -9,7 +9,7 @@ ghost use Rattle.flat_history.specs.declared.events.Event.TheVariants.{Planned, 
 ghost use Rattle.array_kept.specs.Calls.{OnNoMemory, IsEndOf};
 ghost use Rattle.grow_asked.specs.Asked.{grow_refusal};
 ghost use Rattle.grow_asked.specs.Left.{phases_of};
-ghost use Rattle.turning.specs.running_words_Parts.{still_left};
+ghost use Rattle.turning.specs.running_words_Parts.{visible_in, still_left};
 ghost use Rattle.turning.specs.running_words_Calls.{moving_world};
 ghost use Rattle.growing.specs.Planned.{asked_in, IsGrowJudged, IsGrowReply, IsGrowAnswered, IsAsBefore, IsGrowPlanned};
 ghost use Rattle.growing.specs.Plans.{GoesTo};
@@ -52,6 +52,7 @@ fn enter_refusal<B: Bank>(still: Still<B>, who: Who, wish: &Wish, refusal: Refus
     requires why { grow_refusal (asked_in (B.given still.parts.bank) still) wish.now ≡ Some refusal }
     ensures reply { IsGrowReply B.tells (moving_world (B.given still.parts.bank) (B.tape still.parts.bank) still) (asked_in (B.given still.parts.bank) still) wish.now who still.parts.entries result.parts.entries (Refused refusal) }
     ensures as_before { IsAsBefore still result }
+    ensures limit { result.limit ≡ still.limit }
     ensures ended { IsEndOf B.tells result.parts.first result.parts.entries (B.tape result.parts.bank) }
     ensures ahead { result.ahead ≡ still.ahead }
 {
@@ -71,6 +72,7 @@ fn enter_plan<B: Bank>(still: Still<B>, who: Who, wish: Wish) -> (Still<B>, u64)
     requires taken { grow_refusal (asked_in (B.given still.parts.bank) still) wish ≡ None }
     ensures reply { IsGrowReply B.tells (moving_world (B.given still.parts.bank) (B.tape still.parts.bank) still) (asked_in (B.given still.parts.bank) still) wish who still.parts.entries result.0.parts.entries (Planned result.1 wish) }
     ensures as_before { IsAsBefore still result.0 }
+    ensures limit { result.0.limit ≡ still.limit }
     ensures ended { IsEndOf B.tells result.0.parts.first result.0.parts.entries (B.tape result.0.parts.bank) }
     ensures left { result.1 ≡ still_left result.0.parts.work result.0.parts.members result.0.ahead }
     ensures planned { IsGrowPlanned B.tells (B.given result.0.parts.bank) (moving_world (B.given result.0.parts.bank) (B.tape result.0.parts.bank) result.0) wish result.1 result.0 }
@@ -100,10 +102,11 @@ pub fn plan_grow<B: Bank>(
     requires caller { who.caller ≢ 254 }
     ensures answered { IsGrowAnswered B.tells (moving_world (B.given still.parts.bank) (B.tape still.parts.bank) still) (asked_in (B.given still.parts.bank) still) wish who still.parts.entries result.0.parts.entries
         (Planned (still_left result.0.parts.work result.0.parts.members result.0.ahead) wish) result.1 }
-    ensures visible { visible_of (list_length still.parts.members.newest) still.parts.entries ≡ list_length still.parts.members.newest }
+    ensures visible { visible_of (list_length still.parts.members.newest) still.parts.entries ≡ visible_in still }
     ensures judged { IsGrowJudged (asked_in (B.given still.parts.bank) still) wish result.1 }
     ensures unchanged { OnNoMemory result.1 (result.0 ≡ still) }
     ensures as_before { IsAsBefore still result.0 }
+    ensures limit { result.0.limit ≡ still.limit }
     ensures ended { IsEndOf B.tells result.0.parts.first result.0.parts.entries (B.tape result.0.parts.bank) }
     ensures refused { OnErr result.1 (result.0.ahead ≡ still.ahead) }
     ensures planned { IfOk result.1 (λ plan. IsGrowPlanned B.tells (B.given result.0.parts.bank) (moving_world (B.given result.0.parts.bank) (B.tape result.0.parts.bank) result.0) wish plan.left result.0) }

@@ -5,8 +5,8 @@ use Rattle.bank.specs.declared.bank.Operation.{Operation}
 use Rattle.bank.specs.Given.{Given}
 use Rattle.flat_history.specs.declared.events.Request.{Request}
 use Rattle.flat_history.specs.declared.events.Request.TheVariants.{Steps as AsksSteps}
-use Rattle.views.specs.Parts.{Parts}
-use Rattle.shared_lanes.specs.shared_array_the_Reply.{Reply}
+use Rattle.shared_lanes.specs.running_words_Parts.{RunningParts}
+use Rattle.shared_lanes.specs.running_calls_the_Reply.{Reply}
 use Rattle.turn_lock.specs.declared.lock.Pass.{Pass}
 use Rattle.seen_laws.specs.Callers.{AreReplied, HasCalled}
 use Rattle.shared_lanes.specs.lanes_the_Worked.{Worked}
@@ -17,15 +17,15 @@ use Rattle.shared_lanes.specs.Serving.{most_entries, sectors_of}
 use Rattle.shared_lanes.specs.Lanes.{carried_by}
 
 -- Behind the start the caller has made these requests, each once and in their order, up to one for which memory was short, and no others. Each
--- reply's event stands at its place, in a call of the caller, and fits its request.
-pub record HasRun {B : Type 0} (start now : Parts B) (caller : ℕ) (requests : List Request) (replies : List Reply) : Type 0 where
+-- reply's event stands at its place, in a call of the caller, and fits its request, by the list as it was at the start and the entries since.
+pub record HasRun {B : Type 0} (start now : RunningParts B) (caller : ℕ) (requests : List Request) (replies : List Reply) : Type 0 where
   pub each : AreOneEach requests replies
-  pub told : All (StandsIn caller now.entries) replies
-  pub fits : AreReplied (sectors_of now) now.entries (done_of requests replies)
-  pub made : length now.entries ≤ most_entries → HasCalled (sectors_of now) start.entries now.entries caller (done_of requests replies)
+  pub told : All (StandsIn caller now.parts.entries) replies
+  pub fits : AreReplied (sectors_of start) now.parts.entries (done_of requests replies)
+  pub made : length now.parts.entries ≤ most_entries → HasCalled (sectors_of start) start.parts.entries now.parts.entries caller (done_of requests replies)
 
 -- From one pass to the other its caller has made these requests, and they were answered so.
-pub record HasPassed {B : Type 0} (tells : Type 0) (given : B → Given) (tape : B → List Operation) (old new : Pass (Parts B) Request)
+pub record HasPassed {B : Type 0} (tells : Type 0) (given : B → Given) (tape : B → List Operation) (old new : Pass (RunningParts B) Request)
     (requests : List Request) (replies : List Reply) : Type 0 where
   pub later : GoesOn tells (carried_by given tape old) (carried_by given tape new)
   pub done : AreDone (carried_by given tape old) (carried_by given tape new) requests replies

@@ -1,3 +1,4 @@
 pub mod Blocks
 pub use Rattle.shared_lanes.specs.lanes_Pace
-pub use Rattle.shared_lanes.specs.shared_array_Replies
+pub use Rattle.shared_lanes.specs.running_calls_Going
+pub use Rattle.shared_lanes.specs.running_calls_Replies

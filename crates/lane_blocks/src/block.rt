@@ -1,9 +1,10 @@
 //! A block of lanes, from the start of the sharing to its end.
 ghost use Rattle.std.specs.Prelude.{◌≡◌, ◌≢◌, ◌≤◌, ℕ, [], ◌∷◌, IfOk, IfErr, vec_capacity};
 ghost use Rattle.std.specs.List.{All};
-ghost use Rattle.views.specs.Status.{left_of};
 ghost use Rattle.array_kept.specs.Calls.{IsEndOf};
-ghost use Rattle.shared_lanes.specs.shared_array_Replies.{IsAskable};
+ghost use Rattle.shared_lanes.specs.running_calls_Going.{HasGoneOn};
+ghost use Rattle.shared_lanes.specs.running_calls_Replies.{IsAskable, TellsLength};
+ghost use Rattle.shared_lanes.specs.running_Calls.{running_left};
 ghost use Rattle.turn_lock.specs.Passes.{Ended};
 ghost use Rattle.shared_lanes.specs.lanes_Pace.{AnswersSteps, asked_by};
 ghost use Rattle.shared_lanes.specs.Serving.{IsEarlier, HasMade, array_ways};
@@ -13,9 +14,9 @@ use crate::rows::{put_back, taken};
 use crate::threads::at_once;
 use bank::Bank;
 use flat_history::Request;
-use shared_lanes::array::Array;
 use shared_lanes::lanes::{Pace, Worked};
-use shared_lanes::shared_array::Reply;
+use shared_lanes::running::Running;
+use shared_lanes::running_calls::Reply;
 use shared_lanes::{Pass, Shared};
 use std::alloc::Global;
 use std::sync::Wait;
@@ -24,7 +25,7 @@ use std::thread::Threads;
 /// An array behind a block of lanes, and what the first lane, the second and the worker were answered.
 #[derive(Drop)]
 pub struct Joined<B: Bank> {
-    pub array: Array<B>,
+    pub array: Running<B>,
     pub first: Vec<Reply>,
     pub second: Vec<Reply>,
     pub worked: Worked,
@@ -35,7 +36,7 @@ fn closed<B: Bank + Drop>(
     shared: Shared<B>,
     row: Vec<Pass<B>>,
     passes: (Pass<B>, Pass<B>, Pass<B>),
-) -> Array<B>
+) -> Running<B>
     requires three { shared.lock.table.shared.key.callers.items ≡ 1 ∷ 2 ∷ 255 ∷ [] }
     requires locks { (passes.0.seat.table_id ≡ shared.lock.table.shared.table_id) × (passes.1.seat.table_id ≡ shared.lock.table.shared.table_id) × (passes.2.seat.table_id ≡ shared.lock.table.shared.table_id) }
     requires empty { row.items ≡ [] }
@@ -52,22 +53,25 @@ fn closed<B: Bank + Drop>(
 pub fn run_block<B: Bank + Drop + Send, F: Fn(u64, u64) -> u64 + Sync, R: Threads + Wait + Sync>(
     rt: &R,
     alloc: Global,
-    array: Array<B>,
+    array: Running<B>,
     first: Vec<Request>,
     second: Vec<Request>,
     pace: &Pace<F>,
-) -> Result<Joined<B>, Array<B>>
-    requires ended { IsEndOf B.tells array.first array.entries (B.tape array.bank) }
+) -> Result<Joined<B>, Running<B>>
+    requires ended { IsEndOf B.tells array.parts.first array.parts.entries (B.tape array.parts.bank) }
+    requires told { TellsLength array }
     requires askable { All IsAskable first.items × All IsAskable second.items }
     requires callable { F.IsAlwaysCallable (asked_by pace.now) }
     requires answers { AnswersSteps (F.post (asked_by pace.now)) }
     ensures back { IfErr result (λ a. a ≡ array) }
     ensures later { IfOk result (λ t. IsEarlier B.tells B.given B.tape array t.array) }
-    ensures ended { IfOk result (λ t. IsEndOf B.tells t.array.first t.array.entries (B.tape t.array.bank)) }
+    ensures went { IfOk result (λ t. HasGoneOn B.tells B.given B.tape B.faults_of array t.array) }
+    ensures ended { IfOk result (λ t. IsEndOf B.tells t.array.parts.first t.array.parts.entries (B.tape t.array.parts.bank)) }
+    ensures told { IfOk result (λ t. TellsLength t.array) }
     ensures first { IfOk result (λ t. HasRun array t.array 1 first.items t.first.items) }
     ensures second { IfOk result (λ t. HasRun array t.array 2 second.items t.second.items) }
-    ensures worked { IfOk result (λ t. HasWorkedBy (HasRun array t.array 255) (F.post (asked_by pace.now)) (left_of array.work array.members) t.worked) }
-    ensures others { IfOk result (λ t. (caller : ℕ) → caller ≢ 1 → caller ≢ 2 → caller ≢ 255 → HasMade array t.array caller []) }
+    ensures worked { IfOk result (λ t. HasWorkedBy (HasRun array t.array 255) (F.post (asked_by pace.now)) (running_left array) t.worked) }
+    ensures others { IfOk result (λ t. (caller : ℕ) → caller ≢ 1 → caller ≢ 2 → caller ≢ 255 → HasMade B.tells B.given B.tape B.faults_of array t.array caller []) }
 {
     let Ok(one) = Vec::with_capacity(alloc, first.len()) else {
         return Err(array);

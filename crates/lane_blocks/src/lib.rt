@@ -1,4 +1,4 @@
-//! A block of lanes: two lanes and a worker on one array, at once.
+//! A block of lanes: two lanes and a worker on one running array, at once.
 #![tactic(auto)]
 
 mod block;
@@ -7,4 +7,4 @@ mod threads;
 
 pub use block::{Joined, run_block};
 pub use shared_lanes;
-pub use shared_lanes::{array, lanes, shared_array};
+pub use shared_lanes::{lanes, running, running_calls};

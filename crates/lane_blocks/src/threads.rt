@@ -2,14 +2,14 @@
 ghost use Rattle.std.specs.Prelude.{◌≡◌, ◌≢◌, ◌≤◌, [], vec_len, vec_capacity};
 ghost use Rattle.std.specs.List.{All};
 ghost use Rattle.std.specs.Thread.{IsSend, IsSync};
-ghost use Rattle.shared_lanes.specs.shared_array_Replies.{IsAskable};
+ghost use Rattle.shared_lanes.specs.running_calls_Replies.{IsAskable};
 ghost use Rattle.shared_lanes.specs.lanes_Pace.{AnswersSteps, asked_by};
 ghost use Rattle.lane_blocks.specs.Blocks.{HasPassed, HasWorkedBy};
 
 use bank::Bank;
 use flat_history::Request;
 use shared_lanes::lanes::{Pace, Worked, run_lane, run_worker};
-use shared_lanes::shared_array::Reply;
+use shared_lanes::running_calls::Reply;
 use shared_lanes::{Pass, Shared};
 use std::sync::Wait;
 use std::thread::{Threads, join};

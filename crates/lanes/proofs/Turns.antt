@@ -4,8 +4,8 @@ use Rattle.std.proofs.lemmas.List.{map-append}
 use Rattle.std.proofs.lemmas.List.Sums.{sum_by-append}
 use Rattle.flat_history.specs.declared.events.Request.{Request}
 use Rattle.flat_history.specs.declared.events.Request.TheVariants.{Steps as AsksSteps}
-use Rattle.shared_array.specs.declared.reply.Reply.{Reply}
-use Rattle.shared_array.specs.declared.reply.Reply.TheVariants.{Done, NoMemory as Short}
+use Rattle.running_calls.specs.declared.reply.Reply.{Reply}
+use Rattle.running_calls.specs.declared.reply.Reply.TheVariants.{Done, NoMemory as Short}
 use Rattle.lanes.specs.declared.worker.Worked.{Worked}
 use Rattle.lanes.specs.Carried.{Carried, GoesOn, IsAnswered}
 use Rattle.lanes.specs.Lane.{AreCalls, AreDone}

@@ -6,12 +6,12 @@ use Rattle.flat_history.specs.declared.events.Event.{Event}
 use Rattle.flat_history.specs.declared.events.Request.{Request}
 use Rattle.flat_history.specs.Flat.{next_number}
 use Rattle.flat_history.specs.Seen.{Seen}
-use Rattle.shared_array.specs.declared.reply.Reply.{Reply}
-use Rattle.shared_array.specs.declared.reply.Reply.TheVariants.{Done, NoMemory as Short}
+use Rattle.running_calls.specs.declared.reply.Reply.{Reply}
+use Rattle.running_calls.specs.declared.reply.Reply.TheVariants.{Done, NoMemory as Short}
 use Rattle.seen_laws.specs.Callers.{IsBefore, IsCalled, HasCalled}
 
--- Whose pass it is, how many sectors the list has, the entries when its service was begun, what it has seen of the history, and the caller's
--- own requests with the places of their replies.
+-- Whose pass it is, how many sectors the list had and which entries there were when its service was begun, what it has seen of the history, and the
+-- caller's own requests with the places of their replies.
 pub record Carried : Type 0 where
   pub caller : ℕ
   pub sectors : ℕ
@@ -23,7 +23,7 @@ pub record Carried : Type 0 where
 abbrev pub IsHeld : Carried → Type 0
 IsHeld pass = length pass.seen.entries ≤ 2 ^ 61
 
--- The pass is still the same caller's, over the same list and start, and all that it had seen begins what it has seen.
+-- The pass is still the same caller's, since the same start, and all that it had seen begins what it has seen.
 pub record GoesOn (tells : Type 0) (old new : Carried) : Type 0 where
   pub caller : new.caller ≡ old.caller
   pub sectors : new.sectors ≡ old.sectors

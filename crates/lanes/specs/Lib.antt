@@ -2,6 +2,6 @@ pub mod Carried
 pub mod Lane
 pub mod Pace
 pub mod Worker
-pub use Rattle.shared_array.specs.Replies as shared_array_Replies
-pub use Rattle.shared_array.specs.declared.reply.Reply as shared_array_the_Reply
-pub use Rattle.shared_array.specs.declared.reply.Reply.TheVariants as shared_array_the_Reply_TheVariants
+pub use Rattle.running_calls.specs.Replies as running_calls_Replies
+pub use Rattle.running_calls.specs.declared.reply.Reply as running_calls_the_Reply
+pub use Rattle.running_calls.specs.declared.reply.Reply.TheVariants as running_calls_the_Reply_TheVariants

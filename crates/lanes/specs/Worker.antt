@@ -4,8 +4,8 @@ use Rattle.std.specs.List.{sum_by}
 use Rattle.flat_history.specs.declared.events.Event.TheVariants.{Stepped}
 use Rattle.flat_history.specs.declared.events.Request.{Request}
 use Rattle.flat_history.specs.declared.events.Request.TheVariants.{Steps as AsksSteps}
-use Rattle.shared_array.specs.declared.reply.Reply.{Reply}
-use Rattle.shared_array.specs.declared.reply.Reply.TheVariants.{Done}
+use Rattle.running_calls.specs.declared.reply.Reply.{Reply}
+use Rattle.running_calls.specs.declared.reply.Reply.TheVariants.{Done}
 use Rattle.lanes.specs.declared.worker.Worked.{Worked}
 use Rattle.lanes.specs.Carried.{Carried}
 use Rattle.lanes.specs.Lane.{AreCalls, AreDone}

@@ -1,14 +1,14 @@
 //! A lane: requests of one caller, one after another.
 ghost use Rattle.std.specs.Prelude.{◌≡◌, ◌≢◌, ◌+◌, ◌<◌, ◌≤◌, ◌++◌, [], ◌∷◌, List, vec_len, vec_capacity};
 ghost use Rattle.std.specs.List.{All};
-ghost use Rattle.shared_array.specs.declared.reply.Reply.{Reply};
-ghost use Rattle.shared_array.specs.Replies.{IsAskable};
+ghost use Rattle.running_calls.specs.declared.reply.Reply.{Reply};
+ghost use Rattle.running_calls.specs.Replies.{IsAskable};
 ghost use Rattle.lanes.specs.Carried.{GoesOn, IsOwn, IsAnswered};
 ghost use Rattle.lanes.specs.Lane.{AreCalls, AreDone, is_short};
 
 use crate::service::Service;
 use flat_history::Request;
-use shared_array::Reply;
+use running_calls::Reply;
 use std::sync::Wait;
 
 // Whether the reply tells that memory was short.

@@ -9,5 +9,5 @@ mod worker;
 pub use lane::run_lane;
 pub use pace::Pace;
 pub use service::Service;
-pub use shared_array;
+pub use running_calls;
 pub use worker::{Worked, run_worker};

@@ -8,7 +8,7 @@ ghost use Rattle.lanes.specs.Worker.{done_in, left_behind, HasWorked};
 use crate::pace::Pace;
 use crate::service::Service;
 use flat_history::{Event, Request};
-use shared_array::Reply;
+use running_calls::Reply;
 use std::sync::Wait;
 
 /// What a worker did: its turns, the steps that were done in them, and the last reply.

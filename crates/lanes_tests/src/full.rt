@@ -3,7 +3,7 @@ ghost use Rattle.std.specs.Prelude.{⊤};
 
 use flat_history::Request;
 use lane_blocks::lanes::Service;
-use lane_blocks::shared_array::Reply;
+use lane_blocks::running_calls::Reply;
 use std::sync::Wait;
 
 #[derive(Drop)]

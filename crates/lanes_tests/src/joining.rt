@@ -1,12 +1,12 @@
 //! Lanes and workers, each from the start of the sharing to its end.
 ghost use Rattle.std.specs.List.{All};
-ghost use Rattle.lane_blocks.specs.shared_array_Replies.{IsAskable};
+ghost use Rattle.lane_blocks.specs.running_calls_Replies.{IsAskable};
 ghost use Rattle.lane_blocks.specs.lanes_Pace.{AnswersSteps, asked_by};
 
 use bank::Bank;
 use flat_history::Request;
-use lane_blocks::array::Array;
 use lane_blocks::lanes::{Pace, Worked, run_worker};
+use lane_blocks::running::Running;
 use lane_blocks::shared_lanes::Shared;
 use lane_blocks::{Joined, run_block};
 use md_base::Who;
@@ -18,11 +18,11 @@ use std::thread::Threads;
 pub fn together<B: Bank + Drop + Send, F: Fn(u64, u64) -> u64 + Sync, R: Threads + Wait + Sync>(
     rt: &R,
     alloc: Global,
-    array: Array<B>,
+    array: Running<B>,
     first: Vec<Request>,
     second: Vec<Request>,
     pace: &Pace<F>,
-) -> Result<Joined<B>, Array<B>>
+) -> Result<Joined<B>, Running<B>>
     requires askable { All IsAskable first.items × All IsAskable second.items }
     requires callable { F.IsAlwaysCallable (asked_by pace.now) }
     requires answers { AnswersSteps (F.post (asked_by pace.now)) }
@@ -39,9 +39,9 @@ pub fn together<B: Bank + Drop + Send, F: Fn(u64, u64) -> u64 + Sync, R: Threads
 pub fn work_alone<B: Bank + Drop, F: Fn(u64, u64) -> u64, R: Wait>(
     rt: &R,
     alloc: Global,
-    array: Array<B>,
+    array: Running<B>,
     pace: &Pace<F>,
-) -> Result<(Array<B>, Worked), Array<B>>
+) -> Result<(Running<B>, Worked), Running<B>>
     requires callable { F.IsAlwaysCallable (asked_by pace.now) }
     requires answers { AnswersSteps (F.post (asked_by pace.now)) }
 {

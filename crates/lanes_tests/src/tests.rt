@@ -1,18 +1,18 @@
-//! Lanes and workers over arrays in memory.
+//! Lanes and workers over running arrays in memory.
 ghost use Rattle.std.specs.Prelude.{◌≡◌, IfOk};
 ghost use Rattle.std.specs.List.{All};
-ghost use Rattle.lane_blocks.specs.shared_array_Replies.{IsAskable};
+ghost use Rattle.lane_blocks.specs.running_calls_Replies.{IsAskable};
 
 use crate::{Doors, Full, Ticket, together, wait_for, work_alone};
-use array_samples::{SPEC, bank_of, created, fail, found, next_call, write};
-use assemble::create;
+use crate::{SPEC, bank_of, created, fail, found, next_call, planned, write};
 use bank::{Bank, MemoryBank};
 use flat_history::{Event, Request};
 use lane_blocks::Joined;
-use lane_blocks::array::Array;
 use lane_blocks::lanes::{Pace, Worked, run_lane, run_worker};
-use lane_blocks::shared_array::{Reply, perform};
+use lane_blocks::running::Running;
+use lane_blocks::running_calls::{Reply, perform};
 use md_base::{Refusal, Sectors};
+use openings::create_array;
 use std::alloc::Global;
 use std::sync::atomic::{AtomicU64, Ordering};
 use std::sync::{Arc, Wait};
@@ -20,17 +20,14 @@ use std::test::Fail;
 use std::thread::Threads;
 
 // An array that was written and halted, and is found again: five stripes to resync, and its end.
-fn dirty(alloc: Global) -> Result<Array<MemoryBank>, Fail> {
-    let mut array = created(alloc, bank_of(alloc, &[64; 4], 800, &[])?, Some(3))?;
+fn dirty(alloc: Global) -> Result<Running<MemoryBank>, Fail> {
+    let mut array = created(alloc, bank_of(alloc, &[64; 4], 800)?, Some(3), SPEC)?;
     if write(&mut array, 7, 5).is_err() {
         return Err(Fail::from("not written"));
     }
     let who = next_call(&array);
     let (bank, _) = array.halt(who);
-    match found(alloc, bank, Some(3), None)? {
-        Ok(array) => Ok(array),
-        Err(_) => Err(Fail::from("not found")),
-    }
+    found(alloc, bank, Some(3))
 }
 
 // A sector of one byte is written at a place and read again, and the array flushed.
@@ -49,7 +46,7 @@ fn requests_at(alloc: Global, at: u32, byte: u8) -> Result<Vec<Request>, Fail>
 }
 
 // Whether the reply tells an entry of this caller at its place.
-fn stands(array: &Array<MemoryBank>, reply: &Reply, caller: u32) -> bool {
+fn stands(array: &Running<MemoryBank>, reply: &Reply, caller: u32) -> bool {
     let Reply::Done { at, event: _ } = reply else {
         return false;
     };
@@ -108,7 +105,7 @@ fn told(worked: &Worked) -> Told {
 }
 
 // Whether each reply tells an entry of this caller.
-fn all_stand(array: &Array<MemoryBank>, replies: &[Reply], caller: u32) -> bool {
+fn all_stand(array: &Running<MemoryBank>, replies: &[Reply], caller: u32) -> bool {
     for reply in replies {
         if !stands(array, reply, caller) {
             return false;
@@ -130,7 +127,7 @@ fn is_joined(joined: &Joined<MemoryBank>) -> bool {
 fn beside(
     rt: &(impl Threads + Wait + Sync),
     alloc: Global,
-    array: Array<MemoryBank>,
+    array: Running<MemoryBank>,
 ) -> Result<Option<Told>, Fail> {
     let pace = Pace::new(|_, _| 4);
     let first = requests_at(alloc, 3, 6)?;
@@ -146,8 +143,8 @@ fn beside(
 }
 
 // An array with a spare in slot 3, which lacks role 1: the spare gets the role, its five stripes are rebuilt, and the rebuild ends.
-fn lacking(alloc: Global) -> Result<Array<MemoryBank>, Fail> {
-    let mut array = created(alloc, bank_of(alloc, &[64; 5], 800, &[])?, None)?;
+fn lacking(alloc: Global) -> Result<Running<MemoryBank>, Fail> {
+    let mut array = created(alloc, bank_of(alloc, &[64; 5], 800)?, None, SPEC)?;
     let who = next_call(&array);
     if array.add(who, 3).is_err() || fail(&mut array, 1).is_err() {
         return Err(Fail::from("no spare"));
@@ -162,6 +159,29 @@ fn lanes_beside_a_resync(rt: HostRuntime) -> Result<(), Fail> {
     Ok(())
 }
 
+// Both lanes write into the first window, which a write finishes where it is open, so the worker may do fewer steps.
+#[test]
+fn lanes_beside_a_reshape(rt: HostRuntime) -> Result<(), Fail> {
+    let told = beside(&rt, rt.alloc(), planned(rt.alloc())?)?;
+    let Some((_, _, left, ended)) = told else {
+        return Err(Fail::from("not joined"));
+    };
+    assert!(rt; left == Some(0) && ended.is_none());
+    Ok(())
+}
+
+// A worker alone takes the reshape to its end, four steps at a time.
+#[test]
+fn a_reshape_to_its_end(rt: HostRuntime) -> Result<(), Fail> {
+    let pace = Pace::new(|_, _| 4);
+    let Ok((array, worked)) = work_alone(&rt, rt.alloc(), planned(rt.alloc())?, &pace) else {
+        return Err(Fail::from("no memory"));
+    };
+    assert!(rt; told(&worked) == (7, 26, Some(0), None));
+    assert!(rt; array.length() == 512 && !array.is_moving());
+    Ok(())
+}
+
 #[test]
 fn lanes_beside_a_rebuild(rt: HostRuntime) -> Result<(), Fail> {
     let told = beside(&rt, rt.alloc(), lacking(rt.alloc())?)?;
@@ -170,7 +190,7 @@ fn lanes_beside_a_rebuild(rt: HostRuntime) -> Result<(), Fail> {
 }
 
 // What a worker alone tells. It asks for two steps in each of three turns, and then for one.
-fn alone(rt: &impl Wait, alloc: Global, array: Array<MemoryBank>) -> Result<Told, Fail> {
+fn alone(rt: &impl Wait, alloc: Global, array: Running<MemoryBank>) -> Result<Told, Fail> {
     let pace = Pace::new(|turn, _| if turn < 3 { 2 } else { 1 });
     match work_alone(rt, alloc, array, &pace) {
         Ok((_, worked)) => Ok(told(&worked)),
@@ -179,7 +199,7 @@ fn alone(rt: &impl Wait, alloc: Global, array: Array<MemoryBank>) -> Result<Told
 }
 
 // An array that lost a role with data behind the first two stripes of its resync.
-fn unsynced(alloc: Global) -> Result<Array<MemoryBank>, Fail> {
+fn unsynced(alloc: Global) -> Result<Running<MemoryBank>, Fail> {
     let mut array = dirty(alloc)?;
     let who = next_call(&array);
     let two = Request::Steps { most: 2 };
@@ -196,7 +216,7 @@ fn unsynced(alloc: Global) -> Result<Array<MemoryBank>, Fail> {
 fn the_end_of_a_worker(rt: HostRuntime) -> Result<(), Fail> {
     let alloc = rt.alloc();
     assert!(rt; alone(&rt, alloc, dirty(alloc)?)? == (3, 6, Some(0), None));
-    let clean = created(alloc, bank_of(alloc, &[64; 4], 800, &[])?, Some(3))?;
+    let clean = created(alloc, bank_of(alloc, &[64; 4], 800)?, Some(3), SPEC)?;
     assert!(rt; alone(&rt, alloc, clean)? == (1, 0, None, Some(Refusal::Nothing)));
     let lost = alone(&rt, alloc, unsynced(alloc)?)?;
     assert!(rt; lost == (1, 0, Some(4), Some(Refusal::NotResynced(1))));
@@ -243,9 +263,9 @@ fn new_words(alloc: Global) -> Result<Words, Fail> {
 }
 
 // An array of three members on such a bank.
-fn behind_doors(alloc: Global, words: &Words) -> Result<Array<Doors>, Fail> {
+fn behind_doors(alloc: Global, words: &Words) -> Result<Running<Doors>, Fail> {
     let bank = Doors {
-        bank: bank_of(alloc, &[64; 3], 800, &[])?,
+        bank: bank_of(alloc, &[64; 3], 800)?,
         inside: Arc::try_clone(&words.inside)?,
         open: Arc::try_clone(&words.open)?,
         late: Arc::try_clone(&words.late)?,
@@ -253,7 +273,7 @@ fn behind_doors(alloc: Global, words: &Words) -> Result<Array<Doors>, Fail> {
     if bank.slots() > 32 {
         return Err(Fail::from("too many slots"));
     }
-    match create(alloc, bank, None, SPEC) {
+    match create_array(alloc, bank, None, SPEC) {
         Ok(array) => Ok(array),
         Err(_) => Err(Fail::from("not made")),
     }

@@ -14,20 +14,18 @@ use Rattle.bank.specs.declared.bank.Operation.{Operation}
 use Rattle.bank.specs.Given.{Given}
 use Rattle.superblocks.specs.Reading.{list_length}
 use Rattle.flat_history.specs.World.{World}
-use Rattle.run_laws.specs.running_words_Parts.{RunningParts}
+use Rattle.run_laws.specs.running_words_Parts.{RunningParts, visible_in}
 use Rattle.run_laws.specs.running_words_Calls.{IsCalled, IsSameReshape}
 use Rattle.run_laws.specs.running_words_Adding.{IsAddCalled}
 use Rattle.run_laws.specs.running_replies_Going.{IsSameEpoch, HasRunOn}
-use Rattle.run_laws.specs.running_replies_Replies.{IsAnsweredWith, HasToldBy}
+use Rattle.run_laws.specs.running_replies_Replies.{IsAnsweredWith, IsRepliedWith, HasToldBy}
 use Rattle.md_base.specs.declared.answers.NoMemory.{NoMemory}
 use Rattle.md_base.specs.declared.answers.Fault.{Fault}
 use Rattle.md_base.specs.declared.answers.Fault.TheVariants.{Refused as IsRefusedWith, NoMemory as WantsMemory}
 use Rattle.md_base.specs.declared.answers.Who.{Who}
-use Rattle.md_base.specs.declared.wishes.Wish.{Wish}
 use Rattle.flat_history.specs.declared.events.Event.{Event}
-use Rattle.flat_history.specs.declared.events.Event.TheVariants.{Planned, Refused}
-use Rattle.flat_history.specs.declared.events.Request.TheVariants.{Grow as AsksGrow}
-use Rattle.run_laws.specs.growing_Replied.{IsGrowReplied}
+use Rattle.flat_history.specs.declared.events.Event.TheVariants.{Refused}
+use Rattle.flat_history.specs.declared.events.Request.{Request}
 use Rattle.std.specs.Prelude.{Result, Ok, Err, IfErr}
 use Rattle.array_kept.specs.Calls.{AreLossesBy}
 use Rattle.run_laws.specs.Asked.{IsSizedBy}
@@ -173,17 +171,18 @@ told-backup {before = before} {now = now} {old = old} {new = new} same told = su
 pub script-numbered : (entries : List Entry) (who : Who) → who ≡ script_who entries → who.number ≡ next_number who.caller entries
 script-numbered entries who is = ap (λ (w : Who). w.number) is ∙ ap (λ (w : Who). next_number w.caller entries) (sym is)
 
--- all of a list that is limited nowhere can be read and written
-pub all-visible : (size : ℕ) (entries : List Entry) → length_of size entries ≡ size → limit_of entries ≡ None → visible_of size entries ≡ size
-all-visible size entries sized unlimited = ap (λ (o : Option ℕ). option_map_or (λ limit. min limit (length_of size entries)) o (length_of size entries)) unlimited ∙ sized
+-- what can be read and written by the entries is what the array says
+pub all-seen : {B : Type 0} (array : RunningParts B) → length_of (list_length array.parts.members.newest) array.parts.entries ≡ list_length array.parts.members.newest → limit_of array.parts.entries ≡ array.limit
+    → visible_of (list_length array.parts.members.newest) array.parts.entries ≡ visible_in array
+all-seen array sized limited = λ i. option_map_or (λ most. min most (sized i)) (limited i) (sized i)
 
--- ---- a grow
+-- ---- one entry
 
--- its answer is a reply, unless memory was short
-pub grown-reply : {T : Type 0} (size : ℕ) (wish : Wish) (who : Who) (old new : List Entry) (left : ℕ) (r : Result T Fault) → IsGrowReplied size wish who old new left r → r ≢ Err WantsMemory → (e : Event) × IsAnsweredWith size (AsksGrow wish) who old new e
-grown-reply size wish who old new left (Ok x) was some = (Planned left wish, was)
-grown-reply size wish who old new left (Err (IsRefusedWith refusal)) was some = (Refused refusal, was)
-grown-reply size wish who old new left (Err WantsMemory) was some = absurd (some refl)
+-- the answer is a reply, unless memory was short
+pub replied-some : {T : Type 0} (size : ℕ) (request : Request) (who : Who) (old new : List Entry) (event : Event) (r : Result T Fault) → IsRepliedWith size request who old new event r → r ≢ Err WantsMemory → (e : Event) × IsAnsweredWith size request who old new e
+replied-some size request who old new event (Ok x) was some = (event, was)
+replied-some size request who old new event (Err (IsRefusedWith refusal)) was some = (Refused refusal, was)
+replied-some size request who old new event (Err WantsMemory) was some = absurd (some refl)
 
-pub grown-none : {T : Type 0} (size : ℕ) (wish : Wish) (who : Who) (old new : List Entry) (left : ℕ) (r : Result T Fault) → IsGrowReplied size wish who old new left r → r ≡ Err WantsMemory → new ≡ old
-grown-none {T = T} size wish who old new left r was is = subst (λ (x : Result T Fault). IsGrowReplied size wish who old new left x) is was
+pub replied-none : {T : Type 0} (size : ℕ) (request : Request) (who : Who) (old new : List Entry) (event : Event) (r : Result T Fault) → IsRepliedWith size request who old new event r → r ≡ Err WantsMemory → new ≡ old
+replied-none {T = T} size request who old new event r was is = subst (λ (x : Result T Fault). IsRepliedWith size request who old new event x) is was

@@ -30,7 +30,7 @@ use Rattle.run_laws.specs.array_the_CreateSpec.{CreateSpec}
 use Rattle.run_laws.specs.assemble_Opening.{scope_of, array_of, AreGiven, IsOpened}
 use Rattle.run_laws.specs.assemble_Running.{opened_of, IsBegun, IsCreated, IsAssembled}
 use Rattle.views.specs.Status.{stripes_of, rebuilt_of, vacant_count, spare_count, resync_left, role_left, recovery_left, left_of}
-use Rattle.run_laws.specs.running_words_Parts.{RunningParts}
+use Rattle.run_laws.specs.running_words_Parts.{RunningParts, visible_in, visible_size}
 use Rattle.run_laws.specs.running_words_Calls.{IsStatusFor}
 use Rattle.run_laws.specs.running_words_Still.{IsStillStatus}
 use Rattle.run_laws.specs.running_Calls.{IsShownAs}
@@ -54,6 +54,10 @@ use Rattle.run_laws.specs.States.{running_history}
 abbrev pub found_world : {B : Type 0} → Given → List Operation → Option ℕ → Parts B → World
 found_world given tape backup found =
     record { start = given.start; tape = tape; scope = scope_of given backup found.given found.members.newest.set_uuid; first = length tape }
+
+-- all of a list without a limit can be read and written
+seen-all : {B : Type 0} (array : RunningParts B) → array.limit ≡ None → visible_in array ≡ list_length array.parts.members.newest
+seen-all array none = ap (λ (limit : Option ℕ). visible_size array.parts.members limit) none
 
 -- without a reshape the list is as long as the shape says
 pub still-length : (sb : Sb) → IsFalse (is_reshaping sb) → list_length sb ≡ data_disks (shape_of sb) * sb.size
@@ -277,7 +281,7 @@ module _ {B tells : Type 0} {before after : ℕ → ℕ} (given : Given) (tape :
             (found_losses (reading_of found.parts.members) ≡ found_losses (reading_in given.slots found.parts.members))) (sym still_is) (losses-same_reading given.slots found.parts.members (shape_of found.parts.members.newest).disks);
         position = λ none. told.position;
         sized = told.length ∙ sym size;
-        visible = told.visible ∙ sym size;
+        visible = told.visible ∙ seen-all found is.unlimited ∙ sym size;
         clean = told.clean;
         left = left (found_world given tape backup found.parts) status told;
       }
@@ -431,7 +435,7 @@ module _ {B tells : Type 0} {before after : ℕ → ℕ} (given : Given) (tape :
             (lost-same (role_count found.parts.members.newest) ∙ ap (λ (sb : Sb). absent_losses (record was { roles = opened_roles was }) (role_count sb)) newest_is);
         position = λ none. absurd (let active = is.active in cc);
         sized = told.length ∙ sym size;
-        visible = told.visible ∙ sym size;
+        visible = told.visible ∙ seen-all found is.adopted.unlimited ∙ sym size;
         clean = told.clean ∙ ap is_clean newest_is;
         left = moving_left status told t;
       }

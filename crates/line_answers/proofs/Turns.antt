@@ -18,14 +18,13 @@ use Rattle.superblocks.specs.Reading.{list_length}
 use Rattle.run_laws.specs.running_words_Parts.{RunningParts}
 use Rattle.run_laws.specs.running_replies_Replies.{RunningAnswers}
 use Rattle.run_laws.specs.running_Calls.{IsShownAs}
-use Rattle.run_laws.proofs.Limits.{LeavesLimit, leave-all, asked-unlimited, waiting-unlimited}
 use Rattle.run_laws.proofs.Sizes.{leaves-all, sized-now}
 use Rattle.flat_history.specs.declared.events.Entry.{Entry}
 use Rattle.flat_history.specs.declared.events.Epoch.{Epoch}
 use Rattle.flat_history.specs.declared.events.Event.{Event}
 use Rattle.flat_history.specs.declared.events.Event.TheVariants.{Shown, Stopped, Halted}
-use Rattle.flat_history.specs.declared.events.Request.TheVariants.{Read as AsksRead, Write as AsksWrite, Flush as AsksFlush, Fail as AsksFail, Add as AsksAdd, Grow as AsksGrow, Steps as AsksSteps}
-use Rattle.flat_history.specs.Flat.{rest_of_call, next_number, number_after, length_after, length_of, limit_of}
+use Rattle.flat_history.specs.declared.events.Request.TheVariants.{Read as AsksRead, Write as AsksWrite, Flush as AsksFlush, Fail as AsksFail, Add as AsksAdd, Visible as AsksVisible, Grow as AsksGrow, Steps as AsksSteps}
+use Rattle.flat_history.specs.Flat.{rest_of_call, next_number, number_after, length_after, length_of}
 use Rattle.flat_history.specs.Legal.{call_before}
 use Rattle.flat_history.specs.Plain.{entries_of}
 use Rattle.flat_history.specs.OneShape.{OneShapeAnswers}
@@ -45,7 +44,7 @@ use Rattle.run_laws.specs.assemble_Made.{used_slot}
 use Rattle.run_laws.specs.assemble_Running.{IsCreated, OpensWithZeros}
 use Rattle.script.specs.declared.lines.CreateLine.{CreateLine}
 use Rattle.script.specs.declared.lines.Line.{Line}
-use Rattle.script.specs.declared.lines.Line.TheVariants.{Create, Read, Write, Flush, Fail, Add, Grow, Step, Wait, Assemble}
+use Rattle.script.specs.declared.lines.Line.TheVariants.{Create, Read, Write, Flush, Fail, Add, ArraySize, Grow, Step, Wait, Assemble}
 use Rattle.run_laws.specs.declared.report.Outside.TheVariants.{Created, Assembled, Refused}
 use Rattle.run_laws.specs.declared.report.Answered.TheVariants.{Inside, Outside as IsOutside}
 use Rattle.run_laws.specs.declared.states.State.TheVariants.{Idle, Running}
@@ -152,6 +151,11 @@ goes_add size before call slot Stopped is = absurd is
 goes_add size before call slot Halted is = absurd is
 goes_add size before call slot event is = refl
 
+goes_visible : (size : ℕ) (before call : List Entry) (limit : Option ℕ) (event : Event) → RunningAnswers size before call (AsksVisible limit) event → is_end event ≡ false
+goes_visible size before call limit Stopped is = absurd is
+goes_visible size before call limit Halted is = absurd is
+goes_visible size before call limit event is = refl
+
 goes_grow : (size : ℕ) (before call : List Entry) (wish : Wish) (event : Event) → RunningAnswers size before call (AsksGrow wish) event → is_end event ≡ false
 goes_grow size before call wish Stopped is = absurd is
 goes_grow size before call wish Halted is = absurd is
@@ -180,6 +184,9 @@ going_fail {size = size} {old = old} role asked = goes_fail size (old ++ asked.i
 
 pub going_add : {size place : ℕ} {old new : List Entry} (slot : ℕ) (asked : IsAskedAt size (Add slot) old new place) → is_end asked.event ≡ false
 going_add {size = size} {old = old} slot asked = goes_add size (old ++ asked.inner) (call_of asked) slot asked.event asked.fits.answers
+
+pub going_visible : {size place : ℕ} {old new : List Entry} (limit : Option ℕ) (asked : IsAskedAt size (ArraySize limit) old new place) → is_end asked.event ≡ false
+going_visible {size = size} {old = old} limit asked = goes_visible size (old ++ asked.inner) (call_of asked) limit asked.event asked.fits.answers
 
 pub going_grow : {size place : ℕ} {old new : List Entry} (wish : Wish) (asked : IsAskedAt size (Grow wish) old new place) → is_end asked.event ≡ false
 going_grow {size = size} {old = old} wish asked = goes_grow size (old ++ asked.inner) (call_of asked) wish asked.event asked.fits.answers
@@ -224,8 +231,8 @@ module _ {B : Type 0} (setting : Setting) (old new : RunningParts B) (epochs : V
   now_sized = sized-now own.sized sized
 
   -- it was called, and goes on
-  called_own_still : HasCalled old.parts.entries new.parts.entries → AreGoing new.parts.entries → limit_of new.parts.entries ≡ None → RunsOwn (Running new epochs)
-  called_own_still called going unlimited = record { former = own.former; script = called_own called own.script; going = going; sized = now_sized.1; unlimited = unlimited; room = own.room; few = own.few }
+  called_own_still : HasCalled old.parts.entries new.parts.entries → AreGoing new.parts.entries → RunsOwn (Running new epochs)
+  called_own_still called going = record { former = own.former; script = called_own called own.script; going = going; sized = now_sized.1; room = own.room; few = own.few }
 
   called_grown_still : HasCalled old.parts.entries new.parts.entries → AreGrown (hs ++ running_history old.parts ∷ []) (hs ++ running_history new.parts ∷ [])
   called_grown_still called = grown_last hs (running_history old.parts) (running_history new.parts) (called_grown (running_history old.parts) (running_history new.parts) called uuid given first own.script)
@@ -241,11 +248,11 @@ module _ {B : Type 0} (setting : Setting) (old new : RunningParts B) (epochs : V
       ∙ ap (λ (b : Bool). if b then at_rest (k + 1) else gone_on (next_number 0 mid + 1) (length_of (list_length old.parts.members.newest) new.parts.entries) (course_with k old)) goes)
 
   -- it answered
-  pub turn_called : {last : Line} {mid : List Entry} (line : Line) (place : ℕ) (asked : IsAskedAt (list_length old.parts.members.newest) last mid new.parts.entries place) → HasCalled old.parts.entries new.parts.entries → AreGoing new.parts.entries → limit_of new.parts.entries ≡ None
+  pub turn_called : {last : Line} {mid : List Entry} (line : Line) (place : ℕ) (asked : IsAskedAt (list_length old.parts.members.newest) last mid new.parts.entries place) → HasCalled old.parts.entries new.parts.entries → AreGoing new.parts.entries
       → IsRepliedAt (list_length old.parts.members.newest) new.parts.entries place (next_number 0 old.parts.entries) line → (setting.tells → EndsWithin setting asked.end) → is_end asked.event ≡ false
       → IsTurn setting (Running old epochs) (Running new epochs) line (Inside k place)
-  turn_called line place asked called going unlimited replied ended goes = record {
-    own = called_own_still called going unlimited;
+  turn_called line place asked called going replied ended goes = record {
+    own = called_own_still called going;
     losses = losses-last setting hs (running_history old.parts) (running_history new.parts) lost;
     grown = called_grown_still called;
     ends = λ t. subst (λ (n : ℕ). EndsBetween setting.began (length setting.tape) (hs ++ running_history new.parts ∷ []) (Inside n place)) len
@@ -257,12 +264,12 @@ module _ {B : Type 0} (setting : Setting) (old new : RunningParts B) (epochs : V
 
   pub turn_asked : (line : Line) (place : ℕ) (asked : IsAskedAt (list_length old.parts.members.newest) line old.parts.entries new.parts.entries place) → (setting.tells → EndsWithin setting asked.end) → is_end asked.event ≡ false
       → IsTurn setting (Running old epochs) (Running new epochs) line (Inside k place)
-  turn_asked line place asked ended goes = turn_called line place asked (called_once asked) (gone_once asked goes own.going) (asked-unlimited asked own.unlimited) (replied_at line asked) ended goes
+  turn_asked line place asked ended goes = turn_called line place asked (called_once asked) (gone_once asked goes own.going) (replied_at line asked) ended goes
 
   -- memory was short for it
   pub no_turn : (line : Line) → new.parts.entries ≡ old.parts.entries → IsNoTurn setting (Running old epochs) (Running new epochs) line
   no_turn line same = record {
-    own = called_own_still (called_none same) (subst (λ (l : List Entry). AreGoing l) (sym same) own.going) (ap (λ (l : List Entry). limit_of l) same ∙ own.unlimited);
+    own = called_own_still (called_none same) (subst (λ (l : List Entry). AreGoing l) (sym same) own.going);
     losses = losses-last setting hs (running_history old.parts) (running_history new.parts) lost;
     grown = called_grown_still (called_none same);
     course = inl (course_same same);
@@ -281,8 +288,7 @@ module _ {B : Type 0} (setting : Setting) (old new : RunningParts B) (epochs : V
   -- memory was short for one of the calls of a wait
   no_turn_waiting : (earlier : List ℕ) → IsStillWaiting (list_length old.parts.members.newest) old.parts.entries earlier new.parts.entries → IsNoTurn setting (Running old epochs) (Running new epochs) Wait
   no_turn_waiting earlier was = record {
-    own = called_own_still (waiting_called (list_length old.parts.members.newest) old.parts.entries new.parts.entries earlier was) (gone_waiting (list_length old.parts.members.newest) old.parts.entries new.parts.entries earlier was own.going)
-        (waiting-unlimited (list_length old.parts.members.newest) old.parts.entries new.parts.entries earlier was own.unlimited);
+    own = called_own_still (waiting_called (list_length old.parts.members.newest) old.parts.entries new.parts.entries earlier was) (gone_waiting (list_length old.parts.members.newest) old.parts.entries new.parts.entries earlier was own.going);
     losses = losses-last setting hs (running_history old.parts) (running_history new.parts) lost;
     grown = called_grown_still (waiting_called (list_length old.parts.members.newest) old.parts.entries new.parts.entries earlier was);
     course = inr record {
@@ -306,7 +312,7 @@ module _ {B : Type 0} (setting : Setting) (old new : RunningParts B) (epochs : V
   turn_of_wait (Ok place) longer ended was =
       turn_called Wait place was.asked (waited_called was)
       (gone_once was.asked (going_steps steps_at_once was.asked) (gone_waiting (list_length old.parts.members.newest) old.parts.entries was.between was.earlier was.waiting own.going))
-      (asked-unlimited was.asked (waiting-unlimited (list_length old.parts.members.newest) old.parts.entries was.between was.earlier was.waiting own.unlimited)) (waited_reply own.script was) (λ t. at_the_end setting was.between new.parts.entries was.asked new.parts.first t (longer t) ended) (going_steps steps_at_once was.asked)
+      (waited_reply own.script was) (λ t. at_the_end setting was.between new.parts.entries was.asked new.parts.first t (longer t) ended) (going_steps steps_at_once was.asked)
   turn_of_wait (Err fault) longer ended (earlier, was) = no_turn_waiting earlier was
 
 -- it was not called, and goes on
@@ -388,13 +394,12 @@ module _ {B : Type 0} (setting : Setting) (bank : B) (olds epochs : Vec Epoch) (
 
   -- an array was opened
   module _ (array : RunningParts B) (room : length epochs.items < vec_capacity epochs) (few : length epochs.items < 2 ^ 32) (longer : setting.tells → setting.began ≤ length setting.tape) where
-    opened_own : IsByScript (running_history array.parts) → AreGoing array.parts.entries → length_of (list_length array.parts.members.newest) array.parts.entries ≡ list_length array.parts.members.newest → limit_of array.parts.entries ≡ None → RunsOwn (Running array epochs)
-    opened_own script going sized unlimited = record {
+    opened_own : IsByScript (running_history array.parts) → AreGoing array.parts.entries → length_of (list_length array.parts.members.newest) array.parts.entries ≡ list_length array.parts.members.newest → RunsOwn (Running array epochs)
+    opened_own script going sized = record {
       former = subst (λ (l : List Epoch). AreOfScript (histories_of l)) (sym same) own;
       script = script;
       going = going;
       sized = sized;
-      unlimited = unlimited;
       room = room;
       few = few;
     }
@@ -422,7 +427,7 @@ module _ {B : Type 0} (setting : Setting) (bank : B) (olds epochs : Vec Epoch) (
         → (setting.tells → used_slot (scope_of setting.given setting.backup array.parts.given line.uuid) (held_at setting (length setting.tape)) line.shape.disks ≡ None)
         → IsTurn setting (Idle bank olds) (Running array epochs) (Create line) (IsOutside Created)
     turn_created line unrefused made free = record {
-      own = opened_own (no_entries made.quiet) (subst (λ (l : List Entry). AreGoing l) (sym made.quiet) (All-nil (λ e. IsFalse (is_end e.event)))) (ap (λ (l : List Entry). length_of (list_length array.parts.members.newest) l) made.quiet) (ap (λ (l : List Entry). limit_of l) made.quiet);
+      own = opened_own (no_entries made.quiet) (subst (λ (l : List Entry). AreGoing l) (sym made.quiet) (All-nil (λ e. IsFalse (is_end e.event)))) (ap (λ (l : List Entry). length_of (list_length array.parts.members.newest) l) made.quiet);
       losses = opened_losses (losses-same setting [] (running_history array.parts) made.quiet);
       grown = opened_grown;
       ends = longer;
@@ -473,13 +478,6 @@ module _ {B : Type 0} (setting : Setting) (bank : B) (olds epochs : Vec Epoch) (
           ∙ ap (λ (x : Entry). length_after (length_of size (entries_of opener array.parts.first losses)) x.event) is_shown
           ∙ leaves-all (entries_of opener array.parts.first losses) (each-absent (λ e. (n : ℕ) → length_after n e.event ≡ n) opener array.parts.first is.r is.n (λ role lt missing. (λ n. refl, λ n. refl))) size
 
-      -- or limits it
-      losses_unlimited : (status : Status) (end : ℕ) → limit_of (entries_of opener array.parts.first losses ++ record { caller = 0; number = 0; end = end; event = Shown status } ∷ []) ≡ None
-      losses_unlimited status end =
-          leave-all (entries_of opener array.parts.first losses ++ record { caller = 0; number = 0; end = end; event = Shown status } ∷ [])
-          (All-push (λ e. LeavesLimit e.event) (entries_of opener array.parts.first losses) (record { caller = 0; number = 0; end = end; event = Shown status })
-          (each-absent (λ e. LeavesLimit e.event) opener array.parts.first is.r is.n (λ role lt missing. (λ limit. refl, λ limit. refl))) (λ limit. refl)) None
-
       found_lost : (more : List Entry) → AreLossesBehind setting (running_history array.parts) (entries_of opener array.parts.first losses) more → array.parts.entries ≡ entries_of opener array.parts.first losses ++ more → AreLossesSince setting [] (running_history array.parts)
       found_lost more others entries = losses-found setting (running_history array.parts) is.r is.n array.parts.first more
           (λ role lt missing t. subst (λ (w : World). MissingAtFirst w role) (same_world t) (is.missing role lt missing t)) others entries
@@ -494,7 +492,7 @@ module _ {B : Type 0} (setting : Setting) (bank : B) (olds epochs : Vec Epoch) (
         own = opened_own (subst (λ (l : List Entry). AreByScript (next_number 0 l) l) (sym entries) (subst (λ (n : ℕ). AreByScript n (entries_of opener array.parts.first losses ++ first_entry ∷ [])) (sym one_call)
             (All-append (λ e. IsOwnEntry 1 e) (entries_of opener array.parts.first losses) (first_entry ∷ []) (losses_own 1) (All-cons (λ e. IsOwnEntry 1 e) first_entry [] (inl (refl, omega arith)) (All-nil (λ e. IsOwnEntry 1 e))))))
             (subst (λ (l : List Entry). AreGoing l) (sym entries) (All-push (λ e. IsFalse (is_end e.event)) (entries_of opener array.parts.first losses) first_entry losses_go refl))
-            (ap (λ (l : List Entry). length_of (list_length array.parts.members.newest) l) entries ∙ losses_leave (list_length array.parts.members.newest) first_entry refl) (ap (λ (l : List Entry). limit_of l) entries ∙ losses_unlimited status entered.end);
+            (ap (λ (l : List Entry). length_of (list_length array.parts.members.newest) l) entries ∙ losses_leave (list_length array.parts.members.newest) first_entry refl);
         losses = opened_losses (found_lost (first_entry ∷ []) (tt, tt) entries);
         grown = opened_grown;
         ends = longer;

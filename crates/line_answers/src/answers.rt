@@ -15,8 +15,8 @@ ghost use Rattle.run_laws.specs.declared.report.Outside.TheVariants.{Refused as 
 ghost use Rattle.run_laws.specs.declared.states.State.TheVariants.{Idle as IsIdle, Running as IsRunning};
 
 use crate::asks::{
-    ask_add, ask_fail, ask_flush, ask_grow, ask_read, ask_steps, ask_wait, ask_write, last_place,
-    script_call,
+    ask_add, ask_fail, ask_flush, ask_grow, ask_read, ask_steps, ask_visible, ask_wait, ask_write,
+    last_place, script_call,
 };
 use crate::examines::{examine_idle, examine_running};
 use crate::shows::ask_show;
@@ -159,6 +159,7 @@ fn answer_running<B: Bank>(
         Line::Flush => goes_on(ask_flush(&mut array), array, epochs),
         Line::Fail { role } => goes_on(ask_fail(&mut array, role), array, epochs),
         Line::Add { slot } => goes_on(ask_add(&mut array, slot), array, epochs),
+        Line::ArraySize { limit } => goes_on(ask_visible(&mut array, limit), array, epochs),
         Line::Grow(wish) => goes_on(ask_grow(&mut array, wish), array, epochs),
         Line::Step { most } => goes_on(ask_steps(&mut array, most), array, epochs),
         Line::Wait => goes_on(ask_wait(&mut array), array, epochs),
@@ -300,6 +301,7 @@ fn answer_idle<B: Bank>(
         Line::Flush => (State::Idle(bank, epochs), Ok(refused(Refusal::NotRunning))),
         Line::Fail { .. } => (State::Idle(bank, epochs), Ok(refused(Refusal::NotRunning))),
         Line::Add { .. } => (State::Idle(bank, epochs), Ok(refused(Refusal::NotRunning))),
+        Line::ArraySize { .. } => (State::Idle(bank, epochs), Ok(refused(Refusal::NotRunning))),
         Line::Grow(_) => (State::Idle(bank, epochs), Ok(refused(Refusal::NotRunning))),
         Line::Step { .. } => (State::Idle(bank, epochs), Ok(refused(Refusal::NotRunning))),
         Line::Wait => (State::Idle(bank, epochs), Ok(refused(Refusal::NotRunning))),

@@ -7,7 +7,6 @@ ghost use Rattle.md_base.specs.Sectors.{IsWhole};
 ghost use Rattle.std.specs.List.{list_any};
 ghost use Rattle.superblocks.specs.Reads.{has_spare};
 ghost use Rattle.superblocks.specs.Reading.{list_length};
-ghost use Rattle.flat_history.specs.Flat.{length_of, limit_of};
 ghost use Rattle.views.specs.Placed.{AreStillHeld};
 ghost use Rattle.array_kept.specs.Calls.{AreSparesFewer, AreLossesOf, IsEndOf};
 ghost use Rattle.views.specs.Moving.{Grows};
@@ -16,7 +15,7 @@ ghost use Rattle.run_laws.specs.running_replies_Replies.{HasToldBy};
 ghost use Rattle.run_laws.specs.Making.{is_added};
 ghost use Rattle.run_laws.specs.Asked.{IsAsked, IsSizedBy, IsWaited, script_who};
 ghost use Rattle.run_laws.specs.Replies.{leaves_more_at};
-ghost use Rattle.script.specs.declared.lines.Line.TheVariants.{Read as ReadLine, Write as WriteLine, Flush as FlushLine, Fail as FailLine, Add as AddLine, Grow as GrowLine, Step as StepLine};
+ghost use Rattle.script.specs.declared.lines.Line.TheVariants.{Read as ReadLine, Write as WriteLine, Flush as FlushLine, Fail as FailLine, Add as AddLine, ArraySize as ArraySizeLine, Grow as GrowLine, Step as StepLine};
 
 use bank::Bank;
 use flat_history::Event;
@@ -99,8 +98,6 @@ pub fn ask_write<B: Bank>(
     count: u32,
     seed: u32,
 ) -> Result<u64, NoMemory>
-    requires sized { length_of (list_length array.old.parts.members.newest) array.old.parts.entries ≡ list_length array.old.parts.members.newest }
-    requires unlimited { limit_of array.old.parts.entries ≡ None }
     requires some { 1 ≤ count }
     requires few { count ≤ 128 }
     requires short { at + count < 2 ^ 63 }
@@ -121,6 +118,8 @@ pub fn ask_write<B: Bank>(
         Ok(body) => body,
         Err(_) => return Err(NoMemory {}),
     };
+    // (the history and the array say the same of what can be read and written)
+    let _ = array.visible();
     let who = script_call(array);
     let answer = array.write(who, at, body.as_bytes());
     if wants_memory(&answer) {
@@ -192,6 +191,21 @@ pub fn ask_add<B: Bank>(array: &mut Running<B>, slot: u32) -> Result<u64, NoMemo
 {
     let who = script_call(array);
     let answer = array.add(who, slot);
+    if wants_memory(&answer) {
+        return Err(NoMemory {});
+    }
+    Ok(last_place(array))
+}
+
+/// Limits what can be read and written of the list, or takes the limit away. Ok is the place of the reply entry. It makes no device call.
+pub fn ask_visible<B: Bank>(array: &mut Running<B>, limit: Option<u64>) -> Result<u64, NoMemory>
+    ensures asked { IsAsked (list_length array.old.parts.members.newest) (ArraySizeLine limit) array.old.parts.entries array.new.parts.entries result }
+    ensures ended { IfOk result (λ place. IsEndOf B.tells array.new.parts.first array.new.parts.entries (B.tape array.new.parts.bank)) }
+    ensures unchanged { IfErr result (λ none. array.new ≡ array.old) }
+    ensures went { HasRunOn B.tells B.given B.tape B.faults_of array.old array.new }
+{
+    let who = script_call(array);
+    let answer = array.set_visible(who, limit);
     if wants_memory(&answer) {
         return Err(NoMemory {});
     }

@@ -34,6 +34,8 @@ pub fn ask_show<B: Bank>(array: &mut Running<B>) -> Result<u64, NoMemory>
     ensures sized { IsSizedBy (list_length array.old.parts.members.newest) (list_length array.new.parts.members.newest) array.old.parts.entries array.new.parts.entries }
     ensures told { HasToldBy array.old.parts.backup (B.faults_of array.old.parts.bank) (B.faults_of array.new.parts.bank) array.old.parts.entries array.new.parts.entries }
 {
+    // (the history and the array say the same of what can be read and written)
+    let _ = array.visible();
     let who = script_call(array);
     let _status = match array.status(who) {
         Ok(status) => status,

@@ -1,7 +1,8 @@
 -- Words of the form key=value.
 use Rattle.std.specs.Prelude.{ℕ, Bool, if◌then◌else◌, List, [], ◌∷◌, length, take, drop, bytes_eq, Option, Some, None}
 use Rattle.std.specs.List.{filter_map, list_any}
-use Rattle.std.specs.Option.{is_some}
+use Rattle.std.specs.Option.{is_some, option_and_then}
+use Rattle.line_words.specs.Numbers.{number_below}
 
 -- what a word has behind this key, where it begins with it; a key ends with its `=`
 abbrev pub behind : List ℕ → List ℕ → Option (List ℕ)
@@ -24,3 +25,11 @@ only_value default values = None
 -- what a line gives to a key, which stands once at most
 abbrev pub given : List ℕ → Option (List ℕ) → List (List ℕ) → Option (List ℕ)
 given key default words = only_value default (values_of key words)
+
+-- whether a word gives something to this key
+abbrev pub is_given : List ℕ → List (List ℕ) → Bool
+is_given key words = list_any (λ word. is_some (behind key word)) words
+
+-- the number below a limit that a line gives to a key, which stands once at most
+abbrev pub given_number : ℕ → List ℕ → Option (List ℕ) → List (List ℕ) → Option ℕ
+given_number limit key default words = option_and_then (number_below limit) (given key default words)

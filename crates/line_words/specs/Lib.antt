@@ -1,3 +1,5 @@
 pub mod Keys
 pub mod Layouts
 pub mod Numbers
+pub mod Shapes
+pub mod Wishes

@@ -4,7 +4,11 @@
 pub mod keys;
 pub mod layouts;
 pub mod numbers;
+pub mod shapes;
+pub mod wishes;
 
-pub use keys::{have_keys, value_of};
+pub use keys::{have_keys, is_given, small_value_of, value_of};
 pub use layouts::{layout_name, layout_named};
 pub use numbers::{Words, number, small_number};
+pub use shapes::shape_of;
+pub use wishes::wish_of;

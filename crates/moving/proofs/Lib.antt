@@ -13,3 +13,4 @@ pub use Rattle.moving_laws.proofs.moving_state_DueLaws
 pub use Rattle.moving_laws.proofs.moving_state_ReshapeLaws
 pub use Rattle.moving_laws.proofs.running_words_Called
 pub use Rattle.moving_laws.proofs.running_words_Lengths
+pub use Rattle.moving_laws.proofs.running_words_Visible

@@ -38,7 +38,8 @@ use superblocks::Members;
 use views::Work;
 
 /// An array over slots of a bank whose superblocks tell an active reshape. Each sector of its list is placed by the shape of its region,
-/// but those of the open window, which are in the buffer `window`. `ahead` are the phases of the plan behind the reshape.
+/// but those of the open window, which are in the buffer `window`. `ahead` are the phases of the plan behind the reshape, and `limit` that
+/// of its visible size in sectors.
 #[derive(Drop)]
 pub struct Moving<B: Bank> {
     alloc: Global,
@@ -49,6 +50,7 @@ pub struct Moving<B: Bank> {
     work: Work,
     course: Course,
     ahead: PhasesLeft,
+    limit: Option<u64>,
     steps: u64,
     rows: Vec<u64>,
     buffer: Vec<u8>,
@@ -80,10 +82,11 @@ impl<B: Bank> Model for Moving<B> {
       };
       course = a.course;
       ahead = a.ahead;
+      limit = a.limit;
     } };
 
     ghost invariant = { λ a. IsReady B.tells (B.given a.bank) (B.tape a.bank) (scope_in (B.given a.bank) a.epoch.uuid a.epoch.given (Some a.backup))
-        a.epoch.first a.epoch.entries.items a.members a.work a.course a.ahead a.window.items (B.faults_of a.bank) a.steps a.epoch.entries.room
+        a.epoch.first a.epoch.entries.items a.members a.work a.course a.ahead a.limit a.window.items (B.faults_of a.bank) a.steps a.epoch.entries.room
         (vec_capacity a.rows) (length a.buffer.items) (vec_capacity a.far_rows) (length a.far_buffer.items) };
 }
 

@@ -1,5 +1,5 @@
 -- A slot is made a spare in a reshape, from what `add_member` says of it: what is kept, done or refused, and what the call leaves.
-use Rattle.std.proofs.Common.{◌≡◌, ◌≢◌, inl, inr, ℕ, ◌*◌, ◌<◌, ◌≤◌, ◌==◌, Bool, true, false, List, [], length, slice_set, get_or, Some, refl, sym, ◌∙◌, ap, subst, arith, append-nil}
+use Rattle.std.proofs.Common.{◌≡◌, ◌≢◌, inl, inr, ℕ, ◌*◌, ◌<◌, ◌≤◌, ◌==◌, Bool, true, false, List, [], length, slice_set, get_or, Option, Some, refl, sym, ◌∙◌, ap, subst, arith, append-nil}
 use Rattle.std.proofs.lemmas.Bool.{cases_lt}
 use Rattle.std.proofs.lemmas.Bool.Decides.{nat_tests}
 use Rattle.std.proofs.lemmas.List.Elements.{All-nil}
@@ -51,14 +51,14 @@ number-known l number = elim (cases_lt number (length l)) [
 
 pub with-room : {tells : Type 0} {given : Given} {tape : List Operation} {scope : Scope} {first : ℕ} {entries entries' : List Entry} {members : Members} {work : Work} {course : Course} {ahead : PhasesLeft}
     {window : List ℕ} {faults : ℕ → ℕ} {steps room room' rows buffer far_rows far_buffer : ℕ} → entries' ≡ entries → 50 * steps < room'
-    → IsReady tells given tape scope first entries members work course ahead window faults steps room rows buffer far_rows far_buffer
-    → IsReady tells given tape scope first entries' members work course ahead window faults steps room' rows buffer far_rows far_buffer
-with-room {tells = tells} {given = given} {tape = tape} {scope = scope} {first = first} {members = members} {work = work} {course = course} {ahead = ahead} {window = window} {faults = faults} {steps = steps} {room' = room'}
+    → IsReady tells given tape scope first entries members work course ahead limit window faults steps room rows buffer far_rows far_buffer
+    → IsReady tells given tape scope first entries' members work course ahead limit window faults steps room' rows buffer far_rows far_buffer
+with-room {tells = tells} {given = given} {tape = tape} {scope = scope} {first = first} {members = members} {work = work} {course = course} {ahead = ahead} {limit = limit} {window = window} {faults = faults} {steps = steps} {room' = room'}
     {rows = rows} {buffer = buffer} {far_rows = far_rows} {far_buffer = far_buffer} same left was =
-    subst (λ (l : List Entry). IsReady tells given tape scope first l members work course ahead window faults steps room' rows buffer far_rows far_buffer) (sym same) (record {
+    subst (λ (l : List Entry). IsReady tells given tape scope first l members work course ahead limit window faults steps room' rows buffer far_rows far_buffer) (sym same) (record {
       kept = was.kept;
       sized = was.sized;
-      unlimited = was.unlimited;
+      limited = was.limited;
       full = was.full;
       planned = was.planned;
       wide = was.wide;
@@ -127,7 +127,7 @@ still-called {tells = tells} {given = given} {tape = tape} {faults = faults} {sl
       losses = record { more = []; grown = sym (append-nil old.parts.entries); failed = All-nil (λ e. IsLossBy (Held old.parts.members) faults faults e.event) };
       never_falls = λ s. omega arith;
       work = record { resync = refl; rebuilt = refl; carried = λ number is. is; one = λ number is. inl is };
-      same = record { array = record { uuid = refl; given = refl; first = refl; backup = refl; shape = refl; size = refl; list = λ t. refl }; final = refl; backward = refl; ahead = refl };
+      same = record { array = record { uuid = refl; given = refl; first = refl; backup = refl; shape = refl; size = refl; list = λ t. refl }; final = refl; backward = refl; ahead = refl; limit = refl };
     })
 
 -- no slot is made one
@@ -149,7 +149,7 @@ none-added was = record {
   same = was.same;
 }
 
--- What an add does over the same bank: the epoch and the phases ahead are those that they were, and one number more is known.
+-- What an add does over the same bank: the epoch, the phases ahead and the limit are those that they were, and one number more is known.
 pub record AddsNumber {B : Type 0} (number : ℕ) (old new : RunningParts B) : Type 0 where
   pub uuid : new.parts.uuid ≡ old.parts.uuid
   pub given : new.parts.given ≡ old.parts.given
@@ -157,6 +157,7 @@ pub record AddsNumber {B : Type 0} (number : ℕ) (old new : RunningParts B) : T
   pub backup : new.parts.backup ≡ old.parts.backup
   pub work : new.parts.work ≡ with_carried number old.parts.work
   pub ahead : new.ahead ≡ old.ahead
+  pub limit : new.limit ≡ old.limit
 
 -- the one number is the free one
 pub adds-one : (newest : Sb) (number : ℕ) (work : Work) → free_number newest work ≡ Some number → IsWorkAdded newest work (with_carried number work)
@@ -188,6 +189,7 @@ add-called {tells = tells} {given = given} {tape = tape} {tape' = tape'} {old = 
     final = did.moved.reshape.final;
     backward = did.moved.reshape.backward;
     ahead = epoch.ahead;
+    limit = epoch.limit;
   };
 }
   where

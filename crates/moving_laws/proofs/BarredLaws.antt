@@ -1,6 +1,6 @@
 -- A write of an array in a reshape whose window may be unsure: why it isn't done, and its reply.
 use Rattle.std.specs.Prelude.{IfSome, IsErr, OnOk, OnErr}
-use Rattle.std.proofs.Common.{◌≡◌, ◌⊎◌, inl, inr, ℕ, ◌+◌, false, Option, None, Result, Ok, Err, List, length, refl, sym, ap, subst}
+use Rattle.std.proofs.Common.{◌≡◌, ◌⊎◌, inl, inr, ℕ, ◌+◌, false, Option, Result, Ok, Err, List, length, refl, sym, ap, subst}
 use Rattle.md_base.specs.Sectors.{Sector}
 use Rattle.md_base.specs.declared.answers.Fault.{Fault as AnyFault}
 use Rattle.md_base.specs.declared.answers.Fault.TheVariants.{Refused as IsRefusedWith, NoMemory}
@@ -23,6 +23,7 @@ use Rattle.grow_asked.specs.declared.window.Window.TheVariants.{Unsure}
 use Rattle.mending_kept.specs.course_kept_the_Course.{Course}
 use Rattle.mending_kept.specs.course_kept_Laws.{closed, unsure}
 use Rattle.mending_kept.specs.region_writes_Runs.{IsListUnwritten}
+use Rattle.moving_state.specs.Left.{visible_by}
 use Rattle.running_words.specs.Calls.{IsStepTaken, IsEnterCaused}
 use Rattle.flat_history.specs.declared.events.StepKind.{StepKind}
 use Rattle.moving_state.specs.Due.{open_in}
@@ -41,16 +42,16 @@ sure-caused window visible relied at to old new (Err (IsRefusedWith refusal)) no
     by refusal is = (is.0, inl is.1)
 sure-caused window visible relied at to old new (Err NoMemory) none caused = caused
 
-pub sure-replied : {T : Type 0} (window : Window) (size relied at to : ℕ) (body : List Sector) (who : Who) (old new : List Entry) (m m' : Members) (result : Result T AnyFault)
-    → IsCausedBy size to (IsWriteLacked window relied at to) m m' result → IsWriteAnswered size at body who old new result → IsWriteReplied size at body who old new result
-sure-replied window size relied at to body who old new m m' (Ok x) caused answered = answered
-sure-replied window size relied at to body who old new m m' (Err (IsRefusedWith refusal)) caused answered = by refusal caused answered
+pub sure-replied : {T : Type 0} (window : Window) (size visible relied at to : ℕ) (body : List Sector) (who : Who) (old new : List Entry) (m m' : Members) (result : Result T AnyFault)
+    → IsCausedBy visible to (IsWriteLacked window relied at to) m m' result → IsWriteAnswered size at body who old new result → IsWriteReplied size at body who old new result
+sure-replied window size visible relied at to body who old new m m' (Ok x) caused answered = answered
+sure-replied window size visible relied at to body who old new m m' (Err (IsRefusedWith refusal)) caused answered = by refusal caused answered
   where
-    by : (refusal : Refusal) → IsRefusedFor size to (IsWriteLacked window relied at to) m m' refusal → IsWriteAnswered {T = ℕ} size at body who old new (Err (IsRefusedWith refusal))
+    by : (refusal : Refusal) → IsRefusedFor visible to (IsWriteLacked window relied at to) m m' refusal → IsWriteAnswered {T = ℕ} size at body who old new (Err (IsRefusedWith refusal))
         → IsWriteReplied {T = ℕ} size at body who old new (Err (IsRefusedWith refusal))
     by BackupFault why answered = absurd ((lacked-missing window relied at to m' BackupFault why.1).0)
     by refusal why answered = answered
-sure-replied window size relied at to body who old new m m' (Err NoMemory) caused answered = answered
+sure-replied window size visible relied at to body who old new m m' (Err NoMemory) caused answered = answered
 
 -- ---- one of them does
 
@@ -79,20 +80,20 @@ barred-entered window at to body who old mid new left (Ok x) same alone = absurd
 barred-entered window at to body who old mid new left (Err (IsRefusedWith refusal)) same alone = let behind = behind-alone who alone.0 (Refused refusal) refl alone.1 in (mid, inr same, behind.roles, behind.spares, false, behind.end, behind.is)
 barred-entered window at to body who old mid new left (Err NoMemory) same alone = absurd alone
 
-module _ (window : Window) (size relied at to : ℕ) (body : List Sector) (who : Who) (old new : List Entry) (m m' : Members) (left : ℕ) (end-is : to ≡ at + length body)
-    (number : who.number ≡ next_number who.caller old) (sized : length_of size old ≡ size) (unlimited : limit_of old ≡ None) where
-  pub barred-replied : {T : Type 0} (result : Result T AnyFault) → IsRefusedAlone who old new result → IsCausedBy size to (IsWriteBarred window relied at to) m m' result → IsWriteReplied size at body who old new result
+module _ (window : Window) (size : ℕ) (limit : Option ℕ) (relied at to : ℕ) (body : List Sector) (who : Who) (old new : List Entry) (m m' : Members) (left : ℕ) (end-is : to ≡ at + length body)
+    (number : who.number ≡ next_number who.caller old) (sized : length_of size old ≡ size) (limited : limit_of old ≡ limit) where
+  pub barred-replied : {T : Type 0} (result : Result T AnyFault) → IsRefusedAlone who old new result → IsCausedBy (visible_by size limit) to (IsWriteBarred window relied at to) m m' result → IsWriteReplied size at body who old new result
   barred-replied (Ok x) alone caused = absurd alone
   barred-replied (Err (IsRefusedWith refusal)) alone caused = by refusal alone caused
     where
       entered : (refusal : Refusal) → IsRefusedAlone {T = ℕ} who old new (Err (IsRefusedWith refusal)) → IsWriteEntered {T = ℕ} window at to body who old new left (Err (IsRefusedWith refusal))
       entered refusal alone = let behind = behind-alone who alone.0 (Refused refusal) refl alone.1 in (old, inr refl, behind.roles, behind.spares, false, behind.end, behind.is)
 
-      by : (refusal : Refusal) → IsRefusedAlone {T = ℕ} who old new (Err (IsRefusedWith refusal)) → IsRefusedFor size to (IsWriteBarred window relied at to) m m' refusal
+      by : (refusal : Refusal) → IsRefusedAlone {T = ℕ} who old new (Err (IsRefusedWith refusal)) → IsRefusedFor (visible_by size limit) to (IsWriteBarred window relied at to) m m' refusal
           → IsWriteReplied {T = ℕ} size at body who old new (Err (IsRefusedWith refusal))
       by BackupFault alone why = alone
-      by (PastEnd told) alone why = write-answered window size relied at to body who old new m m' left end-is number sized unlimited {T = ℕ} (Err (IsRefusedWith (PastEnd told))) (entered (PastEnd told) alone) why
-      by refusal alone why = write-answered window size relied at to body who old new m m' left end-is number sized unlimited {T = ℕ} (Err (IsRefusedWith refusal)) (entered refusal alone)
+      by (PastEnd told) alone why = write-answered window size limit relied at to body who old new m m' left end-is number sized limited {T = ℕ} (Err (IsRefusedWith (PastEnd told))) (entered (PastEnd told) alone) why
+      by refusal alone why = write-answered window size limit relied at to body who old new m m' left end-is number sized limited {T = ℕ} (Err (IsRefusedWith refusal)) (entered refusal alone)
           (why.0, elim why.1 [ inl lacked ↦ lacked | inr barred ↦ absurd (let other = barred.1 in cc) ])
   barred-replied (Err NoMemory) alone caused = absurd alone
 

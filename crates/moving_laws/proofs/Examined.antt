@@ -40,15 +40,15 @@ moving-still {tells = tells} {given = given} {tape' = tape'} {scope = scope} {fi
     there t = subst (λ (l : List Operation). IsMoving tells given l scope first entries members carried resync course buffer left) (sym (same t)) was
 
 pub ready-still : {tells : Type 0} {given given' : Given} {tape tape' : List Operation} {uuid : List ℕ} {slots : ℕ} {backup : Option ℕ} {first : ℕ} {entries : List Entry} {members : Members} {work : Work} {course : Course}
-    {ahead : PhasesLeft} {window : List ℕ} {faults faults' : ℕ → ℕ} {steps room rows buffer far_rows far_buffer : ℕ} → given' ≡ given → (tells → tape' ≡ tape) → ((s : ℕ) → faults s ≤ faults' s)
-    → IsReady tells given tape (scope_in given uuid slots backup) first entries members work course ahead window faults steps room rows buffer far_rows far_buffer
-    → IsReady tells given' tape' (scope_in given' uuid slots backup) first entries members work course ahead window faults' steps room rows buffer far_rows far_buffer
-ready-still {tells = tells} {given = given} {tape' = tape'} {uuid = uuid} {slots = slots} {backup = backup} {first = first} {entries = entries} {members = members} {work = work} {course = course} {ahead = ahead} {window = window}
+    {ahead : PhasesLeft} {limit : Option ℕ} {window : List ℕ} {faults faults' : ℕ → ℕ} {steps room rows buffer far_rows far_buffer : ℕ} → given' ≡ given → (tells → tape' ≡ tape) → ((s : ℕ) → faults s ≤ faults' s)
+    → IsReady tells given tape (scope_in given uuid slots backup) first entries members work course ahead limit window faults steps room rows buffer far_rows far_buffer
+    → IsReady tells given' tape' (scope_in given' uuid slots backup) first entries members work course ahead limit window faults' steps room rows buffer far_rows far_buffer
+ready-still {tells = tells} {given = given} {tape' = tape'} {uuid = uuid} {slots = slots} {backup = backup} {first = first} {entries = entries} {members = members} {work = work} {course = course} {ahead = ahead} {limit = limit} {window = window}
     {faults = faults} {faults' = faults'} {steps = steps} {room = room} {rows = rows} {buffer = buffer} {far_rows = far_rows} {far_buffer = far_buffer} known same rose was =
-    subst (λ (g : Given). IsReady tells g tape' (scope_in g uuid slots backup) first entries members work course ahead window faults' steps room rows buffer far_rows far_buffer) (sym known) (record {
+    subst (λ (g : Given). IsReady tells g tape' (scope_in g uuid slots backup) first entries members work course ahead limit window faults' steps room rows buffer far_rows far_buffer) (sym known) (record {
       kept = moving-still same was.kept;
       sized = was.sized;
-      unlimited = was.unlimited;
+      limited = was.limited;
       full = λ t. (there t).full t;
       planned = was.planned;
       wide = was.wide;
@@ -61,5 +61,5 @@ ready-still {tells = tells} {given = given} {tape' = tape'} {uuid = uuid} {slots
       far_buffer_fits = was.far_buffer_fits;
     })
   where
-    there : tells → IsReady tells given tape' (scope_in given uuid slots backup) first entries members work course ahead window faults steps room rows buffer far_rows far_buffer
-    there t = subst (λ (l : List Operation). IsReady tells given l (scope_in given uuid slots backup) first entries members work course ahead window faults steps room rows buffer far_rows far_buffer) (sym (same t)) was
+    there : tells → IsReady tells given tape' (scope_in given uuid slots backup) first entries members work course ahead limit window faults steps room rows buffer far_rows far_buffer
+    there t = subst (λ (l : List Operation). IsReady tells given l (scope_in given uuid slots backup) first entries members work course ahead limit window faults steps room rows buffer far_rows far_buffer) (sym (same t)) was

@@ -1,5 +1,5 @@
 -- What an array in a reshape keeps, after a call.
-use Rattle.std.proofs.Common.{◌≡◌, ◌⊎◌, ℕ, ◌+◌, ◌-◌, ◌*◌, ◌<◌, ◌≤◌, ◌==◌, ◌||◌, Bool, true, false, inl, inr, cond, Option, None, List, [], ◌∷◌, ◌++◌, length, take, take_all, drop, refl, sym, ◌∙◌, ap, subst, arith}
+use Rattle.std.proofs.Common.{◌≡◌, ◌⊎◌, ℕ, ◌+◌, ◌-◌, ◌*◌, ◌<◌, ◌≤◌, ◌==◌, ◌||◌, Bool, true, false, inl, inr, cond, Option, List, [], ◌∷◌, ◌++◌, length, take, take_all, drop, refl, sym, ◌∙◌, ap, subst, arith}
 use Rattle.std.specs.Prelude.{min, fold}
 use Rattle.std.specs.List.{list_any}
 use Rattle.std.proofs.lemmas.Bool.Decides.{nat_tests}
@@ -12,7 +12,7 @@ use Rattle.bank.specs.declared.bank.Operation.{Operation}
 use Rattle.md_base.specs.declared.answers.Who.{Who}
 use Rattle.call_entries.specs.Losing.{losses_of}
 use Rattle.call_entries.proofs.CallLaws.{losses-are, length-losses, limit-losses}
-use Rattle.array_kept.proofs.NowLaws.{length-more, limit-more}
+use Rattle.array_kept.proofs.NowLaws.{length-more}
 use Rattle.bank.specs.Given.{Given, NeverFalls}
 use Rattle.sb1.specs.declared.sb.Sb.{Sb}
 use Rattle.geometry.specs.Geometry.{unit, steps_of, stripes, beyond}
@@ -54,6 +54,7 @@ use Rattle.mending_kept.proofs.moving_kept_Steps.{AreMissingSince, missing-moved
 use Rattle.mending_kept.specs.region_mends_Left.{resync_left}
 use Rattle.mending_kept.proofs.region_mends_LeftLaws.{left-stays}
 use Rattle.running_words.specs.Parts.{left_in}
+use Rattle.running_words.proofs.Visible.{limit-kept}
 use Rattle.moving_laws.specs.Ready.{bytes_in, IsReady}
 
 -- ---- superblocks of the same reshape
@@ -101,17 +102,17 @@ left-moved given old new resync course ahead moved =
 -- these entries change neither the length of the list, nor what is visible of it
 pub record IsLengthKept (added : List Entry) : Type 0 where
   pub long : (n : ℕ) → fold (λ m e. length_after m e.event) n added ≡ n
-  pub free : fold (λ (limit : Option ℕ) e. limit_after limit e.event) None added ≡ None
+  pub free : (limit : Option ℕ) → fold (λ (limit : Option ℕ) e. limit_after limit e.event) limit added ≡ limit
 
 -- those of one event
-pub alone-keeps : (who : Who) (end : ℕ) (event : Event) → ((n : ℕ) → length_after n event ≡ n) → limit_after None event ≡ None → IsLengthKept (entries_of who end (event ∷ []))
+pub alone-keeps : (who : Who) (end : ℕ) (event : Event) → ((n : ℕ) → length_after n event ≡ n) → ((limit : Option ℕ) → limit_after limit event ≡ limit) → IsLengthKept (entries_of who end (event ∷ []))
 alone-keeps who end event long free = record { long = long; free = free }
 
 -- and those of one behind losses
-pub behind-keeps : (who : Who) (end roles spares : ℕ) (event : Event) → ((n : ℕ) → length_after n event ≡ n) → limit_after None event ≡ None → IsLengthKept (entries_of who end (losses_of roles spares ++ event ∷ []))
+pub behind-keeps : (who : Who) (end roles spares : ℕ) (event : Event) → ((n : ℕ) → length_after n event ≡ n) → ((limit : Option ℕ) → limit_after limit event ≡ limit) → IsLengthKept (entries_of who end (losses_of roles spares ++ event ∷ []))
 behind-keeps who end roles spares event long free = record {
   long = λ n. length-losses who end (losses_of roles spares) (event ∷ []) (losses-are roles spares) n ∙ long n;
-  free = limit-losses who end (losses_of roles spares) (event ∷ []) (losses-are roles spares) None ∙ free;
+  free = λ limit. limit-losses who end (losses_of roles spares) (event ∷ []) (losses-are roles spares) limit ∙ free limit;
 }
 
 -- ---- no role is missing where no entry takes one
@@ -161,27 +162,27 @@ takes-before {tape = tape} {tape' = tape'} given scope first entries added grows
 
 -- where the course has changed, but for a window that became unsure while its backup is there
 pub ready-moved : {tells : Type 0} {given given' : Given} {tape tape' : List Operation} {scope scope' : Scope} {first first' : ℕ} {entries mid entries' : List Entry} {members members' : Members}
-    {work work' : Work} {course course' : Course} {ahead : PhasesLeft} {window window' : List ℕ} {steps steps' room room' rows buffer far_rows far_buffer : ℕ} {before after : ℕ → ℕ} (added : List Entry)
-    → IsReady tells given tape scope first entries members work course ahead window before steps room rows buffer far_rows far_buffer
+    {work work' : Work} {course course' : Course} {ahead : PhasesLeft} {limit : Option ℕ} {window window' : List ℕ} {steps steps' room room' rows buffer far_rows far_buffer : ℕ} {before after : ℕ → ℕ} (added : List Entry)
+    → IsReady tells given tape scope first entries members work course ahead limit window before steps room rows buffer far_rows far_buffer
     → Grows tells tape tape' → AreSameShapes members.newest members'.newest
     → IsMoving tells given tape' scope first (entries ++ added) members' (is_carried work') work'.resync course' (bytes_in course'.window window') (left_in work' members' course' ahead)
     → ((span : Span) → course'.window ≡ Unsure span → (course.window ≡ Unsure span) ⊎ (0 < after (backup_of scope)))
     → length window' ≡ length window → NeverFalls before after → IsLengthKept added
     → (TakesNone (world_in given tape' scope first) (entries ++ added) → AreWhole members → AreWhole members')
     → given' ≡ given → scope' ≡ scope → first' ≡ first → mid ≡ entries → entries' ≡ mid ++ added → 50 * steps' < room'
-    → IsReady tells given' tape' scope' first' entries' members' work' course' ahead window' after steps' room' rows buffer far_rows far_buffer
+    → IsReady tells given' tape' scope' first' entries' members' work' course' ahead limit window' after steps' room' rows buffer far_rows far_buffer
 ready-moved {tells = tells} {given = given} {given' = given'} {tape' = tape'} {scope = scope} {scope' = scope'} {first = first} {first' = first'} {entries = entries} {mid = mid} {members = members} {members' = members'}
-    {work' = work'} {course' = course'} {ahead = ahead} {window' = window'} {steps' = steps'} {room' = room'} {rows = rows} {buffer = buffer} {far_rows = far_rows} {far_buffer = far_buffer} {after = after}
+    {work' = work'} {course' = course'} {ahead = ahead} {limit = limit} {window' = window'} {steps' = steps'} {room' = room'} {rows = rows} {buffer = buffer} {far_rows = far_rows} {far_buffer = far_buffer} {after = after}
     added was grows same kept dead long rises quiet whole same_given scope_is first_is mid_is is room_left =
-    subst (λ (l : List Entry). IsReady tells given' tape' scope' first' l members' work' course' ahead window' after steps' room' rows buffer far_rows far_buffer) (sym (is ∙ ap (λ (l : List Entry). l ++ added) mid_is))
-    (subst (λ (n : ℕ). IsReady tells given' tape' scope' n (entries ++ added) members' work' course' ahead window' after steps' room' rows buffer far_rows far_buffer) (sym first_is)
-    (subst (λ (s : Scope). IsReady tells given' tape' s first (entries ++ added) members' work' course' ahead window' after steps' room' rows buffer far_rows far_buffer) (sym scope_is)
-    (subst (λ (g : Given). IsReady tells g tape' scope first (entries ++ added) members' work' course' ahead window' after steps' room' rows buffer far_rows far_buffer) (sym same_given)
+    subst (λ (l : List Entry). IsReady tells given' tape' scope' first' l members' work' course' ahead limit window' after steps' room' rows buffer far_rows far_buffer) (sym (is ∙ ap (λ (l : List Entry). l ++ added) mid_is))
+    (subst (λ (n : ℕ). IsReady tells given' tape' scope' n (entries ++ added) members' work' course' ahead limit window' after steps' room' rows buffer far_rows far_buffer) (sym first_is)
+    (subst (λ (s : Scope). IsReady tells given' tape' s first (entries ++ added) members' work' course' ahead limit window' after steps' room' rows buffer far_rows far_buffer) (sym scope_is)
+    (subst (λ (g : Given). IsReady tells g tape' scope first (entries ++ added) members' work' course' ahead limit window' after steps' room' rows buffer far_rows far_buffer) (sym same_given)
     (record {
       kept = kept;
       sized = subst (λ (n : ℕ). length_of n (entries ++ added) ≡ n) (sym (long-same members.newest members'.newest same))
           (length-more (list_length members.newest) entries added was.sized (quiet.long (list_length members.newest)));
-      unlimited = limit-more entries added was.unlimited quiet.free;
+      limited = limit-kept limit entries added was.limited (quiet.free limit);
       full = λ t none. whole none (was.full t (takes-before given scope first entries added grows (λ t. (was.kept.recorded t).ends) t none));
       planned = subst (λ (n : ℕ). AreSound (final_shape members'.newest) n (phases_of ahead)) (sym same.size)
           (subst (λ s. AreSound s members.newest.size (phases_of ahead)) (sym same.final) was.planned);
@@ -200,37 +201,37 @@ ready-moved {tells = tells} {given = given} {given' = given'} {tape' = tape'} {s
 
 -- where the work may have changed too, and the stripes that are zeroed
 pub ready-with : {tells : Type 0} {given given' : Given} {tape tape' : List Operation} {scope scope' : Scope} {first first' : ℕ} {entries mid entries' : List Entry} {members members' : Members}
-    {work work' : Work} {course : Course} {zeroed : ℕ} {ahead : PhasesLeft} {window window' : List ℕ} {steps steps' room room' rows buffer far_rows far_buffer : ℕ} {before after : ℕ → ℕ} (added : List Entry)
-    → IsReady tells given tape scope first entries members work course ahead window before steps room rows buffer far_rows far_buffer
+    {work work' : Work} {course : Course} {zeroed : ℕ} {ahead : PhasesLeft} {limit : Option ℕ} {window window' : List ℕ} {steps steps' room room' rows buffer far_rows far_buffer : ℕ} {before after : ℕ → ℕ} (added : List Entry)
+    → IsReady tells given tape scope first entries members work course ahead limit window before steps room rows buffer far_rows far_buffer
     → Grows tells tape tape' → AreSameShapes members.newest members'.newest
     → IsMoving tells given tape' scope first (entries ++ added) members' (is_carried work') work'.resync (record course { zeroed = zeroed }) (bytes_in course.window window') (left_in work' members' (record course { zeroed = zeroed }) ahead)
     → length window' ≡ length window → NeverFalls before after → IsLengthKept added
     → (TakesNone (world_in given tape' scope first) (entries ++ added) → AreWhole members → AreWhole members')
     → given' ≡ given → scope' ≡ scope → first' ≡ first → mid ≡ entries → entries' ≡ mid ++ added → 50 * steps' < room'
-    → IsReady tells given' tape' scope' first' entries' members' work' (record course { zeroed = zeroed }) ahead window' after steps' room' rows buffer far_rows far_buffer
+    → IsReady tells given' tape' scope' first' entries' members' work' (record course { zeroed = zeroed }) ahead limit window' after steps' room' rows buffer far_rows far_buffer
 ready-with added was grows same kept = ready-moved added was grows same kept (λ span is. inl is)
 
 -- where it is as it was
 pub ready : {tells : Type 0} {given given' : Given} {tape tape' : List Operation} {scope scope' : Scope} {first first' : ℕ} {entries mid entries' : List Entry} {members members' : Members}
-    {work : Work} {course : Course} {zeroed : ℕ} {ahead : PhasesLeft} {window window' : List ℕ} {steps steps' room room' rows buffer far_rows far_buffer : ℕ} {before after : ℕ → ℕ} (added : List Entry)
-    → IsReady tells given tape scope first entries members work course ahead window before steps room rows buffer far_rows far_buffer
+    {work : Work} {course : Course} {zeroed : ℕ} {ahead : PhasesLeft} {limit : Option ℕ} {window window' : List ℕ} {steps steps' room room' rows buffer far_rows far_buffer : ℕ} {before after : ℕ → ℕ} (added : List Entry)
+    → IsReady tells given tape scope first entries members work course ahead limit window before steps room rows buffer far_rows far_buffer
     → Grows tells tape tape' → AreSameShapes members.newest members'.newest
     → IsMoving tells given tape' scope first (entries ++ added) members' (is_carried work) work.resync (record course { zeroed = zeroed }) (bytes_in course.window window') (left_in work members' (record course { zeroed = zeroed }) ahead)
     → length window' ≡ length window → NeverFalls before after → IsLengthKept added
     → (TakesNone (world_in given tape' scope first) (entries ++ added) → AreWhole members → AreWhole members')
     → given' ≡ given → scope' ≡ scope → first' ≡ first → mid ≡ entries → entries' ≡ mid ++ added → 50 * steps' < room'
-    → IsReady tells given' tape' scope' first' entries' members' work (record course { zeroed = zeroed }) ahead window' after steps' room' rows buffer far_rows far_buffer
+    → IsReady tells given' tape' scope' first' entries' members' work (record course { zeroed = zeroed }) ahead limit window' after steps' room' rows buffer far_rows far_buffer
 ready added was grows same kept = ready-with added was grows same kept
 
 -- with another buffer for rows
 pub with-buffer : {tells : Type 0} {given : Given} {tape : List Operation} {scope : Scope} {first : ℕ} {entries : List Entry} {members : Members}
-    {work : Work} {course : Course} {ahead : PhasesLeft} {window : List ℕ} {steps room rows buffer buffer' far_rows far_buffer : ℕ} {faults : ℕ → ℕ} → 1048576 ≤ buffer'
-    → IsReady tells given tape scope first entries members work course ahead window faults steps room rows buffer far_rows far_buffer
-    → IsReady tells given tape scope first entries members work course ahead window faults steps room rows buffer' far_rows far_buffer
+    {work : Work} {course : Course} {ahead : PhasesLeft} {limit : Option ℕ} {window : List ℕ} {steps room rows buffer buffer' far_rows far_buffer : ℕ} {faults : ℕ → ℕ} → 1048576 ≤ buffer'
+    → IsReady tells given tape scope first entries members work course ahead limit window faults steps room rows buffer far_rows far_buffer
+    → IsReady tells given tape scope first entries members work course ahead limit window faults steps room rows buffer' far_rows far_buffer
 with-buffer fits was = record {
   kept = was.kept;
   sized = was.sized;
-  unlimited = was.unlimited;
+  limited = was.limited;
   full = was.full;
   planned = was.planned;
   wide = was.wide;
@@ -245,15 +246,15 @@ with-buffer fits was = record {
 
 -- with room for more entries
 pub roomier : {tells : Type 0} {given : Given} {tape : List Operation} {scope : Scope} {first : ℕ} {entries entries' : List Entry} {members : Members}
-    {work : Work} {course : Course} {ahead : PhasesLeft} {window : List ℕ} {steps room room' rows buffer far_rows far_buffer : ℕ} {faults : ℕ → ℕ}
-    → IsReady tells given tape scope first entries members work course ahead window faults steps room rows buffer far_rows far_buffer → entries' ≡ entries → room ≤ room'
-    → IsReady tells given tape scope first entries' members work course ahead window faults steps room' rows buffer far_rows far_buffer
-roomier {tells = tells} {given = given} {tape = tape} {scope = scope} {first = first} {members = members} {work = work} {course = course} {ahead = ahead} {window = window} {steps = steps} {room' = room'}
+    {work : Work} {course : Course} {ahead : PhasesLeft} {limit : Option ℕ} {window : List ℕ} {steps room room' rows buffer far_rows far_buffer : ℕ} {faults : ℕ → ℕ}
+    → IsReady tells given tape scope first entries members work course ahead limit window faults steps room rows buffer far_rows far_buffer → entries' ≡ entries → room ≤ room'
+    → IsReady tells given tape scope first entries' members work course ahead limit window faults steps room' rows buffer far_rows far_buffer
+roomier {tells = tells} {given = given} {tape = tape} {scope = scope} {first = first} {members = members} {work = work} {course = course} {ahead = ahead} {limit = limit} {window = window} {steps = steps} {room' = room'}
     {rows = rows} {buffer = buffer} {far_rows = far_rows} {far_buffer = far_buffer} {faults = faults} was same more =
-    subst (λ (l : List Entry). IsReady tells given tape scope first l members work course ahead window faults steps room' rows buffer far_rows far_buffer) (sym same) (record {
+    subst (λ (l : List Entry). IsReady tells given tape scope first l members work course ahead limit window faults steps room' rows buffer far_rows far_buffer) (sym same) (record {
       kept = was.kept;
       sized = was.sized;
-      unlimited = was.unlimited;
+      limited = was.limited;
       full = was.full;
       planned = was.planned;
       wide = was.wide;

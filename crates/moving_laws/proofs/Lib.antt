@@ -9,6 +9,7 @@ pub mod Copied
 pub mod RecordLaws
 pub mod AddLaws
 pub mod Examined
+pub mod FirstLaws
 pub mod WriteLaws
 pub mod WriteReplies
 pub mod BarredLaws
@@ -36,3 +37,5 @@ pub use Rattle.mending_kept.proofs.moving_kept_Staying
 pub use Rattle.moving_state.proofs.DueLaws as moving_state_DueLaws
 pub use Rattle.moving_state.proofs.ReshapeLaws as moving_state_ReshapeLaws
 pub use Rattle.running_words.proofs.Lengths as running_words_Lengths
+pub use Rattle.running_words.proofs.Replies as running_words_Replies
+pub use Rattle.running_words.proofs.Visible as running_words_Visible

@@ -201,13 +201,13 @@ left-some m work course ahead active is =
 
 -- with other buffers for rows
 pub with-buffers : {tells : Type 0} {given : Given} {tape : List Operation} {scope : Scope} {first : ℕ} {entries : List Entry} {members : Members}
-    {work : Work} {course : Course} {ahead : PhasesLeft} {window : List ℕ} {steps room rows rows' buffer buffer' far_rows far_buffer : ℕ} {faults : ℕ → ℕ} → 128 ≤ rows' → 1048576 ≤ buffer'
-    → IsReady tells given tape scope first entries members work course ahead window faults steps room rows buffer far_rows far_buffer
-    → IsReady tells given tape scope first entries members work course ahead window faults steps room rows' buffer' far_rows far_buffer
+    {work : Work} {course : Course} {ahead : PhasesLeft} {limit : Option ℕ} {window : List ℕ} {steps room rows rows' buffer buffer' far_rows far_buffer : ℕ} {faults : ℕ → ℕ} → 128 ≤ rows' → 1048576 ≤ buffer'
+    → IsReady tells given tape scope first entries members work course ahead limit window faults steps room rows buffer far_rows far_buffer
+    → IsReady tells given tape scope first entries members work course ahead limit window faults steps room rows' buffer' far_rows far_buffer
 with-buffers rows_fit buffer_fits was = record {
   kept = was.kept;
   sized = was.sized;
-  unlimited = was.unlimited;
+  limited = was.limited;
   full = was.full;
   planned = was.planned;
   wide = was.wide;
@@ -244,6 +244,7 @@ kept-work old new called = record {
     final = called.same.final;
     backward = called.same.backward;
     ahead = called.same.ahead;
+    limit = called.same.limit;
   };
 }
 

@@ -52,7 +52,7 @@ use Rattle.call_entries.proofs.LeftLaws.{left-behind, left-more}
 use Rattle.call_entries.proofs.LosingLaws.{entries-both}
 use Rattle.array_kept.specs.Calls.{IsRefusedFor, IsReplied}
 use Rattle.array_kept.proofs.NowLaws.{sectors_of-at}
-use Rattle.array_kept.proofs.ReplyLaws.{IsOfMissing, unread-of, refused_reply, read_kind}
+use Rattle.array_kept.proofs.ReplyLaws.{IsOfMissing, unread-of}
 use Rattle.mending_kept.specs.region_rows_Stretches.{ListStandsIn, RowsStandIn}
 use Rattle.mending_kept.proofs.region_writes_Together.{shape-force}
 use Rattle.window_rows.specs.Copies.{HasWindow, IsRoomFor}
@@ -84,6 +84,9 @@ use Rattle.mending_kept.proofs.moving_kept_Staying.{course-moved, stays-moves}
 use Rattle.mending_kept.proofs.moving_kept_Steps.{AreMissingSince, missing-moved}
 use Rattle.moving_state.specs.First.{IsUnreadAround}
 use Rattle.moving_state.proofs.ReshapeLaws.{window-reach}
+use Rattle.running_words.specs.Parts.{visible_size}
+use Rattle.running_words.proofs.Visible.{visible-within}
+use Rattle.running_words.proofs.Replies.{refused_reply, read_kind}
 use Rattle.moving_laws.specs.Ready.{bytes_in}
 use Rattle.moving_laws.proofs.Relied.{pending-at, pending-behind, unsynced-right, sector-role}
 
@@ -196,20 +199,18 @@ pub record IsFetched (tells : Type 0) (given : Given) (tape tape' : List Operati
 pub read-quiet : (at : ℕ) (body : List Sector) → IsQuiet (Read at body)
 read-quiet at body = record { adds = refl; gives = refl; ends = refl; still = λ x values. refl; level = λ n. refl; other = refl }
 
-module _ {tells : Type 0} {given : Given} {tape : List Operation} {scope : Scope} {first : ℕ} {entries : List Entry} {old : Members} {carried : ℕ → Bool} {resync : Option ℕ} {course : Course} {buffer : List ℕ} {left : ℕ}
-    (was : IsMoving tells given tape scope first entries old carried resync course buffer left) (unlimited : limit_of entries ≡ None) where
-  -- all of the list is visible
-  seen : tells → visible_at (world_in given tape scope first) entries ≡ list_length old.newest
-  seen t =
-      ap (λ (o : Option ℕ). option_map_or (λ limit. min limit (length_of (length (opening_list (world_in given tape scope first))) entries)) o (length_of (length (opening_list (world_in given tape scope first))) entries)) unlimited
-      ∙ (was.recorded t).sized
+module _ {tells : Type 0} {given : Given} {tape : List Operation} {scope : Scope} {first : ℕ} {entries : List Entry} {old : Members} {carried : ℕ → Bool} {resync : Option ℕ} {course : Course} {buffer : List ℕ} {left : ℕ} {limit : Option ℕ}
+    (was : IsMoving tells given tape scope first entries old carried resync course buffer left) (limited : limit_of entries ≡ limit) where
+  -- so much of the list is visible
+  seen : tells → visible_at (world_in given tape scope first) entries ≡ visible_size old limit
+  seen t = λ i. option_map_or (λ most. min most ((was.recorded t).sized i)) (limited i) ((was.recorded t).sized i)
 
   -- ---- one that is refused before any sector is read
 
-  pub first-right : (hidden : Option Span) (relied at to : ℕ) (refusal : Refusal) → relied ≡ relied_sector old.newest resync → IsRefusedFor (list_length old.newest) to (IsUnreadAround hidden relied at to) old old refusal
+  pub first-right : (hidden : Option Span) (relied at to : ℕ) (refusal : Refusal) → relied ≡ relied_sector old.newest resync → IsRefusedFor (visible_size old limit) to (IsUnreadAround hidden relied at to) old old refusal
       → tells → IsReliable (world_in given tape scope first) entries → IsRefusedRight (world_in given tape scope first) entries refusal
   first-right hidden relied at to (PastEnd told) relies why t right = why.0 ∙ sym (seen t)
-  first-right hidden relied at to refusal relies why t right = by why.0 why.1
+  first-right hidden relied at to refusal relies why t right = by (let below = visible-within (list_length old.newest) limit in let within = why.0 in omega (arith, below, within)) why.1
     where
       by : to ≤ list_length old.newest → IsUnreadAround hidden relied at to old refusal → IsRefusedRight (world_in given tape scope first) entries refusal
       by within (x, low, high, inl many) =
@@ -220,7 +221,7 @@ module _ {tells : Type 0} {given : Given} {tape : List Operation} {scope : Scope
 
   -- ---- one of no sector
 
-  pub none-read : (at : ℕ) (body : List Sector) → length body ≡ 0 → at ≤ list_length old.newest → tells → IsReliable (world_in given tape scope first) entries
+  pub none-read : (at : ℕ) (body : List Sector) → length body ≡ 0 → at ≤ visible_size old limit → tells → IsReliable (world_in given tape scope first) entries
       → IsReadOver (opening_list (world_in given tape scope first)) entries at body
   none-read at body none within t right = record {
     within = let all_seen = seen t in omega (arith, all_seen, none, within);
@@ -238,7 +239,7 @@ module _ {tells : Type 0} {given : Given} {tape : List Operation} {scope : Scope
 
     -- ---- one that is refused behind what it lost
 
-    pub unread-moves : (hidden : Option Span) (relied at to : ℕ) (refusal : Refusal) → relied ≡ relied_sector old.newest resync → to ≤ list_length old.newest → IsUnreadAround hidden relied at to new refusal
+    pub unread-moves : (hidden : Option Span) (relied at to : ℕ) (refusal : Refusal) → relied ≡ relied_sector old.newest resync → to ≤ visible_size old limit → IsUnreadAround hidden relied at to new refusal
         → IsMoving tells given tape' scope first (entries ++ entries_of who end (losses_of roles spares ++ Refused refusal ∷ [])) new carried resync course buffer left
     unread-moves hidden relied at to refusal relies within why =
         stays-moves tells given tape tape' scope first entries old new carried resync course buffer left who end roles spares (Refused refusal) was live goes caller at_end grows (quiet-refusal refusal) (λ told is. is)
@@ -254,11 +255,11 @@ module _ {tells : Type 0} {given : Given} {tape : List Operation} {scope : Scope
             (ap tolerance_of level ∙ was.levelled t right ∙ ap tolerance (sym did.moved.shape)) (shape_for new.newest x) refusal (shape-force new.newest x) many
         legal t right gone level (x, low, high, inr (out, is, un)) =
             unsynced-right (world_in given tape' scope first) (entries ++ entries_of who end (losses_of roles spares)) new gone refusal (place_by new.newest x).role is (sector-role new.newest did.moved.placed.fit x) un.0
-            (pending-behind was relied relies who end roles spares grows t (pending-at was relied relies new did.moved.placed.fit long-same x (omega (arith, high, within, long-same)) un.1 t))
+            (pending-behind was relied relies who end roles spares grows t (pending-at was relied relies new did.moved.placed.fit long-same x (let below = visible-within (list_length old.newest) limit in omega (arith, high, within, below, long-same)) un.1 t))
 
     -- ---- one that is done
 
-    module _ (relied at : ℕ) (bytes : List ℕ) (relies : relied ≡ relied_sector old.newest resync) (does : (x : ℕ) → at ≤ x → x < at + length bytes / 512 → DoesWithout (shape_for old.newest x) old) (within : at + length bytes / 512 ≤ list_length old.newest)
+    module _ (relied at : ℕ) (bytes : List ℕ) (relies : relied ≡ relied_sector old.newest resync) (does : (x : ℕ) → at ≤ x → x < at + length bytes / 512 → DoesWithout (shape_for old.newest x) old) (within : at + length bytes / 512 ≤ visible_size old limit)
         (holds : tells → (list : ℕ → Sector) → ListStandsIn (IsShapeBeside (hidden_in course.window) old.newest at (at + length bytes / 512)) (hidden_in course.window) old (present given tape) list
         → IfSome (hidden_in course.window) (λ span. HasWindow span buffer list)
         → AreWhole new ⊎ RowsStandIn (IsShapeBeside (hidden_in course.window) old.newest at (at + length bytes / 512)) (hidden_in course.window) relied old (present given tape) list
@@ -286,7 +287,7 @@ module _ {tells : Type 0} {given : Given} {tape : List Operation} {scope : Scope
       list-is t right filled i lt =
           let l = was.listed t right.fills in
           holds t l.list (λ x slot own shown held. l.stands.in_course.stands x slot (does-beside (shape_for old.newest x) own) shown held) (window-in course.window buffer l.list l.stands.in_course.window)
-          (rows-beside l.list filled l.stands.rows) i lt ∙ l.is (at + i) (omega (arith, lt, within))
+          (rows-beside l.list filled l.stands.rows) i lt ∙ l.is (at + i) (let below = visible-within (list_length old.newest) limit in omega (arith, lt, within, below))
         where
           does-beside : (shape : Shape) → IsShapeBeside (hidden_in course.window) old.newest at (at + length bytes / 512) shape → DoesWithout shape old
           does-beside shape own = subst (λ (s : Shape). DoesWithout s old) own.4 (does own.0 own.1 own.2)
@@ -425,13 +426,13 @@ hidden-slice (Unsure span) buffer slice wide list same is has = tt
 
 -- ---- replies
 
-pub first-reply : (m : Members) (hidden : Option Span) (relied : ℕ) (old : List Entry) → length_of (list_length m.newest) old ≡ list_length m.newest → limit_of old ≡ None → (who : Who) (at count : ℕ) (new : List Entry) (end : ℕ) (refusal : Refusal)
-    → IsRefusedFor (list_length m.newest) (at + count) (IsUnreadAround hidden relied at (at + count)) m m refusal → new ≡ old ++ entries_of who end (Refused refusal ∷ []) → who.number ≡ next_number who.caller old
+pub first-reply : (m : Members) (hidden : Option Span) (relied : ℕ) (limit : Option ℕ) (old : List Entry) → length_of (list_length m.newest) old ≡ list_length m.newest → limit_of old ≡ limit → (who : Who) (at count : ℕ) (new : List Entry) (end : ℕ) (refusal : Refusal)
+    → IsRefusedFor (visible_size m limit) (at + count) (IsUnreadAround hidden relied at (at + count)) m m refusal → new ≡ old ++ entries_of who end (Refused refusal ∷ []) → who.number ≡ next_number who.caller old
     → IsReplied (list_length m.newest) (AsksRead at count) who old new (Refused refusal)
-first-reply m hidden relied old sized unlimited who at count new end (PastEnd told) why is number =
-    refused_reply (list_length m.newest) old sized unlimited (AsksRead at count) who (at + count) (λ members refusal. IsOfMissing refusal) new end m (PastEnd told) (read_kind at count) (λ of. of) why is number
-first-reply m hidden relied old sized unlimited who at count new end refusal why is number =
-    refused_reply (list_length m.newest) old sized unlimited (AsksRead at count) who (at + count) (λ members refusal. IsOfMissing refusal) new end m refusal (read_kind at count) (λ of. of)
+first-reply m hidden relied limit old sized limited who at count new end (PastEnd told) why is number =
+    refused_reply (list_length m.newest) limit old sized limited (AsksRead at count) who (at + count) (λ members refusal. IsOfMissing refusal) new end m (PastEnd told) (read_kind at count) (λ of. of) why is number
+first-reply m hidden relied limit old sized limited who at count new end refusal why is number =
+    refused_reply (list_length m.newest) limit old sized limited (AsksRead at count) who (at + count) (λ members refusal. IsOfMissing refusal) new end m refusal (read_kind at count) (λ of. of)
     (why.0, unread-missing hidden relied at (at + count) m refusal why.1) is number
 
 -- what is fetched by the bytes of the window's buffer is so by the list that stands in the course

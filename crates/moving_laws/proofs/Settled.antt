@@ -21,9 +21,9 @@ pub settling-long : (event : Event) → IsSettling event → (n : ℕ) → lengt
 settling-long event (inl is) n = ap (length_after n) is
 settling-long event (inr is) n = ap (length_after n) is
 
-pub settling-free : (event : Event) → IsSettling event → limit_after None event ≡ None
-settling-free event (inl is) = ap (limit_after None) is
-settling-free event (inr is) = ap (limit_after None) is
+pub settling-free : (event : Event) → IsSettling event → (limit : Option ℕ) → limit_after limit event ≡ limit
+settling-free event (inl is) limit = ap (limit_after limit) is
+settling-free event (inr is) limit = ap (limit_after limit) is
 
 pub risen-told : {tells : Type 0} {old new : Members} {before after : List Operation} → IsRisen tells old new before after → tells → IsRisen ⊤ old new before after
 risen-told rise t = record { left = rise.left; events = λ none live. rise.events t live }

@@ -75,6 +75,8 @@ use Rattle.mending_kept.proofs.moving_kept_Steps.{AreMissingSince, missing-since
 use Rattle.mending_kept.proofs.moving_kept_Writing.{ArePut, AreWritten, AreUnwritten, written-moves, unwritten-moves}
 use Rattle.running_words.specs.Calls.{IsCalled, IsStepTaken}
 use Rattle.running_words.specs.Parts.{RunningParts}
+use Rattle.running_words.specs.Parts.{visible_size}
+use Rattle.running_words.proofs.Visible.{visible-within}
 use Rattle.moving_laws.specs.Ready.{bytes_in, IsReady}
 use Rattle.moving_laws.specs.Writing.{IsWindowOpen, steps_in, TouchesWindow, IsWriteLacked, IsPutEntered, IsWriteEntered}
 use Rattle.running_words.proofs.Called.{not_254}
@@ -130,15 +132,15 @@ open-is array span copied sectioned due window =
 
 -- room for other steps
 pub roomed : {tells : Type 0} {given : Given} {tape : List Operation} {scope : Scope} {first : ℕ} {entries entries' : List Entry} {members : Members}
-    {work : Work} {course : Course} {ahead : PhasesLeft} {window : List ℕ} {steps steps' room room' rows buffer far_rows far_buffer : ℕ} {faults : ℕ → ℕ} → entries' ≡ entries → 50 * steps' < room'
-    → IsReady tells given tape scope first entries members work course ahead window faults steps room rows buffer far_rows far_buffer
-    → IsReady tells given tape scope first entries' members work course ahead window faults steps' room' rows buffer far_rows far_buffer
-roomed {tells = tells} {given = given} {tape = tape} {scope = scope} {first = first} {members = members} {work = work} {course = course} {ahead = ahead} {window = window} {steps' = steps'} {room' = room'}
+    {work : Work} {course : Course} {ahead : PhasesLeft} {limit : Option ℕ} {window : List ℕ} {steps steps' room room' rows buffer far_rows far_buffer : ℕ} {faults : ℕ → ℕ} → entries' ≡ entries → 50 * steps' < room'
+    → IsReady tells given tape scope first entries members work course ahead limit window faults steps room rows buffer far_rows far_buffer
+    → IsReady tells given tape scope first entries' members work course ahead limit window faults steps' room' rows buffer far_rows far_buffer
+roomed {tells = tells} {given = given} {tape = tape} {scope = scope} {first = first} {members = members} {work = work} {course = course} {ahead = ahead} {limit = limit} {window = window} {steps' = steps'} {room' = room'}
     {rows = rows} {buffer = buffer} {far_rows = far_rows} {far_buffer = far_buffer} {faults = faults} same fits was =
-    subst (λ (l : List Entry). IsReady tells given tape scope first l members work course ahead window faults steps' room' rows buffer far_rows far_buffer) (sym same) (record {
+    subst (λ (l : List Entry). IsReady tells given tape scope first l members work course ahead limit window faults steps' room' rows buffer far_rows far_buffer) (sym same) (record {
       kept = was.kept;
       sized = was.sized;
-      unlimited = was.unlimited;
+      limited = was.limited;
       full = was.full;
       planned = was.planned;
       wide = was.wide;
@@ -153,14 +155,14 @@ roomed {tells = tells} {given = given} {tape = tape} {scope = scope} {first = fi
 
 -- other lists and buffers for rows
 pub with-rooms : {tells : Type 0} {given : Given} {tape : List Operation} {scope : Scope} {first : ℕ} {entries : List Entry} {members : Members}
-    {work : Work} {course : Course} {ahead : PhasesLeft} {window : List ℕ} {steps room rows rows' buffer buffer' far_rows far_rows' far_buffer far_buffer' : ℕ} {faults : ℕ → ℕ}
+    {work : Work} {course : Course} {ahead : PhasesLeft} {limit : Option ℕ} {window : List ℕ} {steps room rows rows' buffer buffer' far_rows far_rows' far_buffer far_buffer' : ℕ} {faults : ℕ → ℕ}
     → rows ≤ rows' → buffer' ≡ buffer → far_rows ≤ far_rows' → far_buffer' ≡ far_buffer
-    → IsReady tells given tape scope first entries members work course ahead window faults steps room rows buffer far_rows far_buffer
-    → IsReady tells given tape scope first entries members work course ahead window faults steps room rows' buffer' far_rows' far_buffer'
+    → IsReady tells given tape scope first entries members work course ahead limit window faults steps room rows buffer far_rows far_buffer
+    → IsReady tells given tape scope first entries members work course ahead limit window faults steps room rows' buffer' far_rows' far_buffer'
 with-rooms one two three four was = record {
   kept = was.kept;
   sized = was.sized;
-  unlimited = was.unlimited;
+  limited = was.limited;
   full = was.full;
   planned = was.planned;
   wide = was.wide;
@@ -175,12 +177,12 @@ with-rooms one two three four was = record {
 
 -- what a write enters that is refused leaves the list's length
 pub failure-keeps : (who : Who) (end roles spares : ℕ) (torn : Bool) (at : ℕ) (body : List Sector) (refusal : Refusal) → IsLengthKept (entries_of who end (failure_events roles spares torn at body refusal))
-failure-keeps who end roles spares false at body refusal = behind-keeps who end roles spares (Refused refusal) (λ n. refl) refl
+failure-keeps who end roles spares false at body refusal = behind-keeps who end roles spares (Refused refusal) (λ n. refl) (λ limit. refl)
 failure-keeps who end roles spares true at body refusal =
     subst (λ (l : List Event). IsLengthKept (entries_of who end l)) (sym (append_assoc (losses_of roles spares) (Torn at body ∷ []) (Refused refusal ∷ [])))
     (record {
       long = λ n. length-losses who end (losses_of roles spares) (Torn at body ∷ Refused refusal ∷ []) (losses-are roles spares) n;
-      free = limit-losses who end (losses_of roles spares) (Torn at body ∷ Refused refusal ∷ []) (losses-are roles spares) None;
+      free = λ limit. limit-losses who end (losses_of roles spares) (Torn at body ∷ Refused refusal ∷ []) (losses-are roles spares) limit;
     })
 
 -- and where it tells no loss, it lost none
@@ -306,19 +308,18 @@ pub torn-missing : (window : Option Span) (relied at to : ℕ) (m : Members) (re
 torn-missing window relied at to m refusal (inl torn) = unwritten-of (shape_for m.newest torn.0) false m refusal (inl torn.3)
 torn-missing window relied at to m refusal (inr (each, there)) = unwritten-of (shape_for m.newest there.0) false m refusal (inr there.5)
 
-module _ {tells : Type 0} {given : Given} {tape : List Operation} {scope : Scope} {first : ℕ} {entries : List Entry} {old : Members} {carried : ℕ → Bool} {resync : Option ℕ} {course : Course} {buffer : List ℕ} {left : ℕ}
-    (was : IsMoving tells given tape scope first entries old carried resync course buffer left) (unlimited : limit_of entries ≡ None) where
-  -- all of the list is visible
-  pub all-seen : tells → visible_at (world_in given tape scope first) entries ≡ list_length old.newest
-  all-seen t =
-      ap (λ (o : Option ℕ). option_map_or (λ limit. min limit (length_of (length (opening_list (world_in given tape scope first))) entries)) o (length_of (length (opening_list (world_in given tape scope first))) entries)) unlimited
-      ∙ (was.recorded t).sized
+module _ {tells : Type 0} {given : Given} {tape : List Operation} {scope : Scope} {first : ℕ} {entries : List Entry} {old : Members} {carried : ℕ → Bool} {resync : Option ℕ} {course : Course} {buffer : List ℕ} {left : ℕ} {limit : Option ℕ}
+    (was : IsMoving tells given tape scope first entries old carried resync course buffer left) (limited : limit_of entries ≡ limit) where
+  -- so much of the list is visible
+  pub all-seen : tells → visible_at (world_in given tape scope first) entries ≡ visible_size old limit
+  all-seen t = λ i. option_map_or (λ most. min most ((was.recorded t).sized i)) (limited i) ((was.recorded t).sized i)
 
   -- why it is refused before any row is read
-  pub first-right : (window : Option Span) (relied at to : ℕ) (refusal : Refusal) → relied ≡ relied_sector old.newest resync → IsRefusedFor (list_length old.newest) to (IsListUnwritten window relied at to) old old refusal
+  pub first-right : (window : Option Span) (relied at to : ℕ) (refusal : Refusal) → relied ≡ relied_sector old.newest resync
+      → IsRefusedFor (visible_size old limit) to (IsListUnwritten window relied at to) old old refusal
       → tells → IsReliable (world_in given tape scope first) entries → IsRefusedRight (world_in given tape scope first) entries refusal
   first-right window relied at to (PastEnd told) relies why t right = why.0 ∙ sym (all-seen t)
-  first-right window relied at to refusal relies why t right = by why.0 why.1
+  first-right window relied at to refusal relies why t right = by (let below = visible-within (list_length old.newest) limit in let within = why.0 in omega (arith, below, within)) why.1
     where
       by : to ≤ list_length old.newest → IsListUnwritten window relied at to old refusal → IsRefusedRight (world_in given tape scope first) entries refusal
       by within (inl torn) =
@@ -331,10 +332,10 @@ module _ {tells : Type 0} {given : Given} {tape : List Operation} {scope : Scope
           unsynced-right (world_in given tape scope first) entries old (was.gone t right) refusal cause.0 cause.1 (omega (arith, few, disks)) cause.3
           (pending-at was relied relies old was.members_are.placed.fit refl there.0 (omega (arith, high, within)) there.4 t)
 
-module _ {tells : Type 0} {given : Given} {tape tape' : List Operation} {scope : Scope} {first : ℕ} {entries : List Entry} {old new : Members} {carried : ℕ → Bool} {resync : Option ℕ} (course : Course) (ahead : PhasesLeft) (buffer : List ℕ)
+module _ {tells : Type 0} {given : Given} {tape tape' : List Operation} {scope : Scope} {first : ℕ} {entries : List Entry} {old new : Members} {carried : ℕ → Bool} {resync : Option ℕ} {limit : Option ℕ} (course : Course) (ahead : PhasesLeft) (buffer : List ℕ)
     (who : Who) (end roles spares at : ℕ) (from : List ℕ) (past : Option Span) (relied : ℕ) (begun : Bool)
     (was : IsMoving tells given tape scope first entries old carried resync course buffer (left_by resync old course ahead)) (goes : IsCallGoing entries who) (caller : who.caller ≢ 254)
-    (at_end : tells → end ≡ length tape') (grows : Grows tells tape tape') (unlimited : limit_of entries ≡ None) (some : 0 < length from / 512)
+    (at_end : tells → end ≡ length tape') (grows : Grows tells tape tape') (limited : limit_of entries ≡ limit) (visible : at + length from / 512 ≤ visible_size old limit) (some : 0 < length from / 512)
     (fine : (refusal : Refusal) → IsListUnwritten past relied at (at + length from / 512) old refusal → ⊥) (relies : relied ≡ relied_sector old.newest resync)
     (stood : tells → IsWindowStanding past (world_in given tape scope first) entries old (present given tape)) (did : ArePut tells given tape tape' old new course at from past relied roles begun) where
   -- no shape of the write misses too many
@@ -346,7 +347,7 @@ module _ {tells : Type 0} {given : Given} {tape tape' : List Operation} {scope :
   live = shape-left given old was.members_are.placed was.members_are.unlost (shape_for old.newest at) (shape-force old.newest at) (each-does at (omega arith) (omega (arith, some)))
 
   seen : tells → at + length from / 512 ≤ visible_of (length (opening_list (world_in given tape scope first))) entries
-  seen t = let same = all-seen was unlimited t in let within = did.within in omega (arith, same, within)
+  seen t = let same = all-seen was limited t in omega (arith, same, visible)
 
   -- it is done
   pub wrote-kept : AreWritten tells given tape tape' old new at from past relied
@@ -424,6 +425,7 @@ called-then {tells = tells} {given = given} {tape0 = tape0} {tape1 = tape1} {tap
         final = two.same.final ∙ one.same.final;
         backward = two.same.backward ∙ one.same.backward;
         ahead = two.same.ahead ∙ one.same.ahead;
+        limit = two.same.limit ∙ one.same.limit;
       };
     }
 
@@ -451,6 +453,7 @@ called-roomed {f = f} {g = g} old new items steps same was = record {
     final = was.same.final;
     backward = was.same.backward;
     ahead = was.same.ahead;
+    limit = was.same.limit;
   };
 }
 
@@ -471,15 +474,15 @@ wider-refused visible to why m (PastEnd told) is = is
 wider-refused visible to why m refusal is = (is.0, inl is.1)
 
 -- a window isn't finished: why the write isn't done, or neither speaks against it
-pub finish-caused : {T : Type 0} (visible to : ℕ) (why : Members → Refusal → Type 0) (old new : Members) (result : Result T AnyFault) → to ≤ visible → ((refusal : Refusal) → why old refusal → ⊥)
-    → IsCausedBy visible 0 AreTooMany old new result → IsCausedBy visible to (λ m refusal. why m refusal ⊎ AreTooMany m refusal) old new result
-finish-caused visible to why old new (Ok x) within fine caused = (within, λ refusal which. elim which [ inl asked ↦ fine refusal asked | inr many ↦ caused.1 refusal many ])
-finish-caused visible to why old new (Err (IsRefusedWith refusal)) within fine caused = by refusal caused
+pub finish-caused : {T : Type 0} (size visible to : ℕ) (why : Members → Refusal → Type 0) (old new : Members) (result : Result T AnyFault) → to ≤ visible → ((refusal : Refusal) → why old refusal → ⊥)
+    → IsCausedBy size 0 AreTooMany old new result → IsCausedBy visible to (λ m refusal. why m refusal ⊎ AreTooMany m refusal) old new result
+finish-caused size visible to why old new (Ok x) within fine caused = (within, λ refusal which. elim which [ inl asked ↦ fine refusal asked | inr many ↦ caused.1 refusal many ])
+finish-caused size visible to why old new (Err (IsRefusedWith refusal)) within fine caused = by refusal caused
   where
-    by : (refusal : Refusal) → IsRefusedFor visible 0 AreTooMany old new refusal → IsRefusedFor visible to (λ m refusal. why m refusal ⊎ AreTooMany m refusal) old new refusal
+    by : (refusal : Refusal) → IsRefusedFor size 0 AreTooMany old new refusal → IsRefusedFor visible to (λ m refusal. why m refusal ⊎ AreTooMany m refusal) old new refusal
     by (PastEnd told) is = absurd (let past = is.1 in omega (arith, past))
     by refusal is = (within, inr is.1)
-finish-caused visible to why old new (Err NoMemory) within fine caused = caused
+finish-caused size visible to why old new (Err NoMemory) within fine caused = caused
 
 -- why sectors outside a window aren't written, where none lies in it
 unwritten-less : (window : Option Span) (relied at to : ℕ) (m : Members) (refusal : Refusal) → IsListUnwritten window relied at to m refusal → IsListUnwritten None relied at to m refusal

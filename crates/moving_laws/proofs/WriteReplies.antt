@@ -1,5 +1,5 @@
 -- The reply of a write fits its request, also behind a window that it finished first.
-use Rattle.std.proofs.Common.{◌≡◌, inl, inr, ℕ, ◌+◌, ◌<◌, ◌≤◌, Bool, true, false, cond, Option, None, Result, Ok, Err, List, [], ◌∷◌, ◌++◌, length, refl, sym, ◌∙◌, ap, subst, append_assoc, append-nil}
+use Rattle.std.proofs.Common.{◌≡◌, inl, inr, ℕ, ◌+◌, ◌<◌, ◌≤◌, Bool, true, false, cond, Option, Result, Ok, Err, List, [], ◌∷◌, ◌++◌, length, refl, sym, ◌∙◌, ap, subst, append_assoc, append-nil}
 use Rattle.std.specs.Prelude.{fold, reverse}
 use Rattle.std.specs.List.{All}
 use Rattle.std.proofs.lemmas.List.{reverse-append}
@@ -27,12 +27,15 @@ use Rattle.call_entries.specs.Losing.{losses_of, failure_events}
 use Rattle.call_entries.proofs.CallLaws.{AreLossEvents, losses-are, length-losses, limit-losses, torn-losses, torn-both, torn-reverse}
 use Rattle.call_entries.proofs.LosingLaws.{entries-both}
 use Rattle.array_kept.specs.Calls.{StandsInside, IsRefusedFor, IsCausedBy}
-use Rattle.array_kept.proofs.NowLaws.{visible-is, length-more, limit-more}
-use Rattle.array_kept.proofs.ReplyLaws.{IsOfMissing, none_before, too-many-of, write_kind}
+use Rattle.array_kept.proofs.NowLaws.{length-more}
+use Rattle.array_kept.proofs.ReplyLaws.{IsOfMissing, none_before, too-many-of}
 use Rattle.grow_asked.specs.declared.window.Window.{Window}
 use Rattle.kept_history.specs.Recorded.{entry_of}
 use Rattle.moving_state.specs.Due.{open_in}
 use Rattle.moving_laws.specs.Writing.{IsWriteLacked, IsFinishedFirst, IsWriteEntered, IsRepliedBehind, IsWriteAnswered}
+use Rattle.moving_state.specs.Left.{visible_by}
+use Rattle.running_words.proofs.Visible.{visible-is, limit-kept}
+use Rattle.running_words.proofs.Replies.{write_kind}
 use Rattle.moving_laws.proofs.WriteLaws.{torn-missing}
 
 -- ---- the entries of a call before its reply
@@ -42,12 +45,12 @@ record IsInner (who : Who) (request : Request) (call : List Entry) : Type 0 wher
   own : All (λ e. IsOfCall who e × StandsInside e.event) call
   torn : AreTornOf request call
   long : (n : ℕ) → fold (λ m e. length_after m e.event) n call ≡ n
-  free : fold (λ (limit : Option ℕ) e. limit_after limit e.event) None call ≡ None
+  free : (limit : Option ℕ) → fold (λ (limit : Option ℕ) e. limit_after limit e.event) limit call ≡ limit
 
 none-inner : (who : Who) (request : Request) → IsInner who request []
-none-inner who request = record { own = All-nil (λ e. IsOfCall who e × StandsInside e.event); torn = tt; long = λ n. refl; free = refl }
+none-inner who request = record { own = All-nil (λ e. IsOfCall who e × StandsInside e.event); torn = tt; long = λ n. refl; free = λ limit. refl }
 
-one-inner : (who : Who) (request : Request) (end : ℕ) (event : Event) → StandsInside event → IsTornOf request event → ((n : ℕ) → length_after n event ≡ n) → limit_after None event ≡ None
+one-inner : (who : Who) (request : Request) (end : ℕ) (event : Event) → StandsInside event → IsTornOf request event → ((n : ℕ) → length_after n event ≡ n) → ((limit : Option ℕ) → limit_after limit event ≡ limit)
     → IsInner who request (entry_of who end event ∷ [])
 one-inner who request end event inside torn long free = record {
   own = All-cons (λ e. IsOfCall who e × StandsInside e.event) (entry_of who end event) [] ((refl, refl), inside) (All-nil (λ e. IsOfCall who e × StandsInside e.event));
@@ -61,7 +64,7 @@ both-inner who request xs ys one two = record {
   own = All-append (λ e. IsOfCall who e × StandsInside e.event) xs ys one.own two.own;
   torn = torn-both request xs ys one.torn two.torn;
   long = λ n. fold-append (λ m e. length_after m e.event) n xs ys ∙ ap (λ (m : ℕ). fold (λ m e. length_after m e.event) m ys) (one.long n) ∙ two.long n;
-  free = fold-append (λ (limit : Option ℕ) e. limit_after limit e.event) None xs ys ∙ ap (λ (o : Option ℕ). fold (λ (limit : Option ℕ) e. limit_after limit e.event) o ys) one.free ∙ two.free;
+  free = λ limit. fold-append (λ (limit : Option ℕ) e. limit_after limit e.event) limit xs ys ∙ ap (λ (o : Option ℕ). fold (λ (limit : Option ℕ) e. limit_after limit e.event) o ys) (one.free limit) ∙ two.free limit;
 }
 
 own-losses : (who : Who) (end : ℕ) (xs : List Event) → AreLossEvents xs → All (λ e. IsOfCall who e × StandsInside e.event) (entries_of who end xs)
@@ -78,12 +81,12 @@ losses-inner who request end roles spares = record {
   torn = torn-losses request who end (losses_of roles spares) (losses-are roles spares);
   long = λ n. subst (λ (l : List Event). fold (λ m e. length_after m e.event) n (entries_of who end l) ≡ n) (append-nil (losses_of roles spares))
       (length-losses who end (losses_of roles spares) [] (losses-are roles spares) n);
-  free = subst (λ (l : List Event). fold (λ (limit : Option ℕ) e. limit_after limit e.event) None (entries_of who end l) ≡ None) (append-nil (losses_of roles spares))
-      (limit-losses who end (losses_of roles spares) [] (losses-are roles spares) None);
+  free = λ limit. subst (λ (l : List Event). fold (λ (limit : Option ℕ) e. limit_after limit e.event) limit (entries_of who end l) ≡ limit) (append-nil (losses_of roles spares))
+      (limit-losses who end (losses_of roles spares) [] (losses-are roles spares) limit);
 }
 
 -- losses, and an event behind them
-behind-inner : (who : Who) (request : Request) (end roles spares : ℕ) (event : Event) → StandsInside event → IsTornOf request event → ((n : ℕ) → length_after n event ≡ n) → limit_after None event ≡ None
+behind-inner : (who : Who) (request : Request) (end roles spares : ℕ) (event : Event) → StandsInside event → IsTornOf request event → ((n : ℕ) → length_after n event ≡ n) → ((limit : Option ℕ) → limit_after limit event ≡ limit)
     → IsInner who request (entries_of who end (losses_of roles spares ++ event ∷ []))
 behind-inner who request end roles spares event inside torn long free =
     subst (IsInner who request) (sym (entries-both who end (losses_of roles spares) (event ∷ [])))
@@ -99,9 +102,9 @@ torn-own request e (z ∷ zs) tail none torn = by (is_same_call e z) (torn-own r
     by true rest = (torn.0, rest)
     by false rest = tt
 
-module _ (size : ℕ) (request : Request) (who : Who) (old : List Entry) (number : who.number ≡ next_number who.caller old) (sized : length_of size old ≡ size) (unlimited : limit_of old ≡ None) where
-  all-visible : (call : List Entry) → IsInner who request call → visible_of size (old ++ call) ≡ size
-  all-visible call inner = visible-is size (old ++ call) (length-more size old call sized (inner.long size)) (limit-more old call unlimited inner.free)
+module _ (size : ℕ) (limit : Option ℕ) (request : Request) (who : Who) (old : List Entry) (number : who.number ≡ next_number who.caller old) (sized : length_of size old ≡ size) (limited : limit_of old ≡ limit) where
+  as-visible : (call : List Entry) → IsInner who request call → visible_of size (old ++ call) ≡ visible_by size limit
+  as-visible call inner = visible-is size limit (old ++ call) (length-more size old call sized (inner.long size)) (limit-kept limit old call limited (inner.free limit))
 
   replied-behind : (new call : List Entry) (end : ℕ) (event : Event) → IsInner who request call → new ≡ old ++ (call ++ entry_of who end event ∷ [])
       → ((before : List Entry) → OneShapeAnswers size (old ++ call) before request event) → IsRepliedBehind size request who old new event
@@ -135,7 +138,7 @@ finished-before : (window : Window) (at to : ℕ) (body : List Sector) (who : Wh
 finished-before window at to body who old mid left (inl (touches, behind)) = record {
   pre = entries_of who behind.end (losses_of behind.roles behind.spares ++ Step FinishesWindow left ∷ []);
   is = behind.is;
-  inner = behind-inner who (AsksWrite at body) behind.end behind.roles behind.spares (Step FinishesWindow left) tt tt (λ n. refl) refl;
+  inner = behind-inner who (AsksWrite at body) behind.end behind.roles behind.spares (Step FinishesWindow left) tt tt (λ n. refl) (λ limit. refl);
 }
 finished-before window at to body who old mid left (inr (none, is)) = nothing-before who (AsksWrite at body) old mid is
 
@@ -145,14 +148,15 @@ pub lacked-missing : (window : Window) (relied from to : ℕ) (m : Members) (ref
 lacked-missing window relied from to m refusal (inl unwritten) = torn-missing (open_in window) relied from to m refusal unwritten
 lacked-missing window relied from to m refusal (inr (touches, many)) = too-many-of m refusal many
 
-module _ (window : Window) (size relied at to : ℕ) (body : List Sector) (who : Who) (old new : List Entry) (m m' : Members) (left : ℕ) (end-is : to ≡ at + length body)
-    (number : who.number ≡ next_number who.caller old) (sized : length_of size old ≡ size) (unlimited : limit_of old ≡ None) where
+module _ (window : Window) (size : ℕ) (limit : Option ℕ) (relied at to : ℕ) (body : List Sector) (who : Who) (old new : List Entry) (m m' : Members) (left : ℕ) (end-is : to ≡ at + length body)
+    (number : who.number ≡ next_number who.caller old) (sized : length_of size old ≡ size) (limited : limit_of old ≡ limit) where
   -- why it is refused fits
-  refused-fits : (refusal : Refusal) → IsRefusedFor size to (IsWriteLacked window relied at to) m m' refusal → (call : List Entry) → IsInner who (AsksWrite at body) call
+  refused-fits : (refusal : Refusal) → IsRefusedFor (visible_by size limit) to (IsWriteLacked window relied at to) m m' refusal → (call : List Entry) → IsInner who (AsksWrite at body) call
       → (before : List Entry) → OneShapeAnswers size (old ++ call) before (AsksWrite at body) (Refused refusal)
-  refused-fits (PastEnd told) why call inner = (write_kind at body).past size told (old ++ call) (all-visible size (AsksWrite at body) who old number sized unlimited call inner) (subst (λ (n : ℕ). size < n) end-is why.1)
-  refused-fits refusal why call inner = (write_kind at body).missing size refusal (old ++ call) (all-visible size (AsksWrite at body) who old number sized unlimited call inner)
-      (subst (λ (n : ℕ). n ≤ size) end-is why.0) (lacked-missing window relied at to m' refusal why.1)
+  refused-fits (PastEnd told) why call inner =
+      (write_kind at body).past size (visible_by size limit) told (old ++ call) (as-visible size limit (AsksWrite at body) who old number sized limited call inner) (subst (λ (n : ℕ). visible_by size limit < n) end-is why.1)
+  refused-fits refusal why call inner = (write_kind at body).missing size (visible_by size limit) refusal (old ++ call) (as-visible size limit (AsksWrite at body) who old number sized limited call inner)
+      (subst (λ (n : ℕ). n ≤ visible_by size limit) end-is why.0) (lacked-missing window relied at to m' refusal why.1)
 
   -- behind the losses of the write
   tail-losses : (mid : List Entry) → IsBefore who (AsksWrite at body) old mid → (end roles spares : ℕ) (event : Event) → new ≡ mid ++ entries_of who end (losses_of roles spares ++ event ∷ [])
@@ -161,23 +165,23 @@ module _ (window : Window) (size relied at to : ℕ) (body : List Sector) (who :
   tail-losses mid first end roles spares event is answers =
       let xs = entries_of who end (losses_of roles spares) in
       let inner = both-inner who (AsksWrite at body) first.pre xs first.inner (losses-inner who (AsksWrite at body) end roles spares) in
-      replied-behind size (AsksWrite at body) who old number sized unlimited new (first.pre ++ xs) end event inner
+      replied-behind size limit (AsksWrite at body) who old number sized limited new (first.pre ++ xs) end event inner
       (behind-two old first.pre mid new xs (entry_of who end event) first.is (is ∙ ap (λ (l : List Entry). mid ++ l) (entries-both who end (losses_of roles spares) (event ∷ []))))
       (answers (first.pre ++ xs) inner)
 
   -- and behind what it tore
   tail-torn : (mid : List Entry) → IsBefore who (AsksWrite at body) old mid → (end roles spares : ℕ) (torn : Bool) (refusal : Refusal) → new ≡ mid ++ entries_of who end (failure_events roles spares torn at body refusal)
-      → IsRefusedFor size to (IsWriteLacked window relied at to) m m' refusal → IsRepliedBehind size (AsksWrite at body) who old new (Refused refusal)
+      → IsRefusedFor (visible_by size limit) to (IsWriteLacked window relied at to) m m' refusal → IsRepliedBehind size (AsksWrite at body) who old new (Refused refusal)
   tail-torn mid first end roles spares false refusal is why = tail-losses mid first end roles spares (Refused refusal) is (refused-fits refusal why)
   tail-torn mid first end roles spares true refusal is why =
       let xs = entries_of who end (losses_of roles spares ++ Torn at body ∷ []) in
-      let inner = both-inner who (AsksWrite at body) first.pre xs first.inner (behind-inner who (AsksWrite at body) end roles spares (Torn at body) tt (refl, refl) (λ n. refl) refl) in
-      replied-behind size (AsksWrite at body) who old number sized unlimited new (first.pre ++ xs) end (Refused refusal) inner
+      let inner = both-inner who (AsksWrite at body) first.pre xs first.inner (behind-inner who (AsksWrite at body) end roles spares (Torn at body) tt (refl, refl) (λ n. refl) (λ limit. refl)) in
+      replied-behind size limit (AsksWrite at body) who old number sized limited new (first.pre ++ xs) end (Refused refusal) inner
       (behind-two old first.pre mid new xs (entry_of who end (Refused refusal)) first.is
       (is ∙ ap (λ (l : List Entry). mid ++ l) (entries-both who end (losses_of roles spares ++ Torn at body ∷ []) (Refused refusal ∷ []))))
       (refused-fits refusal why (first.pre ++ xs) inner)
 
-  pub write-answered : {T : Type 0} (result : Result T AnyFault) → IsWriteEntered window at to body who old new left result → IsCausedBy size to (IsWriteLacked window relied at to) m m' result
+  pub write-answered : {T : Type 0} (result : Result T AnyFault) → IsWriteEntered window at to body who old new left result → IsCausedBy (visible_by size limit) to (IsWriteLacked window relied at to) m m' result
       → IsWriteAnswered size at body who old new result
   write-answered (Ok x) (mid, first, behind) caused = tail-losses mid (finished-before window at to body who old mid left first) behind.end behind.roles behind.spares (Wrote at body) behind.is (λ call inner before. (refl, refl))
   write-answered (Err (IsRefusedWith refusal)) (mid, first, roles, spares, torn, end, is) caused =

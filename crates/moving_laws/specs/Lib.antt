@@ -2,6 +2,7 @@ pub mod Ready
 pub mod Writing
 pub mod Steps
 pub mod Mending
+pub mod Refusing
 pub use Rattle.mending_kept.specs.course_mends_Mended
 pub use Rattle.mending_kept.specs.moving_kept_Moving
 pub use Rattle.running_words.specs.Adding as running_words_Adding
@@ -11,6 +12,7 @@ pub use Rattle.mending_kept.specs.window_calls_Fetching
 pub use Rattle.mending_kept.specs.window_calls_Finishing
 pub use Rattle.moving_state.specs.Due as moving_state_Due
 pub use Rattle.moving_state.specs.First as moving_state_First
+pub use Rattle.moving_state.specs.Left as moving_state_Left
 pub use Rattle.moving_state.specs.declared.stepping.Due as moving_state_the_Due
 pub use Rattle.moving_state.specs.declared.stepping.Due.TheVariants as moving_state_the_Due_TheVariants
 pub use Rattle.running_words.specs.Plans as running_words_Plans

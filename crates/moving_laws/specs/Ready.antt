@@ -1,5 +1,5 @@
 -- What an array in a reshape keeps between its calls.
-use Rattle.std.specs.Prelude.{◌≡◌, ℕ, ◌-◌, ◌*◌, ◌<◌, ◌≤◌, false, List, [], length, take, None}
+use Rattle.std.specs.Prelude.{◌≡◌, ℕ, ◌-◌, ◌*◌, ◌<◌, ◌≤◌, false, List, [], length, take, Option}
 use Rattle.md_base.specs.Shapes.{has_slot}
 use Rattle.md_base.specs.declared.places.Span.{Span}
 use Rattle.bank.specs.declared.bank.Operation.{Operation}
@@ -29,14 +29,14 @@ bytes_in Closed buffer = []
 bytes_in (Entered span copied sectioned) buffer = take (512 * (span.hi - span.lo)) buffer
 bytes_in (Unsure span) buffer = take (512 * (span.hi - span.lo)) buffer
 
--- The array keeps the record of its reshape. The entries tell the length of its list and limit it nowhere, where none of them takes a role's
+-- The array keeps the record of its reshape. The entries tell the length of its list and the limit of its visible size, where none of them takes a role's
 -- holder no role is missing, each slot that wasn't found sound has failed, and the backup where a window is unsure, the window's buffer has room for each window, and there is room for the entries of so many
 -- steps and of its end, and for the rows of one call in two regions.
 pub record IsReady (tells : Type 0) (given : Given) (tape : List Operation) (scope : Scope) (first : ℕ) (entries : List Entry)
-    (members : Members) (work : Work) (course : Course) (ahead : PhasesLeft) (window : List ℕ) (faults : ℕ → ℕ) (steps room rows buffer far_rows far_buffer : ℕ) : Type 0 where
+    (members : Members) (work : Work) (course : Course) (ahead : PhasesLeft) (limit : Option ℕ) (window : List ℕ) (faults : ℕ → ℕ) (steps room rows buffer far_rows far_buffer : ℕ) : Type 0 where
   pub kept : IsMoving tells given tape scope first entries members (is_carried work) work.resync course (bytes_in course.window window) (left_in work members course ahead)
   pub sized : length_of (list_length members.newest) entries ≡ list_length members.newest
-  pub unlimited : limit_of entries ≡ None
+  pub limited : limit_of entries ≡ limit
   pub full : tells → TakesNone (world_in given tape scope first) entries → AreWhole members
   pub planned : AreSound (final_shape members.newest) members.newest.size (phases_of ahead)
   pub wide : 512 * reach_of members.newest ≤ length window

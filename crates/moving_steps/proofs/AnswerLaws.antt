@@ -75,7 +75,7 @@ answer-moves {tells = tells} {given = given} {tape = tape} {scope = scope} {firs
 answer-moves work course ahead who end event was goes caller at_end reply = absurd reply
 
 pub reply-keeps : (work : Work) (m : Members) (course : Course) (ahead : PhasesLeft) (who : Who) (end : ℕ) (event : Event) → IsReplyInReshape work m course ahead event → IsLengthKept (entries_of who end (event ∷ []))
-reply-keeps work m course ahead who end (Stepped done left ended) reply = alone-keeps who end (Stepped done left ended) (λ n. refl) refl
+reply-keeps work m course ahead who end (Stepped done left ended) reply = alone-keeps who end (Stepped done left ended) (λ n. refl) (λ limit. refl)
 reply-keeps work m course ahead who end event reply = absurd reply
 
 pub reply-lossless : (work : Work) (m : Members) (course : Course) (ahead : PhasesLeft) (Had : ℕ → ℕ → Type 0) (before after : ℕ → ℕ) (event : Event) → IsReplyInReshape work m course ahead event → IsLossBy Had before after event
@@ -85,15 +85,15 @@ reply-lossless work m course ahead Had before after event reply = absurd reply
 -- ---- room
 
 pub with-steps : {tells : Type 0} {given : Given} {tape : List Operation} {scope : Scope} {first : ℕ} {entries entries' : List Entry} {members : Members}
-    {work : Work} {course : Course} {ahead : PhasesLeft} {window : List ℕ} {steps steps' room room' rows buffer far_rows far_buffer : ℕ} {faults : ℕ → ℕ}
-    → IsReady tells given tape scope first entries members work course ahead window faults steps room rows buffer far_rows far_buffer → entries' ≡ entries → 50 * steps' < room'
-    → IsReady tells given tape scope first entries' members work course ahead window faults steps' room' rows buffer far_rows far_buffer
-with-steps {tells = tells} {given = given} {tape = tape} {scope = scope} {first = first} {members = members} {work = work} {course = course} {ahead = ahead} {window = window} {steps' = steps'} {room' = room'}
+    {work : Work} {course : Course} {ahead : PhasesLeft} {limit : Option ℕ} {window : List ℕ} {steps steps' room room' rows buffer far_rows far_buffer : ℕ} {faults : ℕ → ℕ}
+    → IsReady tells given tape scope first entries members work course ahead limit window faults steps room rows buffer far_rows far_buffer → entries' ≡ entries → 50 * steps' < room'
+    → IsReady tells given tape scope first entries' members work course ahead limit window faults steps' room' rows buffer far_rows far_buffer
+with-steps {tells = tells} {given = given} {tape = tape} {scope = scope} {first = first} {members = members} {work = work} {course = course} {ahead = ahead} {limit = limit} {window = window} {steps' = steps'} {room' = room'}
     {rows = rows} {buffer = buffer} {far_rows = far_rows} {far_buffer = far_buffer} {faults = faults} was same more =
-    subst (λ (l : List Entry). IsReady tells given tape scope first l members work course ahead window faults steps' room' rows buffer far_rows far_buffer) (sym same) (record {
+    subst (λ (l : List Entry). IsReady tells given tape scope first l members work course ahead limit window faults steps' room' rows buffer far_rows far_buffer) (sym same) (record {
       kept = was.kept;
       sized = was.sized;
-      unlimited = was.unlimited;
+      limited = was.limited;
       full = was.full;
       planned = was.planned;
       wide = was.wide;

@@ -13,6 +13,7 @@ pub use Rattle.moving.proofs.moving_state_DueLaws
 pub use Rattle.moving.proofs.moving_state_ReshapeLaws
 pub use Rattle.moving.proofs.running_words_Called
 pub use Rattle.moving.proofs.running_words_Lengths
+pub use Rattle.moving.proofs.running_words_Visible
 pub use Rattle.still_kept.proofs.Bridges as still_kept_Bridges
 pub use Rattle.still_kept.proofs.Leaving as still_kept_Leaving
 pub use Rattle.still_kept.proofs.Quiet as still_kept_Quiet

@@ -1,5 +1,5 @@
 -- What an opening found runs, with or without a reshape.
-use Rattle.std.proofs.Common.{◌≡◌, ◌⊎◌, inl, inr, ℕ, ◌<◌, ◌≤◌, Bool, true, false, MatchBool, List, [], length, Option, Some, IfSome, Result, Ok, Err, IfOk, IfErr, sym, ◌∙◌, ap, subst, arith}
+use Rattle.std.proofs.Common.{◌≡◌, ◌⊎◌, inl, inr, ℕ, ◌<◌, ◌≤◌, Bool, true, false, MatchBool, List, [], length, Option, Some, None, IfSome, Result, Ok, Err, IfOk, IfErr, sym, ◌∙◌, ap, subst, arith}
 use Rattle.md_base.specs.declared.answers.Fault.{Fault}
 use Rattle.md_base.specs.declared.answers.Fault.TheVariants.{Refused, NoMemory}
 use Rattle.md_base.specs.declared.answers.Refusal.TheVariants.{BackupAbsent}
@@ -67,13 +67,14 @@ opened-still bank c backup asked opened is still = record { elected = is.elected
 
 pub still-found : {B tells : Type 0} (tape_of : B → List Operation) (faults_of : B → ℕ → ℕ) (device : B) (bank : Given) (backup : Option ℕ) (asked : Option (List ℕ)) (before : ℕ → ℕ) (opened : Opened)
     → IsOpened tells bank (contents bank.start (tape_of device) (length (tape_of device))) backup asked opened → AreGiven bank opened.given before (faults_of device)
-    → IfSome asked (λ uuid. opened.members.newest.set_uuid ≡ uuid) → (run : RunningParts B) → IsAdopted tells device (tape_of device) opened.given backup opened.members run.parts → phases_of run.ahead ≡ []
+    → IfSome asked (λ uuid. opened.members.newest.set_uuid ≡ uuid) → (run : RunningParts B) → IsAdopted tells device (tape_of device) opened.given backup opened.members run.parts → phases_of run.ahead ≡ [] → run.limit ≡ None
     → IsRunningFound tells bank (tape_of run.parts.bank) backup asked before (faults_of run.parts.bank) run
-still-found {B = B} {tells = tells} tape_of faults_of device bank backup asked before opened is given named run did planless =
+still-found {B = B} {tells = tells} tape_of faults_of device bank backup asked before opened is given named run did planless unlimited =
     as-told tells bank (tape_of run.parts.bank) backup asked before (faults_of run.parts.bank) run false (ap (λ (m : Members). is_reshaping m.newest) did.members_are ∙ is.still)
     (subst (λ (b : B). IsStillFound tells bank (tape_of b) backup asked before (faults_of b) run) (sym did.bank_is) (record {
       assembled = assembled device bank (tape_of device) backup opened run.parts did asked before (faults_of device) is given named;
       planless = planless;
+      unlimited = unlimited;
     }))
 
 -- ---- in a reshape

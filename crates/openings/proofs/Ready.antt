@@ -58,11 +58,11 @@ module _ {tells : Type 0} {bank : Given} {tape : List Operation} {given backup :
   pub found-ready : {faults : ℕ → ℕ} {room rows buffer far_rows far_buffer : ℕ} → unsure_in window ≡ None → ((slot : ℕ) → slot < bank.slots → has_slot given slot ≡ false → 0 < faults slot) → 512 * reach_of former.newest ≤ length bytes
       → 1 ≤ room → 128 ≤ rows → 1048576 ≤ buffer → 128 ≤ far_rows → 1048576 ≤ far_buffer
       → IsReady tells bank tape (scope_in bank former.newest.set_uuid given (Some backup)) first (opening_entries first (members_without lost former)) (members_without lost former)
-      (moving_work (members_without lost former)) (found_course window) planless bytes faults 0 room rows buffer far_rows far_buffer
+      (moving_work (members_without lost former)) (found_course window) planless None bytes faults 0 room rows buffer far_rows far_buffer
   found-ready sure failed wide room_left rows_fit buffer_fits far_rows_fit far_buffer_fits = record {
     kept = openings-move tells bank tape given backup lost first (left_in (moving_work m) m (found_course window) planless) former window (bytes_in window bytes) (is_carried (moving_work m)) opened recovering among first_is;
     sized = same-length opener first (reading_of m) (role_count former.newest) (list_length former.newest);
-    unlimited = no-limit opener first (reading_of m) (role_count former.newest);
+    limited = no-limit opener first (reading_of m) (role_count former.newest);
     full = λ t. whole;
     planned = tt;
     wide = wide;
@@ -80,14 +80,14 @@ module _ {tells : Type 0} {bank : Given} {tape : List Operation} {given backup :
       → scope ≡ scope_in bank former.newest.set_uuid given (Some backup) → first' ≡ first → entries ≡ opening_entries first (members_without lost former) → members ≡ members_without lost former
       → work ≡ moving_work (members_without lost former) → unsure_in window ≡ None → ((slot : ℕ) → slot < bank.slots → has_slot given slot ≡ false → 0 < faults slot) → 512 * reach_of former.newest ≤ length bytes
       → 1 ≤ room → 128 ≤ rows → 1048576 ≤ buffer → 128 ≤ far_rows → 1048576 ≤ far_buffer
-      → IsReady tells bank tape scope first' entries members work (found_course window) planless bytes faults 0 room rows buffer far_rows far_buffer
+      → IsReady tells bank tape scope first' entries members work (found_course window) planless None bytes faults 0 room rows buffer far_rows far_buffer
   ready-by {faults = faults} {room = room} {rows = rows} {buffer = buffer} {far_rows = far_rows} {far_buffer = far_buffer} {scope = scope} {first' = first'} {entries = entries} {members = members} {work = work}
       scope_is first_same entries_are members_are work_is sure failed wide room_left rows_fit buffer_fits far_rows_fit far_buffer_fits =
-      subst (λ (s : Scope). IsReady tells bank tape s first' entries members work (found_course window) planless bytes faults 0 room rows buffer far_rows far_buffer) (sym scope_is)
-      (subst (λ (n : ℕ). IsReady tells bank tape at n entries members work (found_course window) planless bytes faults 0 room rows buffer far_rows far_buffer) (sym first_same)
-      (subst (λ (l : List Entry). IsReady tells bank tape at first l members work (found_course window) planless bytes faults 0 room rows buffer far_rows far_buffer) (sym entries_are)
-      (subst (λ (k : Members). IsReady tells bank tape at first (opening_entries first (members_without lost former)) k work (found_course window) planless bytes faults 0 room rows buffer far_rows far_buffer) (sym members_are)
-      (subst (λ (w : Work). IsReady tells bank tape at first (opening_entries first (members_without lost former)) (members_without lost former) w (found_course window) planless bytes faults 0 room rows buffer far_rows far_buffer)
+      subst (λ (s : Scope). IsReady tells bank tape s first' entries members work (found_course window) planless None bytes faults 0 room rows buffer far_rows far_buffer) (sym scope_is)
+      (subst (λ (n : ℕ). IsReady tells bank tape at n entries members work (found_course window) planless None bytes faults 0 room rows buffer far_rows far_buffer) (sym first_same)
+      (subst (λ (l : List Entry). IsReady tells bank tape at first l members work (found_course window) planless None bytes faults 0 room rows buffer far_rows far_buffer) (sym entries_are)
+      (subst (λ (k : Members). IsReady tells bank tape at first (opening_entries first (members_without lost former)) k work (found_course window) planless None bytes faults 0 room rows buffer far_rows far_buffer) (sym members_are)
+      (subst (λ (w : Work). IsReady tells bank tape at first (opening_entries first (members_without lost former)) (members_without lost former) w (found_course window) planless None bytes faults 0 room rows buffer far_rows far_buffer)
       (sym work_is) (found-ready sure failed wide room_left rows_fit buffer_fits far_rows_fit far_buffer_fits)))))
     where
       at : Scope

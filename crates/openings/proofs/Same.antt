@@ -47,4 +47,5 @@ adopted-same {tells = tells} bank tape tape' slots backup former made same is = 
   course = is.course;
   window = λ t. (subst (λ (l : List Operation). IsMovingAdopted tells bank l slots backup former made) (sym (same t)) is).window t;
   planless = is.planless;
+  unlimited = is.unlimited;
 }

@@ -1,5 +1,5 @@
 -- An array in a reshape that is taken over from its superblocks.
-use Rattle.std.specs.Prelude.{◌≡◌, ◌⊎◌, ℕ, List, [], length, replicate, Some}
+use Rattle.std.specs.Prelude.{◌≡◌, ◌⊎◌, ℕ, List, [], length, replicate, Some, None}
 use Rattle.md_base.specs.Search.{tabulate}
 use Rattle.md_base.specs.declared.answers.Fault.{Fault}
 use Rattle.md_base.specs.declared.answers.Fault.TheVariants.{Refused, NoMemory}
@@ -26,7 +26,7 @@ moving_work members = record {
 }
 
 -- An array in a reshape that was just taken over, as its superblocks say, but that the slots are lost which recover a role: the losses that it found stand first. Its window is the one
--- that the backup's header tells, with nothing copied and nothing zeroed, and it has no plan behind the reshape.
+-- that the backup's header tells, with nothing copied and nothing zeroed, and it has no plan behind the reshape, and no limit.
 pub record IsMovingAdopted {B : Type 0} (tells : Type 0) (bank : Given) (tape : List Operation) (slots backup : ℕ) (former : Members) (made : RunningParts B) : Type 0 where
   pub uuid : made.parts.uuid ≡ former.newest.set_uuid
   pub given : made.parts.given ≡ slots
@@ -41,6 +41,7 @@ pub record IsMovingAdopted {B : Type 0} (tells : Type 0) (bank : Given) (tape : 
   pub course : made.course ≡ found_course made.course.window
   pub window : tells → made.course.window ≡ window_for (open_by (scope_of bank slots backup former) former.newest (header_in (scope_of bank slots backup former) (present bank tape)))
   pub planless : phases_of made.ahead ≡ []
+  pub unlimited : made.limit ≡ None
 
 -- why it isn't taken over: there was no memory, before any device call, or the backup failed
 abbrev pub IsNotAdopted : {B : Type 0} → ℕ → B → B → (ℕ → ℕ) → (ℕ → ℕ) → Fault → Type 0

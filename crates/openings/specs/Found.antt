@@ -1,5 +1,5 @@
 -- An array that an opening found, and that runs.
-use Rattle.std.specs.Prelude.{◌≡◌, ℕ, true, List, [], length, map, Option, Some, IfSome, MatchBool}
+use Rattle.std.specs.Prelude.{◌≡◌, ℕ, true, List, [], length, map, Option, Some, None, IfSome, MatchBool}
 use Rattle.bank.specs.declared.bank.Operation.{Operation}
 use Rattle.bank.specs.Given.{Given}
 use Rattle.bank.specs.Tape.{contents}
@@ -13,10 +13,11 @@ use Rattle.assemble.specs.Opening.{AreGiven, IsFound}
 use Rattle.assemble.specs.Running.{IsAssembled}
 use Rattle.openings.specs.Adopted.{IsMovingAdopted}
 
--- An array without an active reshape: it was just found, of the uuid that was asked for, if one was, and has no plan.
+-- An array without an active reshape: it was just found, of the uuid that was asked for, if one was, and has neither a plan nor a limit.
 pub record IsStillFound {B : Type 0} (tells : Type 0) (bank : Given) (tape : List Operation) (backup : Option ℕ) (asked : Option (List ℕ)) (before after : ℕ → ℕ) (found : RunningParts B) : Type 0 where
   pub assembled : IsAssembled tells bank tape backup asked before after found.parts
   pub planless : phases_of found.ahead ≡ []
+  pub unlimited : found.limit ≡ None
 
 -- An array in a reshape: what was found is taken over, with its roles as an opening counts them, so that a slot that recovers one counts as absent; and it can do without what is missing.
 pub record IsMovingFound {B : Type 0} (tells : Type 0) (bank : Given) (tape : List Operation) (backup : Option ℕ) (asked : Option (List ℕ)) (before after : ℕ → ℕ) (found : RunningParts B) : Type 0 where

@@ -110,6 +110,7 @@ fn begin_moving<B: Bank>(
         members,
         work,
         ahead,
+        limit: None,
         steps: 0,
         rows: near.rows,
         buffer: near.buffer,

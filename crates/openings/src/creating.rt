@@ -21,7 +21,7 @@ use md_base::Fault;
 use running_steps::running::Running;
 use std::alloc::Global;
 
-/// Makes an array as `make` of `assemble` does, with every role whole and its list zero, and runs it; it has no plan. A refusal hands
+/// Makes an array as `make` of `assemble` does, with every role whole and its list zero, and runs it; it has neither a plan nor a limit. A refusal hands
 /// the bank back, as `make` leaves it; short of memory once it was made, what was made stays in the slots.
 pub fn create_array<B: Bank>(
     alloc: Global,
@@ -33,6 +33,7 @@ pub fn create_array<B: Bank>(
     requires last { IsLastSlot (B.given bank).slots backup }
     ensures created { IfOk result (λ made. IsCreated B.tells (B.given bank) (B.tape made.parts.bank) backup spec made.parts) }
     ensures planless { IfOk result (λ made. phases_of made.ahead ≡ []) }
+    ensures unlimited { IfOk result (λ made. made.limit ≡ None) }
     ensures unrefused { IfOk result (λ made. create_refusal (B.given bank) backup spec ≡ None) }
     ensures free { IfOk result (λ made. B.tells → used_slot (scope_of (B.given bank) backup made.parts.given spec.uuid)
         (present (B.given bank) (B.tape bank)) spec.shape.disks ≡ None) }

@@ -1,6 +1,6 @@
 //! An array that is found in a bank's slots, and runs.
 
-ghost use Rattle.std.specs.Prelude.{◌≡◌, ◌<◌, ◌≤◌, ℕ, [], false, length, Some, IfOk, IfErr, IfSome};
+ghost use Rattle.std.specs.Prelude.{◌≡◌, ◌<◌, ◌≤◌, ℕ, [], false, length, Some, None, IfOk, IfErr, IfSome};
 ghost use Rattle.md_base.specs.declared.answers.Fault.TheVariants.{NoMemory as WantsMemory};
 ghost use Rattle.md_base.specs.Shapes.{has_slot};
 ghost use Rattle.bank.specs.Tape.{contents};
@@ -38,6 +38,7 @@ pub(crate) fn run_still<B: Bank>(
     requires aside { (slot : ℕ) → backup ≡ Some slot → (has_spare found.members.spares slot ≡ false) × ((role : ℕ) → Held found.members role slot → ⊥) }
     ensures run { IfOk result (λ run. IsAdopted B.tells bank (B.tape bank) found.given backup found.members run.parts) }
     ensures planless { IfOk result (λ run. phases_of run.ahead ≡ []) }
+    ensures unlimited { IfOk result (λ run. run.limit ≡ None) }
     ensures handed_back { IfErr result (λ e. e.0 ≡ bank) }
     ensures short { IfErr result (λ e. e.1 ≡ WantsMemory) }
 {
@@ -81,7 +82,7 @@ fn run_moving<B: Bank>(
 
 /// Opens the array with this uuid, or without one that of the first superblock in a member slot, which are all slots but
 /// the backup, and runs it, in a reshape or not as its superblocks tell; its first entries tell the roles that aren't whole,
-/// and it has no plan. The superblocks are read, and all slots are flushed, so that a stop leaves what they hold; where a
+/// and it has neither a plan nor a limit of its visible size. The superblocks are read, and all slots are flushed, so that a stop leaves what they hold; where a
 /// reshape is active, the section in the backup is read too. A slot that fails counts as absent. It writes nothing. It is
 /// refused for the first cause that what the slots hold gives, with the bank handed back.
 pub fn open_running<B: Bank>(

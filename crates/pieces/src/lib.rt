@@ -9,7 +9,8 @@ use superblocks::Members;
 use views::Work;
 
 /// What an array owns while it goes from one state to another: its bank and history, what is known of the superblocks, what is under
-/// way in it, the phases of a plan that haven't begun, the steps that there is room for, and the buffers of one call in two regions.
+/// way in it, the phases of a plan that haven't begun, the limit of the visible size in sectors, the steps that there is room for, and
+/// the buffers of one call in two regions.
 #[derive(Drop)]
 pub struct Pieces<B: Bank> {
     pub alloc: Global,
@@ -19,6 +20,7 @@ pub struct Pieces<B: Bank> {
     pub members: Members,
     pub work: Work,
     pub ahead: PhasesLeft,
+    pub limit: Option<u64>,
     pub steps: u64,
     pub rows: Vec<u64>,
     pub buffer: Vec<u8>,

@@ -28,7 +28,7 @@ use Rattle.openings.specs.assemble_Running.{OpensWithZeros}
 use Rattle.std.specs.List.{All}
 use Rattle.std.proofs.lemmas.List.Elements.{All-head, All-tail}
 use Rattle.openings.specs.array_the_CreateSpec.{CreateSpec}
-use Rattle.script.specs.declared.lines.Line.TheVariants.{Create, Read, Write, Flush, Fail, Add, Grow, Step, Wait, Stop, Halt, Detail, Mdstat, Examine, Assemble}
+use Rattle.script.specs.declared.lines.Line.TheVariants.{Create, Read, Write, Flush, Fail, Add, ArraySize, Grow, Step, Wait, Stop, Halt, Detail, Mdstat, Examine, Assemble}
 use Rattle.flat_history.specs.declared.events.Entry.{Entry}
 use Rattle.flat_history.specs.declared.events.Event.TheVariants.{Shown}
 use Rattle.flat_history.specs.Plain.{entries_of}
@@ -249,6 +249,7 @@ module _ (was now : Setting) (wider : IsWider was now) (end later : ℕ) (moved 
   refused_stays true Flush refusal is = is
   refused_stays true (Fail role) refusal is = is
   refused_stays true (Add slot) refusal is = is
+  refused_stays true (ArraySize limit) refusal is = is
   refused_stays true (Grow wish) refusal is = is
   refused_stays true (Step most) refusal is = is
   refused_stays true Wait refusal is = is
@@ -264,6 +265,7 @@ module _ (was now : Setting) (wider : IsWider was now) (end later : ℕ) (moved 
   refused_stays false Flush refusal is = is
   refused_stays false (Fail role) refusal is = is
   refused_stays false (Add slot) refusal is = is
+  refused_stays false (ArraySize limit) refusal is = is
   refused_stays false (Grow wish) refusal is = is
   refused_stays false (Step most) refusal is = is
   refused_stays false Wait refusal is = is
@@ -301,6 +303,7 @@ module _ (was now : Setting) (wider : IsWider was now) (end later : ℕ) (moved 
   made_wider histories epoch Flush is = is
   made_wider histories epoch (Fail role) is = is
   made_wider histories epoch (Add slot) is = is
+  made_wider histories epoch (ArraySize limit) is = is
   made_wider histories epoch (Grow wish) is = is
   made_wider histories epoch (Step most) is = is
   made_wider histories epoch Wait is = is
@@ -318,6 +321,7 @@ module _ (was now : Setting) (wider : IsWider was now) (end later : ℕ) (moved 
   found_wider histories epoch Flush status is = is
   found_wider histories epoch (Fail role) status is = is
   found_wider histories epoch (Add slot) status is = is
+  found_wider histories epoch (ArraySize limit) status is = is
   found_wider histories epoch (Grow wish) status is = is
   found_wider histories epoch (Step most) status is = is
   found_wider histories epoch Wait status is = is
@@ -378,6 +382,7 @@ made_stays setting olds news grown epoch end (Write at count seed) is = is
 made_stays setting olds news grown epoch end Flush is = is
 made_stays setting olds news grown epoch end (Fail role) is = is
 made_stays setting olds news grown epoch end (Add slot) is = is
+made_stays setting olds news grown epoch end (ArraySize limit) is = is
 made_stays setting olds news grown epoch end (Grow wish) is = is
 made_stays setting olds news grown epoch end (Step most) is = is
 made_stays setting olds news grown epoch end Wait is = is
@@ -407,6 +412,7 @@ found_stays setting olds news grown epoch end (Write at count seed) status is = 
 found_stays setting olds news grown epoch end Flush status is = is
 found_stays setting olds news grown epoch end (Fail role) status is = is
 found_stays setting olds news grown epoch end (Add slot) status is = is
+found_stays setting olds news grown epoch end (ArraySize limit) status is = is
 found_stays setting olds news grown epoch end (Grow wish) status is = is
 found_stays setting olds news grown epoch end (Step most) status is = is
 found_stays setting olds news grown epoch end Wait status is = is

@@ -2,7 +2,6 @@ pub mod AskLaws
 pub mod Causes
 pub mod Growth
 pub mod Legal
-pub mod Limits
 pub mod Losses
 pub mod Plain
 pub mod PlainReplies

@@ -20,7 +20,7 @@ use Rattle.flat_history.specs.Transfers.{IsRefusedAt, IsPastEnd}
 use Rattle.openings.specs.running_words_Plans.{turns_shape}
 use Rattle.openings.specs.running_replies_Replies.{may_end_early, DidRunningSteps, RunningAnswers, RunningFits}
 use Rattle.openings.specs.still_laws_Plain.{MayTellPlainly}
-use Rattle.run_laws.specs.Plain.{is_grow}
+use Rattle.run_laws.specs.Plain.{asks_to_turn}
 
 -- ---- what none of some entries is, none of one call before another is
 
@@ -100,7 +100,7 @@ refused-less visible to refusal plain is = by (nat_lt visible to) is
 
 -- ---- a reply
 
-answers-plain : (size : ℕ) (before call : List Entry) (request : Request) (event : Event) → list_any (λ e. turns_shape e.event) call ≡ false → MayTellPlainly event → is_grow request ≡ false
+answers-plain : (size : ℕ) (before call : List Entry) (request : Request) (event : Event) → list_any (λ e. turns_shape e.event) call ≡ false → MayTellPlainly event → asks_to_turn request ≡ false
     → RunningAnswers size before call request event → OneShapeAnswers size before call request event
 answers-plain size before call (AsksRead at count) event none plain other is = is
 answers-plain size before call (AsksWrite at body) event none plain other is = by event plain is
@@ -117,11 +117,11 @@ answers-plain size before call (AsksSteps most) event none plain other is = by e
     by (Stepped done left ended) plain is = (did-plain call most done left ended none (is.0), plain)
     by (Refused Nothing) plain is = tt
     by event plain is = absurd is
-answers-plain size before call (AsksVisible limit) event none plain other is = absurd is
+answers-plain size before call (AsksVisible limit) event none plain other is = absurd (cc)
 answers-plain size before call (AsksGrow wish) event none plain other is = absurd (cc)
 answers-plain size before call AsksShow event none plain other is = absurd is
 
-pub plain-replies : (size : ℕ) (before : List Entry) (e : Entry) (request : Request) → list_any (λ e. turns_shape e.event) before ≡ false → MayTellPlainly e.event → is_grow request ≡ false
+pub plain-replies : (size : ℕ) (before : List Entry) (e : Entry) (request : Request) → list_any (λ e. turns_shape e.event) before ≡ false → MayTellPlainly e.event → asks_to_turn request ≡ false
     → RunningFits size before e request → OneShapeFits size before e request
 plain-replies size before e request none plain other fits = record {
   answers = answers-plain size before (call_before before e) request e.event (none-before (λ e. turns_shape e.event) before e none) plain other fits.answers;

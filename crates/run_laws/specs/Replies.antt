@@ -10,7 +10,7 @@ use Rattle.script.specs.declared.lines.CreateLine.{CreateLine}
 use Rattle.flat_history.specs.declared.events.Entry.{Entry}
 use Rattle.flat_history.specs.declared.events.Event.{Event}
 use Rattle.flat_history.specs.declared.events.Event.TheVariants.{Stepped}
-use Rattle.flat_history.specs.declared.events.Request.TheVariants.{Read as AsksRead, Write as AsksWrite, Flush as AsksFlush, Fail as AsksFail, Add as AsksAdd, Grow as AsksGrow, Steps as AsksSteps}
+use Rattle.flat_history.specs.declared.events.Request.TheVariants.{Read as AsksRead, Write as AsksWrite, Flush as AsksFlush, Fail as AsksFail, Add as AsksAdd, Visible as AsksVisible, Grow as AsksGrow, Steps as AsksSteps}
 use Rattle.flat_history.specs.Flat.{rest_of_call, length_of}
 use Rattle.flat_history.specs.Fits.{FitsStop, FitsHalt}
 use Rattle.openings.specs.running_replies_Replies.{RunningFits}
@@ -22,7 +22,7 @@ use Rattle.openings.specs.assemble_Opening.{AreGiven, array_of, scope_of}
 use Rattle.openings.specs.assemble_Made.{used_slot}
 use Rattle.openings.specs.assemble_Running.{OpensWithZeros}
 use Rattle.script.specs.declared.lines.Line.{Line}
-use Rattle.script.specs.declared.lines.Line.TheVariants.{Create, Read, Write, Flush, Fail, Add, Grow, Step, Wait, Stop, Halt, Detail, Mdstat, Examine, Assemble}
+use Rattle.script.specs.declared.lines.Line.TheVariants.{Create, Read, Write, Flush, Fail, Add, ArraySize, Grow, Step, Wait, Stop, Halt, Detail, Mdstat, Examine, Assemble}
 use Rattle.script.specs.declared.lines.Numbered.{Numbered}
 use Rattle.script.specs.declared.reply.Lane.TheVariants.{Script as InScript}
 use Rattle.script.specs.Seeds.{seeded}
@@ -47,13 +47,14 @@ FitsLine size before e (Write at count seed) = RunningFits size before e (AsksWr
 FitsLine size before e Flush = RunningFits size before e AsksFlush
 FitsLine size before e (Fail role) = RunningFits size before e (AsksFail role)
 FitsLine size before e (Add slot) = RunningFits size before e (AsksAdd slot)
+FitsLine size before e (ArraySize limit) = RunningFits size before e (AsksVisible limit)
 FitsLine size before e (Grow wish) = RunningFits size before e (AsksGrow wish)
 FitsLine size before e (Step most) = RunningFits size before e (AsksSteps most)
 FitsLine size before e Wait = ⊥
 FitsLine size before e Stop = FitsStop e.event
 FitsLine size before e Halt = FitsHalt e.event
-FitsLine size before e Detail = IsShown size e.event
-FitsLine size before e Mdstat = IsShown size e.event
+FitsLine size before e Detail = IsShown size before e.event
+FitsLine size before e Mdstat = IsShown size before e.event
 FitsLine size before e (Examine slot) = ⊥
 FitsLine size before e (Assemble uuid) = ⊥
 
@@ -82,6 +83,7 @@ size_made (Write at count seed) = 0
 size_made Flush = 0
 size_made (Fail role) = 0
 size_made (Add slot) = 0
+size_made (ArraySize limit) = 0
 size_made (Grow wish) = 0
 size_made (Step most) = 0
 size_made Wait = 0
@@ -178,6 +180,7 @@ IsMadeBy setting histories epoch end (Write at count seed) = ⊥
 IsMadeBy setting histories epoch end Flush = ⊥
 IsMadeBy setting histories epoch end (Fail role) = ⊥
 IsMadeBy setting histories epoch end (Add slot) = ⊥
+IsMadeBy setting histories epoch end (ArraySize limit) = ⊥
 IsMadeBy setting histories epoch end (Grow wish) = ⊥
 IsMadeBy setting histories epoch end (Step most) = ⊥
 IsMadeBy setting histories epoch end Wait = ⊥
@@ -209,6 +212,7 @@ IsFoundBy setting histories epoch end (Write at count seed) status = ⊥
 IsFoundBy setting histories epoch end Flush status = ⊥
 IsFoundBy setting histories epoch end (Fail role) status = ⊥
 IsFoundBy setting histories epoch end (Add slot) status = ⊥
+IsFoundBy setting histories epoch end (ArraySize limit) status = ⊥
 IsFoundBy setting histories epoch end (Grow wish) status = ⊥
 IsFoundBy setting histories epoch end (Step most) status = ⊥
 IsFoundBy setting histories epoch end Wait status = ⊥
@@ -229,6 +233,7 @@ IsRefusedOutside setting true end (Write at count seed) refusal = ⊥
 IsRefusedOutside setting true end Flush refusal = ⊥
 IsRefusedOutside setting true end (Fail role) refusal = ⊥
 IsRefusedOutside setting true end (Add slot) refusal = ⊥
+IsRefusedOutside setting true end (ArraySize limit) refusal = ⊥
 IsRefusedOutside setting true end (Grow wish) refusal = ⊥
 IsRefusedOutside setting true end (Step most) refusal = ⊥
 IsRefusedOutside setting true end Wait refusal = ⊥
@@ -244,6 +249,7 @@ IsRefusedOutside setting false end (Write at count seed) refusal = refusal ≡ N
 IsRefusedOutside setting false end Flush refusal = refusal ≡ NotRunning
 IsRefusedOutside setting false end (Fail role) refusal = refusal ≡ NotRunning
 IsRefusedOutside setting false end (Add slot) refusal = refusal ≡ NotRunning
+IsRefusedOutside setting false end (ArraySize limit) refusal = refusal ≡ NotRunning
 IsRefusedOutside setting false end (Grow wish) refusal = refusal ≡ NotRunning
 IsRefusedOutside setting false end (Step most) refusal = refusal ≡ NotRunning
 IsRefusedOutside setting false end Wait refusal = refusal ≡ NotRunning

@@ -3,13 +3,14 @@ use Rattle.std.specs.Prelude.{◌≡◌, ℕ, ◌≤◌, List, length, slice_get
 use Rattle.flat_history.specs.declared.events.Entry.{Entry}
 use Rattle.flat_history.specs.declared.events.Event.{Event}
 use Rattle.flat_history.specs.declared.events.Event.TheVariants.{Shown}
+use Rattle.flat_history.specs.Flat.{visible_of}
 use Rattle.openings.specs.running_words_Parts.{RunningParts}
 use Rattle.openings.specs.running_Calls.{IsShownAs}
 
--- the event tells a list of so many sectors, of which all can be read, of at most 16 roles and 32 spares
-abbrev pub IsShown : ℕ → Event → Type 0
-IsShown size (Shown status) = (status.length ≡ size) × (status.visible ≡ size) × (length status.roles ≤ 16) × (length status.spares ≤ 32)
-IsShown size event = ⊥
+-- the event tells a list of so many sectors, how many of them can be read and written by the entries before it, at most 16 roles and at most 32 spares
+abbrev pub IsShown : ℕ → List Entry → Event → Type 0
+IsShown size before (Shown status) = (status.length ≡ size) × (status.visible ≡ visible_of size before) × (length status.roles ≤ 16) × (length status.spares ≤ 32)
+IsShown size before event = ⊥
 
 -- the event tells the array as it is
 abbrev pub TellsArray : {B : Type 0} → RunningParts B → Event → Type 0

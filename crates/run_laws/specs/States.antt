@@ -9,7 +9,7 @@ use Rattle.flat_history.specs.declared.events.Event.{Event}
 use Rattle.flat_history.specs.declared.events.Event.TheVariants.{Lost, SpareLost, Stepped, Refused}
 use Rattle.flat_history.specs.declared.events.LostCause.{LostCause}
 use Rattle.flat_history.specs.declared.events.LostCause.TheVariants.{Absent, Recovering, Command, Fault}
-use Rattle.flat_history.specs.Flat.{rest_of_call, next_number, length_of, limit_of}
+use Rattle.flat_history.specs.Flat.{rest_of_call, next_number, length_of}
 use Rattle.views.specs.Parts.{Parts}
 use Rattle.superblocks.specs.Reading.{list_length}
 use Rattle.openings.specs.running_words_Parts.{RunningParts}
@@ -72,13 +72,12 @@ pub record IsOfScript (history : History) : Type 0 where
 abbrev pub AreOfScript : List History → Type 0
 AreOfScript histories = All IsOfScript histories
 
--- the histories are of the script alone, and that of the array that runs is not ended, tells no other length than that of its list, and limits it nowhere; and there is room for it
+-- the histories are of the script alone, and that of the array that runs is not ended and tells no other length than that of its list; and there is room for it
 pub record IsOwn (before : List History) (running : History) (size count capacity : ℕ) : Type 0 where
   pub former : AreOfScript before
   pub script : IsByScript running
   pub going : AreGoing running.entries
   pub sized : length_of size running.entries ≡ size
-  pub unlimited : limit_of running.entries ≡ None
   pub room : count < capacity
   pub few : count < 2 ^ 32
 

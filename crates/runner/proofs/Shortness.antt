@@ -6,7 +6,7 @@ use Rattle.std.specs.Option.{option_and_then}
 use Rattle.flat_history.specs.declared.events.Entry.{Entry}
 use Rattle.flat_history.specs.declared.events.Event.{Event}
 use Rattle.flat_history.specs.declared.events.Event.TheVariants.{Read as IsRead, Shown}
-use Rattle.flat_history.specs.declared.events.Request.TheVariants.{Read as AsksRead, Write as AsksWrite, Flush as AsksFlush, Fail as AsksFail, Add as AsksAdd, Grow as AsksGrow, Steps as AsksSteps}
+use Rattle.flat_history.specs.declared.events.Request.TheVariants.{Read as AsksRead, Write as AsksWrite, Flush as AsksFlush, Fail as AsksFail, Add as AsksAdd, Visible as AsksVisible, Grow as AsksGrow, Steps as AsksSteps}
 use Rattle.flat_history.specs.Fits.{FitsStop, FitsHalt}
 use Rattle.flat_history.specs.Legal.{call_before}
 use Rattle.flat_history.specs.OneShape.{OneShapeAnswers}
@@ -15,7 +15,7 @@ use Rattle.md_base.specs.declared.wishes.Wish.{Wish}
 use Rattle.script.specs.Script.{is_within_limits}
 use Rattle.script.specs.Seeds.{seeded}
 use Rattle.script.specs.declared.lines.Line.{Line}
-use Rattle.script.specs.declared.lines.Line.TheVariants.{Create, Read, Write, Flush, Fail, Add, Grow, Step, Wait, Stop, Halt, Detail, Mdstat, Examine, Assemble}
+use Rattle.script.specs.declared.lines.Line.TheVariants.{Create, Read, Write, Flush, Fail, Add, ArraySize, Grow, Step, Wait, Stop, Halt, Detail, Mdstat, Examine, Assemble}
 use Rattle.line_answers.specs.run_laws_the_Answered.{Answered}
 use Rattle.line_answers.specs.run_laws_the_Answered_TheVariants.{Inside, Outside as IsOutside}
 use Rattle.line_answers.specs.run_laws_Histories.{History}
@@ -49,6 +49,11 @@ short_add size before call slot (IsRead a b) is = absurd is
 short_add size before call slot (Shown status) is = absurd is
 short_add size before call slot event is = tt
 
+short_visible : (size : ℕ) (before call : List Entry) (limit : Option ℕ) (event : Event) → RunningAnswers size before call (AsksVisible limit) event → IsShort event
+short_visible size before call limit (IsRead a b) is = absurd is
+short_visible size before call limit (Shown status) is = absurd is
+short_visible size before call limit event is = tt
+
 short_grow : (size : ℕ) (before call : List Entry) (wish : Wish) (event : Event) → RunningAnswers size before call (AsksGrow wish) event → IsShort event
 short_grow size before call wish (IsRead a b) is = absurd is
 short_grow size before call wish (Shown status) is = absurd is
@@ -69,9 +74,9 @@ short_halt (IsRead a b) is = absurd is
 short_halt (Shown status) is = absurd is
 short_halt event is = tt
 
-short_shown : (size : ℕ) (event : Event) → IsShown size event → IsShort event
-short_shown size (Shown status) is = (is.2, is.3)
-short_shown size event is = absurd is
+short_shown : (size : ℕ) (before : List Entry) (event : Event) → IsShown size before event → IsShort event
+short_shown size before (Shown status) is = (is.2, is.3)
+short_shown size before event is = absurd is
 
 few_read : (at count : ℕ) → IsTrue (is_within_limits (Read at count)) → count ≤ 128
 few_read at count limits = grind (arith, nat_tests, limits)
@@ -84,13 +89,14 @@ short_line size before e (Write at count seed) limits is = short_write size befo
 short_line size before e Flush limits is = short_flush size before (call_before before e) e.event is.answers
 short_line size before e (Fail role) limits is = short_fail size before (call_before before e) role e.event is.answers
 short_line size before e (Add slot) limits is = short_add size before (call_before before e) slot e.event is.answers
+short_line size before e (ArraySize limit) limits is = short_visible size before (call_before before e) limit e.event is.answers
 short_line size before e (Grow wish) limits is = short_grow size before (call_before before e) wish e.event is.answers
 short_line size before e (Step most) limits is = short_steps size before (call_before before e) most e.event is.answers
 short_line size before e Wait limits is = absurd is
 short_line size before e Stop limits is = short_stop e.event is
 short_line size before e Halt limits is = short_halt e.event is
-short_line size before e Detail limits is = short_shown size e.event is
-short_line size before e Mdstat limits is = short_shown size e.event is
+short_line size before e Detail limits is = short_shown size before e.event is
+short_line size before e Mdstat limits is = short_shown size before e.event is
 short_line size before e (Examine slot) limits is = absurd is
 short_line size before e (Assemble uuid) limits is = absurd is
 

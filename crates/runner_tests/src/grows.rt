@@ -1,4 +1,4 @@
-//! Runs that grow an array. The replies were worked out by hand, or are those of an engine that was written from the rules alone.
+//! Runs that grow an array, shrink it, or change its chunk or layout. The replies were worked out by hand, or are those of an engine that was written from the rules alone.
 
 use crate::runs::{PLAIN, Row, compare};
 use std::test::Fail;
@@ -11,7 +11,7 @@ const LARGE: Row = Row {
     ..PLAIN
 };
 
-const GROWN: [Row; 10] = [
+const GROWN: [Row; 12] = [
     // two windows with a read between them, and then the others
     Row {
         lines: "create 6ba7b810-9dad-11d1-80b4-00c04fd430c8 level=5 disks=4 chunk=8 size=128 offset=16\nadd 4\nwrite 94 4 5\nwrite 380 4 9\ngrow disks=5\nstep 6\nread 94 4\nwait\nread 380 6\n",
@@ -43,11 +43,25 @@ const GROWN: [Row; 10] = [
         output: b"created\nadded 5\nwrote 0 128\nflushed\nplanned 12\nstepped 4 left 8\nfailed 1\nfailed 2\nread 0 128: seed 3 x128\nfailed 3\nrefused 2 TooManyMissing 3 2\n",
         ..LARGE
     },
-    // a list that can be seen to its end does not get shorter
+    // fewer disks: what can be seen is limited first, and not while a plan is pending
     Row {
-        lines: "create 6ba7b810-9dad-11d1-80b4-00c04fd430c8 level=5 disks=5 chunk=8 size=128 offset=16\ngrow disks=4\n",
+        lines: "create 6ba7b810-9dad-11d1-80b4-00c04fd430c8 level=5 disks=5 chunk=8 size=128 offset=16\ngrow disks=4\narray-size 384\ngrow disks=4\narray-size 100\nwait\nread 383 1\nread 384 1\n",
         status: 1,
-        output: b"created\nrefused 18 ArraySizeFirst 512 384\n",
+        output: b"created\nrefused 18 ArraySizeFirst 512 384\nvisible 384\nplanned 26\nrefused 10 Busy plan\nwaited left 0\nread 383 1: zero x1\nrefused 1 PastEnd 384\n",
+        ..LARGE
+    },
+    // another layout in place, found again in the middle
+    Row {
+        lines: "create 6ba7b810-9dad-11d1-80b4-00c04fd430c8 level=5 disks=4 chunk=8 size=48 offset=16\nwrite 0 24 1\nflush\ngrow layout=right-symmetric\nstep 3\nhalt\nassemble\nwait\nread 0 24\narray-size 145\n",
+        status: 1,
+        output: b"created\nwrote 0 24\nflushed\nplanned 20\nstepped 3 left 17\nhalted\nassembled level 5 disks 4 chunk 8 size 48 layout right-symmetric visible 144 left 18\nwaited left 0\nread 0 24: seed 1 x24\nrefused 8 PastSize 144\n",
+        ..LARGE
+    },
+    // another chunk, in an array of which little can be seen; the limit stays behind the reshape, and is gone behind a stop
+    Row {
+        lines: "create 6ba7b810-9dad-11d1-80b4-00c04fd430c8 level=5 disks=4 chunk=8 size=48 offset=16\narray-size 10\nread 9 2\nwrite 8 2 6\ngrow chunk=32\ngrow chunk=16\nstep 1\narray-size max\nwait\nread 9 2\nstop\nassemble\nread 8 3\n",
+        status: 1,
+        output: b"created\nvisible 10\nrefused 1 PastEnd 10\nwrote 8 2\nrefused 14 SizeNotMultiple 48 32\nplanned 11\nstepped 1 left 10\nrefused 10 Busy reshape\nwaited left 0\nrefused 1 PastEnd 10\nstopped\nassembled level 5 disks 4 chunk 16 size 48 layout left-symmetric visible 144 left 0\nread 8 3: seed 6 x2 zero x1\n",
         ..LARGE
     },
     // what speaks against a grow, and what is told of an array in a reshape

@@ -9,7 +9,7 @@ use Rattle.md_base.specs.declared.answers.Who.{Who}
 use Rattle.md_base.specs.declared.places.Shape.{Shape}
 use Rattle.bank.specs.declared.bank.Operation.{Operation}
 use Rattle.superblocks.specs.declared.members.Members.{Members}
-use Rattle.superblocks.specs.Reading.{is_reshaping, shape_of, list_length}
+use Rattle.superblocks.specs.Reading.{is_reshaping, shape_of}
 use Rattle.flat_history.specs.declared.events.Entry.{Entry}
 use Rattle.flat_history.specs.declared.events.Event.{Event}
 use Rattle.flat_history.specs.declared.events.Event.TheVariants.{Wrote, Refused}
@@ -23,7 +23,7 @@ use Rattle.array_kept.specs.Calls.{IsRefusedFor, IsCausedBy, IsAnswered, IsEnter
 use Rattle.growing.specs.region_mends_Mends.{relied_sector}
 use Rattle.kept_history.specs.Recorded.{entry_of}
 use Rattle.kept_history.proofs.Marks.{ends-call}
-use Rattle.growing.specs.running_words_Parts.{RunningParts}
+use Rattle.growing.specs.running_words_Parts.{RunningParts, visible_in}
 use Rattle.growing.specs.course_kept_Course.{hidden_in}
 use Rattle.growing.specs.moving_state_First.{IsUnreadAround}
 use Rattle.growing.specs.moving_laws_Writing.{IsWriteBarred, IsRepliedBehind, IsWriteReplied}
@@ -49,28 +49,28 @@ ok-so (Err e) so fact = tt
 
 module _ {B : Type 0} (array : RunningParts B) (at count : ℕ) (old new : Members) {T : Type 0} (result : Result T Fault) where
   pub read-still : is_reshaping array.parts.members.newest ≡ false
-      → IsCausedBy (list_length array.parts.members.newest) (at + count) (IsUnread (shape_of array.parts.members.newest) (mended_rows array.parts.work.resync array.parts.members) at count) old new result
-      → IsCausedBy (list_length array.parts.members.newest) (at + count) (IsReadLacked array at count) old new result
-  read-still still caused = subst (λ (b : Bool). IsCausedBy (list_length array.parts.members.newest) (at + count) (λ m refusal. MatchBool b (IsUnreadAround (hidden_in array.course.window) (relied_sector array.parts.members.newest array.parts.work.resync) at (at + count) m refusal)
+      → IsCausedBy (visible_in array) (at + count) (IsUnread (shape_of array.parts.members.newest) (mended_rows array.parts.work.resync array.parts.members) at count) old new result
+      → IsCausedBy (visible_in array) (at + count) (IsReadLacked array at count) old new result
+  read-still still caused = subst (λ (b : Bool). IsCausedBy (visible_in array) (at + count) (λ m refusal. MatchBool b (IsUnreadAround (hidden_in array.course.window) (relied_sector array.parts.members.newest array.parts.work.resync) at (at + count) m refusal)
       (IsUnread (shape_of array.parts.members.newest) (mended_rows array.parts.work.resync array.parts.members) at count m refusal)) old new result) (sym still) caused
 
   pub read-moving : is_reshaping array.parts.members.newest ≡ true
-      → IsCausedBy (list_length array.parts.members.newest) (at + count) (IsUnreadAround (hidden_in array.course.window) (relied_sector array.parts.members.newest array.parts.work.resync) at (at + count)) old new result
-      → IsCausedBy (list_length array.parts.members.newest) (at + count) (IsReadLacked array at count) old new result
-  read-moving active caused = subst (λ (b : Bool). IsCausedBy (list_length array.parts.members.newest) (at + count) (λ m refusal. MatchBool b (IsUnreadAround (hidden_in array.course.window) (relied_sector array.parts.members.newest array.parts.work.resync) at (at + count) m refusal)
+      → IsCausedBy (visible_in array) (at + count) (IsUnreadAround (hidden_in array.course.window) (relied_sector array.parts.members.newest array.parts.work.resync) at (at + count)) old new result
+      → IsCausedBy (visible_in array) (at + count) (IsReadLacked array at count) old new result
+  read-moving active caused = subst (λ (b : Bool). IsCausedBy (visible_in array) (at + count) (λ m refusal. MatchBool b (IsUnreadAround (hidden_in array.course.window) (relied_sector array.parts.members.newest array.parts.work.resync) at (at + count) m refusal)
       (IsUnread (shape_of array.parts.members.newest) (mended_rows array.parts.work.resync array.parts.members) at count m refusal)) old new result) (sym active) caused
 
   pub write-still : is_reshaping array.parts.members.newest ≡ false
-      → IsCausedBy (list_length array.parts.members.newest) (at + count) (IsUnwritten (shape_of array.parts.members.newest)
+      → IsCausedBy (visible_in array) (at + count) (IsUnwritten (shape_of array.parts.members.newest)
       (are_mended (shape_of array.parts.members.newest) (mended_rows array.parts.work.resync array.parts.members) (at + count))) old new result
-      → IsCausedBy (list_length array.parts.members.newest) (at + count) (IsWriteLackedIn array at count) old new result
-  write-still still caused = subst (λ (b : Bool). IsCausedBy (list_length array.parts.members.newest) (at + count) (λ m refusal. MatchBool b (IsWriteBarred array.course.window (relied_sector array.parts.members.newest array.parts.work.resync) at (at + count) m refusal)
+      → IsCausedBy (visible_in array) (at + count) (IsWriteLackedIn array at count) old new result
+  write-still still caused = subst (λ (b : Bool). IsCausedBy (visible_in array) (at + count) (λ m refusal. MatchBool b (IsWriteBarred array.course.window (relied_sector array.parts.members.newest array.parts.work.resync) at (at + count) m refusal)
       (IsUnwritten (shape_of array.parts.members.newest) (are_mended (shape_of array.parts.members.newest) (mended_rows array.parts.work.resync array.parts.members) (at + count)) m refusal)) old new result) (sym still) caused
 
   pub write-moving : is_reshaping array.parts.members.newest ≡ true
-      → IsCausedBy (list_length array.parts.members.newest) (at + count) (IsWriteBarred array.course.window (relied_sector array.parts.members.newest array.parts.work.resync) at (at + count)) old new result
-      → IsCausedBy (list_length array.parts.members.newest) (at + count) (IsWriteLackedIn array at count) old new result
-  write-moving active caused = subst (λ (b : Bool). IsCausedBy (list_length array.parts.members.newest) (at + count) (λ m refusal. MatchBool b (IsWriteBarred array.course.window (relied_sector array.parts.members.newest array.parts.work.resync) at (at + count) m refusal)
+      → IsCausedBy (visible_in array) (at + count) (IsWriteBarred array.course.window (relied_sector array.parts.members.newest array.parts.work.resync) at (at + count)) old new result
+      → IsCausedBy (visible_in array) (at + count) (IsWriteLackedIn array at count) old new result
+  write-moving active caused = subst (λ (b : Bool). IsCausedBy (visible_in array) (at + count) (λ m refusal. MatchBool b (IsWriteBarred array.course.window (relied_sector array.parts.members.newest array.parts.work.resync) at (at + count) m refusal)
       (IsUnwritten (shape_of array.parts.members.newest) (are_mended (shape_of array.parts.members.newest) (mended_rows array.parts.work.resync array.parts.members) (at + count)) m refusal)) old new result) (sym active) caused
 
 -- ---- the reply of a write

@@ -320,7 +320,7 @@ module _ {B : Type 0} {tells : Type 0} (given : B → Given) (tape : B → List 
       → IsAtRest tells (given old.parts.bank) (tape old.parts.bank) window old → IsAtRest tells (given new.parts.bank) (tape new.parts.bank) window new
   roomy-rest (Ok x) same none was = subst (λ p. IsAtRest tells (given p.parts.bank) (tape p.parts.bank) window p) (sym same) (record {
     now = record { still = was.now.still; course = was.now.course };
-    within = record { begun = was.within.begun; ends = was.within.ends };
+    within = record { begun = was.within.begun; ends = was.within.ends; sized = was.within.sized; limited = was.within.limited };
     one = was.one;
     next = λ to is. let can = was.next to is in record { slot = can.slot; backup = can.backup; serves = can.serves; wide = can.wide };
     aside = was.aside;
@@ -333,7 +333,7 @@ module _ {B : Type 0} {tells : Type 0} (given : B → Given) (tape : B → List 
       → IsInReshape tells (given old.parts.bank) (tape old.parts.bank) old → IsInReshape tells (given new.parts.bank) (tape new.parts.bank) new
   roomy-reshape (Ok x) same none was = subst (λ p. IsInReshape tells (given p.parts.bank) (tape p.parts.bank) p) (sym same) (record {
     active = was.active;
-    within = record { begun = was.within.begun; ends = was.within.ends };
+    within = record { begun = was.within.begun; ends = was.within.ends; sized = was.within.sized; limited = was.within.limited };
     last = was.last;
     turned = was.turned;
     plans = was.plans;

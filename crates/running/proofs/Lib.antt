@@ -5,6 +5,7 @@ pub mod Closed
 pub mod Ended
 pub mod Entered
 pub mod Kept
+pub mod Limiting
 pub mod Planning
 pub use Rattle.growing.proofs.running_replies_Fitting
 pub use Rattle.growing.proofs.running_replies_GoneOn

@@ -27,7 +27,7 @@ use Rattle.views.specs.Rebuilding.{Held}
 use Rattle.views.proofs.MovedLaws.{grows-none}
 use Rattle.grow_asked.specs.Asked.{Asked, grow_refusal}
 use Rattle.grow_asked.specs.Left.{phases_of}
-use Rattle.growing.specs.running_words_Parts.{RunningParts, left_in, still_left}
+use Rattle.growing.specs.running_words_Parts.{RunningParts, visible_in, left_in, still_left}
 use Rattle.growing.specs.running_words_Calls.{moving_world}
 use Rattle.growing.specs.running_replies_Going.{HasRunOn}
 use Rattle.growing.specs.running_replies_Replies.{IsAnsweredWith}
@@ -49,8 +49,9 @@ add-refused : (T tells : Type 0) (world : World) (a : Asked) (wish : Wish) (who 
 add-refused T tells world a wish who old new event (IsRefusedWith refusal) is = record { more = entries_of who is.end (Refused refusal ∷ []); grown = is.is; none = refl }
 add-refused T tells world a wish who old new event NoMemory is = add-nothing is
 
-refused-leaves : {B : Type 0} (old new : RunningParts B) → IsAsBefore old new → new.ahead ≡ old.ahead → LeavesAhead old new
-refused-leaves old new before ahead = record {
+-- where its history changed alone
+pub history-leaves : {B : Type 0} (old new : RunningParts B) → IsAsBefore old new → new.ahead ≡ old.ahead → LeavesAhead old new
+history-leaves old new before ahead = record {
   shape = ap (λ (m : Members). shape_of m.newest) before.members;
   final = ap (λ (m : Members). final_shape m.newest) before.members;
   size = ap (λ (m : Members). m.newest.size) before.members;
@@ -62,8 +63,8 @@ refused-leaves old new before ahead = record {
 module _ {B : Type 0} {tells : Type 0} (given : B → Given) (tape : B → List Operation) (old new : RunningParts B) (before : IsAsBefore old new) where
   -- ---- refused
 
-  refused-on : AddNoPlan old.parts.entries new.parts.entries → GoesOn tells given tape old new
-  refused-on added = record {
+  pub history-on : AddNoPlan old.parts.entries new.parts.entries → GoesOn tells given tape old new
+  history-on added = record {
     given_is = ap given before.bank;
     grows = grows-none (λ t. ap tape before.bank);
     uuid = before.uuid;
@@ -77,12 +78,12 @@ module _ {B : Type 0} {tells : Type 0} (given : B → Given) (tape : B → List 
     pub rest-refused : (window : ℕ) → IsStillNow new → IsWithin tells (tape new.parts.bank) new → IsAtRest tells (given old.parts.bank) (tape old.parts.bank) window old → IsAtRest tells (given new.parts.bank) (tape new.parts.bank) window new
     rest-refused window now within was =
         let added = add-refused T tells world a wish who old.parts.entries new.parts.entries event fault answered in
-        rest-kept given tape window old new (refused-on added) (refused-leaves old new before ahead) now within
+        rest-kept given tape window old new (history-on added) (history-leaves old new before ahead) now within
         (closed-kept old new (ap (λ (w : Work). w.resync) before.work) ahead (λ whole. subst AreWhole before.members whole) added was.closed) was
 
     pub reshape-refused : is_reshaping new.parts.members.newest ≡ true → IsWithin tells (tape new.parts.bank) new → IsInReshape tells (given old.parts.bank) (tape old.parts.bank) old → IsInReshape tells (given new.parts.bank) (tape new.parts.bank) new
     reshape-refused active within was =
-        reshape-kept given tape old new (refused-on (add-refused T tells world a wish who old.parts.entries new.parts.entries event fault answered)) (ap (λ (m : Members). shape_of m.newest) before.members) (ap (λ (m : Members). final_shape m.newest) before.members) ahead active within was
+        reshape-kept given tape old new (history-on (add-refused T tells world a wish who old.parts.entries new.parts.entries event fault answered)) (ap (λ (m : Members). shape_of m.newest) before.members) (ap (λ (m : Members). final_shape m.newest) before.members) ahead active within was
 
   -- ---- planned
 
@@ -145,7 +146,7 @@ left-rest array still =
     ap (λ (b : Bool). if b then left_in array.parts.work array.parts.members array.course array.ahead else still_left array.parts.work array.parts.members array.ahead) still
 
 module _ {B : Type 0} (T tells : Type 0) (given : B → Given) (tape : B → List Operation) (faults : B → ℕ → ℕ) (old new : RunningParts B) (wish : Wish) (who : Who)
-    (number : who.number ≡ next_number who.caller old.parts.entries) (visible : visible_of (list_length old.parts.members.newest) old.parts.entries ≡ list_length old.parts.members.newest) where
+    (number : who.number ≡ next_number who.caller old.parts.entries) (visible : visible_of (list_length old.parts.members.newest) old.parts.entries ≡ visible_in old) where
   abbrev asked : Asked
   asked = asked_in (given old.parts.bank) old
 
@@ -159,7 +160,7 @@ module _ {B : Type 0} (T tells : Type 0) (given : B → Given) (tape : B → Lis
       → IsAnsweredWith (list_length old.parts.members.newest) (AsksGrow wish) who old.parts.entries new.parts.entries (Planned (running_left new) wish)
   replied-planned plan still answered judged =
       subst (λ (n : ℕ). IsAnsweredWith (list_length old.parts.members.newest) (AsksGrow wish) who old.parts.entries new.parts.entries (Planned n wish)) (sym (left-rest new still))
-      (grow-replied tells world asked (list_length old.parts.members.newest) wish who old.parts.entries new.parts.entries (still_left new.parts.work new.parts.members new.ahead) (Ok plan) number refl visible answered judged)
+      (grow-replied tells world asked (list_length old.parts.members.newest) wish who old.parts.entries new.parts.entries (still_left new.parts.work new.parts.members new.ahead) (Ok plan) number visible answered judged)
 
   module _ (U : Type 0) (event : Event) (left : ℕ) (fault : Fault)
       (answered : IsGrowAnswered {T = T} tells (moving_world (given old.parts.bank) (tape old.parts.bank) old) (asked_in (given old.parts.bank) old) wish who old.parts.entries new.parts.entries event (Err fault))
@@ -170,7 +171,7 @@ module _ {B : Type 0} (T tells : Type 0) (given : B → Given) (tape : B → Lis
         by : (fault : Fault) → IsGrowAnswered {T = T} tells world asked wish who old.parts.entries new.parts.entries event (Err fault) → IsGrowJudged {T = T} asked wish (Err fault)
             → IsGrowReplied {T = U} (list_length old.parts.members.newest) wish who old.parts.entries new.parts.entries left (Err fault)
         by (IsRefusedWith refusal) is because =
-            grow-replied {T = T} tells world asked (list_length old.parts.members.newest) wish who old.parts.entries new.parts.entries left (Err (IsRefusedWith refusal)) number refl visible is because
+            grow-replied {T = T} tells world asked (list_length old.parts.members.newest) wish who old.parts.entries new.parts.entries left (Err (IsRefusedWith refusal)) number visible is because
         by NoMemory is because = is
 
     pub went-refused : IsAsBefore old new → HasRunOn tells given tape faults old new

@@ -13,12 +13,14 @@ pub use Rattle.growing.specs.moving_steps_Replies
 pub use Rattle.growing.specs.region_mends_Left
 pub use Rattle.growing.specs.region_mends_Mends
 pub use Rattle.growing.specs.running_replies_Going
+pub use Rattle.growing.specs.running_replies_Limits
 pub use Rattle.growing.specs.running_replies_Replies
 pub use Rattle.growing.specs.running_words_Adding
 pub use Rattle.growing.specs.running_words_Calls
 pub use Rattle.growing.specs.running_words_Parts
 pub use Rattle.growing.specs.running_words_Plans
 pub use Rattle.growing.specs.running_words_Still
+pub use Rattle.growing.specs.running_words_Visible
 pub use Rattle.growing.specs.still_laws_Plain
 pub use Rattle.growing.specs.still_laws_Steps
 pub use Rattle.growing.specs.still_steps_Rebuilding

@@ -6,8 +6,9 @@ use Rattle.md_base.specs.declared.wishes.Phase.TheVariants.{Reshape}
 use Rattle.bank.specs.Given.{Given}
 use Rattle.bank.specs.declared.bank.Operation.{Operation}
 use Rattle.grow_plan.specs.Plans.{phase_window}
-use Rattle.superblocks.specs.Reading.{is_reshaping, shape_of}
+use Rattle.superblocks.specs.Reading.{is_reshaping, shape_of, list_length}
 use Rattle.superblocks.specs.Reads.{has_spare}
+use Rattle.flat_history.specs.Flat.{length_of, limit_of}
 use Rattle.flat_history.specs.Growing.{EndBy}
 use Rattle.flat_history.specs.Reshaped.{open_plans}
 use Rattle.views.specs.Placed.{AreWhole}
@@ -44,10 +45,12 @@ pub record CanBeNext {B : Type 0} (given : Given) (window : ℕ) (array : Runnin
   pub serves : IsBackupAt given array.parts.members to slot
   pub wide : 512 * phase_window (shape_of array.parts.members.newest) array.parts.members.newest.size (Reshape to) ≤ window
 
--- its epoch began within the tape, where its entries end too
+-- its epoch began within the tape, where its entries end too; they tell how long its list is, and its limit
 pub record IsWithin {B : Type 0} (tells : Type 0) (tape : List Operation) (array : RunningParts B) : Type 0 where
   pub begun : tells → array.parts.first ≤ length tape
   pub ends : tells → EndBy (length tape) array.parts.entries
+  pub sized : length_of (list_length array.parts.members.newest) array.parts.entries ≡ list_length array.parts.members.newest
+  pub limited : limit_of array.parts.entries ≡ array.limit
 
 -- the backup, if there is one, holds no role and is no spare
 abbrev pub IsBackupAside : {B : Type 0} → RunningParts B → Type 0

@@ -19,6 +19,7 @@ mod ending;
 mod examining;
 mod failing;
 mod finishing;
+mod limiting;
 mod mending;
 mod planning;
 mod reading;

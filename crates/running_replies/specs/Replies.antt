@@ -1,18 +1,21 @@
 -- Which reply entries answer a request to a running array, as far as that needs no superblocks: `Fits` of flat_history says the rest. `before` are the
 -- entries before the reply, and `call` are those of its call directly before it.
-use Rattle.std.specs.Prelude.{◌≡◌, ◌⊎◌, ℕ, ◌+◌, ◌<◌, ◌≤◌, ◌++◌, Bool, true, false, List, [], ◌∷◌, length, count_by, Option, MatchOption, IfSome, IsSome, IsTrue, ⊤}
+use Rattle.std.specs.Prelude.{◌≡◌, ◌⊎◌, ℕ, ◌+◌, ◌<◌, ◌≤◌, ◌++◌, Bool, true, false, List, [], ◌∷◌, length, count_by, Option, MatchOption, IfSome, IsSome, IsTrue, Result, Ok, Err, ⊤}
 use Rattle.std.specs.List.{list_any, All}
 use Rattle.md_base.specs.declared.answers.Refusal.{Refusal}
-use Rattle.md_base.specs.declared.answers.Refusal.TheVariants.{TooManyMissing, NotResynced, BackupFault, SlotFault, Busy, Degraded, SameShape, BadShape, SizeNotMultiple, NeedSpares, NeedBackup, BackupTooSmall, ArraySizeFirst, Nothing}
+use Rattle.md_base.specs.declared.answers.Refusal.TheVariants.{TooManyMissing, NotResynced, BackupFault, SlotFault, PastSize, Busy, Degraded, SameShape, BadShape, SizeNotMultiple, NeedSpares, NeedBackup, BackupTooSmall, ArraySizeFirst, Nothing}
+use Rattle.md_base.specs.declared.answers.BusyKind.TheVariants.{Reshape as WithReshape, Plan as WithPlan}
+use Rattle.md_base.specs.declared.answers.Fault.{Fault}
+use Rattle.md_base.specs.declared.answers.Fault.TheVariants.{Refused as IsRefusedWith, NoMemory}
 use Rattle.md_base.specs.declared.answers.Who.{Who}
 use Rattle.bank.specs.Given.{IsFaulted}
 use Rattle.flat_history.specs.declared.events.Entry.{Entry}
 use Rattle.flat_history.specs.declared.events.Event.{Event}
-use Rattle.flat_history.specs.declared.events.Event.TheVariants.{Lost, Planned, Step, Stepped, Refused}
+use Rattle.flat_history.specs.declared.events.Event.TheVariants.{Lost, Visible, Planned, Step, Stepped, Refused}
 use Rattle.flat_history.specs.declared.events.StepKind.TheVariants.{Finished}
 use Rattle.flat_history.specs.declared.events.Request.{Request}
 use Rattle.flat_history.specs.declared.events.Request.TheVariants.{Read as AsksRead, Write as AsksWrite, Flush as AsksFlush, Fail as AsksFail, Add as AsksAdd, Visible as AsksVisible, Grow as AsksGrow, Steps as AsksSteps, Show as AsksShow}
-use Rattle.flat_history.specs.Flat.{visible_of}
+use Rattle.flat_history.specs.Flat.{length_of, visible_of}
 use Rattle.flat_history.specs.Fits.{IsWriteRefused, AreTornOf, is_lost_event, is_step_event}
 use Rattle.flat_history.specs.Legal.{MayBeInner, call_before}
 use Rattle.flat_history.specs.OneShape.{IsOfCall, OneShapeAnswers}
@@ -59,6 +62,15 @@ MayRefuseGrow visible (BackupTooSmall have want) = have < want
 MayRefuseGrow visible (ArraySizeFirst told least) = (told ≡ visible) × (least < told)
 MayRefuseGrow visible refusal = ⊥
 
+-- ---- a limit
+
+-- what may refuse one: a reshape, a plan, or a list of fewer sectors than it
+abbrev pub MayRefuseLimit : ℕ → Option ℕ → Refusal → Type 0
+MayRefuseLimit sectors limit (Busy WithReshape) = ⊤
+MayRefuseLimit sectors limit (Busy WithPlan) = ⊤
+MayRefuseLimit sectors limit (PastSize told) = (told ≡ sectors) × MatchOption limit ⊥ (λ wished. told < wished)
+MayRefuseLimit sectors limit refusal = ⊥
+
 -- ---- a reply
 
 -- the reply's event answers the request, over a list of so many sectors when the call began, or earlier
@@ -75,6 +87,8 @@ RunningAnswers size before call (AsksSteps most) event = ⊥
 RunningAnswers size before call (AsksGrow wish) (Planned left wished) = wished ≡ wish
 RunningAnswers size before call (AsksGrow wish) (Refused refusal) = MayRefuseGrow (visible_of size before) refusal
 RunningAnswers size before call (AsksGrow wish) event = ⊥
+RunningAnswers size before call (AsksVisible limit) (Visible wished count) = wished ≡ limit
+RunningAnswers size before call (AsksVisible limit) (Refused refusal) = MayRefuseLimit (length_of size before) limit refusal
 RunningAnswers size before call (AsksVisible limit) event = ⊥
 RunningAnswers size before call AsksShow event = ⊥
 
@@ -91,6 +105,12 @@ pub record IsAnsweredWith (size : ℕ) (request : Request) (who : Who) (old new 
   pub inside : All (λ e. MayBeInner e.event) inner
   pub is : new ≡ old ++ (inner ++ record { caller = who.caller; number = who.number; end = end; event = event } ∷ [])
   pub fits : RunningFits size (old ++ inner) (record { caller = who.caller; number = who.number; end = end; event = event }) request
+
+-- the reply by the answer, with the event of an Ok; where memory was short, nothing was entered
+abbrev pub IsRepliedWith : {T : Type 0} → ℕ → Request → Who → List Entry → List Entry → Event → Result T Fault → Type 0
+IsRepliedWith size request who old new event (Ok x) = IsAnsweredWith size request who old new event
+IsRepliedWith size request who old new event (Err (IsRefusedWith refusal)) = IsAnsweredWith size request who old new (Refused refusal)
+IsRepliedWith size request who old new event (Err NoMemory) = new ≡ old
 
 -- ---- a refusal's cause
 

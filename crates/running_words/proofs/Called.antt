@@ -26,7 +26,7 @@ use Rattle.running_words.specs.Calls.{IsCalled}
 pub not_254 : (n : ℕ) → n ≢ 254 → IsFalse (n == 254)
 not_254 n ne = grind (arith, nat_tests, ne)
 
--- What a call does over the same bank: members may lose slots, and the epoch, the work and the phases ahead are those that they were.
+-- What a call does over the same bank: members may lose slots, and the epoch, the work, the phases ahead and the limit are those that they were.
 pub record KeepsEpoch {B : Type 0} (old new : RunningParts B) : Type 0 where
   pub uuid : new.parts.uuid ≡ old.parts.uuid
   pub given : new.parts.given ≡ old.parts.given
@@ -34,6 +34,7 @@ pub record KeepsEpoch {B : Type 0} (old new : RunningParts B) : Type 0 where
   pub backup : new.parts.backup ≡ old.parts.backup
   pub work : new.parts.work ≡ old.parts.work
   pub ahead : new.ahead ≡ old.ahead
+  pub limit : new.limit ≡ old.limit
 
 pub called : {B : Type 0} {tells : Type 0} {given : Given} {tape tape' : List Operation} {before after : ℕ → ℕ} {old new : RunningParts B}
     → Grows tells tape tape' → IsMoved given old.parts.members new.parts.members → IsEndOf tells new.parts.first new.parts.entries tape'
@@ -61,6 +62,7 @@ called {given = given} {old = old} {new = new} grows moved ended losses rises ep
     final = moved.reshape.final;
     backward = moved.reshape.backward;
     ahead = epoch.ahead;
+    limit = epoch.limit;
   };
 }
 

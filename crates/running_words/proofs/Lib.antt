@@ -1,3 +1,5 @@
 pub mod Called
 pub mod Lengths
+pub mod Visible
+pub mod Replies
 pub mod TakenOut

@@ -29,7 +29,7 @@ use Rattle.views.specs.Lacking.{AreTooMany}
 use Rattle.views.specs.Moving.{Grows}
 use Rattle.array_kept.specs.Calls.{world_for, IsBehind, AreSparesFewer, AreLossesOf, IsEndOf, IsSameArray}
 use Rattle.course_kept.specs.Laws.{entered, closed, unsure}
-use Rattle.running_words.specs.Parts.{RunningParts, left_in, still_left}
+use Rattle.running_words.specs.Parts.{RunningParts, visible_in, left_in, still_left}
 use Rattle.course_kept.specs.declared.course.Course.{Course}
 
 -- this status tells the array as it is
@@ -39,7 +39,7 @@ pub record IsStatusFor {B : Type 0} (array : RunningParts B) (status : Status) :
   pub position : status.position ≡ array.parts.members.newest.reshape_position
   pub size : status.size ≡ array.parts.members.newest.size
   pub length : status.length ≡ list_length array.parts.members.newest
-  pub visible : status.visible ≡ list_length array.parts.members.newest
+  pub visible : status.visible ≡ visible_in array
   pub clean : status.clean ≡ is_clean array.parts.members.newest
   pub events : status.events ≡ array.parts.members.newest.events
   pub left : status.left ≡ left_in array.parts.work array.parts.members array.course array.ahead
@@ -50,12 +50,13 @@ pub record IsStatusFor {B : Type 0} (array : RunningParts B) (status : Status) :
 abbrev pub moving_world : {B : Type 0} → Given → List Operation → RunningParts B → World
 moving_world given tape array = world_for given tape array.parts
 
--- It is the same array in the same reshape, and the same phases are ahead of it.
+-- It is the same array in the same reshape, the same phases are ahead of it, and it has the same limit.
 pub record IsSameReshape {B : Type 0} (tells : Type 0) (old new : RunningParts B) (before after : World) : Type 0 where
   pub array : IsSameArray tells old.parts new.parts before after
   pub final : final_shape new.parts.members.newest ≡ final_shape old.parts.members.newest
   pub backward : is_backward new.parts.members.newest ≡ is_backward old.parts.members.newest
   pub ahead : new.ahead ≡ old.ahead
+  pub limit : new.limit ≡ old.limit
 
 -- What each call leaves that is done or refused: more was done on the bank, and the entries end with that; each role and each spare has the slot that it had, or none;
 -- each loss has its cause; and it is the same array, in the same reshape.

@@ -3,6 +3,7 @@ pub mod Calls
 pub mod Adding
 pub mod Still
 pub mod Plans
+pub mod Visible
 pub use Rattle.course_kept.specs.Course as course_kept_Course
 pub use Rattle.course_kept.specs.Laws as course_kept_Laws
 pub use Rattle.course_kept.specs.declared.course.Course as course_kept_the_Course

@@ -1,8 +1,8 @@
 -- What contracts see of an array, whether a reshape is active in it or not.
-use Rattle.std.specs.Prelude.{ℕ, ◌+◌}
+use Rattle.std.specs.Prelude.{ℕ, ◌+◌, Option}
 use Rattle.grow_plan.specs.Plans.{phases_steps}
 use Rattle.superblocks.specs.declared.members.Members.{Members}
-use Rattle.superblocks.specs.Reading.{shape_of}
+use Rattle.superblocks.specs.Reading.{shape_of, list_length}
 use Rattle.views.specs.declared.work.Work.{Work}
 use Rattle.views.specs.Parts.{Parts}
 use Rattle.views.specs.Status.{left_of}
@@ -10,12 +10,21 @@ use Rattle.grow_asked.specs.declared.window.PhasesLeft.{PhasesLeft}
 use Rattle.grow_asked.specs.Left.{phases_of, grow_left}
 use Rattle.region_mends.specs.Left.{resync_left}
 use Rattle.course_kept.specs.declared.course.Course.{Course}
+use Rattle.moving_state.specs.Left.{visible_by}
 
--- what is seen of an array of one shape too, how far the reshape has come, and the phases of the plan that are ahead
+-- what is seen of an array of one shape too, how far the reshape has come, the phases of the plan that are ahead, and the limit of the visible size
 pub record RunningParts (B : Type 0) : Type 0 where
   pub parts : Parts B
   pub course : Course
   pub ahead : PhasesLeft
+  pub limit : Option ℕ
+
+-- how many sectors can be read and written: those of the list, or of these those below the limit
+abbrev pub visible_size : Members → Option ℕ → ℕ
+visible_size members limit = visible_by (list_length members.newest) limit
+
+abbrev pub visible_in : {B : Type 0} → RunningParts B → ℕ
+visible_in array = visible_size array.parts.members array.limit
 
 -- the steps that are left, of the reshape, of a pending resync and of the phases ahead
 abbrev pub left_in : Work → Members → Course → PhasesLeft → ℕ

@@ -1,4 +1,4 @@
--- Where the plans of an array go that are open, and which histories tell no reshape.
+-- Where the plans of an array go that are open, and which histories tell neither a limit nor a reshape.
 use Rattle.std.specs.Prelude.{◌≡◌, Bool, true, false, if◌then◌else◌, List, Option, Some, MatchOption, ⊤}
 use Rattle.std.specs.List.{list_any, All}
 use Rattle.md_base.specs.declared.places.Shape.{Shape}
@@ -6,7 +6,7 @@ use Rattle.grow_plan.specs.Plans.{last_shape}
 use Rattle.superblocks.specs.Reading.{is_reshaping, shape_of, final_shape}
 use Rattle.flat_history.specs.declared.events.Entry.{Entry}
 use Rattle.flat_history.specs.declared.events.Event.{Event}
-use Rattle.flat_history.specs.declared.events.Event.TheVariants.{Planned, Step}
+use Rattle.flat_history.specs.declared.events.Event.TheVariants.{Visible, Planned, Step}
 use Rattle.flat_history.specs.declared.events.StepKind.TheVariants.{Begun, Finished, TakenOver}
 use Rattle.flat_history.specs.Reshaped.{open_plans, planned_shape}
 use Rattle.flat_history.specs.World.{World, reading_at}
@@ -28,17 +28,18 @@ aim_of array = last_shape (if is_reshaping array.parts.members.newest then final
 abbrev pub ArePlansKept : {B : Type 0} → Type 0 → World → RunningParts B → Type 0
 ArePlansKept tells world array = tells → IsReliable world array.parts.entries → GoTo world (aim_of array) array.parts.entries
 
--- ---- a history without a reshape
+-- ---- a history without a limit or a reshape
 
--- the event tells a plan, or that the array's shape is about to change or has changed
+-- the event tells a plan, a limit of the visible size, or that the array's shape is about to change or has changed
 abbrev pub turns_shape : Event → Bool
+turns_shape (Visible limit count) = true
 turns_shape (Planned left wish) = true
 turns_shape (Step Begun left) = true
 turns_shape (Step Finished left) = true
 turns_shape (Step TakenOver left) = true
 turns_shape event = false
 
--- The array keeps its shape: its opening found no reshape, and these entries tell neither a plan nor a reshape.
+-- The array keeps its shape: its opening found no reshape, and these entries tell neither a plan, a limit nor a reshape.
 pub record KeepsShape (world : World) (entries : List Entry) : Type 0 where
   pub found : MatchOption (reading_at world world.first) ⊤ (λ r. is_reshaping r.newest ≡ false)
   pub none : list_any (λ e. turns_shape e.event) entries ≡ false

@@ -9,7 +9,7 @@ use Rattle.superblocks.specs.Reading.{is_clean, shape_of, list_length, role_stat
 use Rattle.row_io.specs.Rows.{reading_of, present}
 use Rattle.flat_history.specs.declared.events.Entry.{Entry}
 use Rattle.flat_history.specs.OneShape.{is_lost}
-use Rattle.running_words.specs.Parts.{RunningParts, still_left}
+use Rattle.running_words.specs.Parts.{RunningParts, visible_in, still_left}
 
 -- this status tells the array as it is
 pub record IsStillStatus {B : Type 0} (array : RunningParts B) (status : Status) : Type 0 where
@@ -18,7 +18,7 @@ pub record IsStillStatus {B : Type 0} (array : RunningParts B) (status : Status)
   pub position : status.position ≡ 0
   pub size : status.size ≡ array.parts.members.newest.size
   pub length : status.length ≡ list_length array.parts.members.newest
-  pub visible : status.visible ≡ list_length array.parts.members.newest
+  pub visible : status.visible ≡ visible_in array
   pub clean : status.clean ≡ is_clean array.parts.members.newest
   pub events : status.events ≡ array.parts.members.newest.events
   pub left : status.left ≡ still_left array.parts.work array.parts.members array.ahead

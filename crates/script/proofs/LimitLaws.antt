@@ -2,18 +2,20 @@
 use Rattle.std.proofs.Common.{◌≡◌, ℕ, ◌^◌, Bool, true, false, cond, not, nat_le, List, [], ◌∷◌, refl, sym, ap, ◌∙◌, ◌⊎◌, inl, inr, Option, Some, None, option_map}
 use Rattle.std.specs.Str.{bytes_eq}
 use Rattle.std.specs.List.{list_all}
-use Rattle.std.specs.Option.{option_and_then}
+use Rattle.std.specs.Option.{is_none, option_and_then}
 use Rattle.uuid.specs.Text.{parsed}
 use lib.Chars.{codes}
 use Rattle.md_base.specs.declared.places.Shape.{Shape}
 use Rattle.line_words.specs.Keys.{has_key}
 use Rattle.line_words.specs.Numbers.{words_of, number_below}
-use Rattle.script.specs.Grammar.{is_span, span_of, array_from, array_of, shape_of, create_keys, create_of, assemble_of, alone, read_of, write_of, fail_of, add_of, step_of, wish_for_disks, grow_of, given_number, examine_of, line_of, is_printable, is_passed_over, asks_for, is_for_lanes, for_lanes, inside_of, opens, outside_of, meaning_of}
+use Rattle.line_words.specs.Shapes.{shape_of}
+use Rattle.line_words.specs.Wishes.{wish_of}
+use Rattle.script.specs.Grammar.{is_span, span_of, array_from, array_of, create_keys, create_of, assemble_of, alone, read_of, write_of, fail_of, add_of, step_of, array_size_of, limit_given, grow_of, examine_of, line_of, is_printable, is_passed_over, asks_for, is_for_lanes, for_lanes, inside_of, opens, outside_of, meaning_of}
 use Rattle.script.specs.Script.{is_within_limits}
 use Rattle.script.specs.declared.reply.Lane.{Lane}
 use Rattle.script.specs.declared.reply.Lane.TheVariants.{Script, A, B, Worker}
 use Rattle.script.specs.declared.lines.Line.{Line}
-use Rattle.script.specs.declared.lines.Line.TheVariants.{Create, Read, Write, Flush, Fail, Add, Step, Wait, Grow, Stop, Halt, Detail, Mdstat, Examine, Assemble}
+use Rattle.script.specs.declared.lines.Line.TheVariants.{Create, Read, Write, Flush, Fail, Add, Step, Wait, ArraySize, Grow, Stop, Halt, Detail, Mdstat, Examine, Assemble}
 use Rattle.script.specs.declared.grammar.Meaning.{Meaning}
 use Rattle.script.specs.declared.grammar.Meaning.TheVariants.{PassedOver, Asks, Bad}
 
@@ -89,15 +91,17 @@ step_ok (most ∷ []) line e =
     ap is_within_limits (sym (kept.1)) ∙ kept.0
 step_ok (most ∷ more ∷ rest) line e = absurd (cc)
 
-grow_ok : (values : List (List ℕ)) (line : Line) → grow_of values ≡ Some line → is_within_limits line ≡ true
-grow_ok values line e = by_keys (either_some (list_all (has_key (codes "disks=" ∷ [])) values) (option_map wished (given_number (2 ^ 32) (codes "disks=") None values)) None line e)
-  where
-    wished : ℕ → Line
-    wished n = Grow (wish_for_disks n)
+array_size_ok : (values : List (List ℕ)) (line : Line) → array_size_of values ≡ Some line → is_within_limits line ≡ true
+array_size_ok [] line e = absurd (cc)
+array_size_ok (word ∷ []) line e =
+    let made = map_some (λ (limit : Option ℕ). ArraySize limit) (limit_given word) line e in ap is_within_limits (sym (made.2))
+array_size_ok (word ∷ more ∷ rest) line e = absurd (cc)
 
-    by_keys : (option_map wished (given_number (2 ^ 32) (codes "disks=") None values) ≡ Some line) ⊎ (None ≡ Some line) → is_within_limits line ≡ true
-    by_keys (inl h) = let made = map_some wished (given_number (2 ^ 32) (codes "disks=") None values) line h in ap is_within_limits (sym (made.2))
-    by_keys (inr h) = absurd (cc)
+grow_ok : (values : List (List ℕ)) (line : Line) → grow_of values ≡ Some line → is_within_limits line ≡ true
+grow_ok values line e =
+    let read = then_some (λ wish. cond (is_none wish.level) (Some (Grow wish)) None) (wish_of values) line e in
+    let kept = kept_some (is_none (read.0).level) (Grow (read.0)) line (read.1) in
+    ap is_within_limits (sym (kept.1)) ∙ kept.0
 
 create_ok : (values : List (List ℕ)) (line : Line) → create_of values ≡ Some line → is_within_limits line ≡ true
 create_ok [] line e = absurd (cc)
@@ -144,12 +148,13 @@ line_ok (verb ∷ values) line e =
     (verb_ok (bytes_eq verb (codes "add")) (add_of values) _ line (add_ok values line)
     (verb_ok (bytes_eq verb (codes "step")) (step_of values) _ line (step_ok values line)
     (verb_ok (bytes_eq verb (codes "wait")) (alone Wait values) _ line (alone_ok Wait line values refl)
+    (verb_ok (bytes_eq verb (codes "array-size")) (array_size_of values) _ line (array_size_ok values line)
     (verb_ok (bytes_eq verb (codes "grow")) (grow_of values) _ line (grow_ok values line)
     (verb_ok (bytes_eq verb (codes "stop")) (alone Stop values) _ line (alone_ok Stop line values refl)
     (verb_ok (bytes_eq verb (codes "halt")) (alone Halt values) _ line (alone_ok Halt line values refl)
     (verb_ok (bytes_eq verb (codes "detail")) (alone Detail values) _ line (alone_ok Detail line values refl)
     (verb_ok (bytes_eq verb (codes "mdstat")) (alone Mdstat values) _ line (alone_ok Mdstat line values refl)
-    (verb_ok (bytes_eq verb (codes "examine")) (examine_of values) None line (examine_ok values line) (λ h. absurd (cc))))))))))))))))
+    (verb_ok (bytes_eq verb (codes "examine")) (examine_of values) None line (examine_ok values line) (λ h. absurd (cc)))))))))))))))))
     e
 
 for_lanes_ok : (o : Option Line) (line : Line) → ((l : Line) → o ≡ Some l → is_within_limits l ≡ true) → for_lanes o ≡ Some line → is_within_limits line ≡ true

@@ -1,15 +1,15 @@
 -- What one line of a script asks.
 use Rattle.std.specs.Prelude.{ℕ, ◌+◌, ◌^◌, Bool, ◌&&◌, ◌||◌, not, ◌==◌, true, false, nat_lt, nat_le, if◌then◌else◌, List, [], ◌∷◌, slice_index, bytes_eq, codes, Option, Some, None, option_map}
 use Rattle.std.specs.List.{list_all}
-use Rattle.std.specs.Option.{option_and_then}
+use Rattle.std.specs.Option.{is_none, option_and_then}
 use Rattle.uuid.specs.Text.{parsed}
 use Rattle.md_base.specs.declared.places.Shape.{Shape}
-use Rattle.md_base.specs.declared.wishes.Wish.{Wish}
-use Rattle.line_words.specs.Keys.{has_key, given}
-use Rattle.line_words.specs.Layouts.{layout_named}
+use Rattle.line_words.specs.Keys.{has_key, given_number}
 use Rattle.line_words.specs.Numbers.{is_space, words_of, number_below}
+use Rattle.line_words.specs.Shapes.{shape_of}
+use Rattle.line_words.specs.Wishes.{wish_of}
 use Rattle.script.specs.declared.lines.Line.{Line}
-use Rattle.script.specs.declared.lines.Line.TheVariants.{Create, Read, Write, Flush, Fail, Add, Step, Wait, Grow, Stop, Halt, Detail, Mdstat, Examine, Assemble}
+use Rattle.script.specs.declared.lines.Line.TheVariants.{Create, Read, Write, Flush, Fail, Add, Step, Wait, ArraySize, Grow, Stop, Halt, Detail, Mdstat, Examine, Assemble}
 use Rattle.script.specs.declared.grammar.Meaning.{Meaning}
 use Rattle.script.specs.declared.grammar.Meaning.TheVariants.{PassedOver, Opens, Asks, Bad}
 use Rattle.script.specs.declared.reply.Lane.{Lane}
@@ -24,24 +24,6 @@ span_of x count =
     option_and_then
     (λ start. option_and_then (λ n. if is_span (start, n) then Some (start, n) else None) (number_below (2 ^ 32) count))
     (number_below (2 ^ 64) x)
-
-abbrev pub given_number : ℕ → List ℕ → Option (List ℕ) → List (List ℕ) → Option ℕ
-given_number limit key default words = option_and_then (number_below limit) (given key default words)
-
-abbrev pub given_layout : List (List ℕ) → Option ℕ
-given_layout words = option_and_then layout_named (given (codes "layout=") (Some (codes "left-symmetric")) words)
-
--- a shape of these numbers
-abbrev pub shape_from : Option ℕ → Option ℕ → Option ℕ → Option ℕ → Option Shape
-shape_from (Some level) (Some disks) (Some chunk) (Some layout) =
-    Some (record { level = level; layout = layout; chunk = chunk; disks = disks })
-shape_from level disks chunk layout = None
-
--- the shape that the keys give; level and disks have no default
-abbrev pub shape_of : List (List ℕ) → Option Shape
-shape_of words =
-    shape_from (given_number (2 ^ 32) (codes "level=") None words) (given_number (2 ^ 32) (codes "disks=") None words)
-    (given_number (2 ^ 32) (codes "chunk=") (Some (codes "1024")) words) (given_layout words)
 
 -- an array of these parts
 abbrev pub array_from : Option (List ℕ) → Option Shape → Option ℕ → Option ℕ → Option Line
@@ -95,16 +77,18 @@ abbrev pub step_of : List (List ℕ) → Option Line
 step_of (most ∷ []) = option_and_then (λ n. if nat_le 1 n then Some (Step n) else None) (number_below (2 ^ 32) most)
 step_of _ = None
 
--- a wish for so many disks, and for nothing else
-abbrev pub wish_for_disks : ℕ → Wish
-wish_for_disks disks = record { level = None; disks = Some disks; chunk = None; layout = None }
+-- what `array-size` sets: a limit, or none for `max`
+abbrev pub limit_given : List ℕ → Option (Option ℕ)
+limit_given word = if bytes_eq word (codes "max") then Some None else option_map (λ n. Some n) (number_below (2 ^ 64) word)
 
--- `grow disks=N`, of this key alone
+-- `array-size N` or `array-size max`
+abbrev pub array_size_of : List (List ℕ) → Option Line
+array_size_of (word ∷ []) = option_map (λ limit. ArraySize limit) (limit_given word)
+array_size_of _ = None
+
+-- `grow key=value..`: a wish that keeps the level
 abbrev pub grow_of : List (List ℕ) → Option Line
-grow_of words =
-    if list_all (has_key (codes "disks=" ∷ [])) words
-    then option_map (λ n. Grow (wish_for_disks n)) (given_number (2 ^ 32) (codes "disks=") None words)
-    else None
+grow_of words = option_and_then (λ wish. if is_none wish.level then Some (Grow wish) else None) (wish_of words)
 
 -- `examine SLOT`
 abbrev pub examine_of : List (List ℕ) → Option Line
@@ -129,6 +113,7 @@ line_of (verb ∷ values) =
     else if bytes_eq verb (codes "add") then add_of values
     else if bytes_eq verb (codes "step") then step_of values
     else if bytes_eq verb (codes "wait") then alone Wait values
+    else if bytes_eq verb (codes "array-size") then array_size_of values
     else if bytes_eq verb (codes "grow") then grow_of values
     else if bytes_eq verb (codes "stop") then alone Stop values
     else if bytes_eq verb (codes "halt") then alone Halt values

@@ -3,14 +3,13 @@
 ghost use Rattle.std.specs.Prelude.{◌≡◌, ◌==◌, slice_index};
 ghost use Rattle.std.specs.List.{list_all};
 ghost use Rattle.uuid.specs.Text.{parsed};
-ghost use Rattle.script.specs.Grammar.{meaning_of, outside_of, inside_of, opens, is_for_lanes, asks_for, for_lanes, is_printable, line_of, alone, create_keys, create_of, shape_of, assemble_of, read_of, write_of, fail_of, add_of, step_of, grow_of, examine_of, span_of};
+ghost use Rattle.script.specs.Grammar.{meaning_of, outside_of, inside_of, opens, is_for_lanes, asks_for, for_lanes, is_printable, line_of, alone, create_keys, create_of, assemble_of, read_of, write_of, fail_of, add_of, step_of, array_size_of, limit_given, grow_of, examine_of, span_of};
 ghost use Rattle.line_words.specs.Keys.{has_key};
 ghost use Rattle.line_words.specs.Numbers.{is_space, words_of};
 
 use crate::lines::{CreateLine, Line};
 use crate::reply::Lane;
-use line_words::{Words, have_keys, layout_named, number, small_number, value_of};
-use md_base::{Shape, Wish};
+use line_words::{Words, have_keys, number, shape_of, small_number, value_of, wish_of};
 use uuid::Uuid;
 
 /// What the text of a line means: it may open a block, or ask something in a lane.
@@ -160,6 +159,8 @@ fn parse_line(mut words: Words<'_>) -> Option<Line>
         parse_step(words)
     } else if verb == b"wait".as_slice() {
         parse_alone(words, Line::Wait)
+    } else if verb == b"array-size".as_slice() {
+        parse_array_size(words)
     } else if verb == b"grow".as_slice() {
         parse_grow(words)
     } else if verb == b"stop".as_slice() {
@@ -195,7 +196,7 @@ fn parse_create(mut words: Words<'_>) -> Option<Line>
         return None;
     }
     let uuid = parse_uuid(uuid)?;
-    let shape = parse_shape(words)?;
+    let shape = shape_of(words)?;
     let size = number(value_of(words, b"size=", None)?)?;
     let offset = number(value_of(words, b"offset=", Some(b"2048"))?)?;
     Some(Line::Create(CreateLine {
@@ -213,21 +214,6 @@ fn has_create_keys(words: Words<'_>) -> bool
         b"level=", b"disks=", b"chunk=", b"layout=", b"size=", b"offset=",
     ];
     have_keys(words, &keys)
-}
-
-fn parse_shape(words: Words<'_>) -> Option<Shape>
-    ensures { result ≡ shape_of (words_of words.entry.line.now) }
-{
-    let level = small_number(value_of(words, b"level=", None)?)?;
-    let disks = small_number(value_of(words, b"disks=", None)?)?;
-    let chunk = small_number(value_of(words, b"chunk=", Some(b"1024"))?)?;
-    let layout = layout_named(value_of(words, b"layout=", Some(b"left-symmetric"))?)?;
-    Some(Shape {
-        level,
-        layout,
-        chunk,
-        disks,
-    })
 }
 
 fn parse_assemble(mut words: Words<'_>) -> Option<Line>
@@ -305,20 +291,32 @@ fn parse_step(mut words: Words<'_>) -> Option<Line>
     parse_alone(words, Line::Step { most })
 }
 
+// The limit of `array-size N`, or none for `array-size max`.
+fn parse_array_size(mut words: Words<'_>) -> Option<Line>
+    ensures { result ≡ array_size_of (words_of words.entry.line.now) }
+{
+    let limit = parse_limit(words.next()?)?;
+    parse_alone(words, Line::ArraySize { limit })
+}
+
+fn parse_limit(word: &[u8]) -> Option<Option<u64>>
+    ensures { result ≡ limit_given word.now }
+{
+    if word == b"max".as_slice() {
+        return Some(None);
+    }
+    let limit = number(word)?;
+    Some(Some(limit))
+}
+
 fn parse_grow(words: Words<'_>) -> Option<Line>
     ensures { result ≡ grow_of (words_of words.entry.line.now) }
 {
-    let keys: [&[u8]; 1] = [b"disks="];
-    if !have_keys(words, &keys) {
+    let wish = wish_of(words)?;
+    if wish.level.is_some() {
         return None;
     }
-    let disks = small_number(value_of(words, b"disks=", None)?)?;
-    Some(Line::Grow(Wish {
-        level: None,
-        disks: Some(disks),
-        chunk: None,
-        layout: None,
-    }))
+    Some(Line::Grow(wish))
 }
 
 // The sectors from X on, COUNT of them.

@@ -23,6 +23,7 @@ pub enum Line {
     Add { slot: u32 },
     Step { most: u32 },
     Wait,
+    ArraySize { limit: Option<u64> },
     Grow(Wish),
     Stop,
     Halt,

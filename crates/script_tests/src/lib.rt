@@ -7,3 +7,5 @@ mod blocks;
 mod replies;
 #[cfg(test)]
 mod texts;
+#[cfg(test)]
+mod wishes;

@@ -11,7 +11,7 @@ const UUID_BYTES: [u8; 16] = [
 ];
 
 // The number of the first bad line, or none where there is no such line.
-fn first_bad(alloc: Global, text: &[u8]) -> Result<Option<u64>, Fail> {
+pub(crate) fn first_bad(alloc: Global, text: &[u8]) -> Result<Option<u64>, Fail> {
     match read_script(alloc, text) {
         Ok(_) => Ok(None),
         Err(ScriptFault::BadLine(number)) => Ok(Some(number)),
@@ -57,7 +57,7 @@ const TEXTS: [Text; 28] = [
 ];
 
 // Lines that begin with a verb and a uuid, or not.
-const LINES: [Text; 51] = [
+const LINES: [Text; 50] = [
     ("flush", None),
     ("  stop  ", None),
     ("halt", None),
@@ -107,7 +107,6 @@ const LINES: [Text; 51] = [
         "create 6ba7b810-9dad-11d1-80b4-00c04fd430c level=5 disks=3 size=40",
         Some(1),
     ),
-    ("array-size max", Some(1)),
     ("detail", None),
     ("detail 1", Some(1)),
     ("mdstat", None),
@@ -118,31 +117,6 @@ const LINES: [Text; 51] = [
     ("examine 4294967296", Some(1)),
     ("examine", Some(1)),
     ("examine 0 1", Some(1)),
-];
-
-// Lines `grow`: of its keys there is `disks` alone.
-const GROWS: [Text; 21] = [
-    ("grow disks=5", None),
-    ("  grow   disks=16 ", None),
-    ("grow disks=0", None),
-    ("grow disks=4294967295", None),
-    ("grow", Some(1)),
-    ("grow 5", Some(1)),
-    ("grow disks", Some(1)),
-    ("grow disks=", Some(1)),
-    ("grow disks=05", Some(1)),
-    ("grow disks=+5", Some(1)),
-    ("grow disks= 5", Some(1)),
-    ("grow disks=4294967296", Some(1)),
-    ("grow disks=5 disks=5", Some(1)),
-    ("grow disks=5 6", Some(1)),
-    ("grow disks=5 size=40", Some(1)),
-    ("grow Disks=5", Some(1)),
-    ("Grow disks=5", Some(1)),
-    ("grow level=6", Some(1)),
-    ("grow chunk=16", Some(1)),
-    ("grow layout=preserve", Some(1)),
-    ("grow disks=5 chunk=16", Some(1)),
 ];
 
 // Keys of `create` that make the line bad.
@@ -206,7 +180,6 @@ fn bad_lines(rt: HostRuntime) -> Result<(), Fail> {
     let alloc = rt.alloc();
     have_bad_lines(&rt, alloc, &TEXTS)?;
     have_bad_lines(&rt, alloc, &LINES)?;
-    have_bad_lines(&rt, alloc, &GROWS)?;
     for keys in BAD_KEYS {
         let text = create_line(alloc, keys)?;
         assert!(rt; first_bad(alloc, text.as_bytes())? == Some(1), "{keys:?}");
@@ -288,7 +261,7 @@ const LAYOUTS: [(&str, u32); 11] = [
 ];
 
 // Whether the text is one line that asks for this.
-fn asks_alone(alloc: Global, text: &str, line: Line) -> Result<bool, Fail> {
+pub(crate) fn asks_alone(alloc: Global, text: &str, line: Line) -> Result<bool, Fail> {
     let lines = read_script(alloc, text.as_bytes())?;
     let asked = Numbered {
         number: 1,
@@ -332,10 +305,10 @@ fn name_layouts(rt: &impl Abort, alloc: Global, rows: &[(&str, u32)]) -> Result<
 }
 
 const SCRIPT: &str =
-    "assemble\n# one\ncreate 6ba7b810-9dad-11d1-80b4-00c04fd430c8 level=5 disks=3 chunk=8 size=40 offset=16\n\nwrite 5 1 7\nread 0 2\nflush\nhalt\nassemble 6ba7b810-9dad-11d1-80b4-00c04fd430c8\nfail 3\nadd 4\nstep 1\nstep 4294967295\nwait\nstop\ndetail\nmdstat\nexamine 31\ngrow disks=5";
+    "assemble\n# one\ncreate 6ba7b810-9dad-11d1-80b4-00c04fd430c8 level=5 disks=3 chunk=8 size=40 offset=16\n\nwrite 5 1 7\nread 0 2\nflush\nhalt\nassemble 6ba7b810-9dad-11d1-80b4-00c04fd430c8\nfail 3\nadd 4\nstep 1\nstep 4294967295\nwait\nstop\ndetail\nmdstat\nexamine 31\ngrow disks=5\narray-size 384\narray-size max";
 
 // What that script asks, with the numbers of its lines.
-const WANTED: [(u64, Line); 17] = [
+const WANTED: [(u64, Line); 19] = [
     (1, Line::Assemble { uuid: None }),
     (
         3,
@@ -386,6 +359,8 @@ const WANTED: [(u64, Line); 17] = [
             layout: None,
         }),
     ),
+    (20, Line::ArraySize { limit: Some(384) }),
+    (21, Line::ArraySize { limit: None }),
 ];
 
 fn compare(rt: &impl Abort, lines: &[Numbered], wanted: &[(u64, Line)]) {

@@ -7,11 +7,12 @@ use Rattle.flat_history.specs.declared.events.Event.{Event}
 use Rattle.flat_history.specs.declared.events.Event.TheVariants.{Shown}
 use Rattle.flat_history.specs.declared.events.Request.{Request}
 use Rattle.flat_history.specs.declared.events.Request.TheVariants.{Show as AsksShow}
-use Rattle.flat_history.specs.Flat.{last_of, next_number}
+use Rattle.flat_history.specs.Flat.{last_of, next_number, length_of, visible_of}
 use Rattle.flat_history.specs.Legal.{last_end}
 use Rattle.flat_history.specs.Growing.{BeginAnother}
-use Rattle.flat_history.specs.OneShape.{OneShapeFits, IsOfCall}
+use Rattle.flat_history.specs.OneShape.{IsOfCall}
 use Rattle.flat_history.specs.Seen.{Seen, BeginsWith, ends_call, reply_places}
+use Rattle.running_replies.specs.Replies.{RunningFits}
 
 -- ---- what was seen
 
@@ -32,15 +33,15 @@ pub record IsBefore (tells : Type 0) (less more : Seen) : Type 0 where
 
 -- ---- which calls were made
 
--- a status was shown, of a list of so many sectors
-abbrev pub IsShownAs : ℕ → Event → Type 0
-IsShownAs size (Shown status) = (status.length ≡ size) × (status.visible ≡ size)
-IsShownAs size event = ⊥
+-- a status was shown, of a list of so many sectors, of which so many can be read and written
+abbrev pub IsShownAs : ℕ → ℕ → Event → Type 0
+IsShownAs sectors visible (Shown status) = (status.length ≡ sectors) × (status.visible ≡ visible)
+IsShownAs sectors visible event = ⊥
 
--- the entry is a reply that fits the request, over a list of so many sectors, behind these entries
+-- The entry is a reply that fits the request, behind these entries. They tell how long the list is, where they tell a length; where they don't, it has so many sectors.
 abbrev pub IsReplyTo : ℕ → List Entry → Entry → Request → Type 0
-IsReplyTo size before e AsksShow = IsShownAs size e.event
-IsReplyTo size before e request = OneShapeFits size before e request
+IsReplyTo size before e AsksShow = IsShownAs (length_of size before) (visible_of size before) e.event
+IsReplyTo size before e request = RunningFits size before e request
 
 -- each of these requests is answered at its place
 abbrev pub AreReplied : ℕ → List Entry → List (Request × ℕ) → Type 0

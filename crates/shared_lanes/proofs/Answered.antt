@@ -4,9 +4,9 @@ use Rattle.std.proofs.lemmas.List.{map-append}
 use Rattle.bank.specs.declared.bank.Operation.{Operation}
 use Rattle.bank.specs.Given.{Given}
 use Rattle.flat_history.specs.declared.events.Request.{Request}
-use Rattle.views.specs.Parts.{Parts}
-use Rattle.lanes.specs.shared_array_the_Reply.{Reply}
-use Rattle.lanes.specs.shared_array_the_Reply_TheVariants.{Done, NoMemory as Short}
+use Rattle.running_calls.specs.running_words_Parts.{RunningParts}
+use Rattle.lanes.specs.running_calls_the_Reply.{Reply}
+use Rattle.lanes.specs.running_calls_the_Reply_TheVariants.{Done, NoMemory as Short}
 use Rattle.turn_lock.specs.declared.call.Call.{Call}
 use Rattle.turn_lock.specs.declared.view.Known.{Known}
 use Rattle.turn_lock.specs.declared.lock.Pass.{Pass}
@@ -14,9 +14,9 @@ use Rattle.turn_lock.specs.Turns.{Called, mine_of}
 use Rattle.shared_lanes.specs.Serving.{most_entries, size_of, requests_of, array_ways}
 use Rattle.shared_lanes.specs.Lanes.{own_requests, IsToldBy, IsAnswered}
 
-module _ {B : Type 0} (tells : Type 0) (given : B → Given) (tape : B → List Operation) (faults : B → ℕ → ℕ) (pass pass' : Pass (Parts B) Request) (request : Request) where
+module _ {B : Type 0} (tells : Type 0) (given : B → Given) (tape : B → List Operation) (faults : B → ℕ → ℕ) (pass pass' : Pass (RunningParts B) Request) (request : Request) where
   -- the place of the reply is that of the last entry
-  one-more : (found after : Parts B) (at : ℕ) → at + 1 ≡ length after.entries
+  one-more : (found after : RunningParts B) (at : ℕ) → at + 1 ≡ length after.parts.entries
       → mine_of pass'.seat.me.0.hands ≡ mine_of pass.seat.me.0.hands ++ record { request = request; at = size_of after - 1 } ∷ []
       → at < most_entries → own_requests pass' ≡ own_requests pass ++ (request, at) ∷ []
   one-more found after at last is few =
@@ -37,8 +37,9 @@ module _ {B : Type 0} (tells : Type 0) (given : B → Given) (tape : B → List 
     after = k.after;
     start = k.start;
     later = k.later;
-    seen = subst (λ (known : Option (Known (Parts B))). MatchOption known ⊥ (λ l. l.seen ≡ k.after)) (sym k.seen) refl;
-    begun = (k.start_is, subst (λ (known : Option (Known (Parts B))). MatchOption known ⊥ (λ l. l.start ≡ k.start)) (sym k.seen) refl);
+    seen = subst (λ (known : Option (Known (RunningParts B))). MatchOption known ⊥ (λ l. l.seen ≡ k.after)) (sym k.seen) refl;
+    begun = (k.start_is, subst (λ (known : Option (Known (RunningParts B))). MatchOption known ⊥ (λ l. l.start ≡ k.start)) (sym k.seen) refl);
     told = told reply k;
+    before = k.before;
     made = k.made;
   }

@@ -6,16 +6,16 @@ use Rattle.bank.specs.Given.{Given}
 use Rattle.flat_history.specs.declared.events.Entry.{Entry}
 use Rattle.flat_history.specs.declared.events.Event.{Event}
 use Rattle.flat_history.specs.declared.events.Request.{Request}
-use Rattle.views.specs.Parts.{Parts}
-use Rattle.lanes.specs.shared_array_the_Reply.{Reply}
-use Rattle.lanes.specs.shared_array_the_Reply_TheVariants.{Done, NoMemory as Short}
+use Rattle.running_calls.specs.running_words_Parts.{RunningParts}
+use Rattle.lanes.specs.running_calls_the_Reply.{Reply}
+use Rattle.lanes.specs.running_calls_the_Reply_TheVariants.{Done, NoMemory as Short}
 use Rattle.turn_lock.specs.declared.view.Known.{Known}
 use Rattle.turn_lock.specs.declared.lock.Pass.{Pass}
 use Rattle.seen_laws.specs.Callers.{IsReplyTo, IsCalled, HasCalled}
 use Rattle.seen_laws.proofs.BeforeLaws.{seen-self}
 use Rattle.lanes.specs.Carried.{GoesOn, IsOwn, next_call, IsEntered, IsAnswered as IsRepliedTo}
 use Rattle.shared_lanes.specs.Serving.{most_entries, sectors_of, seen_of, IsEarlier}
-use Rattle.shared_lanes.specs.ServingLaws.{performed-called, earlier-on, same-sectors, earlier}
+use Rattle.shared_lanes.specs.ServingLaws.{performed-called, sized-since, earlier-on, earlier}
 use Rattle.shared_lanes.specs.Lanes.{own_requests, known_of, carried_by, IsToldBy, IsAnswered}
 
 -- what holds of what is known
@@ -35,12 +35,12 @@ told-as who request old new new' size-is new-is c = record {
   answers = subst (λ (n : ℕ). IsReplyTo n (old ++ c.inner) c.reply request) (sym size-is) c.answers;
 }
 
-module _ {B : Type 0} (tells : Type 0) (given : B → Given) (tape : B → List Operation) (faults : B → ℕ → ℕ) (pass pass' : Pass (Parts B) Request) (request : Request)
+module _ {B : Type 0} (tells : Type 0) (given : B → Given) (tape : B → List Operation) (faults : B → ℕ → ℕ) (pass pass' : Pass (RunningParts B) Request) (request : Request)
     (reply : Reply) (same : pass'.caller ≡ pass.caller) (k : IsAnswered tells given tape faults pass request reply pass') where
-  abbrev known : Known (Parts B)
+  abbrev known : Known (RunningParts B)
   known = known_of pass.seat.me.0.known pass.live
 
-  abbrev known' : Known (Parts B)
+  abbrev known' : Known (RunningParts B)
   known' = known_of pass'.seat.me.0.known pass'.live
 
   later : IsEarlier tells given tape known.seen k.found
@@ -58,17 +58,17 @@ module _ {B : Type 0} (tells : Type 0) (given : B → Given) (tape : B → List 
   -- what was found is seen, and what was done to it
   grown : (r : Reply) → IsToldBy tells given tape faults pass pass' request k.found k.after r → IsEarlier tells given tape k.found k.after
   grown (Done at event) told = earlier k.found k.after pass.caller request (Done at event) told.0
-  grown Short told = subst (λ (x : Parts B). IsEarlier tells given tape k.found x) (sym told.0)
-      (record { before = seen-self (seen_of given tape k.found); sectors = refl; given_is = refl; full = λ full. refl })
+  grown Short told = subst (λ (x : RunningParts B). IsEarlier tells given tape k.found x) (sym told.0)
+      (record { before = seen-self (seen_of given tape k.found); given_is = refl; full = λ full. refl })
 
   on : IsEarlier tells given tape known.seen known'.seen
-  on = subst (λ (x : Parts B). IsEarlier tells given tape known.seen x) (sym seen) (earlier-on known.seen k.found k.after later (grown reply k.told))
+  on = subst (λ (x : RunningParts B). IsEarlier tells given tape known.seen x) (sym seen) (earlier-on known.seen k.found k.after later (grown reply k.told))
 
   pub goes-on : GoesOn tells (carried_by given tape pass) (carried_by given tape pass')
   goes-on = record {
     caller = same;
-    sectors = on.sectors;
-    start = ap (λ (x : Parts B). x.entries) (start' ∙ sym start);
+    sectors = ap (λ (x : RunningParts B). sectors_of x) (start' ∙ sym start);
+    start = ap (λ (x : RunningParts B). x.parts.entries) (start' ∙ sym start);
     seen = on.before;
   }
 
@@ -76,13 +76,14 @@ module _ {B : Type 0} (tells : Type 0) (given : B → Given) (tape : B → List 
       → IsEntered tells (carried_by given tape pass) request at event (carried_by given tape pass')
   entered at event told =
       let served = told.0 in
-      let call = performed-called request (next_call pass.caller k.found.entries) k.found k.after.entries event refl served.replied.0 in
-      let last : at + 1 ≡ length known'.seen.entries = served.replied.1 ∙ ap (λ (x : Parts B). length x.entries) (sym seen) in
+      let call = performed-called (sectors_of k.start) request (next_call pass.caller k.found.parts.entries) k.found k.after.parts.entries event refl
+      (sized-since k.start k.found k.before.went served.first) served.first served.replied.0 in
+      let last : at + 1 ≡ length known'.seen.parts.entries = served.replied.1 ∙ ap (λ (x : RunningParts B). length x.parts.entries) (sym seen) in
       record {
         found = seen_of given tape k.found;
         later = later.before;
-        called = told-as (next_call pass.caller k.found.entries) request k.found.entries k.after.entries known'.seen.entries
-            (ap (λ (x : Parts B). sectors_of x) seen ∙ same-sectors k.found k.after pass.caller request (Done at event) served) (ap (λ (x : Parts B). x.entries) seen) call.0;
+        called = told-as (next_call pass.caller k.found.parts.entries) request k.found.parts.entries k.after.parts.entries known'.seen.parts.entries
+            (ap (λ (x : RunningParts B). sectors_of x) start') (ap (λ (x : RunningParts B). x.parts.entries) seen) call.0;
         event_is = call.1;
         place = last;
         mine = λ held. told.1 (omega (arith, held, last));
@@ -94,6 +95,6 @@ module _ {B : Type 0} (tells : Type 0) (given : B → Given) (tape : B → List 
 
   pub own : IsOwn (carried_by given tape pass')
   own held =
-      subst₂ (λ (s x : Parts B). HasCalled (sectors_of x) s.entries x.entries pass'.caller (own_requests pass')) (sym start') (sym seen)
-      (subst (λ (c : ℕ). HasCalled (sectors_of k.after) k.start.entries k.after.entries c (own_requests pass')) (sym same)
-      (k.made (subst (λ (x : Parts B). length x.entries ≤ most_entries) seen held)))
+      subst₂ (λ (s x : RunningParts B). HasCalled (sectors_of s) s.parts.entries x.parts.entries pass'.caller (own_requests pass')) (sym start') (sym seen)
+      (subst (λ (c : ℕ). HasCalled (sectors_of k.start) k.start.parts.entries k.after.parts.entries c (own_requests pass')) (sym same)
+      (k.made.called (subst (λ (x : RunningParts B). length x.parts.entries ≤ most_entries) seen held)))

@@ -2,15 +2,15 @@
 use Rattle.std.specs.Prelude.{◌≡◌, ◌≢◌, ℕ, ◌<◌, ◌≤◌, ◌^◌, Bool, true, false, min, List, length, map}
 use Rattle.bank.specs.declared.bank.Operation.{Operation}
 use Rattle.bank.specs.Given.{Given}
+use Rattle.superblocks.specs.Reading.{list_length}
 use Rattle.flat_history.specs.declared.events.Request.{Request}
 use Rattle.flat_history.specs.Seen.{Seen}
-use Rattle.views.specs.Whole.{list_size}
-use Rattle.views.specs.Placed.{places_of}
-use Rattle.views.specs.Parts.{Parts}
 use Rattle.array_kept.specs.Calls.{world_for, IsEndOf}
-use Rattle.lanes.specs.shared_array_the_Reply.{Reply}
-use Rattle.lanes.specs.shared_array_the_Reply_TheVariants.{Done, NoMemory as Short}
-use Rattle.lanes.specs.shared_array_Replies.{IsAskable, IsLater, IsRepliedBy}
+use Rattle.running_calls.specs.running_words_Parts.{RunningParts}
+use Rattle.running_calls.specs.Going.{HasGoneOn}
+use Rattle.running_calls.specs.Replies.{IsAskable, TellsLength, IsRepliedBy, IsCountedBy, OnReply}
+use Rattle.lanes.specs.running_calls_the_Reply.{Reply}
+use Rattle.lanes.specs.running_calls_the_Reply_TheVariants.{Done, NoMemory as Short}
 use Rattle.turn_lock.specs.declared.call.Call.{Call}
 use Rattle.turn_lock.specs.Ways.{Ways}
 use Rattle.seen_laws.specs.Callers.{IsBefore, HasCalled}
@@ -21,23 +21,27 @@ abbrev pub most_entries : ℕ
 most_entries = 2 ^ 61
 
 -- the sectors of the list
-abbrev pub sectors_of : {B : Type 0} → Parts B → ℕ
-sectors_of x = list_size (places_of x.members)
+abbrev pub sectors_of : {B : Type 0} → RunningParts B → ℕ
+sectors_of x = list_length x.parts.members.newest
 
 -- the entries, counted as far as that
-abbrev pub size_of : {B : Type 0} → Parts B → ℕ
-size_of x = min (length x.entries) most_entries
+abbrev pub size_of : {B : Type 0} → RunningParts B → ℕ
+size_of x = min (length x.parts.entries) most_entries
 
 -- what is seen of an array: its history, over its bank
-abbrev pub seen_of : {B : Type 0} → (B → Given) → (B → List Operation) → Parts B → Seen
-seen_of given tape x = record { world = world_for (given x.bank) (tape x.bank) x; entries = x.entries }
+abbrev pub seen_of : {B : Type 0} → (B → Given) → (B → List Operation) → RunningParts B → Seen
+seen_of given tape x = record { world = world_for (given x.parts.bank) (tape x.parts.bank) x.parts; entries = x.parts.entries }
 
--- The array of an earlier moment: its history begins that of the later one, over the same bank and a list of the same size.
-pub record IsEarlier {B : Type 0} (tells : Type 0) (given : B → Given) (tape : B → List Operation) (old new : Parts B) : Type 0 where
+-- The array of an earlier moment: its history begins that of the later one, over the same bank. Its list may have had another length, and its members another shape.
+pub record IsEarlier {B : Type 0} (tells : Type 0) (given : B → Given) (tape : B → List Operation) (old new : RunningParts B) : Type 0 where
   pub before : IsBefore tells (seen_of given tape old) (seen_of given tape new)
-  pub sectors : sectors_of new ≡ sectors_of old
-  pub given_is : given new.bank ≡ given old.bank
-  pub full : most_entries ≤ length old.entries → new.entries ≡ old.entries
+  pub given_is : given new.parts.bank ≡ given old.parts.bank
+  pub full : most_entries ≤ length old.parts.entries → new.parts.entries ≡ old.parts.entries
+
+-- the tape ends where the last entry does, and the history tells the list's length
+pub record IsSound {B : Type 0} (tells : Type 0) (tape : B → List Operation) (x : RunningParts B) : Type 0 where
+  pub ended : IsEndOf tells x.parts.first x.parts.entries (tape x.parts.bank)
+  pub told : TellsLength x
 
 -- a request that a caller may make: the opening's number is nobody's
 abbrev pub MayAsk : ℕ → Request → Type 0
@@ -48,30 +52,34 @@ is_done (Done at event) = true
 is_done Short = false
 
 -- A request was done, in the caller's next call, and the reply tells the event of the last entry and its place.
-pub record IsServed {B : Type 0} (tells : Type 0) (given : B → Given) (tape : B → List Operation) (faults : B → ℕ → ℕ) (old new : Parts B)
+pub record IsServed {B : Type 0} (tells : Type 0) (given : B → Given) (tape : B → List Operation) (faults : B → ℕ → ℕ) (old new : RunningParts B)
     (caller : ℕ) (request : Request) (reply : Reply) : Type 0 where
-  pub fits : length old.entries < most_entries
+  pub fits : length old.parts.entries < most_entries
   pub done : is_done reply ≡ true
-  pub replied : IsRepliedBy request (next_call caller old.entries) old new reply
-  pub later : IsLater request tells given tape faults old new
-  pub ended : IsEndOf tells new.first new.entries (tape new.bank)
+  pub replied : IsRepliedBy request (next_call caller old.parts.entries) old new reply
+  pub counted : OnReply reply (λ event. IsCountedBy request old new event)
+  pub went : HasGoneOn tells given tape faults old new
+  pub first : TellsLength old
+  pub sound : IsSound tells tape new
 
 -- each request with the place of its reply
 abbrev pub requests_of : List (Call Request) → List (Request × ℕ)
 requests_of calls = map (λ c. (c.request, c.at)) calls
 
--- since the start the caller has made just these calls, each of which was answered by a reply that fits it
-abbrev pub HasMade : {B : Type 0} → Parts B → Parts B → ℕ → List (Call Request) → Type 0
-HasMade start now caller calls = length now.entries ≤ most_entries → HasCalled (sectors_of now) start.entries now.entries caller (requests_of calls)
+-- Since the start the array has gone on by callers' calls, and of this caller's there are just these, each of which was answered by a reply that fits it.
+pub record HasMade {B : Type 0} (tells : Type 0) (given : B → Given) (tape : B → List Operation) (faults : B → ℕ → ℕ) (start now : RunningParts B)
+    (caller : ℕ) (calls : List (Call Request)) : Type 0 where
+  pub went : HasGoneOn tells given tape faults start now
+  pub called : length now.parts.entries ≤ most_entries → HasCalled (sectors_of start) start.parts.entries now.parts.entries caller (requests_of calls)
 
 -- how a lock tells arrays and their histories apart
-abbrev pub array_ways : {B : Type 0} → Type 0 → (B → Given) → (B → List Operation) → (B → ℕ → ℕ) → Ways (Parts B) Request Reply
+abbrev pub array_ways : {B : Type 0} → Type 0 → (B → Given) → (B → List Operation) → (B → ℕ → ℕ) → Ways (RunningParts B) Request Reply
 array_ways tells given tape faults = record {
   size = size_of;
-  IsSound = λ x. IsEndOf tells x.first x.entries (tape x.bank);
+  IsSound = IsSound tells tape;
   Begins = IsEarlier tells given tape;
   IsAskable = MayAsk;
   is_done = is_done;
   Adds = IsServed tells given tape faults;
-  Made = HasMade;
+  Made = HasMade tells given tape faults;
 }

@@ -1,11 +1,11 @@
-//! An array that several callers share, one at a time.
+//! A running array that several callers share, one at a time.
 #![tactic(auto)]
 
 mod serving;
 mod sharing;
 
-pub use array;
 pub use lanes;
-pub use lanes::shared_array;
+pub use lanes::running_calls;
+pub use lanes::running_calls::running;
 pub use serving::Answering;
 pub use sharing::{Pass, Shared};

@@ -1,10 +1,10 @@
-//! An array that answers the requests of numbered callers.
+//! A running array that answers the requests of numbered callers.
 ghost use Rattle.std.specs.Prelude.{◌≡◌};
 
-use array::Array;
 use bank::Bank;
 use flat_history::Request;
-use lanes::shared_array::{Reply, perform};
+use lanes::running_calls::running::Running;
+use lanes::running_calls::{Reply, perform};
 use md_base::Who;
 use std::alloc::Global;
 use std::marker::Model;
@@ -13,25 +13,25 @@ use turn_lock::Served;
 /// An array that answers callers; contracts see it as the array.
 #[derive(Drop)]
 pub struct Answering<B: Bank> {
-    array: Array<B>,
+    array: Running<B>,
 }
 
 impl<B: Bank> Model for Answering<B> {
-    ghost use Rattle.views.specs.Parts.{Parts};
+    ghost use Rattle.running_calls.specs.running_words_Parts.{RunningParts};
 
-    ghost Value = { Parts B };
+    ghost Value = { RunningParts B };
 
     ghost view = { λ a. a.array };
 }
 
 impl<B: Bank> Answering<B> {
-    pub(crate) fn new(array: Array<B>) -> Answering<B>
+    pub(crate) fn new(array: Running<B>) -> Answering<B>
         ensures { result ≡ array }
     {
         Answering { array }
     }
 
-    pub(crate) fn into_array(self) -> Array<B>
+    pub(crate) fn into_array(self) -> Running<B>
         ensures { result ≡ self }
     {
         let Answering { array } = self;

@@ -1,17 +1,18 @@
-//! The lock round an array, and the passes by which callers use it.
+//! The lock round a running array, and the passes by which callers use it.
 ghost use Rattle.std.specs.Prelude.{◌≡◌, ◌<◌, length, IfOk, IfErr};
 ghost use Rattle.array_kept.specs.Calls.{IsEndOf};
+ghost use Rattle.running_calls.specs.Replies.{TellsLength};
 ghost use Rattle.turn_lock.specs.Turns.{AreDistinct, Met};
 ghost use Rattle.turn_lock.specs.Passes.{AreNew, EachPass, Ended};
 ghost use Rattle.shared_lanes.specs.Serving.{array_ways};
 ghost use Rattle.shared_lanes.specs.Lanes.{own_requests};
 
 use crate::serving::Answering;
-use array::Array;
 use bank::Bank;
 use flat_history::Request;
 use lanes::Service;
-use lanes::shared_array::Reply;
+use lanes::running_calls::Reply;
+use lanes::running_calls::running::Running;
 use std::alloc::Global;
 use std::sync::Wait;
 use turn_lock::Lock;
@@ -30,10 +31,11 @@ impl<B: Bank + Drop> Shared<B> {
     /// Where memory is short the array comes back as it was.
     pub fn start(
         alloc: Global,
-        array: Array<B>,
+        array: Running<B>,
         callers: &[u32],
-    ) -> Result<(Shared<B>, Vec<Pass<B>>), Array<B>>
-        requires ended { IsEndOf B.tells array.first array.entries (B.tape array.bank) }
+    ) -> Result<(Shared<B>, Vec<Pass<B>>), Running<B>>
+        requires ended { IsEndOf B.tells array.parts.first array.parts.entries (B.tape array.parts.bank) }
+        requires told { TellsLength array }
         requires some { 0 < length callers.now }
         requires distinct { AreDistinct callers.now }
         ensures lock { IfOk result (λ t. (t.0.lock.table.shared.key.value ≡ array) × (t.0.lock.table.shared.key.callers.items ≡ callers.now)) }
@@ -58,7 +60,7 @@ impl<B: Bank + Drop> Shared<B> {
 
     /// The array, once all passes are back. Its history begins with all that each pass has seen, and since the start it has just the
     /// calls that the passes tell: each caller's own, once and in its order, and none of anybody else.
-    pub fn close(self, passes: Vec<Pass<B>>) -> Array<B>
+    pub fn close(self, passes: Vec<Pass<B>>) -> Running<B>
         requires lock { EachPass (λ p. p.seat.table_id ≡ self.lock.table.shared.table_id) passes.items }
         requires all { length passes.items ≡ length self.lock.table.shared.key.callers.items }
         ensures ended { Ended (array_ways B.tells B.given B.tape B.faults_of) self.lock.table.shared.key.value passes.items result }

@@ -15,6 +15,7 @@ mod asking;
 mod ending;
 mod examining;
 mod failing;
+mod limiting;
 mod mending;
 mod parting;
 mod reading;
@@ -35,7 +36,7 @@ use superblocks::Members;
 use views::Work;
 
 /// An array over slots of a bank whose superblocks tell no active reshape, whether one was before or not. `ahead` are the phases of a
-/// plan that hasn't begun.
+/// plan that hasn't begun; only the sectors of the list below `limit` can be read and written, or all of them without one.
 #[derive(Drop)]
 pub struct Still<B: Bank> {
     alloc: Global,
@@ -45,6 +46,7 @@ pub struct Still<B: Bank> {
     members: Members,
     work: Work,
     ahead: PhasesLeft,
+    limit: Option<u64>,
     steps: u64,
     rows: Vec<u64>,
     buffer: Vec<u8>,
@@ -76,10 +78,11 @@ impl<B: Bank> Model for Still<B> {
       };
       course = closed 0;
       ahead = a.ahead;
+      limit = a.limit;
     } };
 
     ghost invariant = { λ a. IsReady B.tells (B.given a.bank) (B.tape a.bank) (scope_in (B.given a.bank) a.epoch.uuid a.epoch.given a.backup)
-        a.epoch.first a.epoch.entries.items a.members a.work a.ahead (B.faults_of a.bank) a.steps a.epoch.entries.room
+        a.epoch.first a.epoch.entries.items a.members a.work a.ahead a.limit (B.faults_of a.bank) a.steps a.epoch.entries.room
         (vec_capacity a.rows) (length a.buffer.items) (vec_capacity a.far_rows) (length a.far_buffer.items) };
 }
 

@@ -140,16 +140,16 @@ still-same {tells = tells} {given = given} {tape' = tape'} {scope = scope} {firs
     here : tells → IsStill tells given tape' scope first entries m work left
     here t = subst (λ (l : List Operation). IsStill tells given l scope first entries m work left) (sym (same t)) was
 
-pub ready-same : {tells : Type 0} {given given' : Given} {tape tape' : List Operation} {uuid : List ℕ} {slots : ℕ} {backup : Option ℕ} {first : ℕ} {entries : List Entry} {members : Members} {work : Work} {ahead : PhasesLeft}
+pub ready-same : {tells : Type 0} {given given' : Given} {tape tape' : List Operation} {uuid : List ℕ} {slots : ℕ} {backup : Option ℕ} {first : ℕ} {entries : List Entry} {members : Members} {work : Work} {ahead : PhasesLeft} {limit : Option ℕ}
     {faults faults' : ℕ → ℕ} {steps room rows buffer far_rows far_buffer : ℕ} → given' ≡ given → (tells → tape' ≡ tape) → ((s : ℕ) → faults s ≤ faults' s)
-    → IsReady tells given tape (scope_in given uuid slots backup) first entries members work ahead faults steps room rows buffer far_rows far_buffer
-    → IsReady tells given' tape' (scope_in given' uuid slots backup) first entries members work ahead faults' steps room rows buffer far_rows far_buffer
-ready-same {tells = tells} {given = given} {tape' = tape'} {uuid = uuid} {slots = slots} {backup = backup} {first = first} {entries = entries} {members = members} {work = work} {ahead = ahead} {faults = faults} {faults' = faults'}
+    → IsReady tells given tape (scope_in given uuid slots backup) first entries members work ahead limit faults steps room rows buffer far_rows far_buffer
+    → IsReady tells given' tape' (scope_in given' uuid slots backup) first entries members work ahead limit faults' steps room rows buffer far_rows far_buffer
+ready-same {tells = tells} {given = given} {tape' = tape'} {uuid = uuid} {slots = slots} {backup = backup} {first = first} {entries = entries} {members = members} {work = work} {ahead = ahead} {limit = limit} {faults = faults} {faults' = faults'}
     {steps = steps} {room = room} {rows = rows} {buffer = buffer} {far_rows = far_rows} {far_buffer = far_buffer} known same rose was =
-    subst (λ (g : Given). IsReady tells g tape' (scope_in g uuid slots backup) first entries members work ahead faults' steps room rows buffer far_rows far_buffer) (sym known) (record {
+    subst (λ (g : Given). IsReady tells g tape' (scope_in g uuid slots backup) first entries members work ahead limit faults' steps room rows buffer far_rows far_buffer) (sym known) (record {
       kept = still-same same was.kept;
       sized = was.sized;
-      unlimited = was.unlimited;
+      limited = was.limited;
       planned = was.planned;
       failed = λ slot there lost. let before = was.failed slot there lost in let more = rose slot in omega (arith, before, more);
       room_left = was.room_left;

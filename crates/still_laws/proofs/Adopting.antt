@@ -44,11 +44,11 @@ found-plainly m first = absents-plainly opener first (found_losses (reading_of m
 pub begins-ready : {tells : Type 0} {given : Given} {tape : List Operation} {scope : Scope} {first : ℕ} {entries : List Entry} {members : Members} {work : Work}
     {faults : ℕ → ℕ} {steps room rows buffer far_rows far_buffer : ℕ} → kept.IsReady tells given tape scope first entries members work faults steps room rows buffer
     → 128 ≤ far_rows → 1048576 ≤ far_buffer → AreToldPlainly entries
-    → IsReady tells given tape scope first entries members work planless faults steps room rows buffer far_rows far_buffer
+    → IsReady tells given tape scope first entries members work planless None faults steps room rows buffer far_rows far_buffer
 begins-ready {tells = tells} {given = given} {tape = tape} {scope = scope} {first = first} {entries = entries} {members = members} {work = work} was far_rows_fit far_buffer_fits plainly = record {
   kept = subst (λ (n : ℕ). IsStill tells given tape scope first entries members work n) none (kept-stands was.kept);
   sized = subst (λ (n : ℕ). length_of n entries ≡ n) (sym (length-still members was.kept.still)) was.kept.sized;
-  unlimited = was.kept.unlimited;
+  limited = was.kept.unlimited;
   planned = tt;
   failed = was.failed;
   room_left = was.room_left;

@@ -82,8 +82,8 @@ answer-stands {tells = tells} {given = given} {tape = tape} {scope = scope} {fir
 answer-stands work m ahead who end event was goes caller at_end plans may reply = absurd reply
 
 pub reply-keeps : (work : Work) (m : Members) (ahead : PhasesLeft) (who : Who) (end : ℕ) (event : Event) → IsStepsReplyNow work m ahead event → IsLengthKept (entries_of who end (event ∷ []))
-reply-keeps work m ahead who end (Refused Nothing) reply = alone-keeps who end (Refused Nothing) (λ n. refl) refl
-reply-keeps work m ahead who end (Stepped done left ended) reply = alone-keeps who end (Stepped done left ended) (λ n. refl) refl
+reply-keeps work m ahead who end (Refused Nothing) reply = alone-keeps who end (Refused Nothing) (λ n. refl) (λ limit. refl)
+reply-keeps work m ahead who end (Stepped done left ended) reply = alone-keeps who end (Stepped done left ended) (λ n. refl) (λ limit. refl)
 reply-keeps work m ahead who end event reply = absurd reply
 
 pub reply-lossless : (work : Work) (m : Members) (ahead : PhasesLeft) (Had : ℕ → ℕ → Type 0) (before after : ℕ → ℕ) (event : Event) → IsStepsReplyNow work m ahead event → IsLossBy Had before after event

@@ -1,5 +1,5 @@
 -- What an array without an active reshape keeps, after a call.
-use Rattle.std.proofs.Common.{◌≡◌, ◌⊎◌, inl, inr, ℕ, ◌*◌, ◌<◌, ◌≤◌, true, false, List, [], ◌++◌, refl, sym, ◌∙◌, ap, subst, arith}
+use Rattle.std.proofs.Common.{◌≡◌, ◌⊎◌, inl, inr, ℕ, ◌*◌, ◌<◌, ◌≤◌, true, false, Option, List, [], ◌++◌, refl, sym, ◌∙◌, ap, subst, arith}
 use Rattle.std.specs.List.{list_any}
 use Rattle.std.proofs.lemmas.List.Elements.{All-append}
 use Rattle.md_base.specs.declared.places.Shape.{Shape}
@@ -14,7 +14,7 @@ use Rattle.flat_history.specs.Flat.{length_of}
 use Rattle.views.specs.declared.work.Work.{Work}
 use Rattle.views.specs.Moving.{IsMoved}
 use Rattle.views.proofs.Fit.{list-alike}
-use Rattle.array_kept.proofs.NowLaws.{length-more, limit-more}
+use Rattle.array_kept.proofs.NowLaws.{length-more}
 use Rattle.grow_asked.specs.declared.window.PhasesLeft.{PhasesLeft}
 use Rattle.grow_asked.specs.Left.{phases_of}
 use Rattle.kept_history.proofs.Tests.{none-before}
@@ -22,6 +22,7 @@ use Rattle.still_kept.specs.Still.{IsStill}
 use Rattle.running_words.specs.Parts.{still_left}
 use Rattle.running_words.specs.Plans.{turns_shape}
 use Rattle.running_words.proofs.Lengths.{IsLengthKept}
+use Rattle.running_words.proofs.Visible.{limit-kept}
 use Rattle.still_laws.specs.Plain.{MayTellPlainly, AreToldPlainly}
 use Rattle.still_laws.specs.Ready.{IsReady}
 use Rattle.still_laws.proofs.Plain.{IsLeftPlain, turns-first}
@@ -53,25 +54,25 @@ plainly-more entries added all is was left none =
 
 -- The array is ready after a call's last step in memory.
 pub ready : {tells : Type 0} {given given' : Given} {tape tape' : List Operation} {scope scope' : Scope} {first first' : ℕ} {entries mid entries' : List Entry} {members members' : Members}
-    {work work' : Work} {ahead : PhasesLeft} {steps steps' room room' rows buffer far_rows far_buffer : ℕ} {before after : ℕ → ℕ} (added : List Entry)
-    → IsReady tells given tape scope first entries members work ahead before steps room rows buffer far_rows far_buffer
+    {work work' : Work} {ahead : PhasesLeft} {limit : Option ℕ} {steps steps' room room' rows buffer far_rows far_buffer : ℕ} {before after : ℕ → ℕ} (added : List Entry)
+    → IsReady tells given tape scope first entries members work ahead limit before steps room rows buffer far_rows far_buffer
     → AreRowsSame members.newest members'.newest
     → IsStill tells given tape' scope first (entries ++ added) members' work' (still_left work' members' ahead) → IsLeftPlain tells given tape' scope first entries added members'
     → NeverFalls before after → IsLengthKept added
     → given' ≡ given → scope' ≡ scope → first' ≡ first → mid ≡ entries → entries' ≡ mid ++ added → 50 * steps' < room'
-    → IsReady tells given' tape' scope' first' entries' members' work' ahead after steps' room' rows buffer far_rows far_buffer
+    → IsReady tells given' tape' scope' first' entries' members' work' ahead limit after steps' room' rows buffer far_rows far_buffer
 ready {tells = tells} {given = given} {given' = given'} {tape' = tape'} {scope = scope} {scope' = scope'} {first = first} {first' = first'} {entries = entries} {mid = mid} {members = members} {members' = members'}
-    {work' = work'} {ahead = ahead} {steps' = steps'} {room' = room'} {rows = rows} {buffer = buffer} {far_rows = far_rows} {far_buffer = far_buffer} {after = after}
+    {work' = work'} {ahead = ahead} {limit = limit} {steps' = steps'} {room' = room'} {rows = rows} {buffer = buffer} {far_rows = far_rows} {far_buffer = far_buffer} {after = after}
     added was same kept left rises quiet same_given scope_is first_is mid_is is room_left =
-    subst (λ (l : List Entry). IsReady tells given' tape' scope' first' l members' work' ahead after steps' room' rows buffer far_rows far_buffer) (sym (is ∙ ap (λ (l : List Entry). l ++ added) mid_is))
-    (subst (λ (n : ℕ). IsReady tells given' tape' scope' n (entries ++ added) members' work' ahead after steps' room' rows buffer far_rows far_buffer) (sym first_is)
-    (subst (λ (s : Scope). IsReady tells given' tape' s first (entries ++ added) members' work' ahead after steps' room' rows buffer far_rows far_buffer) (sym scope_is)
-    (subst (λ (g : Given). IsReady tells g tape' scope first (entries ++ added) members' work' ahead after steps' room' rows buffer far_rows far_buffer) (sym same_given)
+    subst (λ (l : List Entry). IsReady tells given' tape' scope' first' l members' work' ahead limit after steps' room' rows buffer far_rows far_buffer) (sym (is ∙ ap (λ (l : List Entry). l ++ added) mid_is))
+    (subst (λ (n : ℕ). IsReady tells given' tape' scope' n (entries ++ added) members' work' ahead limit after steps' room' rows buffer far_rows far_buffer) (sym first_is)
+    (subst (λ (s : Scope). IsReady tells given' tape' s first (entries ++ added) members' work' ahead limit after steps' room' rows buffer far_rows far_buffer) (sym scope_is)
+    (subst (λ (g : Given). IsReady tells g tape' scope first (entries ++ added) members' work' ahead limit after steps' room' rows buffer far_rows far_buffer) (sym same_given)
     (record {
       kept = kept;
       sized = subst (λ (n : ℕ). length_of n (entries ++ added) ≡ n) (sym same.long)
           (length-more (list_length members.newest) entries added was.sized (quiet.long (list_length members.newest)));
-      unlimited = limit-more entries added was.unlimited quiet.free;
+      limited = limit-kept limit entries added was.limited (quiet.free limit);
       planned = subst (λ (n : ℕ). AreSound (shape_of members'.newest) n (phases_of ahead)) (sym same.size)
           (subst (λ (s : Shape). AreSound s members.newest.size (phases_of ahead)) (sym same.shape) was.planned);
       failed = λ slot lt out. let had = was.failed slot lt out in let more = rises slot in omega (arith, had, more);
@@ -87,13 +88,13 @@ ready {tells = tells} {given = given} {given' = given'} {tape' = tape'} {scope =
 
 -- with other buffers for its rows, that have room as before
 pub with-buffers : {tells : Type 0} {given : Given} {tape : List Operation} {scope : Scope} {first : ℕ} {entries : List Entry} {members : Members}
-    {work : Work} {ahead : PhasesLeft} {steps room rows buffer rows' buffer' far_rows far_buffer : ℕ} {faults : ℕ → ℕ} → 128 ≤ rows' → 1048576 ≤ buffer'
-    → IsReady tells given tape scope first entries members work ahead faults steps room rows buffer far_rows far_buffer
-    → IsReady tells given tape scope first entries members work ahead faults steps room rows' buffer' far_rows far_buffer
+    {work : Work} {ahead : PhasesLeft} {limit : Option ℕ} {steps room rows buffer rows' buffer' far_rows far_buffer : ℕ} {faults : ℕ → ℕ} → 128 ≤ rows' → 1048576 ≤ buffer'
+    → IsReady tells given tape scope first entries members work ahead limit faults steps room rows buffer far_rows far_buffer
+    → IsReady tells given tape scope first entries members work ahead limit faults steps room rows' buffer' far_rows far_buffer
 with-buffers rows_fit buffer_fits was = record {
   kept = was.kept;
   sized = was.sized;
-  unlimited = was.unlimited;
+  limited = was.limited;
   planned = was.planned;
   failed = was.failed;
   room_left = was.room_left;
@@ -108,15 +109,15 @@ with-buffers rows_fit buffer_fits was = record {
 
 -- with room for more entries
 pub roomier : {tells : Type 0} {given : Given} {tape : List Operation} {scope : Scope} {first : ℕ} {entries entries' : List Entry} {members : Members}
-    {work : Work} {ahead : PhasesLeft} {steps room room' rows buffer far_rows far_buffer : ℕ} {faults : ℕ → ℕ}
-    → IsReady tells given tape scope first entries members work ahead faults steps room rows buffer far_rows far_buffer → entries' ≡ entries → room ≤ room'
-    → IsReady tells given tape scope first entries' members work ahead faults steps room' rows buffer far_rows far_buffer
-roomier {tells = tells} {given = given} {tape = tape} {scope = scope} {first = first} {members = members} {work = work} {ahead = ahead} {steps = steps} {room' = room'}
+    {work : Work} {ahead : PhasesLeft} {limit : Option ℕ} {steps room room' rows buffer far_rows far_buffer : ℕ} {faults : ℕ → ℕ}
+    → IsReady tells given tape scope first entries members work ahead limit faults steps room rows buffer far_rows far_buffer → entries' ≡ entries → room ≤ room'
+    → IsReady tells given tape scope first entries' members work ahead limit faults steps room' rows buffer far_rows far_buffer
+roomier {tells = tells} {given = given} {tape = tape} {scope = scope} {first = first} {members = members} {work = work} {ahead = ahead} {limit = limit} {steps = steps} {room' = room'}
     {rows = rows} {buffer = buffer} {far_rows = far_rows} {far_buffer = far_buffer} {faults = faults} was same more =
-    subst (λ (l : List Entry). IsReady tells given tape scope first l members work ahead faults steps room' rows buffer far_rows far_buffer) (sym same) (record {
+    subst (λ (l : List Entry). IsReady tells given tape scope first l members work ahead limit faults steps room' rows buffer far_rows far_buffer) (sym same) (record {
       kept = was.kept;
       sized = was.sized;
-      unlimited = was.unlimited;
+      limited = was.limited;
       planned = was.planned;
       failed = was.failed;
       room_left = (let had = was.room_left in omega (arith, had, more));

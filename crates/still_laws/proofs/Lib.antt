@@ -5,6 +5,7 @@ pub mod Kept
 pub mod Left
 pub mod Settled
 pub mod Reading
+pub mod Limiting
 pub mod Writing
 pub mod Going
 pub mod StepLaws
@@ -19,7 +20,9 @@ pub mod PlainSteps
 pub mod PlainAdds
 pub use Rattle.running_words.proofs.Called as running_words_Called
 pub use Rattle.running_words.proofs.Lengths as running_words_Lengths
+pub use Rattle.running_words.proofs.Replies as running_words_Replies
 pub use Rattle.running_words.proofs.TakenOut as running_words_TakenOut
+pub use Rattle.running_words.proofs.Visible as running_words_Visible
 pub use Rattle.still_kept.proofs.Bridges as still_kept_Bridges
 pub use Rattle.still_kept.proofs.Ending as still_kept_Ending
 pub use Rattle.still_kept.proofs.Failing as still_kept_Failing

@@ -13,7 +13,7 @@ use Rattle.bank.specs.declared.bank.Operation.{Operation}
 use Rattle.bank.specs.Given.{Given, Sizes}
 use Rattle.sb1.specs.declared.sb.Sb.{Sb}
 use Rattle.superblocks.specs.declared.members.Members.{Members}
-use Rattle.superblocks.specs.Reading.{Scope, role_count, is_backup, list_length}
+use Rattle.superblocks.specs.Reading.{Scope, role_count, is_backup}
 use Rattle.superblocks.specs.Reads.{has_spare}
 use Rattle.superblocks.proofs.ValidFields.{few-roles}
 use Rattle.row_io.specs.Rows.{reading_of, is_missing}
@@ -50,14 +50,15 @@ use Rattle.grow_asked.specs.declared.window.PhasesLeft.{PhasesLeft}
 use Rattle.kept_history.specs.Recorded.{IsCallGoing}
 use Rattle.kept_history.specs.Safe.{world_in}
 use Rattle.still_laws.specs.Plain.{MayTellPlainly, IsPlainKept}
+use Rattle.running_words.specs.Parts.{visible_size}
 use Rattle.still_laws.specs.Ready.{IsReady}
 use Rattle.still_laws.proofs.Plain.{IsLeftPlain, plain-called}
 use Rattle.still_laws.proofs.PlainBehind.{refused-plain, here-plain}
 
 -- ---- a role is failed: its slot is taken out first, and others may be lost in the update that names it
 
-module _ {tells : Type 0} {given : Given} {tape tape' : List Operation} {scope : Scope} {first : ℕ} {entries : List Entry} {old mid new : Members} {work : Work} {ahead : PhasesLeft} {faults : ℕ → ℕ}
-    {steps room rows buffer far_rows far_buffer roles spares : ℕ} {before after : ℕ → ℕ} (was : IsReady tells given tape scope first entries old work ahead faults steps room rows buffer far_rows far_buffer)
+module _ {tells : Type 0} {given : Given} {tape tape' : List Operation} {scope : Scope} {first : ℕ} {entries : List Entry} {old mid new : Members} {work : Work} {ahead : PhasesLeft} {limit : Option ℕ} {faults : ℕ → ℕ}
+    {steps room rows buffer far_rows far_buffer roles spares : ℕ} {before after : ℕ → ℕ} (was : IsReady tells given tape scope first entries old work ahead limit faults steps room rows buffer far_rows far_buffer)
     (who : Who) (end : ℕ) (goes : IsCallGoing entries who) (caller : who.caller ≢ 254) (at_end : tells → end ≡ length tape') (grows : Grows tells tape tape')
     (moved : IsMoved given old new) (role : ℕ) (out : (other : ℕ) → is_vacant (reading_of mid) other ≡ true → (is_vacant (reading_of old) other ≡ true) ⊎ (other ≡ role))
     (since : AreLostSince mid new roles spares before after) (vacant : is_vacant (reading_of new) role ≡ true) (left : (slot : ℕ) → has_spare old.spares slot ≡ true → has_spare mid.spares slot ≡ true) where
@@ -129,8 +130,8 @@ module _ {tells : Type 0} {given : Given} {tape tape' : List Operation} {scope :
 
 -- ---- a slot is made a spare, or is lost in that
 
-module _ {tells : Type 0} {given : Given} {tape mid_tape tape' : List Operation} {scope : Scope} {first : ℕ} {entries : List Entry} {old new : Members} {work : Work} {ahead : PhasesLeft} {faults : ℕ → ℕ} {slot : ℕ} {sb : Sb} {lost : ℕ}
-    {steps room rows buffer far_rows far_buffer roles spares : ℕ} {before after : ℕ → ℕ} (was : IsReady tells given tape scope first entries old work ahead faults steps room rows buffer far_rows far_buffer)
+module _ {tells : Type 0} {given : Given} {tape mid_tape tape' : List Operation} {scope : Scope} {first : ℕ} {entries : List Entry} {old new : Members} {work : Work} {ahead : PhasesLeft} {limit : Option ℕ} {faults : ℕ → ℕ} {slot : ℕ} {sb : Sb} {lost : ℕ}
+    {steps room rows buffer far_rows far_buffer roles spares : ℕ} {before after : ℕ → ℕ} (was : IsReady tells given tape scope first entries old work ahead limit faults steps room rows buffer far_rows far_buffer)
     (who : Who) (end : ℕ) (goes : IsCallGoing entries who) (caller : who.caller ≢ 254) (at_end : tells → end ≡ length tape') (looked : tells → OnlyFlushesAdded tape mid_tape)
     (did : IsAddDone tells given slot sb old new lost mid_tape tape' before after) (since : AreLostSince old new roles spares before after) where
   abbrev told_losses : List Event
@@ -196,8 +197,8 @@ module _ {tells : Type 0} {given : Given} {tape mid_tape tape' : List Operation}
 
 -- ---- it is refused before it is touched
 
-module _ {tells : Type 0} {given : Given} {tape : List Operation} {scope : Scope} {first : ℕ} {entries : List Entry} {m : Members} {work : Work} {ahead : PhasesLeft} {faults : ℕ → ℕ}
-    {steps room rows buffer far_rows far_buffer : ℕ} (was : IsReady tells given tape scope first entries m work ahead faults steps room rows buffer far_rows far_buffer)
+module _ {tells : Type 0} {given : Given} {tape : List Operation} {scope : Scope} {first : ℕ} {entries : List Entry} {m : Members} {work : Work} {ahead : PhasesLeft} {limit : Option ℕ} {faults : ℕ → ℕ}
+    {steps room rows buffer far_rows far_buffer : ℕ} (was : IsReady tells given tape scope first entries m work ahead limit faults steps room rows buffer far_rows far_buffer)
     (who : Who) (end : ℕ) (goes : IsCallGoing entries who) (caller : who.caller ≢ 254) (at_end : tells → end ≡ length tape) (slot : ℕ) (backup : Option ℕ) (backup_is : scope.backup ≡ backup) where
   slots-are : scope.sizes.slots ≡ given.slots
   slots-are = ap (λ (s : Sizes). s.slots) was.kept.sizes_are
@@ -239,5 +240,5 @@ module _ {tells : Type 0} {given : Given} {tape : List Operation} {scope : Scope
       refused-plain was who end goes caller at_end (grows-none (λ t. refl)) (SlotTaken taken) (λ t p. subst (IsTakenNow (opening_in (world_in given tape scope first)) entries) (sym why.0) (taken-now why.2 p)) tt
   unaddable-plain (SlotTooSmall have want) why = refused-plain was who end goes caller at_end (grows-none (λ t. refl)) (SlotTooSmall have want) (λ t p. too-small-now have want why p) tt
   unaddable-plain (TooManyMissing count most) why =
-      here-plain was who end goes caller at_end (grows-none (λ t. refl)) (TooManyMissing count most) (too-many-here (list_length m.newest) work.resync m (TooManyMissing count most) why.2)
+      here-plain was who end goes caller at_end (grows-none (λ t. refl)) (TooManyMissing count most) (too-many-here (visible_size m limit) work.resync m (TooManyMissing count most) why.2)
   unaddable-plain refusal why = absurd why

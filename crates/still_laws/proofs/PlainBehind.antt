@@ -2,7 +2,7 @@
 use Rattle.std.proofs.Common.{◌≡◌, ◌≢◌, ◌⊎◌, inl, inr, ℕ, zero, suc, ◌+◌, ◌-◌, ◌*◌, ◌/◌, ◌<◌, ◌≤◌, min, Bool, true, false, not, cond, is_some, Option, Some, None, List, [], ◌∷◌, ◌++◌, length, refl, sym, ◌∙◌, ap, subst, arith, append-nil, append_assoc}
 use Rattle.std.specs.Prelude.{IfSome, IsSome, MatchOption, ⊤}
 use Rattle.std.specs.List.{list_any}
-use Rattle.std.proofs.Math.Nat.{suc-mul, le-min}
+use Rattle.std.proofs.Math.Nat.{suc-mul, le-min, le_trans}
 use Rattle.std.proofs.lemmas.Bool.{cases_lt}
 use Rattle.std.proofs.lemmas.List.Elements.{All-nil, All-cons}
 use Rattle.md_base.specs.Search.{count_below}
@@ -65,8 +65,9 @@ use Rattle.grow_asked.specs.Left.{phases_of}
 use Rattle.kept_history.specs.Recorded.{IsCallGoing}
 use Rattle.kept_history.specs.Safe.{world_in}
 use Rattle.kept_history.proofs.Ledgers.{unsynced-still}
-use Rattle.running_words.specs.Parts.{still_left}
+use Rattle.running_words.specs.Parts.{visible_size, still_left}
 use Rattle.running_words.specs.Plans.{turns_shape, KeepsShape}
+use Rattle.running_words.proofs.Visible.{visible-within}
 use Rattle.still_kept.specs.Still.{AreAtRest}
 use Rattle.still_kept.proofs.Reading.{visible-behind, now-behind}
 use Rattle.still_kept.proofs.Stood.{within-count}
@@ -129,8 +130,8 @@ unmended-plain given old new moved resync visible stripe shape refusal same pend
 
 -- ---- behind losses
 
-module _ {tells : Type 0} {given : Given} {tape tape' : List Operation} {scope : Scope} {first : ℕ} {entries : List Entry} {old new : Members} {work : Work} {ahead : PhasesLeft} {faults : ℕ → ℕ}
-    {steps room rows buffer far_rows far_buffer roles spares : ℕ} {before after : ℕ → ℕ} (was : IsReady tells given tape scope first entries old work ahead faults steps room rows buffer far_rows far_buffer)
+module _ {tells : Type 0} {given : Given} {tape tape' : List Operation} {scope : Scope} {first : ℕ} {entries : List Entry} {old new : Members} {work : Work} {ahead : PhasesLeft} {limit : Option ℕ} {faults : ℕ → ℕ}
+    {steps room rows buffer far_rows far_buffer roles spares : ℕ} {before after : ℕ → ℕ} (was : IsReady tells given tape scope first entries old work ahead limit faults steps room rows buffer far_rows far_buffer)
     (who : Who) (end : ℕ) (goes : IsCallGoing entries who) (caller : who.caller ≢ 254) (at_end : tells → end ≡ length tape') (grows : Grows tells tape tape')
     (moved : IsMoved given old new) (since : AreLostSince old new roles spares before after) where
   abbrev losses : List Event
@@ -153,8 +154,8 @@ module _ {tells : Type 0} {given : Given} {tape tape' : List Operation} {scope :
       (alone (λ (l : List Event). list_any (λ e. is_resync_end e.event) (entries_of who end l) ≡ false) (ends-losses who end losses [] (losses-are roles spares)))
       ∙ was.kept.pending t
 
-  seen-lost : tells → visible_of (length (opening_list (world_in given tape scope first))) (entries ++ entries_of who end (losses_of roles spares)) ≡ list_length old.newest
-  seen-lost t = visible-behind entries who end roles spares (length (opening_list world)) ∙ seen was.kept was.unlimited t
+  seen-lost : tells → visible_of (length (opening_list (world_in given tape scope first))) (entries ++ entries_of who end (losses_of roles spares)) ≡ visible_size old limit
+  seen-lost t = visible-behind entries who end roles spares (length (opening_list world)) ∙ seen was.kept was.limited t
 
   -- a refusal is right behind them, and behind more of the call that leaves that
   refusal-behind : (refusal : Refusal) (visible : ℕ) (all : List Entry) → IsRefusedHere visible work.resync new refusal → IsPlainKept (world_in given tape scope first) old entries → is_unsynced (world_in given tape scope first) all ≡ is_some work.resync
@@ -192,12 +193,12 @@ module _ {tells : Type 0} {given : Given} {tape tape' : List Operation} {scope :
       (λ t keeps p fills. call-faults (opening_in world) entries who end losses [] (faults-are losses (losses-are roles spares)) tt) (All-nil (λ e. MayTellPlainly e.event)))
 
   -- a refusal
-  pub plain-refused : (refusal : Refusal) → IsRefusedHere (list_length old.newest) work.resync new refusal
+  pub plain-refused : (refusal : Refusal) → IsRefusedHere (visible_size old limit) work.resync new refusal
       → IsLeftPlain tells given tape' scope first entries (entries_of who end (losses_of roles spares ++ Refused refusal ∷ [])) new
   plain-refused refusal why =
       plain-behind (Refused refusal) (λ role. refl) (λ role. refl) (λ slot spare is. inl is)
-      (λ t keeps p fills. (refusal-behind refusal (list_length old.newest) (entries ++ entries_of who end losses) why p (pending-lost t) (sym (seen-lost t)) (told-lost p), tt, tt))
-      (here-plainly (list_length old.newest) work.resync new refusal why)
+      (λ t keeps p fills. (refusal-behind refusal (visible_size old limit) (entries ++ entries_of who end losses) why p (pending-lost t) (sym (seen-lost t)) (told-lost p), tt, tt))
+      (here-plainly (visible_size old limit) work.resync new refusal why)
 
   -- a flush, or a stop
   pub plain-settled : (event : Event) → IsSettling event → IsLeftPlain tells given tape' scope first entries (entries_of who end (losses_of roles spares ++ event ∷ [])) new
@@ -223,14 +224,14 @@ module _ {tells : Type 0} {given : Given} {tape tape' : List Operation} {scope :
           (left-lost (still_left work old ahead) (left + 1) entries who end losses [] (losses-are roles spares) less was.kept.left_told (λ told is. is))
 
   -- a write
-  pub plain-wrote : (at : ℕ) (from : List ℕ) → at + length from / 512 ≤ list_length old.newest
+  pub plain-wrote : (at : ℕ) (from : List ℕ) → at + length from / 512 ≤ visible_size old limit
       → IsLeftPlain tells given tape' scope first entries (entries_of who end (losses_of roles spares ++ Wrote at (sectors_of from) ∷ [])) new
   plain-wrote at from within =
       plain-behind (Wrote at (sectors_of from)) (λ role. refl) (λ role. refl) (λ slot spare is. inl is)
       (λ t keeps p fills. (let all = seen-lost t in let n = length-sectors_of from in omega (arith, within, all, n), tt, tt)) tt
 
   -- one that was torn: more are missing than the array can do without
-  plain-torn : (at : ℕ) (from : List ℕ) (count most : ℕ) → at + length from / 512 ≤ list_length old.newest → AreTooMany new (TooManyMissing count most)
+  plain-torn : (at : ℕ) (from : List ℕ) (count most : ℕ) → at + length from / 512 ≤ visible_size old limit → AreTooMany new (TooManyMissing count most)
       → IsLeftPlain tells given tape' scope first entries (entries_of who end ((losses_of roles spares ++ Torn at (sectors_of from) ∷ []) ++ Refused (TooManyMissing count most) ∷ [])) new
   plain-torn at from count most within many =
       subst (λ (l : List Event). IsLeftPlain tells given tape' scope first entries (entries_of who end l) new) (sym (append_assoc losses (Torn at (sectors_of from) ∷ []) (Refused (TooManyMissing count most) ∷ [])))
@@ -251,8 +252,8 @@ module _ {tells : Type 0} {given : Given} {tape tape' : List Operation} {scope :
       (All-cons (λ e. MayTellPlainly e.event) (one who end (Refused (TooManyMissing count most))) [] tt (All-nil (λ e. MayTellPlainly e.event)))))
 
   -- one that wasn't done, torn or not
-  pub plain-unwritten : (at : ℕ) (from : List ℕ) (shape : Shape) (begun : Bool) (refusal : Refusal) → at + length from / 512 ≤ list_length old.newest → shape ≡ shape_of new.newest
-      → IsRefusedHere (list_length old.newest) work.resync new refusal → (begun ≡ true → LacksTooMany shape new refusal)
+  pub plain-unwritten : (at : ℕ) (from : List ℕ) (shape : Shape) (begun : Bool) (refusal : Refusal) → at + length from / 512 ≤ visible_size old limit → shape ≡ shape_of new.newest
+      → IsRefusedHere (visible_size old limit) work.resync new refusal → (begun ≡ true → LacksTooMany shape new refusal)
       → IsLeftPlain tells given tape' scope first entries (entries_of who end (failure_events roles spares begun at (sectors_of from) refusal)) new
   plain-unwritten at from shape false refusal within same why lacks = plain-refused refusal why
   plain-unwritten at from shape true refusal within same why lacks =
@@ -261,7 +262,7 @@ module _ {tells : Type 0} {given : Given} {tape tape' : List Operation} {scope :
       (plain-torn at from (lacking (shape_of new.newest) new) (tolerance (shape_of new.newest)) within (inl (record { above = many.above; told = refl })))
 
   -- a read
-  pub plain-read : (at : ℕ) (bytes : List ℕ) → DoWithout old → at + length bytes / 512 ≤ list_length old.newest
+  pub plain-read : (at : ℕ) (bytes : List ℕ) → DoWithout old → at + length bytes / 512 ≤ visible_size old limit
       → (tells → (list : ℕ → Sector) → ListStands old (present given tape) list → AreWhole new ⊎ RowsStandBelow (mended_rows work.resync old) old (present given tape) list
       → (i : ℕ) → i < length bytes / 512 → sector_of bytes i ≡ list (at + i))
       → IsLeftPlain tells given tape' scope first entries (entries_of who end (losses_of roles spares ++ Read at (sectors_of bytes) ∷ [])) new
@@ -362,8 +363,8 @@ none-first a b none = omega (arith, none)
 
 -- ---- one event alone
 
-module _ {tells : Type 0} {given : Given} {tape tape' : List Operation} {scope : Scope} {first : ℕ} {entries : List Entry} {m : Members} {work : Work} {ahead : PhasesLeft} {faults : ℕ → ℕ}
-    {steps room rows buffer far_rows far_buffer : ℕ} (was : IsReady tells given tape scope first entries m work ahead faults steps room rows buffer far_rows far_buffer)
+module _ {tells : Type 0} {given : Given} {tape tape' : List Operation} {scope : Scope} {first : ℕ} {entries : List Entry} {m : Members} {work : Work} {ahead : PhasesLeft} {limit : Option ℕ} {faults : ℕ → ℕ}
+    {steps room rows buffer far_rows far_buffer : ℕ} (was : IsReady tells given tape scope first entries m work ahead limit faults steps room rows buffer far_rows far_buffer)
     (who : Who) (end : ℕ) (goes : IsCallGoing entries who) (caller : who.caller ≢ 254) (at_end : tells → end ≡ length tape') (grows : Grows tells tape tape') where
   plain-alone : (event : Event) → GivesNone (entries_of who end (event ∷ [])) → LosesNoRole (entries_of who end (event ∷ [])) → MakeSpares m.spares (entries_of who end (event ∷ []))
       → (tells → IsPlainKept (world_in given tape scope first) m entries → IsOneShapeEvent (opening_in (world_in given tape scope first)) entries (one who end event) [] event) → MayTellPlainly event
@@ -379,19 +380,19 @@ module _ {tells : Type 0} {given : Given} {tape tape' : List Operation} {scope :
   refused-plain refusal right plainly = plain-alone (Refused refusal) (λ role. refl) (λ role. refl) (λ slot spare is. inl is) right plainly
 
   -- or by what is missing, or asked for
-  pub here-plain : (refusal : Refusal) → IsRefusedHere (list_length m.newest) work.resync m refusal → IsLeftPlain tells given tape' scope first entries (entries_of who end (Refused refusal ∷ [])) m
+  pub here-plain : (refusal : Refusal) → IsRefusedHere (visible_size m limit) work.resync m refusal → IsLeftPlain tells given tape' scope first entries (entries_of who end (Refused refusal ∷ [])) m
   here-plain refusal why =
-      refused-plain refusal (right refusal why) (here-plainly (list_length m.newest) work.resync m refusal why)
+      refused-plain refusal (right refusal why) (here-plainly (visible_size m limit) work.resync m refusal why)
     where
-      right : (refusal : Refusal) → IsRefusedHere (list_length m.newest) work.resync m refusal → tells → IsPlainKept (world_in given tape scope first) m entries → IsOneShapeRefusal (opening_in (world_in given tape scope first)) entries refusal
+      right : (refusal : Refusal) → IsRefusedHere (visible_size m limit) work.resync m refusal → tells → IsPlainKept (world_in given tape scope first) m entries → IsOneShapeRefusal (opening_in (world_in given tape scope first)) entries refusal
       right refusal why t p =
-          refusal-right (world_in given tape scope first) 0 (list_length m.newest) work.resync m entries refusal was.kept.members_are.still (limited (shape_of m.newest) (valid given m was.kept.members_are.placed)).most
-          p.disks p.tolerated (was.kept.pending t) (sym (seen was.kept was.unlimited t)) p.told why
+          refusal-right (world_in given tape scope first) 0 (visible_size m limit) work.resync m entries refusal was.kept.members_are.still (limited (shape_of m.newest) (valid given m was.kept.members_are.placed)).most
+          p.disks p.tolerated (was.kept.pending t) (sym (seen was.kept was.limited t)) p.told why
 
   -- before anything is done
-  pub first-plain : (to : ℕ) (why : Members → Refusal → Type 0) (refusal : Refusal) → (to ≤ list_length m.newest → why m refusal → IsRefusedHere (list_length m.newest) work.resync m refusal)
-      → IsRefusedFor (list_length m.newest) to why m m refusal → IsLeftPlain tells given tape' scope first entries (entries_of who end (Refused refusal ∷ [])) m
-  first-plain to why refusal here w = here-plain refusal (refused-here (list_length m.newest) to work.resync why m refusal here w)
+  pub first-plain : (to : ℕ) (why : Members → Refusal → Type 0) (refusal : Refusal) → (to ≤ list_length m.newest → why m refusal → IsRefusedHere (visible_size m limit) work.resync m refusal)
+      → IsRefusedFor (visible_size m limit) to why m m refusal → IsLeftPlain tells given tape' scope first entries (entries_of who end (Refused refusal ∷ [])) m
+  first-plain to why refusal here w = here-plain refusal (refused-here (visible_size m limit) to work.resync why m refusal (λ within. here (le_trans within (visible-within (list_length m.newest) limit))) w)
 
   -- what it tells of itself
   pub shown-plain : (status : Status) → status.left ≡ still_left work m ahead → status.spares ≡ m.spares → IsLeftPlain tells given tape' scope first entries (entries_of who end (Shown status ∷ [])) m
@@ -428,9 +429,9 @@ module _ {tells : Type 0} {given : Given} {tape tape' : List Operation} {scope :
               → IfSome ended (IsOneShapeRefusal (opening_in (world_in given tape scope first)) entries)
           right None why t p = tt
           right (Some refusal) why t p =
-              refusal-right (world_in given tape scope first) 0 (list_length m.newest) work.resync m entries refusal was.kept.members_are.still (limited (shape_of m.newest) (valid given m was.kept.members_are.placed)).most
-              p.disks p.tolerated (was.kept.pending t) (sym (seen was.kept was.unlimited t)) p.told
-              (step-here given m was.kept.members_are.placed (list_length m.newest) refusal work.resync why.0 why.1)
+              refusal-right (world_in given tape scope first) 0 (visible_size m limit) work.resync m entries refusal was.kept.members_are.still (limited (shape_of m.newest) (valid given m was.kept.members_are.placed)).most
+              p.disks p.tolerated (was.kept.pending t) (sym (seen was.kept was.limited t)) p.told
+              (step-here given m was.kept.members_are.placed (visible_size m limit) refusal work.resync why.0 why.1)
 
           plainly : (ended : Option Refusal) → MatchOption ended ⊤ (IsEndedRight work m) → IfSome ended EndsIdleSteps
           plainly None why = tt

@@ -64,8 +64,8 @@ use Rattle.still_laws.proofs.StepLaws.{left-falls}
 
 -- ---- stripes, and the end of a resync
 
-module _ {tells : Type 0} {given : Given} {tape tape' : List Operation} {scope : Scope} {first : ℕ} {entries : List Entry} {old new : Members} {work : Work} {ahead : PhasesLeft} {faults : ℕ → ℕ}
-    {steps room rows buffer far_rows far_buffer roles spares : ℕ} {before after : ℕ → ℕ} (was : IsReady tells given tape scope first entries old work ahead faults steps room rows buffer far_rows far_buffer)
+module _ {tells : Type 0} {given : Given} {tape tape' : List Operation} {scope : Scope} {first : ℕ} {entries : List Entry} {old new : Members} {work : Work} {ahead : PhasesLeft} {limit : Option ℕ} {faults : ℕ → ℕ}
+    {steps room rows buffer far_rows far_buffer roles spares : ℕ} {before after : ℕ → ℕ} (was : IsReady tells given tape scope first entries old work ahead limit faults steps room rows buffer far_rows far_buffer)
     (who : Who) (end : ℕ) (goes : IsCallGoing entries who) (caller : who.caller ≢ 254) (at_end : tells → end ≡ length tape') (grows : Grows tells tape tape')
     (moved : IsMoved given old new) (since : AreLostSince old new roles spares before after) (left : ℕ) where
   -- a stripe is mended
@@ -92,8 +92,8 @@ module _ {tells : Type 0} {given : Given} {tape tape' : List Operation} {scope :
 
 -- ---- a spare takes a role
 
-module _ {tells : Type 0} {given : Given} {tape tape' : List Operation} {scope : Scope} {first : ℕ} {entries : List Entry} {old new : Members} {work : Work} {ahead : PhasesLeft} {faults : ℕ → ℕ}
-    {steps room rows buffer far_rows far_buffer role slot roles spares : ℕ} {before after : ℕ → ℕ} (was : IsReady tells given tape scope first entries old work ahead faults steps room rows buffer far_rows far_buffer)
+module _ {tells : Type 0} {given : Given} {tape tape' : List Operation} {scope : Scope} {first : ℕ} {entries : List Entry} {old new : Members} {work : Work} {ahead : PhasesLeft} {limit : Option ℕ} {faults : ℕ → ℕ}
+    {steps room rows buffer far_rows far_buffer role slot roles spares : ℕ} {before after : ℕ → ℕ} (was : IsReady tells given tape scope first entries old work ahead limit faults steps room rows buffer far_rows far_buffer)
     (who : Who) (end : ℕ) (does : DoWithout old) (goes : IsCallGoing entries who) (caller : who.caller ≢ 254) (at_end : tells → end ≡ length tape') (known : role < length work.rebuilt)
     (did : IsTaken tells given tape tape' old new role slot roles spares before after) (left : ℕ) where
   abbrev losses : List Event
@@ -164,8 +164,8 @@ module _ {tells : Type 0} {given : Given} {tape tape' : List Operation} {scope :
 
 -- ---- a rebuild ends
 
-module _ {tells : Type 0} {given : Given} {tape tape' : List Operation} {scope : Scope} {first : ℕ} {entries : List Entry} {old new : Members} {work : Work} {ahead : PhasesLeft} {faults : ℕ → ℕ}
-    {steps room rows buffer far_rows far_buffer role slot roles spares : ℕ} {before after : ℕ → ℕ} (was : IsReady tells given tape scope first entries old work ahead faults steps room rows buffer far_rows far_buffer)
+module _ {tells : Type 0} {given : Given} {tape tape' : List Operation} {scope : Scope} {first : ℕ} {entries : List Entry} {old new : Members} {work : Work} {ahead : PhasesLeft} {limit : Option ℕ} {faults : ℕ → ℕ}
+    {steps room rows buffer far_rows far_buffer role slot roles spares : ℕ} {before after : ℕ → ℕ} (was : IsReady tells given tape scope first entries old work ahead limit faults steps room rows buffer far_rows far_buffer)
     (who : Who) (end : ℕ) (does : DoWithout old) (goes : IsCallGoing entries who) (caller : who.caller ≢ 254) (at_end : tells → end ≡ length tape') (all : stripes_of old ≤ rebuilt_of work role) (synced : work.resync ≡ None)
     (did : IsMadeWhole tells given tape tape' old new role slot roles spares before after) where
   abbrev told_losses : List Event

@@ -1,7 +1,6 @@
 -- A read of an array without an active reshape, from what `fetch` says of it; and why a read or a write isn't done.
-use Rattle.std.proofs.Common.{◌≡◌, ◌⊎◌, inl, inr, ℕ, ◌+◌, ◌/◌, ◌<◌, ◌≤◌, Option, None, List, [], ◌∷◌, ◌++◌, length, refl, sym, ◌∙◌, ap, subst}
-use Rattle.std.specs.Prelude.{min}
-use Rattle.std.specs.Option.{option_map_or}
+use Rattle.std.proofs.Common.{◌≡◌, ◌⊎◌, inl, inr, ℕ, ◌+◌, ◌/◌, ◌<◌, ◌≤◌, false, Option, List, [], ◌∷◌, ◌++◌, length, refl, sym, ◌∙◌, ap, subst}
+use Rattle.std.proofs.Math.Nat.{le_trans}
 use Rattle.md_base.specs.Sectors.{Sector}
 use Rattle.md_base.specs.declared.answers.Refusal.{Refusal}
 use Rattle.md_base.specs.declared.answers.Refusal.TheVariants.{PastEnd}
@@ -11,13 +10,13 @@ use Rattle.bank.specs.declared.bank.Operation.{Operation}
 use Rattle.bank.specs.Given.{Given}
 use Rattle.parity.specs.Rows.{sector_of}
 use Rattle.superblocks.specs.declared.members.Members.{Members}
-use Rattle.superblocks.specs.Reading.{Scope, shape_of, list_length}
+use Rattle.superblocks.specs.Reading.{Scope, is_reshaping, shape_of, list_length}
 use Rattle.superblocks.proofs.ValidFields.{few-roles}
 use Rattle.row_io.specs.Rows.{present}
 use Rattle.list_io.specs.Buffers.{IsTouched}
 use Rattle.flat_history.specs.declared.events.Entry.{Entry}
 use Rattle.flat_history.specs.declared.events.Event.{Event}
-use Rattle.flat_history.specs.Flat.{now, length_of, limit_of}
+use Rattle.flat_history.specs.Flat.{now, limit_of}
 use Rattle.flat_history.specs.Legal.{visible_at, IsRefusedRight}
 use Rattle.flat_history.specs.Losses.{loses}
 use Rattle.flat_history.specs.Plain.{entries_of}
@@ -42,15 +41,21 @@ use Rattle.still_kept.specs.Still.{AreAtRest, IsStill}
 use Rattle.still_kept.proofs.Leaving.{none-taken}
 use Rattle.still_kept.proofs.Refusals.{IsRefusedStill, too-many-refused, refused-right}
 use Rattle.still_kept.proofs.Staying.{missing-since}
+use Rattle.moving_state.specs.Left.{visible_by}
+use Rattle.running_words.specs.Parts.{visible_size}
+use Rattle.running_words.proofs.Visible.{visible-is, visible-within}
 
 -- ---- why it isn't done
 
--- all of the list is visible
-pub seen : {tells : Type 0} {given : Given} {tape : List Operation} {scope : Scope} {first : ℕ} {entries : List Entry} {members : Members} {work : Work} {left : ℕ}
-    → IsStill tells given tape scope first entries members work left → limit_of entries ≡ None → tells → visible_at (world_in given tape scope first) entries ≡ list_length members.newest
-seen {given = given} {tape = tape} {scope = scope} {first = first} {entries = entries} was unlimited t =
-    ap (λ (o : Option ℕ). option_map_or (λ limit. min limit (length_of (length (opening_list (world_in given tape scope first))) entries)) o (length_of (length (opening_list (world_in given tape scope first))) entries)) unlimited
-    ∙ (was.recorded t).sized
+-- so much of the list is visible
+pub seen : {tells : Type 0} {given : Given} {tape : List Operation} {scope : Scope} {first : ℕ} {entries : List Entry} {members : Members} {work : Work} {limit : Option ℕ} {left : ℕ}
+    → IsStill tells given tape scope first entries members work left → limit_of entries ≡ limit → tells → visible_at (world_in given tape scope first) entries ≡ visible_size members limit
+seen {given = given} {tape = tape} {scope = scope} {first = first} {entries = entries} {members = members} {limit = limit} was limited t =
+    visible-is (length (opening_list (world_in given tape scope first))) (list_length members.newest) limit entries (was.recorded t).sized limited
+
+-- by the sectors of its rows
+pub visible-still : (m : Members) (limit : Option ℕ) (size sectors : ℕ) → is_reshaping m.newest ≡ false → size ≡ list_size (places_of m) → sectors ≡ visible_by size limit → sectors ≡ visible_size m limit
+visible-still m limit size sectors still sized is = is ∙ ap (λ (n : ℕ). visible_by n limit) (sized ∙ sym (list-still m.newest still))
 
 module _ (given : Given) (m : Members) (rest : AreAtRest given m) (resync : Option ℕ) where
   long : list_length m.newest ≡ list_size (places_of m)
@@ -69,13 +74,14 @@ module _ (given : Given) (m : Members) (rest : AreAtRest given m) (resync : Opti
       (unwritten-here given (list_size (places_of m)) resync (are_mended (shape_of m.newest) (mended_rows resync m) to) m refusal rest.placed (pending-of m resync to (subst (λ (n : ℕ). to ≤ n) long within)) (inr found)))
 
 -- a call that is refused before anything is done
-pub refused-first : {tells : Type 0} {given : Given} {tape : List Operation} {scope : Scope} {first : ℕ} {entries : List Entry} {members : Members} {work : Work} {left : ℕ}
-    → IsStill tells given tape scope first entries members work left → limit_of entries ≡ None → (to : ℕ) (why : Members → Refusal → Type 0) (refusal : Refusal)
-    → (to ≤ list_length members.newest → why members refusal → IsRefusedStill work.resync members refusal) → IsRefusedFor (list_length members.newest) to why members members refusal
+pub refused-first : {tells : Type 0} {given : Given} {tape : List Operation} {scope : Scope} {first : ℕ} {entries : List Entry} {members : Members} {work : Work} {limit : Option ℕ} {left : ℕ}
+    → IsStill tells given tape scope first entries members work left → limit_of entries ≡ limit → (to : ℕ) (why : Members → Refusal → Type 0) (refusal : Refusal)
+    → (to ≤ list_length members.newest → why members refusal → IsRefusedStill work.resync members refusal) → IsRefusedFor (visible_size members limit) to why members members refusal
     → tells → IsReliable (world_in given tape scope first) entries → IsRefusedRight (world_in given tape scope first) entries refusal
-refused-first was unlimited to why (PastEnd told) here w t right = w.0 ∙ sym (seen was unlimited t)
-refused-first {given = given} {tape = tape} {scope = scope} {first = first} {entries = entries} {members = members} {work = work} was unlimited to why refusal here w t right =
-    refused-right (world_in given tape scope first) entries given members was.members_are.placed work.resync (was.gone t right) (was.levelled t right) (was.pending t) refusal (here w.0 w.1)
+refused-first was limited to why (PastEnd told) here w t right = w.0 ∙ sym (seen was limited t)
+refused-first {given = given} {tape = tape} {scope = scope} {first = first} {entries = entries} {members = members} {work = work} {limit = limit} was limited to why refusal here w t right =
+    refused-right (world_in given tape scope first) entries given members was.members_are.placed work.resync (was.gone t right) (was.levelled t right) (was.pending t) refusal
+    (here (le_trans w.0 (visible-within (list_length members.newest) limit)) w.1)
 
 -- ---- what was read
 

@@ -34,8 +34,8 @@ use Rattle.running_words.proofs.Lengths.{IsLengthKept, alone-keeps}
 
 -- a flush and a stop leave the length of the list
 pub settling-keeps : (who : Who) (end : ℕ) (event : Event) → IsSettling event → IsLengthKept (entries_of who end (event ∷ []))
-settling-keeps who end event (inl is) = subst (λ (e : Event). IsLengthKept (entries_of who end (e ∷ []))) (sym is) (alone-keeps who end Flushed (λ n. refl) refl)
-settling-keeps who end event (inr is) = subst (λ (e : Event). IsLengthKept (entries_of who end (e ∷ []))) (sym is) (alone-keeps who end Stopped (λ n. refl) refl)
+settling-keeps who end event (inl is) = subst (λ (e : Event). IsLengthKept (entries_of who end (e ∷ []))) (sym is) (alone-keeps who end Flushed (λ n. refl) (λ limit. refl))
+settling-keeps who end event (inr is) = subst (λ (e : Event). IsLengthKept (entries_of who end (e ∷ []))) (sym is) (alone-keeps who end Stopped (λ n. refl) (λ limit. refl))
 
 -- each of them keeps the record
 pub settled-stands : {tells : Type 0} {given : Given} {tape tape' : List Operation} {scope : Scope} {first : ℕ} {entries : List Entry} {old new : Members} {work : Work} {left : ℕ} {roles spares : ℕ} {before after : ℕ → ℕ} {unsynced : Bool}

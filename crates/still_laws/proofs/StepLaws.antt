@@ -45,13 +45,14 @@ refused-of Why o refusal is why = subst (λ (o : Option Refusal). MatchOption o 
 
 -- ---- the same array
 
--- the epoch goes on over the same bank, and the same phases are ahead
+-- the epoch goes on over the same bank, the same phases are ahead, and the limit is the same
 pub record IsSameEpoch {B : Type 0} (old new : RunningParts B) : Type 0 where
   pub uuid : new.parts.uuid ≡ old.parts.uuid
   pub given : new.parts.given ≡ old.parts.given
   pub first : new.parts.first ≡ old.parts.first
   pub backup : new.parts.backup ≡ old.parts.backup
   pub ahead : new.ahead ≡ old.ahead
+  pub limit : new.limit ≡ old.limit
 
 -- the superblocks tell the same shapes over the same rows
 pub record AreSameShapes (old new : Sb) : Type 0 where
@@ -99,6 +100,7 @@ stepped {given = given} {old = old} {new = new} grows shapes ended failed losses
     final = shapes.final;
     backward = shapes.backward;
     ahead = epoch.ahead;
+    limit = epoch.limit;
   };
 }
 
@@ -129,7 +131,7 @@ stepped-more {before = before} {after = after} more is = record {
 -- losses alone leave the length of the list
 pub losses-keep : (who : Who) (end roles spares : ℕ) → IsLengthKept (entries_of who end (losses_of roles spares))
 losses-keep who end roles spares =
-    subst (λ (l : List Event). IsLengthKept (entries_of who end l)) (append-nil (losses_of roles spares)) (behind-keeps who end roles spares [] (record { long = λ n. refl; free = refl }))
+    subst (λ (l : List Event). IsLengthKept (entries_of who end l)) (append-nil (losses_of roles spares)) (behind-keeps who end roles spares [] (record { long = λ n. refl; free = λ limit. refl }))
 
 -- ---- the steps that are left
 

@@ -6,6 +6,7 @@ pub use Rattle.running_words.specs.Calls as running_words_Calls
 pub use Rattle.running_words.specs.Parts as running_words_Parts
 pub use Rattle.running_words.specs.Plans as running_words_Plans
 pub use Rattle.running_words.specs.Still as running_words_Still
+pub use Rattle.running_words.specs.Visible as running_words_Visible
 pub use Rattle.still_kept.specs.Still as still_kept_Still
 pub use Rattle.still_kept.specs.course_kept_Laws
 pub use Rattle.still_kept.specs.course_kept_the_Course

@@ -1,5 +1,5 @@
 -- What an array without an active reshape keeps between its calls.
-use Rattle.std.specs.Prelude.{◌≡◌, ◌⊎◌, ℕ, ◌*◌, ◌<◌, ◌≤◌, true, false, List, [], None}
+use Rattle.std.specs.Prelude.{◌≡◌, ◌⊎◌, ℕ, ◌*◌, ◌<◌, ◌≤◌, true, false, List, [], Option}
 use Rattle.std.specs.List.{list_any}
 use Rattle.md_base.specs.Shapes.{has_slot}
 use Rattle.bank.specs.declared.bank.Operation.{Operation}
@@ -18,14 +18,14 @@ use Rattle.running_words.specs.Parts.{still_left}
 use Rattle.running_words.specs.Plans.{turns_shape, KeepsShape}
 use Rattle.still_laws.specs.Plain.{AreToldPlainly, IsPlainKept}
 
--- The array keeps its record, with the steps that are left. The entries tell the length of its list, and limit it nowhere; the phases ahead can follow. Each slot that wasn't
+-- The array keeps its record, with the steps that are left. The entries tell the length of its list and the limit of its visible size; the phases ahead can follow. Each slot that wasn't
 -- found sound has failed, and there is room for the entries of so many steps and of its end, and for the rows of one call in two regions. As long as its history keeps its shape, it says what one of
 -- one shape says; and a plan has phases ahead only where that was told.
 pub record IsReady (tells : Type 0) (given : Given) (tape : List Operation) (scope : Scope) (first : ℕ) (entries : List Entry)
-    (members : Members) (work : Work) (ahead : PhasesLeft) (faults : ℕ → ℕ) (steps room rows buffer far_rows far_buffer : ℕ) : Type 0 where
+    (members : Members) (work : Work) (ahead : PhasesLeft) (limit : Option ℕ) (faults : ℕ → ℕ) (steps room rows buffer far_rows far_buffer : ℕ) : Type 0 where
   pub kept : IsStill tells given tape scope first entries members work (still_left work members ahead)
   pub sized : length_of (list_length members.newest) entries ≡ list_length members.newest
-  pub unlimited : limit_of entries ≡ None
+  pub limited : limit_of entries ≡ limit
   pub planned : AreSound (shape_of members.newest) members.newest.size (phases_of ahead)
   pub failed : (slot : ℕ) → slot < given.slots → has_slot scope.given slot ≡ false → 0 < faults slot
   pub room_left : 50 * steps < room

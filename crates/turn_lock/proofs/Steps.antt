@@ -346,6 +346,8 @@ module _ {T Q A : Type 0} (w : Ways T Q A) where
         view = refl;
         sound = k.sound;
         later = subst (λ (z : Option (Known T)). MatchOption z ⊥ (λ (y : Known T). w.Begins y.seen now)) (sym there.1) kn.begins;
+        made = hands_map (λ h. (owner h.caller ≡ id) × (h.mine ≡ mine h.caller)) (λ h. w.Made o.value now h.caller h.mine) me.0.hands
+            (λ h is. subst (λ (calls : List (Call Q)). w.Made o.value now h.caller calls) (sym is.1) (k.made h.caller)) (k.views id me.0 at).hands;
       } in (
         holding o.value now me.0.hands,
         takes 0 (Some now),
@@ -987,6 +989,8 @@ module _ {T Q A : Type 0} (w : Ways T Q A) where
         after = y;
         start_is = t.start_is;
         later = t.later;
+        before = subst (λ (z : List (Hand Q)). w.Made t.start t.value c (mine_of z)) (sym h.1)
+            (subst (λ (d : ℕ). w.Made t.start t.value d h.0.mine) h.2 (subst (λ (z : List (Hand Q)). AllHands (λ f. w.Made t.start t.value f.caller f.mine) z) h.1 t.made).0);
         seen = ap (λ (z : View T Q). z.known) g.0;
         answered = subst (λ (z : List (Hand Q)). Answer (mine_of m.0.hands) t.value y c request reply (w.is_done reply) z) (sym hands_are) rest.0;
         made = subst (λ (z : List (Hand Q)). w.Made t.start y c (mine_of z)) (sym hands_are) rest.1;

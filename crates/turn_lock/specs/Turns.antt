@@ -189,6 +189,7 @@ module _ {T Q A : Type 0} (w : Ways T Q A) where
     pub view : m'.0 ≡ holding start value m.0.hands
     pub sound : w.IsSound value
     pub later : OnSeen m.0 (λ x. w.Begins x value)
+    pub made : AllHands (λ h. w.Made start value h.caller h.mine) m.0.hands
 
   abbrev pub Takes : Step (Option T) → Sat T Q → ℕ → Sat T Q → Type 0
   Takes st m found m' = MatchBool (found == st.first) (Took m m') (m' ≡ m)
@@ -217,14 +218,15 @@ module _ {T Q A : Type 0} (w : Ways T Q A) where
   abbrev pub Learns : Step (Option T) → Sat T Q → ℕ → Sat T Q → Type 0
   Learns st m found m' = (m' ≡ m) × MatchOption m.0.known ⊤ (λ k. w.Begins k.one k.seen × w.Begins k.two k.seen)
 
-  -- The request was answered at the end of a history that begins with all that was seen. The caller's own calls have this one added, or
-  -- nothing has changed.
+  -- The request was answered at the end of a history that begins with all that was seen, in which the caller had made just its own calls. These
+  -- have this one added, or nothing has changed.
   pub record Called (v : View T Q) (caller : ℕ) (request : Q) (reply : A) (v' : View T Q) : Type 0 where
     pub start : T
     pub found : T
     pub after : T
     pub start_is : OnKnown v (λ k. k.start ≡ start)
     pub later : OnSeen v (λ x. w.Begins x found)
+    pub before : w.Made start found caller (mine_of v.hands)
     pub seen : v'.known ≡ Some (known_as start after)
     pub answered : MatchBool (w.is_done reply) (w.Adds found after caller request reply × (mine_of v'.hands ≡ mine_of v.hands ++ call_to w request after ∷ []))
         ((after ≡ found) × (mine_of v'.hands ≡ mine_of v.hands))

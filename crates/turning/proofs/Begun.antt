@@ -59,7 +59,7 @@ use Rattle.call_entries.proofs.CallLaws.{all-losses}
 use Rattle.call_entries.proofs.PlainLaws.{one}
 use Rattle.array_kept.specs.Calls.{AreLossesOf, IsLossBy}
 use Rattle.array_kept.specs.Kept.{scope_in}
-use Rattle.array_kept.proofs.NowLaws.{length-more, limit-more}
+use Rattle.array_kept.proofs.NowLaws.{length-more}
 use Rattle.grow_asked.specs.declared.window.PhasesLeft.{PhasesLeft}
 use Rattle.grow_asked.specs.declared.window.Window.TheVariants.{Closed}
 use Rattle.grow_asked.specs.Left.{IsAtStartOf, IsReshapeUnderWay, phases_of, grow_left, reshape_left, steps_from}
@@ -78,6 +78,7 @@ use Rattle.moving_steps.proofs.still_kept_Bridges.{stands-kept}
 use Rattle.moving_steps.specs.running_words_Parts.{still_left}
 use Rattle.moving_steps.proofs.running_words_Called.{not_254}
 use Rattle.moving_steps.proofs.running_words_Lengths.{IsLengthKept, behind-keeps}
+use Rattle.moving_steps.proofs.running_words_Visible.{limit-kept}
 use Rattle.still_steps.specs.still_laws_Ready.{IsReady as IsReadyStill}
 use Rattle.moving_steps.specs.moving_laws_Ready.{IsReady as IsReadyMoving}
 use Rattle.moving_steps.proofs.moving_laws_Kept.{left_by}
@@ -207,13 +208,13 @@ begun-counted new behind to moved planned left active final moved_is planned_is 
 -- losses leave the length of the list, and its limit
 losses-keep : (who : Who) (end roles spares : ℕ) → IsLengthKept (entries_of who end (losses_of roles spares))
 losses-keep who end roles spares =
-    subst (λ (l : List Event). IsLengthKept (entries_of who end l)) (append-nil (losses_of roles spares)) (behind-keeps who end roles spares [] (record { long = λ n. refl; free = refl }))
+    subst (λ (l : List Event). IsLengthKept (entries_of who end l)) (append-nil (losses_of roles spares)) (behind-keeps who end roles spares [] (record { long = λ n. refl; free = λ limit. refl }))
 
--- nothing limits it
-begun-free : (who : Who) (end left roles spares n : ℕ) (back : Bool)
-    → fold (λ (limit : Option ℕ) e. limit_after limit e.event) None (entries_of who end (Step Begun left ∷ begun_length back n ++ losses_of roles spares)) ≡ None
-begun-free who end left roles spares n true = (losses-keep who end roles spares).free
-begun-free who end left roles spares n false = (losses-keep who end roles spares).free
+-- its limit stays
+begun-free : (who : Who) (end left roles spares n : ℕ) (back : Bool) (limit : Option ℕ)
+    → fold (λ (limit : Option ℕ) e. limit_after limit e.event) limit (entries_of who end (Step Begun left ∷ begun_length back n ++ losses_of roles spares)) ≡ limit
+begun-free who end left roles spares n true limit = (losses-keep who end roles spares).free limit
+begun-free who end left roles spares n false limit = (losses-keep who end roles spares).free limit
 
 -- the losses are told
 begun-tells : (who : Who) (end left roles spares n role : ℕ) (back : Bool) → role < 16 → IsAmong roles role → is_lost (entries_of who end (Step Begun left ∷ begun_length back n ++ losses_of roles spares)) role ≡ true
@@ -266,9 +267,9 @@ pub record IsUpdated (tells : Type 0) (given : Given) (tape tape' : List Operati
       → IsSafeOver world given told old tape → IsSafeChange (OpensFit world) world.scope given told more new tape tape'
   pub counts : NeverFalls before after
 
-module _ {tells : Type 0} {given : Given} {tape tape' : List Operation} {first : ℕ} {entries : List Entry} {old new : Members} {work : Work} {before after : ℕ → ℕ} {steps room rows buffer far_rows far_buffer : ℕ}
+module _ {tells : Type 0} {given : Given} {tape tape' : List Operation} {first : ℕ} {entries : List Entry} {old new : Members} {work : Work} {limit : Option ℕ} {before after : ℕ → ℕ} {steps room rows buffer far_rows far_buffer : ℕ}
     (uuid : List ℕ) (slots backup : ℕ) (ahead behind : PhasesLeft) (to : Shape) (who : Who) (end roles spares : ℕ)
-    (was : IsReadyStill tells given tape (scope_in given uuid slots (Some backup)) first entries old work ahead before steps room rows buffer far_rows far_buffer)
+    (was : IsReadyStill tells given tape (scope_in given uuid slots (Some backup)) first entries old work ahead limit before steps room rows buffer far_rows far_buffer)
     (turned : HasKeptLength entries who) (caller : who.caller ≢ 254) (idle : left_of work old ≡ 0) (next : phases_of ahead ≡ Reshape to ∷ phases_of behind) (back : Bool) (way : goes_back (shape_of old.newest) to ≡ back)
     (at : IsBackupAt given old to backup) (found : has_slot slots backup ≡ true) (can : CanBegin old to) (did : IsUpdated tells given tape tape' backup uuid to old new spares before after) (at_end : tells → end ≡ length tape')
     (long : length old.own ≡ 32) (sixteen : length uuid ≡ 16) (lost : (role : ℕ) → has_slot roles role ≡ (nat_lt role (length new.roles) && is_vacant (reading_of new) role)) where
@@ -371,16 +372,16 @@ module _ {tells : Type 0} {given : Given} {tape tape' : List Operation} {first :
   -- So the array is ready in its reshape.
   pub begun-ready : {given' : Given} {scope' : Scope} {first' : ℕ} {mid entries' : List Entry} {steps' room' : ℕ} (window : List ℕ) → 512 * phase_window (shape_of old.newest) old.newest.size (Reshape to) ≤ length window
       → given' ≡ given → scope' ≡ scope_in given uuid slots (Some backup) → first' ≡ first → mid ≡ entries → entries' ≡ mid ++ entries_of who end (Step Begun (left_by None new (closed 0) behind) ∷ begun_length back (list_length new.newest) ++ losses_of roles spares)
-      → 50 * steps' < room' → IsReadyMoving tells given' tape' scope' first' entries' new work (closed 0) behind window after steps' room' rows buffer far_rows far_buffer
+      → 50 * steps' < room' → IsReadyMoving tells given' tape' scope' first' entries' new work (closed 0) behind limit window after steps' room' rows buffer far_rows far_buffer
   begun-ready {given' = given'} {scope' = scope'} {first' = first'} {mid = mid} {entries' = entries'} {steps' = steps'} {room' = room'} window wide same_given scope_is first_is mid_is is room_left =
-      subst (λ (l : List Entry). IsReadyMoving tells given' tape' scope' first' l new work (closed 0) behind window after steps' room' rows buffer far_rows far_buffer) (sym (is ∙ ap (λ (l : List Entry). l ++ added) mid_is))
-      (subst (λ (n : ℕ). IsReadyMoving tells given' tape' scope' n (entries ++ added) new work (closed 0) behind window after steps' room' rows buffer far_rows far_buffer) (sym first_is)
-      (subst (λ (s : Scope). IsReadyMoving tells given' tape' s first (entries ++ added) new work (closed 0) behind window after steps' room' rows buffer far_rows far_buffer) (sym scope_is)
-      (subst (λ (g : Given). IsReadyMoving tells g tape' scope first (entries ++ added) new work (closed 0) behind window after steps' room' rows buffer far_rows far_buffer) (sym same_given)
+      subst (λ (l : List Entry). IsReadyMoving tells given' tape' scope' first' l new work (closed 0) behind limit window after steps' room' rows buffer far_rows far_buffer) (sym (is ∙ ap (λ (l : List Entry). l ++ added) mid_is))
+      (subst (λ (n : ℕ). IsReadyMoving tells given' tape' scope' n (entries ++ added) new work (closed 0) behind limit window after steps' room' rows buffer far_rows far_buffer) (sym first_is)
+      (subst (λ (s : Scope). IsReadyMoving tells given' tape' s first (entries ++ added) new work (closed 0) behind limit window after steps' room' rows buffer far_rows far_buffer) (sym scope_is)
+      (subst (λ (g : Given). IsReadyMoving tells g tape' scope first (entries ++ added) new work (closed 0) behind limit window after steps' room' rows buffer far_rows far_buffer) (sym same_given)
       (record {
         kept = subst (λ (o : Option ℕ). IsMoving tells given tape' (scope_in given uuid slots (Some backup)) first (entries ++ added) new (is_carried work) o (closed 0) [] (left_by o new (closed 0) behind)) (sym synced) (keeps back way);
         sized = tells-length back way;
-        unlimited = limit-more entries added was.unlimited (begun-free who end left roles spares (list_length new.newest) back);
+        limited = limit-kept limit entries added was.limited (begun-free who end left roles spares (list_length new.newest) back limit);
         full = begun-whole;
         planned = subst (λ (n : ℕ). AreSound (final_shape new.newest) n (phases_of behind)) (sym did.newest.size)
             (subst (λ (s : Shape). AreSound s old.newest.size (phases_of behind)) (sym did.newest.new) sound.2);

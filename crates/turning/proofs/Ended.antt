@@ -32,7 +32,6 @@ use Rattle.call_entries.proofs.CallLaws.{all-losses}
 use Rattle.call_entries.proofs.LosingLaws.{entries-both}
 use Rattle.call_entries.proofs.PlainLaws.{one}
 use Rattle.array_kept.specs.Calls.{AreLossesOf, IsLossBy}
-use Rattle.array_kept.proofs.NowLaws.{limit-more}
 use Rattle.grow_asked.specs.declared.window.PhasesLeft.{PhasesLeft}
 use Rattle.grow_asked.specs.Left.{phases_of, zeroed_by}
 use Rattle.kept_history.specs.Recorded.{IsCallGoing}
@@ -46,6 +45,7 @@ use Rattle.moving_steps.specs.running_words_Parts.{left_in, still_left}
 use Rattle.moving_steps.specs.running_words_Plans.{GoTo, turns_shape}
 use Rattle.still_steps.proofs.still_laws_Closing.{LeadTo, plans-of, ahead-none}
 use Rattle.moving_steps.proofs.running_words_Called.{not_254}
+use Rattle.moving_steps.proofs.running_words_Visible.{limit-kept}
 use Rattle.still_steps.specs.still_laws_Ready.{IsReady as IsReadyStill}
 use Rattle.still_steps.proofs.still_laws_Plain.{IsLeftPlain, turned-plain, turns-behind}
 use Rattle.moving_steps.specs.moving_laws_Ready.{IsReady as IsReadyMoving, bytes_in}
@@ -132,9 +132,9 @@ module _ (old new : Members) (roles spares lost : ℕ) (before after : ℕ → �
 
 -- ---- the array without its reshape
 
-module _ {tells : Type 0} {given : Given} {tape tape' : List Operation} {scope : Scope} {first : ℕ} {entries : List Entry} {old new : Members} {work : Work} {course : Course} {window : List ℕ} {before after : ℕ → ℕ}
+module _ {tells : Type 0} {given : Given} {tape tape' : List Operation} {scope : Scope} {first : ℕ} {entries : List Entry} {old new : Members} {work : Work} {course : Course} {limit : Option ℕ} {window : List ℕ} {before after : ℕ → ℕ}
     {steps room rows buffer far_rows far_buffer : ℕ} (ahead : PhasesLeft) (who : Who) (end first_roles roles spares lost late late_spares : ℕ)
-    (was : IsReadyMoving tells given tape scope first entries old work course ahead window before steps room rows buffer far_rows far_buffer) (at : course ≡ closed (zeroed_by old.newest)) (synced : work.resync ≡ None)
+    (was : IsReadyMoving tells given tape scope first entries old work course ahead limit window before steps room rows buffer far_rows far_buffer) (at : course ≡ closed (zeroed_by old.newest)) (synced : work.resync ≡ None)
     (goes : IsCallGoing entries who) (caller : who.caller ≢ 254) (last : IsAtEnd old.newest) (did : IsFinished tells given tape tape' old new roles spares lost before after) (at_end : tells → end ≡ length tape')
     (first-is : (role : ℕ) → has_slot first_roles role ≡ (nat_lt role (length old.roles) && is_vacant (reading_of old) role))
     (late-is : (role : ℕ) → has_slot late role ≡ ((nat_lt role (shape_of new.newest).disks && is_vacant (reading_of new) role) && not (has_slot first_roles role || has_slot roles role)))
@@ -145,19 +145,19 @@ module _ {tells : Type 0} {given : Given} {tape tape' : List Operation} {scope :
 
   pub ended-ready : {given' : Given} {scope' : Scope} {first' : ℕ} {mid entries' : List Entry} {steps' room' : ℕ} → given' ≡ given → scope' ≡ scope → first' ≡ first → mid ≡ entries
       → entries' ≡ mid ++ entries_of who end (ending_events roles spares (still_left work new ahead) (grown_to (list_length old.newest) (list_length new.newest)) late late_spares) → 50 * steps' < room'
-      → IsReadyStill tells given' tape' scope' first' entries' new work ahead after steps' room' rows buffer far_rows far_buffer
+      → IsReadyStill tells given' tape' scope' first' entries' new work ahead limit after steps' room' rows buffer far_rows far_buffer
   ended-ready {given' = given'} {scope' = scope'} {first' = first'} {mid = mid} {entries' = entries'} {steps' = steps'} {room' = room'} same_given scope_is first_is mid_is is room_left =
-      subst (λ (l : List Entry). IsReadyStill tells given' tape' scope' first' l new work ahead after steps' room' rows buffer far_rows far_buffer) (sym (is ∙ ap (λ (l : List Entry). l ++ added) mid_is))
-      (subst (λ (n : ℕ). IsReadyStill tells given' tape' scope' n (entries ++ added) new work ahead after steps' room' rows buffer far_rows far_buffer) (sym first_is)
-      (subst (λ (s : Scope). IsReadyStill tells given' tape' s first (entries ++ added) new work ahead after steps' room' rows buffer far_rows far_buffer) (sym scope_is)
-      (subst (λ (g : Given). IsReadyStill tells g tape' scope first (entries ++ added) new work ahead after steps' room' rows buffer far_rows far_buffer) (sym same_given)
+      subst (λ (l : List Entry). IsReadyStill tells given' tape' scope' first' l new work ahead limit after steps' room' rows buffer far_rows far_buffer) (sym (is ∙ ap (λ (l : List Entry). l ++ added) mid_is))
+      (subst (λ (n : ℕ). IsReadyStill tells given' tape' scope' n (entries ++ added) new work ahead limit after steps' room' rows buffer far_rows far_buffer) (sym first_is)
+      (subst (λ (s : Scope). IsReadyStill tells given' tape' s first (entries ++ added) new work ahead limit after steps' room' rows buffer far_rows far_buffer) (sym scope_is)
+      (subst (λ (g : Given). IsReadyStill tells g tape' scope first (entries ++ added) new work ahead limit after steps' room' rows buffer far_rows far_buffer) (sym same_given)
       (record {
         kept = ended-still work ahead who end first_roles roles spares lost late late_spares moving goes (not_254 who.caller caller) last did at_end first-is late-is synced settled stepped
             (planned-to tells given tape scope first entries old new work ahead was.kept.members_are.active lead)
             (λ t none. was.full t (takes-before given scope first entries added did.grows (λ u. (was.kept.recorded u).ends) t none));
         sized = ended-sized work ahead who end first_roles roles spares lost late late_spares moving goes (not_254 who.caller caller) last did at_end first-is late-is synced settled stepped
             (planned-to tells given tape scope first entries old new work ahead was.kept.members_are.active lead) was.sized;
-        unlimited = limit-more entries added was.unlimited (ended-free who end roles spares (still_left work new ahead) late late_spares (list_length new.newest) (nat_lt (list_length old.newest) (list_length new.newest)));
+        limited = limit-kept limit entries added was.limited (ended-free who end roles spares (still_left work new ahead) late late_spares (list_length new.newest) (nat_lt (list_length old.newest) (list_length new.newest)) limit);
         planned = subst (λ (n : ℕ). AreSound (shape_of new.newest) n (phases_of ahead)) (sym did.over.size)
             (subst (λ (s : Shape). AreSound s old.newest.size (phases_of ahead)) (sym did.over.shape) was.planned);
         failed = λ slot lt out. let had = was.failed slot lt out in let more = did.counts slot in omega (arith, had, more);

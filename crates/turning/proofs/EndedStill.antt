@@ -98,16 +98,16 @@ ended-ends who end roles spares left late late_spares size longer =
     of true = alone
     of false = alone
 
--- nothing limits the list
-pub ended-free : (who : Who) (end roles spares left late late_spares size : ℕ) (longer : Bool)
-    → fold (λ (limit : Option ℕ) e. limit_after limit e.event) None (entries_of who end (ending_events roles spares left (length_by longer size) late late_spares)) ≡ None
-ended-free who end roles spares left late late_spares size longer =
-    limit-losses who end (losses_of roles spares) (Step Finished left ∷ (length_by longer size ++ losses_of late late_spares)) (losses-are roles spares) None ∙ of longer
+-- the limit of the list stays
+pub ended-free : (who : Who) (end roles spares left late late_spares size : ℕ) (longer : Bool) (limit : Option ℕ)
+    → fold (λ (limit : Option ℕ) e. limit_after limit e.event) limit (entries_of who end (ending_events roles spares left (length_by longer size) late late_spares)) ≡ limit
+ended-free who end roles spares left late late_spares size longer limit =
+    limit-losses who end (losses_of roles spares) (Step Finished left ∷ (length_by longer size ++ losses_of late late_spares)) (losses-are roles spares) limit ∙ of longer
   where
-    alone : fold (λ (limit : Option ℕ) e. limit_after limit e.event) None (entries_of who end (losses_of late late_spares)) ≡ None
-    alone = subst (λ (l : List Event). fold (λ (limit : Option ℕ) e. limit_after limit e.event) None (entries_of who end l) ≡ None) (append-nil (losses_of late late_spares)) (limit-losses who end (losses_of late late_spares) [] (losses-are late late_spares) None)
+    alone : fold (λ (limit : Option ℕ) e. limit_after limit e.event) limit (entries_of who end (losses_of late late_spares)) ≡ limit
+    alone = subst (λ (l : List Event). fold (λ (limit : Option ℕ) e. limit_after limit e.event) limit (entries_of who end l) ≡ limit) (append-nil (losses_of late late_spares)) (limit-losses who end (losses_of late late_spares) [] (losses-are late late_spares) limit)
 
-    of : (b : Bool) → fold (λ (limit : Option ℕ) e. limit_after limit e.event) None (entries_of who end (length_by b size ++ losses_of late late_spares)) ≡ None
+    of : (b : Bool) → fold (λ (limit : Option ℕ) e. limit_after limit e.event) limit (entries_of who end (length_by b size ++ losses_of late late_spares)) ≡ limit
     of true = alone
     of false = alone
 

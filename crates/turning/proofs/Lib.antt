@@ -11,6 +11,7 @@ pub use Rattle.moving_steps.proofs.moving_laws_Kept
 pub use Rattle.moving_steps.proofs.moving_laws_MendLaws
 pub use Rattle.moving_steps.proofs.running_words_Called
 pub use Rattle.moving_steps.proofs.running_words_Lengths
+pub use Rattle.moving_steps.proofs.running_words_Visible
 pub use Rattle.moving_steps.proofs.still_kept_Leaving
 pub use Rattle.moving_steps.proofs.still_kept_Refusals
 pub use Rattle.moving_steps.proofs.still_kept_Resting

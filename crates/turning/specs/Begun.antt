@@ -79,13 +79,14 @@ IsPlain refusal = ⊤
 
 -- ---- what it leaves
 
--- the same array, from the same mark on
+-- the same array, from the same mark on, with the same limit of its visible size
 pub record StaysItself {B : Type 0} (old new : RunningParts B) : Type 0 where
   pub uuid : new.parts.uuid ≡ old.parts.uuid
   pub given : new.parts.given ≡ old.parts.given
   pub first : new.parts.first ≡ old.parts.first
   pub backup : new.parts.backup ≡ old.parts.backup
   pub work : new.parts.work ≡ old.parts.work
+  pub limit : new.limit ≡ old.limit
 
 -- each slot that was a spare is one still, or it has failed
 abbrev pub AreSparesKeptOrFailed : Members → Members → (ℕ → ℕ) → (ℕ → ℕ) → Type 0

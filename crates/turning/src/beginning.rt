@@ -143,7 +143,7 @@ fn enter_begun(epoch: &mut Epoch, who: Who, end: u64, told: &BeginTold)
 // The array, in whose history a plan was told, goes on as it was, and the step is refused.
 fn give_back<B: Bank>(pieces: Pieces<B>, who: Who, refusal: Refusal) -> Still<B>
     requires ready { IsReady B.tells (B.given pieces.bank) (B.tape pieces.bank) (scope_in (B.given pieces.bank) pieces.epoch.uuid pieces.epoch.given pieces.backup)
-        pieces.epoch.first pieces.epoch.entries.items pieces.members pieces.work pieces.ahead (B.faults_of pieces.bank) pieces.steps pieces.epoch.entries.room
+        pieces.epoch.first pieces.epoch.entries.items pieces.members pieces.work pieces.ahead pieces.limit (B.faults_of pieces.bank) pieces.steps pieces.epoch.entries.room
         (vec_capacity pieces.rows) (length pieces.buffer.items) (vec_capacity pieces.far_rows) (length pieces.far_buffer.items) }
     requires open { IsCallGoing pieces.epoch.entries.items who }
     requires caller { who.caller ≢ 254 }
@@ -165,6 +165,7 @@ fn give_back<B: Bank>(pieces: Pieces<B>, who: Who, refusal: Refusal) -> Still<B>
       };
       course = closed 0;
       ahead = pieces.ahead;
+      limit = pieces.limit;
     } in IsGivenBack B.tells (B.given pieces.bank) (B.tape pieces.bank) (B.tape pieces.bank) who refusal old result }
     ensures bank { result.parts.bank ≡ pieces.bank }
 {
@@ -179,7 +180,7 @@ fn give_back<B: Bank>(pieces: Pieces<B>, who: Who, refusal: Refusal) -> Still<B>
 // The array goes on as it was, and the step is refused: its backup, which the opening found failing, fails again.
 fn fail_backup<B: Bank>(pieces: Pieces<B>, who: Who, backup: u32) -> Still<B>
     requires ready { IsReady B.tells (B.given pieces.bank) (B.tape pieces.bank) (scope_in (B.given pieces.bank) pieces.epoch.uuid pieces.epoch.given pieces.backup)
-        pieces.epoch.first pieces.epoch.entries.items pieces.members pieces.work pieces.ahead (B.faults_of pieces.bank) pieces.steps pieces.epoch.entries.room
+        pieces.epoch.first pieces.epoch.entries.items pieces.members pieces.work pieces.ahead pieces.limit (B.faults_of pieces.bank) pieces.steps pieces.epoch.entries.room
         (vec_capacity pieces.rows) (length pieces.buffer.items) (vec_capacity pieces.far_rows) (length pieces.far_buffer.items) }
     requires open { IsCallGoing pieces.epoch.entries.items who }
     requires caller { who.caller ≢ 254 }
@@ -202,6 +203,7 @@ fn fail_backup<B: Bank>(pieces: Pieces<B>, who: Who, backup: u32) -> Still<B>
       };
       course = closed 0;
       ahead = pieces.ahead;
+      limit = pieces.limit;
     } in IsGivenBack B.tells (B.given pieces.bank) (B.tape pieces.bank) (B.tape result.parts.bank) who BackupFault old result }
     ensures failed { IsFaulted backup (B.faults_of pieces.bank) (B.faults_of result.parts.bank) }
     ensures never_falls { NeverFalls (B.faults_of pieces.bank) (B.faults_of result.parts.bank) }

@@ -6,6 +6,7 @@ ghost use Rattle.flat_history.specs.Flat.{next_number};
 ghost use Rattle.flat_history.specs.declared.events.Event.TheVariants.{Shown};
 ghost use Rattle.array_kept.specs.Calls.{IsEntered, IsEndOf};
 ghost use Rattle.moving_laws.specs.running_words_Calls.{moving_world, IsStatusFor, IsSameReshape};
+ghost use Rattle.moving_laws.specs.running_words_Parts.{visible_in};
 
 use crate::state::Moving;
 use array_state::asking::{copy_roles, copy_slots};
@@ -14,10 +15,18 @@ use call_entries::calls::{check_number, enter};
 use flat_history::Event;
 use geometry::list_end;
 use md_base::{NoMemory, Status, Who};
+use moving_laws::moving_state::asking::visible;
 use safe_updates::roles::{final_in, shape_in};
 use superblocks::says::is_clean;
 
 impl<B: Bank> Moving<B> {
+    /// The limit of the visible size in sectors, if there is one.
+    pub fn limit(&self) -> Option<u64>
+        ensures { result ≡ self.now.limit }
+    {
+        self.limit
+    }
+
     /// How many sectors the list has.
     pub fn length(&self) -> u64
         ensures { result ≡ list_length self.now.parts.members.newest }
@@ -25,6 +34,13 @@ impl<B: Bank> Moving<B> {
         let old = shape_in(&self.members);
         let new = final_in(&self.members);
         list_end(&old, &new, self.members.newest.size)
+    }
+
+    /// How many sectors of the list can be read and written.
+    pub fn visible(&self) -> u64
+        ensures { result ≡ visible_in self.now }
+    {
+        visible(&self.members, self.limit)
     }
 
     // What the array tells of itself, in memory of its own.
@@ -39,14 +55,13 @@ impl<B: Bank> Moving<B> {
             Ok(spares) => spares,
             Err(none) => return Err(none),
         };
-        let sectors = self.length();
         Ok(Status {
             shape: shape_in(&self.members),
             target: Some(final_in(&self.members)),
             position: self.members.newest.reshape_position,
             size: self.members.newest.size,
-            length: sectors,
-            visible: sectors,
+            length: self.length(),
+            visible: self.visible(),
             clean: is_clean(&self.members.newest),
             events: self.members.newest.events,
             left: self.left(),

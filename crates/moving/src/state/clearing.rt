@@ -14,7 +14,8 @@ ghost use Rattle.grow_asked.specs.declared.window.Window.TheVariants.{Unsure as 
 ghost use Rattle.kept_history.specs.Recorded.{IsCallGoing};
 ghost use Rattle.moving_laws.specs.region_mends_Mends.{relied_sector};
 ghost use Rattle.moving_laws.specs.running_words_Calls.{IsCalled};
-ghost use Rattle.moving_laws.specs.running_words_Parts.{left_in};
+ghost use Rattle.moving_laws.specs.running_words_Parts.{visible_in, left_in};
+ghost use Rattle.moving_laws.specs.Refusing.{first_refusal, IsFirstFor};
 ghost use Rattle.moving_laws.specs.Writing.{TouchesUnsure, IsWriteBarred, IsRefusedAlone, IsWriteEntered, IsWriteReplied};
 
 use crate::state::Moving;
@@ -66,8 +67,9 @@ impl<B: Bank> Moving<B> {
         requires touches { TouchesUnsure self.old.course.window at (at + count) }
         ensures alone { IsRefusedAlone who self.old.parts.entries self.new.parts.entries result }
         ensures called { IsCalled B.tells (B.given self.old.parts.bank) (B.tape self.old.parts.bank) (B.tape self.new.parts.bank) (B.faults_of self.old.parts.bank) (B.faults_of self.new.parts.bank) self.old self.new }
-        ensures caused { IsCausedBy (list_length self.old.parts.members.newest) (at + count)
+        ensures caused { IsCausedBy (visible_in self.old) (at + count)
             (IsWriteBarred self.old.course.window (relied_sector self.old.parts.members.newest self.old.parts.work.resync) at (at + count)) self.old.parts.members self.new.parts.members result }
+        ensures first { IsFirstFor (first_refusal self.old at count) result }
         ensures members { self.new.parts.members ≡ self.old.parts.members }
         ensures backup { result ≡ Err (IsRefusedWith BackupFault) → IfSome self.old.parts.backup (λ slot. IsFaulted slot (B.faults_of self.old.parts.bank) (B.faults_of self.new.parts.bank)) }
         ensures course { self.new.course ≡ self.old.course }
@@ -75,7 +77,7 @@ impl<B: Bank> Moving<B> {
     {
         let window = open_span(&self.course);
         let relied = relied_sector(&self.members, self.work.resync);
-        if let Some(refusal) = unwritten_here(&self.members, window, relied, at, count) {
+        if let Some(refusal) = unwritten_here(&self.members, window, self.limit, relied, at, count) {
             self.steps -= 1;
             check_going(&self.epoch.entries, who);
             let end = self.bank.ops();
@@ -97,8 +99,9 @@ impl<B: Bank> Moving<B> {
         ensures entered { IsWriteEntered self.old.course.window at (at + length from.now / 512) (sectors_of from.now) who self.old.parts.entries self.new.parts.entries (left_in self.new.parts.work self.new.parts.members self.new.course self.new.ahead) result }
         ensures unchanged { OnNoMemory result (self.new ≡ self.old) }
         ensures called { IsCalled B.tells (B.given self.old.parts.bank) (B.tape self.old.parts.bank) (B.tape self.new.parts.bank) (B.faults_of self.old.parts.bank) (B.faults_of self.new.parts.bank) self.old self.new }
-        ensures caused { IsCausedBy (list_length self.old.parts.members.newest) (at + length from.now / 512)
+        ensures caused { IsCausedBy (visible_in self.old) (at + length from.now / 512)
             (IsWriteBarred self.old.course.window (relied_sector self.old.parts.members.newest self.old.parts.work.resync) at (at + length from.now / 512)) self.old.parts.members self.new.parts.members result }
+        ensures first { IsFirstFor (first_refusal self.old at (length from.now / 512)) result }
         ensures failed { HaveRolesFailed self.old.parts.members self.new.parts.members (B.faults_of self.old.parts.bank) (B.faults_of self.new.parts.bank) }
         ensures backup { result ≡ Err (IsRefusedWith BackupFault) → IfSome self.old.parts.backup (λ slot. IsFaulted slot (B.faults_of self.old.parts.bank) (B.faults_of self.new.parts.bank)) }
         ensures course { self.new.course ≡ self.old.course }

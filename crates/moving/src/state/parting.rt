@@ -13,7 +13,7 @@ impl<B: Bank> Moving<B> {
     /// What it owns, how far the reshape has come, and the buffer of its window.
     pub fn take_apart(self) -> (Pieces<B>, Course, Vec<u8>)
         ensures ready { let p = result.0 in IsReady B.tells (B.given p.bank) (B.tape p.bank) (scope_in (B.given p.bank) p.epoch.uuid p.epoch.given p.backup)
-            p.epoch.first p.epoch.entries.items p.members p.work result.1 p.ahead result.2.items (B.faults_of p.bank) p.steps p.epoch.entries.room
+            p.epoch.first p.epoch.entries.items p.members p.work result.1 p.ahead p.limit result.2.items (B.faults_of p.bank) p.steps p.epoch.entries.room
             (vec_capacity p.rows) (length p.buffer.items) (vec_capacity p.far_rows) (length p.far_buffer.items) }
         ensures same { let p = result.0 in self ≡ record {
           parts = record {
@@ -30,6 +30,7 @@ impl<B: Bank> Moving<B> {
           };
           course = result.1;
           ahead = p.ahead;
+          limit = p.limit;
         } }
     {
         let Moving {
@@ -41,6 +42,7 @@ impl<B: Bank> Moving<B> {
             work,
             course,
             ahead,
+            limit,
             steps,
             rows,
             buffer,
@@ -56,6 +58,7 @@ impl<B: Bank> Moving<B> {
             members,
             work,
             ahead,
+            limit,
             steps,
             rows,
             buffer,
@@ -69,7 +72,7 @@ impl<B: Bank> Moving<B> {
     pub fn of_pieces(pieces: Pieces<B>, backup: u32, course: Course, window: Vec<u8>) -> Moving<B>
         requires backup { pieces.backup ≡ Some backup }
         requires ready { IsReady B.tells (B.given pieces.bank) (B.tape pieces.bank) (scope_in (B.given pieces.bank) pieces.epoch.uuid pieces.epoch.given pieces.backup)
-            pieces.epoch.first pieces.epoch.entries.items pieces.members pieces.work course pieces.ahead window.items (B.faults_of pieces.bank) pieces.steps pieces.epoch.entries.room
+            pieces.epoch.first pieces.epoch.entries.items pieces.members pieces.work course pieces.ahead pieces.limit window.items (B.faults_of pieces.bank) pieces.steps pieces.epoch.entries.room
             (vec_capacity pieces.rows) (length pieces.buffer.items) (vec_capacity pieces.far_rows) (length pieces.far_buffer.items) }
         ensures same { result ≡ record {
           parts = record {
@@ -86,6 +89,7 @@ impl<B: Bank> Moving<B> {
           };
           course = course;
           ahead = pieces.ahead;
+          limit = pieces.limit;
         } }
     {
         let Pieces {
@@ -96,6 +100,7 @@ impl<B: Bank> Moving<B> {
             members,
             work,
             ahead,
+            limit,
             steps,
             rows,
             buffer,
@@ -111,6 +116,7 @@ impl<B: Bank> Moving<B> {
             work,
             course,
             ahead,
+            limit,
             steps,
             rows,
             buffer,

@@ -17,6 +17,8 @@ ghost use Rattle.moving_laws.specs.course_kept_Course.{hidden_in};
 ghost use Rattle.moving_laws.specs.moving_state_First.{IsUnreadAround};
 ghost use Rattle.history_calls.specs.Reliable.{IsReliable};
 ghost use Rattle.moving_laws.specs.running_words_Calls.{moving_world, IsCalled};
+ghost use Rattle.moving_laws.specs.running_words_Parts.{visible_in};
+ghost use Rattle.moving_laws.specs.Refusing.{first_refusal, IsFirstFor};
 
 use crate::state::Moving;
 use array_state::room::zeros;
@@ -24,8 +26,8 @@ use bank::Bank;
 use call_entries::calls::{check_number, enter, enter_behind};
 use flat_history::Event;
 use md_base::{Fault, Sectors, Span, Who};
+use moving_laws::moving_state::asking::visible;
 use moving_laws::moving_state::refusing::unread_from;
-use moving_laws::moving_state::reshape::list_sectors;
 use moving_laws::moving_state::windows::hidden_span;
 use moving_laws::region_mends::stripes::relied_sector;
 use moving_laws::window_calls::fetch_beside;
@@ -59,7 +61,7 @@ impl<B: Bank> Moving<B> {
         requires whole { IsWhole into.old }
         requires some { 0 < length into.old / 512 }
         requires same { length bytes.items ≡ length into.old }
-        requires fine { IsRefusalOf (list_length self.old.parts.members.newest) (at + length into.old / 512) (IsUnreadAround (hidden_in self.old.course.window)
+        requires fine { IsRefusalOf (visible_in self.old) (at + length into.old / 512) (IsUnreadAround (hidden_in self.old.course.window)
             (relied_sector self.old.parts.members.newest self.old.parts.work.resync) at (at + length into.old / 512)) self.old.parts.members None }
         ensures answered { IsAnswered (list_length self.old.parts.members.newest) (AsksRead at (length into.old / 512)) who self.old.parts.entries self.new.parts.entries (Read at (sectors_of into.new)) result }
         ensures holds { OnOk result (B.tells → IsReliable (moving_world (B.given self.new.parts.bank) (B.tape self.new.parts.bank) self.new) self.new.parts.entries
@@ -69,7 +71,7 @@ impl<B: Bank> Moving<B> {
         ensures called { IsCalled B.tells (B.given self.old.parts.bank) (B.tape self.old.parts.bank) (B.tape self.new.parts.bank) (B.faults_of self.old.parts.bank) (B.faults_of self.new.parts.bank) self.old self.new }
         ensures others { B.tells → AreOthersPresent (present (B.given self.old.parts.bank) (B.tape self.old.parts.bank)) (present (B.given self.old.parts.bank) (B.tape self.new.parts.bank)) }
         ensures clean { is_clean self.new.parts.members.newest ≡ is_clean self.old.parts.members.newest }
-        ensures caused { IsCausedBy (list_length self.old.parts.members.newest) (at + length into.old / 512) (IsUnreadAround (hidden_in self.old.course.window)
+        ensures caused { IsCausedBy (visible_in self.old) (at + length into.old / 512) (IsUnreadAround (hidden_in self.old.course.window)
             (relied_sector self.old.parts.members.newest self.old.parts.work.resync) at (at + length into.old / 512)) self.old.parts.members self.new.parts.members result }
         ensures failed { HaveRolesFailed self.old.parts.members self.new.parts.members (B.faults_of self.old.parts.bank) (B.faults_of self.new.parts.bank) }
         ensures course { self.new.course ≡ self.old.course }
@@ -108,7 +110,7 @@ impl<B: Bank> Moving<B> {
 
     /// Fills `into`, of whole sectors, with those of the list from `at` on: those of a window whose section is stored from its buffer, and
     /// each other by the shape of its region; what a missing member held is filled in from the others. Refusals: `PastEnd`,
-    /// `TooManyMissing` where more roles are missing than a shape tolerates that places one of them, and `NotResynced` where a resync is
+    /// `TooManyMissing` where more roles are missing than a shape tolerates that places one of them, the first of these, and `NotResynced` where a resync is
     /// pending, of a missing role that has one of those others, in a stripe that isn't mended.
     pub fn read(&mut self, who: Who, at: u64, into: &mut [u8]) -> Result<(), Fault>
         requires next { who.number ≡ next_number who.caller self.old.parts.entries }
@@ -123,8 +125,9 @@ impl<B: Bank> Moving<B> {
         ensures called { IsCalled B.tells (B.given self.old.parts.bank) (B.tape self.old.parts.bank) (B.tape self.new.parts.bank) (B.faults_of self.old.parts.bank) (B.faults_of self.new.parts.bank) self.old self.new }
         ensures others { B.tells → AreOthersPresent (present (B.given self.old.parts.bank) (B.tape self.old.parts.bank)) (present (B.given self.old.parts.bank) (B.tape self.new.parts.bank)) }
         ensures clean { is_clean self.new.parts.members.newest ≡ is_clean self.old.parts.members.newest }
-        ensures caused { IsCausedBy (list_length self.old.parts.members.newest) (at + length into.old / 512) (IsUnreadAround (hidden_in self.old.course.window)
+        ensures caused { IsCausedBy (visible_in self.old) (at + length into.old / 512) (IsUnreadAround (hidden_in self.old.course.window)
             (relied_sector self.old.parts.members.newest self.old.parts.work.resync) at (at + length into.old / 512)) self.old.parts.members self.new.parts.members result }
+        ensures first { IsFirstFor (first_refusal self.old at (length into.old / 512)) result }
         ensures failed { HaveRolesFailed self.old.parts.members self.new.parts.members (B.faults_of self.old.parts.bank) (B.faults_of self.new.parts.bank) }
         ensures course { self.new.course ≡ self.old.course }
         ensures given { B.given self.new.parts.bank ≡ B.given self.old.parts.bank }
@@ -141,7 +144,7 @@ impl<B: Bank> Moving<B> {
         check_number(&self.epoch.entries, who);
         let asked = (into.len() / 512) as u64;
         let hidden = hidden_span(&self.course);
-        let sectors = list_sectors(&self.members);
+        let sectors = visible(&self.members, self.limit);
         let relied = relied_sector(&self.members, self.work.resync);
         if let Some(refusal) = unread_from(&self.members, hidden, sectors, relied, at, asked) {
             let end = self.bank.ops();

@@ -1,6 +1,6 @@
 //! Writes to an array in a reshape.
 
-ghost use Rattle.std.specs.Prelude.{◌≡◌, ◌≢◌, ◌⊎◌, ◌+◌, ◌/◌, ◌^◌, ◌<◌, ◌≤◌, ℕ, length, false, Err, IfSome, OnOk};
+ghost use Rattle.std.specs.Prelude.{◌≡◌, ◌≢◌, ◌⊎◌, ◌+◌, ◌/◌, ◌^◌, ◌<◌, ◌≤◌, ℕ, length, false, Some, Err, IfSome, MatchOption, OnOk, ⊤};
 ghost use Rattle.md_base.specs.Sectors.{IsWhole, sectors_of};
 ghost use Rattle.md_base.specs.declared.answers.Fault.TheVariants.{Refused as IsRefusedWith};
 ghost use Rattle.md_base.specs.declared.answers.Refusal.TheVariants.{BackupFault};
@@ -20,8 +20,11 @@ ghost use Rattle.moving_laws.specs.course_kept_Course.{span_in};
 ghost use Rattle.moving_laws.specs.course_kept_Laws.{closed};
 ghost use Rattle.moving_laws.specs.moving_kept_Moving.{IsWindowStanding};
 ghost use Rattle.moving_laws.specs.moving_state_Due.{open_in, unsure_in};
-ghost use Rattle.moving_laws.specs.running_words_Parts.{left_in};
+ghost use Rattle.moving_laws.specs.running_words_Parts.{visible_size, visible_in, left_in};
 ghost use Rattle.moving_laws.specs.running_words_Calls.{moving_world, IsCalled, IsStepTaken};
+ghost use Rattle.safe_updates.specs.First.{call_refusal};
+ghost use Rattle.moving_laws.specs.moving_state_First.{list_refusal};
+ghost use Rattle.moving_laws.specs.Refusing.{first_refusal, IsFirstFor};
 ghost use Rattle.moving_laws.specs.Writing.{IsWindowOpen, TouchesWindow, IsWriteLacked, IsWriteBarred, IsPutEntered, IsWriteEntered, IsWriteAnswered, IsWriteReplied};
 
 use crate::state::Moving;
@@ -30,8 +33,8 @@ use bank::Bank;
 use call_entries::calls::{enter, enter_behind, enter_failure};
 use flat_history::Event;
 use md_base::{Fault, Refusal, Sectors, Span, Who};
+use moving_laws::moving_state::asking::visible;
 use moving_laws::moving_state::refusing::unwritten_from;
-use moving_laws::moving_state::reshape::list_sectors;
 use moving_laws::moving_state::windows::{meets, open_span, unsure_span};
 use moving_laws::region_mends::stripes::relied_sector;
 use region_writes::writing::put_list;
@@ -39,11 +42,12 @@ use safe_updates::naming::newly_vacant;
 use safe_updates::roles::vacant_roles;
 use superblocks::Members;
 
-// Why so many sectors from one on aren't written, before any row is read, where parity is to be relied on up to sector `relied`, and in
-// the window, if there is one.
+// Why so many sectors from one on aren't written, before any row is read, where those below the limit are visible and parity is to be relied
+// on up to sector `relied`, and in the window, if there is one.
 pub(crate) fn unwritten_here(
     members: &Members,
     window: Option<Span>,
+    limit: Option<u64>,
     relied: u64,
     at: u64,
     count: u64,
@@ -52,9 +56,10 @@ pub(crate) fn unwritten_here(
     requires roles { length members.now.roles ≡ role_count members.now.newest }
     requires some { 0 < count }
     requires short { at + count < 2 ^ 63 }
-    ensures { IsRefusalOf (list_length members.now.newest) (at + count) (IsListUnwritten window relied at (at + count)) members.now result }
+    ensures first { MatchOption (call_refusal (visible_size members.now limit) (at + count) (list_refusal at count members.now)) ⊤ (λ refusal. result ≡ Some refusal) }
+    ensures why { IsRefusalOf (visible_size members.now limit) (at + count) (IsListUnwritten window relied at (at + count)) members.now result }
 {
-    let sectors = list_sectors(members);
+    let sectors = visible(members, limit);
     unwritten_from(members, window, sectors, relied, at, count)
 }
 
@@ -81,8 +86,9 @@ impl<B: Bank> Moving<B> {
         requires stood { B.tells → IsWindowStanding past (moving_world (B.given self.old.parts.bank) (B.tape self.old.parts.bank) self.old) self.old.parts.entries self.old.parts.members (present (B.given self.old.parts.bank) (B.tape self.old.parts.bank)) }
         ensures entered { IsPutEntered who self.old.parts.entries self.new.parts.entries at (sectors_of from.now) result }
         ensures called { IsCalled B.tells (B.given self.old.parts.bank) (B.tape self.old.parts.bank) (B.tape self.new.parts.bank) (B.faults_of self.old.parts.bank) (B.faults_of self.new.parts.bank) self.old self.new }
-        ensures caused { IsCausedBy (list_length self.old.parts.members.newest) (at + length from.now / 512) (IsListUnwritten past (relied_sector self.old.parts.members.newest self.old.parts.work.resync) at (at + length from.now / 512))
+        ensures caused { IsCausedBy (visible_in self.old) (at + length from.now / 512) (IsListUnwritten past (relied_sector self.old.parts.members.newest self.old.parts.work.resync) at (at + length from.now / 512))
             self.old.parts.members self.new.parts.members result }
+        ensures first { IsFirstFor (first_refusal self.old at (length from.now / 512)) result }
         ensures failed { HaveRolesFailed self.old.parts.members self.new.parts.members (B.faults_of self.old.parts.bank) (B.faults_of self.new.parts.bank) }
         ensures dirty { OnOk result (is_clean self.new.parts.members.newest ≡ false) }
         ensures left { left_in self.new.parts.work self.new.parts.members self.new.course self.new.ahead ≡ left_in self.old.parts.work self.old.parts.members self.old.course self.old.ahead }
@@ -93,7 +99,7 @@ impl<B: Bank> Moving<B> {
         check_going(&self.epoch.entries, who);
         let asked = (from.len() / 512) as u64;
         let relied = relied_sector(&self.members, self.work.resync);
-        if let Some(refusal) = unwritten_here(&self.members, past, relied, at, asked) {
+        if let Some(refusal) = unwritten_here(&self.members, past, self.limit, relied, at, asked) {
             let end = self.bank.ops();
             enter(&mut self.epoch, who, end, Event::Refused { refusal });
             return Err(Fault::Refused(refusal));
@@ -144,8 +150,9 @@ impl<B: Bank> Moving<B> {
         ensures entered { IsStepTaken who self.old.parts.entries self.new.parts.entries FinishesWindow (left_in self.new.parts.work self.new.parts.members self.new.course self.new.ahead) result }
         ensures goes { OnOk result (IsCallGoing self.new.parts.entries who) }
         ensures called { IsCalled B.tells (B.given self.old.parts.bank) (B.tape self.old.parts.bank) (B.tape self.new.parts.bank) (B.faults_of self.old.parts.bank) (B.faults_of self.new.parts.bank) self.old self.new }
-        ensures caused { IsCausedBy (list_length self.old.parts.members.newest) (at + count)
+        ensures caused { IsCausedBy (visible_in self.old) (at + count)
             (λ m refusal. IsListUnwritten (open_in self.old.course.window) (relied_sector self.old.parts.members.newest self.old.parts.work.resync) at (at + count) m refusal ⊎ AreTooMany m refusal) self.old.parts.members self.new.parts.members result }
+        ensures first { IsFirstFor (first_refusal self.old at count) result }
         ensures failed { HaveRolesFailed self.old.parts.members self.new.parts.members (B.faults_of self.old.parts.bank) (B.faults_of self.new.parts.bank) }
         ensures closed { OnOk result (self.new.course ≡ closed 0) }
         ensures relied { OnOk result (relied_sector self.new.parts.members.newest self.new.parts.work.resync ≡ relied_sector self.old.parts.members.newest self.old.parts.work.resync) }
@@ -155,7 +162,7 @@ impl<B: Bank> Moving<B> {
     {
         let window = open_span(&self.course);
         let relied = relied_sector(&self.members, self.work.resync);
-        if let Some(refusal) = unwritten_here(&self.members, window, relied, at, count) {
+        if let Some(refusal) = unwritten_here(&self.members, window, self.limit, relied, at, count) {
             self.steps -= 1;
             check_going(&self.epoch.entries, who);
             let end = self.bank.ops();
@@ -178,8 +185,9 @@ impl<B: Bank> Moving<B> {
         ensures entered { IsWriteEntered self.old.course.window at (at + length from.now / 512) (sectors_of from.now) who self.old.parts.entries self.new.parts.entries (left_in self.new.parts.work self.new.parts.members self.new.course self.new.ahead) result }
         ensures unchanged { OnNoMemory result (self.new ≡ self.old) }
         ensures called { IsCalled B.tells (B.given self.old.parts.bank) (B.tape self.old.parts.bank) (B.tape self.new.parts.bank) (B.faults_of self.old.parts.bank) (B.faults_of self.new.parts.bank) self.old self.new }
-        ensures caused { IsCausedBy (list_length self.old.parts.members.newest) (at + length from.now / 512)
+        ensures caused { IsCausedBy (visible_in self.old) (at + length from.now / 512)
             (IsWriteLacked self.old.course.window (relied_sector self.old.parts.members.newest self.old.parts.work.resync) at (at + length from.now / 512)) self.old.parts.members self.new.parts.members result }
+        ensures first { IsFirstFor (first_refusal self.old at (length from.now / 512)) result }
         ensures failed { HaveRolesFailed self.old.parts.members self.new.parts.members (B.faults_of self.old.parts.bank) (B.faults_of self.new.parts.bank) }
         ensures dirty { OnOk result (is_clean self.new.parts.members.newest ≡ false) }
         ensures course { (TouchesWindow self.old.course.window at (at + length from.now / 512) → ⊥) → self.new.course ≡ self.old.course }
@@ -221,8 +229,9 @@ impl<B: Bank> Moving<B> {
         ensures entered { IsWriteEntered self.old.course.window at (at + length from.now / 512) (sectors_of from.now) who self.old.parts.entries self.new.parts.entries (left_in self.new.parts.work self.new.parts.members self.new.course self.new.ahead) result }
         ensures unchanged { OnNoMemory result (self.new ≡ self.old) }
         ensures called { IsCalled B.tells (B.given self.old.parts.bank) (B.tape self.old.parts.bank) (B.tape self.new.parts.bank) (B.faults_of self.old.parts.bank) (B.faults_of self.new.parts.bank) self.old self.new }
-        ensures caused { IsCausedBy (list_length self.old.parts.members.newest) (at + length from.now / 512)
+        ensures caused { IsCausedBy (visible_in self.old) (at + length from.now / 512)
             (IsWriteBarred self.old.course.window (relied_sector self.old.parts.members.newest self.old.parts.work.resync) at (at + length from.now / 512)) self.old.parts.members self.new.parts.members result }
+        ensures first { IsFirstFor (first_refusal self.old at (length from.now / 512)) result }
         ensures failed { HaveRolesFailed self.old.parts.members self.new.parts.members (B.faults_of self.old.parts.bank) (B.faults_of self.new.parts.bank) }
         ensures backup { result ≡ Err (IsRefusedWith BackupFault) → IfSome self.old.parts.backup (λ slot. IsFaulted slot (B.faults_of self.old.parts.bank) (B.faults_of self.new.parts.bank)) }
         ensures dirty { OnOk result (is_clean self.new.parts.members.newest ≡ false) }

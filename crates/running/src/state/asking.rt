@@ -2,9 +2,10 @@
 
 ghost use Rattle.std.specs.Prelude.{◌≡◌, ◌≢◌, ◌≤◌, [], ◌∷◌, length, IfOk, IfErr};
 ghost use Rattle.superblocks.specs.Reading.{is_reshaping, list_length};
-ghost use Rattle.flat_history.specs.Flat.{next_number};
+ghost use Rattle.flat_history.specs.Flat.{next_number, length_of, limit_of};
 ghost use Rattle.flat_history.specs.declared.events.Event.TheVariants.{Shown};
 ghost use Rattle.array_kept.specs.Calls.{IsEntered, IsEndOf};
+ghost use Rattle.growing.specs.running_words_Parts.{visible_in};
 ghost use Rattle.growing.specs.running_words_Calls.{moving_world, IsSameReshape};
 ghost use Rattle.running.specs.Calls.{running_left, IsShownAs};
 
@@ -86,6 +87,18 @@ impl<B: Bank> Running<B> {
         match &self.state {
             State::Still(still) => still.length(),
             State::Moving(moving) => moving.length(),
+        }
+    }
+
+    /// How many sectors of it can be read and written: those below the limit, if there is one.
+    pub fn visible(&self) -> u64
+        ensures visible { result ≡ visible_in self.now }
+        ensures limited { limit_of self.now.parts.entries ≡ self.now.limit }
+        ensures sized { length_of (list_length self.now.parts.members.newest) self.now.parts.entries ≡ list_length self.now.parts.members.newest }
+    {
+        match &self.state {
+            State::Still(still) => still.visible(),
+            State::Moving(moving) => moving.visible(),
         }
     }
 

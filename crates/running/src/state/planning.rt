@@ -9,7 +9,7 @@ ghost use Rattle.flat_history.specs.Flat.{next_number, visible_of};
 ghost use Rattle.flat_history.specs.declared.events.Event.TheVariants.{Planned, Refused};
 ghost use Rattle.array_kept.specs.Calls.{OnNoMemory, IsEndOf};
 ghost use Rattle.grow_asked.specs.Left.{phases_of};
-ghost use Rattle.growing.specs.running_words_Parts.{still_left};
+ghost use Rattle.growing.specs.running_words_Parts.{visible_in, still_left};
 ghost use Rattle.growing.specs.running_words_Calls.{moving_world};
 ghost use Rattle.growing.specs.running_replies_Going.{HasRunOn};
 ghost use Rattle.growing.specs.Planned.{asked_in, IsGrowJudged, IsGrowAnswered, IsAsBefore, IsGrowPlanned};
@@ -34,10 +34,11 @@ fn plan_still<B: Bank>(
     requires caller { asked.0.caller ≢ 254 }
     ensures answered { IsGrowAnswered B.tells (moving_world (B.given still.parts.bank) (B.tape still.parts.bank) still) (asked_in (B.given still.parts.bank) still) asked.1 asked.0 still.parts.entries result.0.parts.entries
         (Planned (still_left result.0.parts.work result.0.parts.members result.0.ahead) asked.1) result.1 }
-    ensures visible { visible_of (list_length still.parts.members.newest) still.parts.entries ≡ list_length still.parts.members.newest }
+    ensures visible { visible_of (list_length still.parts.members.newest) still.parts.entries ≡ visible_in still }
     ensures judged { IsGrowJudged (asked_in (B.given still.parts.bank) still) asked.1 result.1 }
     ensures unchanged { OnNoMemory result.1 (result.0 ≡ still) }
     ensures as_before { IsAsBefore still result.0 }
+    ensures limit { result.0.limit ≡ still.limit }
     ensures ended { IsEndOf B.tells result.0.parts.first result.0.parts.entries (B.tape result.0.parts.bank) }
     ensures refused { OnErr result.1 (result.0.ahead ≡ still.ahead) }
     ensures planned { IfOk result.1 (λ plan. IsGrowPlanned B.tells (B.given result.0.parts.bank) (moving_world (B.given result.0.parts.bank) (B.tape result.0.parts.bank) result.0) asked.1 plan.left result.0) }
@@ -57,11 +58,12 @@ fn refuse_moving<B: Bank>(
     requires caller { asked.0.caller ≢ 254 }
     ensures answered { IsGrowAnswered B.tells (moving_world (B.given moving.parts.bank) (B.tape moving.parts.bank) moving) (asked_in (B.given moving.parts.bank) moving) asked.1 asked.0 moving.parts.entries result.0.parts.entries
         (Refused (Busy Reshape)) result.1 }
-    ensures visible { visible_of (list_length moving.parts.members.newest) moving.parts.entries ≡ list_length moving.parts.members.newest }
+    ensures visible { visible_of (list_length moving.parts.members.newest) moving.parts.entries ≡ visible_in moving }
     ensures refused { IsErr result.1 }
     ensures judged { IsGrowJudged (asked_in (B.given moving.parts.bank) moving) asked.1 result.1 }
     ensures unchanged { OnNoMemory result.1 (result.0 ≡ moving) }
     ensures as_before { IsAsBefore moving result.0 }
+    ensures limit { result.0.limit ≡ moving.limit }
     ensures ended { IsEndOf B.tells result.0.parts.first result.0.parts.entries (B.tape result.0.parts.bank) }
     ensures ahead { result.0.ahead ≡ moving.ahead }
 {
@@ -82,6 +84,7 @@ impl<B: Bank> Running<B> {
         ensures judged { IsGrowJudged (asked_in (B.given self.old.parts.bank) self.old) wish result }
         ensures unchanged { OnNoMemory result (self.new ≡ self.old) }
         ensures as_before { IsAsBefore self.old self.new }
+        ensures limit { self.new.limit ≡ self.old.limit }
         ensures ended { IsEndOf B.tells self.new.parts.first self.new.parts.entries (B.tape self.new.parts.bank) }
         ensures went { HasRunOn B.tells B.given B.tape B.faults_of self.old self.new }
         ensures refused { OnErr result (self.new.ahead ≡ self.old.ahead) }

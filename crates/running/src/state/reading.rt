@@ -14,6 +14,7 @@ ghost use Rattle.views.specs.Lacking.{HaveRolesFailed, mended_rows};
 ghost use Rattle.views.specs.Placed.{AreWhole};
 ghost use Rattle.safe_updates.specs.First.{read_refusal, call_refusal, IsFirstRefused};
 ghost use Rattle.array_kept.specs.Calls.{IsAnswered, IsCausedBy, OnNoMemory};
+ghost use Rattle.growing.specs.running_words_Parts.{visible_in};
 ghost use Rattle.growing.specs.running_words_Calls.{moving_world, IsCalled};
 ghost use Rattle.running.specs.Calls.{IsReadRight, IsReadLacked};
 
@@ -39,8 +40,8 @@ impl<B: Bank> Running<B> {
         ensures tape { is_reshaping self.old.parts.members.newest ≡ false → AreWhole self.new.parts.members → B.tells → B.tape self.new.parts.bank ≡ B.tape self.old.parts.bank }
         ensures others { B.tells → AreOthersPresent (present (B.given self.old.parts.bank) (B.tape self.old.parts.bank)) (present (B.given self.old.parts.bank) (B.tape self.new.parts.bank)) }
         ensures clean { is_clean self.new.parts.members.newest ≡ is_clean self.old.parts.members.newest }
-        ensures caused { IsCausedBy (list_length self.old.parts.members.newest) (at + length into.old / 512) (IsReadLacked self.old at (length into.old / 512)) self.old.parts.members self.new.parts.members result }
-        ensures first { is_reshaping self.old.parts.members.newest ≡ false → IsFirstRefused (λ members. call_refusal (list_length self.old.parts.members.newest) (at + length into.old / 512)
+        ensures caused { IsCausedBy (visible_in self.old) (at + length into.old / 512) (IsReadLacked self.old at (length into.old / 512)) self.old.parts.members self.new.parts.members result }
+        ensures first { is_reshaping self.old.parts.members.newest ≡ false → IsFirstRefused (λ members. call_refusal (visible_in self.old) (at + length into.old / 512)
             (read_refusal (shape_of self.old.parts.members.newest) (mended_rows self.old.parts.work.resync self.old.parts.members) at (length into.old / 512) members)) self.old.parts.members self.new.parts.members result }
         ensures failed { HaveRolesFailed self.old.parts.members self.new.parts.members (B.faults_of self.old.parts.bank) (B.faults_of self.new.parts.bank) }
         ensures course { self.new.course ≡ self.old.course }

@@ -15,7 +15,7 @@ ghost use Rattle.views.specs.Lacking.{HaveRolesFailed, are_mended, mended_rows};
 ghost use Rattle.safe_updates.specs.First.{write_refusal, call_refusal, IsFirstRefused};
 ghost use Rattle.array_kept.specs.Calls.{IsAnswered, IsCausedBy, OnNoMemory, has_torn};
 ghost use Rattle.growing.specs.course_kept_Laws.{closed};
-ghost use Rattle.growing.specs.running_words_Parts.{left_in};
+ghost use Rattle.growing.specs.running_words_Parts.{visible_in, left_in};
 ghost use Rattle.growing.specs.running_words_Calls.{IsCalled};
 ghost use Rattle.growing.specs.moving_laws_Writing.{TouchesWindow, IsWriteEntered, IsWriteReplied};
 ghost use Rattle.running.specs.Calls.{IsWriteLackedIn};
@@ -46,8 +46,8 @@ impl<B: Bank> Running<B> {
         ensures dirty { OnOk result (is_clean self.new.parts.members.newest ≡ false) }
         ensures untouched { OnErr result (is_reshaping self.old.parts.members.newest ≡ false → IsFalse (has_torn self.old.parts.entries self.new.parts.entries) → B.tells
             → AreOthersPresent (present (B.given self.old.parts.bank) (B.tape self.old.parts.bank)) (present (B.given self.old.parts.bank) (B.tape self.new.parts.bank))) }
-        ensures caused { IsCausedBy (list_length self.old.parts.members.newest) (at + length from.now / 512) (IsWriteLackedIn self.old at (length from.now / 512)) self.old.parts.members self.new.parts.members result }
-        ensures first { is_reshaping self.old.parts.members.newest ≡ false → IsFirstRefused (λ members. call_refusal (list_length self.old.parts.members.newest) (at + length from.now / 512)
+        ensures caused { IsCausedBy (visible_in self.old) (at + length from.now / 512) (IsWriteLackedIn self.old at (length from.now / 512)) self.old.parts.members self.new.parts.members result }
+        ensures first { is_reshaping self.old.parts.members.newest ≡ false → IsFirstRefused (λ members. call_refusal (visible_in self.old) (at + length from.now / 512)
             (write_refusal (shape_of self.old.parts.members.newest) (are_mended (shape_of self.old.parts.members.newest) (mended_rows self.old.parts.work.resync self.old.parts.members) (at + length from.now / 512)) members))
             self.old.parts.members self.new.parts.members result }
         ensures backed { is_reshaping self.old.parts.members.newest ≡ true → IsSome self.old.parts.backup }

@@ -1,6 +1,6 @@
 //! An array that is taken over from its superblocks.
 
-ghost use Rattle.std.specs.Prelude.{◌≡◌, ◌<◌, ℕ, [], false, IfOk, IfErr};
+ghost use Rattle.std.specs.Prelude.{◌≡◌, ◌<◌, ℕ, [], false, None, IfOk, IfErr};
 ghost use Rattle.md_base.specs.Shapes.{has_slot};
 ghost use Rattle.array_kept.specs.Kept.{scope_in};
 ghost use Rattle.array_kept.specs.Adopting.{IsAdoptable, IsAdopted};
@@ -28,12 +28,13 @@ pub struct Opened {
 
 impl<B: Bank> Still<B> {
     /// Takes an array over whose superblocks were found in the slots of the bank; its first entries tell the roles that aren't
-    /// whole, and it has no plan. It makes no device call. Refused only for want of memory, with the bank handed back.
+    /// whole, and it has neither a plan nor a limit. It makes no device call. Refused only for want of memory, with the bank handed back.
     pub fn adopt(alloc: Global, bank: B, opened: Opened) -> Result<Still<B>, (B, NoMemory)>
         requires adoptable { IsAdoptable B.tells (B.given bank) (B.tape bank) (scope_in (B.given bank) opened.members.newest.set_uuid opened.given opened.backup) opened.members }
         requires failed { (slot : ℕ) → slot < (B.given bank).slots → has_slot opened.given slot ≡ false → 0 < B.faults_of bank slot }
         ensures adopted { IfOk result (λ made. IsAdopted B.tells bank (B.tape bank) opened.given opened.backup opened.members made.parts) }
         ensures planless { IfOk result (λ made. phases_of made.ahead ≡ []) }
+        ensures unlimited { IfOk result (λ made. made.limit ≡ None) }
         ensures handed_back { IfErr result (λ e. e.0 ≡ bank) }
     {
         let room = match room_for(alloc) {
@@ -76,6 +77,7 @@ impl<B: Bank> Still<B> {
                 next: None,
                 last: None,
             },
+            limit: None,
             steps: 0,
             rows: room.rows,
             buffer: room.buffer,

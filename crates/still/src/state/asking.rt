@@ -10,7 +10,7 @@ ghost use Rattle.still_laws.specs.running_words_Calls.{moving_world, IsSameResha
 ghost use Rattle.still_laws.specs.running_words_Still.{IsStillStatus};
 
 use crate::state::Still;
-use array_state::asking::{copy_roles, copy_slots, visible};
+use array_state::asking::{copy_roles, copy_slots, visible as list_sectors};
 use bank::Bank;
 use call_entries::calls::{check_number, enter};
 use flat_history::Event;
@@ -25,7 +25,7 @@ impl<B: Bank> Still<B> {
         ensures length { result ≡ list_length self.now.parts.members.newest }
         ensures few { list_length self.now.parts.members.newest < 2 ^ 63 }
     {
-        visible(&self.members)
+        list_sectors(&self.members)
     }
 
     /// How many stripes the pending resync has mended; None where none is pending.
@@ -72,14 +72,13 @@ impl<B: Bank> Still<B> {
             Ok(spares) => spares,
             Err(none) => return Err(none),
         };
-        let sectors = self.length();
         Ok(Status {
             shape: shape_in(&self.members),
             target: None,
             position: 0,
             size: self.members.newest.size,
-            length: sectors,
-            visible: sectors,
+            length: self.length(),
+            visible: self.visible(),
             clean: is_clean(&self.members.newest),
             events: self.members.newest.events,
             left: self.left(),

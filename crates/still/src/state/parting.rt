@@ -13,7 +13,7 @@ impl<B: Bank> Still<B> {
     /// What it owns.
     pub fn take_apart(self) -> Pieces<B>
         ensures ready { IsReady B.tells (B.given result.bank) (B.tape result.bank) (scope_in (B.given result.bank) result.epoch.uuid result.epoch.given result.backup)
-            result.epoch.first result.epoch.entries.items result.members result.work result.ahead (B.faults_of result.bank) result.steps result.epoch.entries.room
+            result.epoch.first result.epoch.entries.items result.members result.work result.ahead result.limit (B.faults_of result.bank) result.steps result.epoch.entries.room
             (vec_capacity result.rows) (length result.buffer.items) (vec_capacity result.far_rows) (length result.far_buffer.items) }
         ensures same { self ≡ record {
           parts = record {
@@ -30,6 +30,7 @@ impl<B: Bank> Still<B> {
           };
           course = closed 0;
           ahead = result.ahead;
+          limit = result.limit;
         } }
     {
         let Still {
@@ -40,6 +41,7 @@ impl<B: Bank> Still<B> {
             members,
             work,
             ahead,
+            limit,
             steps,
             rows,
             buffer,
@@ -54,6 +56,7 @@ impl<B: Bank> Still<B> {
             members,
             work,
             ahead,
+            limit,
             steps,
             rows,
             buffer,
@@ -65,7 +68,7 @@ impl<B: Bank> Still<B> {
     /// An array that owns this.
     pub fn of_pieces(pieces: Pieces<B>) -> Still<B>
         requires ready { IsReady B.tells (B.given pieces.bank) (B.tape pieces.bank) (scope_in (B.given pieces.bank) pieces.epoch.uuid pieces.epoch.given pieces.backup)
-            pieces.epoch.first pieces.epoch.entries.items pieces.members pieces.work pieces.ahead (B.faults_of pieces.bank) pieces.steps pieces.epoch.entries.room
+            pieces.epoch.first pieces.epoch.entries.items pieces.members pieces.work pieces.ahead pieces.limit (B.faults_of pieces.bank) pieces.steps pieces.epoch.entries.room
             (vec_capacity pieces.rows) (length pieces.buffer.items) (vec_capacity pieces.far_rows) (length pieces.far_buffer.items) }
         ensures same { result ≡ record {
           parts = record {
@@ -82,6 +85,7 @@ impl<B: Bank> Still<B> {
           };
           course = closed 0;
           ahead = pieces.ahead;
+          limit = pieces.limit;
         } }
     {
         let Pieces {
@@ -92,6 +96,7 @@ impl<B: Bank> Still<B> {
             members,
             work,
             ahead,
+            limit,
             steps,
             rows,
             buffer,
@@ -106,6 +111,7 @@ impl<B: Bank> Still<B> {
             members,
             work,
             ahead,
+            limit,
             steps,
             rows,
             buffer,

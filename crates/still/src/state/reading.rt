@@ -18,22 +18,31 @@ ghost use Rattle.safe_updates.specs.First.{read_refusal, call_refusal, IsFirstRe
 ghost use Rattle.array_kept.specs.Calls.{IsAnswered, IsCausedBy, IsRefusalOf, OnNoMemory};
 ghost use Rattle.kept_history.specs.Safe.{IsFilledRight};
 ghost use Rattle.still_laws.specs.running_words_Calls.{moving_world, IsCalled};
+ghost use Rattle.still_laws.specs.running_words_Parts.{visible_size, visible_in};
 
 use crate::state::Still;
-use array_state::refusing::unread_from;
+use array_state::asking::visible;
 use array_state::room::zeros;
 use bank::Bank;
 use call_entries::calls::{check_number, enter, enter_behind};
 use flat_history::Event;
 use md_base::{Fault, Refusal, Sectors, Who};
+use moving_state::asking::visible_of;
 use safe_rows::fetching::fetch;
 use safe_rows::mending::mended_rows;
 use safe_updates::naming::newly_vacant;
+use safe_updates::refusing::unread;
 use safe_updates::roles::{shape_in, vacant_roles};
 use superblocks::Members;
 
 // Why so many sectors from one on aren't read, before any is: the first of `PastEnd`, `TooManyMissing` and `NotResynced`.
-fn unread_here(members: &Members, resync: Option<u64>, at: u64, count: u64) -> Option<Refusal>
+fn unread_here(
+    members: &Members,
+    limit: Option<u64>,
+    resync: Option<u64>,
+    at: u64,
+    count: u64,
+) -> Option<Refusal>
     requires still { is_reshaping members.now.newest ≡ false }
     requires shape { IsTrue (is_valid_shape (shape_of members.now.newest)) }
     requires multiple { IsTrue (is_multiple members.now.newest.size (shape_of members.now.newest).chunk) }
@@ -41,10 +50,16 @@ fn unread_here(members: &Members, resync: Option<u64>, at: u64, count: u64) -> O
     requires size { members.now.newest.size ≤ 2 ^ 48 }
     requires progress { IfSome resync (λ mended. mended ≤ stripes_of members.now) }
     requires short { at + count < 2 ^ 63 }
-    ensures first { result ≡ call_refusal (list_length members.now.newest) (at + count) (read_refusal (shape_of members.now.newest) (mended_rows resync members.now) at count members.now) }
-    ensures why { IsRefusalOf (list_length members.now.newest) (at + count) (IsUnread (shape_of members.now.newest) (mended_rows resync members.now) at count) members.now result }
+    ensures first { result ≡ call_refusal (visible_size members.now limit) (at + count) (read_refusal (shape_of members.now.newest) (mended_rows resync members.now) at count members.now) }
+    ensures why { IsRefusalOf (visible_size members.now limit) (at + count) (IsUnread (shape_of members.now.newest) (mended_rows resync members.now) at count) members.now result }
 {
-    unread_from(members, resync, at, count)
+    let size = visible(members);
+    let sectors = visible_of(size, limit);
+    if sectors < at + count {
+        return Some(Refusal::PastEnd(sectors));
+    }
+    let mended = mended_rows(members, resync);
+    unread(members, &shape_in(members), at, count, mended)
 }
 
 impl<B: Bank> Still<B> {
@@ -65,8 +80,8 @@ impl<B: Bank> Still<B> {
         ensures tape { AreWhole self.new.parts.members → B.tells → B.tape self.new.parts.bank ≡ B.tape self.old.parts.bank }
         ensures others { B.tells → AreOthersPresent (present (B.given self.old.parts.bank) (B.tape self.old.parts.bank)) (present (B.given self.old.parts.bank) (B.tape self.new.parts.bank)) }
         ensures clean { is_clean self.new.parts.members.newest ≡ is_clean self.old.parts.members.newest }
-        ensures caused { IsCausedBy (list_length self.old.parts.members.newest) (at + length into.old / 512) (IsUnread (shape_of self.old.parts.members.newest) (mended_rows self.old.parts.work.resync self.old.parts.members) at (length into.old / 512)) self.old.parts.members self.new.parts.members result }
-        ensures first { IsFirstRefused (λ members. call_refusal (list_length self.old.parts.members.newest) (at + length into.old / 512)
+        ensures caused { IsCausedBy (visible_in self.old) (at + length into.old / 512) (IsUnread (shape_of self.old.parts.members.newest) (mended_rows self.old.parts.work.resync self.old.parts.members) at (length into.old / 512)) self.old.parts.members self.new.parts.members result }
+        ensures first { IsFirstRefused (λ members. call_refusal (visible_in self.old) (at + length into.old / 512)
             (read_refusal (shape_of self.old.parts.members.newest) (mended_rows self.old.parts.work.resync self.old.parts.members) at (length into.old / 512) members)) self.old.parts.members self.new.parts.members result }
         ensures failed { HaveRolesFailed self.old.parts.members self.new.parts.members (B.faults_of self.old.parts.bank) (B.faults_of self.new.parts.bank) }
         ensures given { B.given self.new.parts.bank ≡ B.given self.old.parts.bank }
@@ -82,7 +97,7 @@ impl<B: Bank> Still<B> {
         self.steps = 0;
         check_number(&self.epoch.entries, who);
         let count = (into.len() / 512) as u64;
-        if let Some(refusal) = unread_here(&self.members, self.work.resync, at, count) {
+        if let Some(refusal) = unread_here(&self.members, self.limit, self.work.resync, at, count) {
             let end = self.bank.ops();
             enter(&mut self.epoch, who, end, Event::Refused { refusal });
             return Err(Fault::Refused(refusal));

@@ -15,20 +15,30 @@ ghost use Rattle.views.specs.Status.{stripes_of};
 ghost use Rattle.safe_updates.specs.First.{write_refusal, call_refusal, IsFirstRefused};
 ghost use Rattle.array_kept.specs.Calls.{IsAnswered, IsCausedBy, IsRefusalOf, OnNoMemory, has_torn};
 ghost use Rattle.still_laws.specs.running_words_Calls.{IsCalled};
+ghost use Rattle.still_laws.specs.running_words_Parts.{visible_size, visible_in};
 
 use crate::state::Still;
-use array_state::refusing::{are_mended, unwritten_from};
+use array_state::asking::visible;
+use array_state::refusing::are_mended;
 use bank::Bank;
 use call_entries::calls::{check_number, enter, enter_behind, enter_failure};
 use flat_history::Event;
 use md_base::{Fault, Refusal, Sectors, Who};
+use moving_state::asking::visible_of;
 use safe_rows::putting::put;
 use safe_updates::naming::newly_vacant;
+use safe_updates::refusing::unwritten;
 use safe_updates::roles::{shape_in, vacant_roles};
 use superblocks::Members;
 
 // Why so many sectors from one on aren't written, before any row is read: the first of `PastEnd`, `TooManyMissing` and `NotResynced`.
-fn unwritten_here(members: &Members, resync: Option<u64>, at: u64, count: u64) -> Option<Refusal>
+fn unwritten_here(
+    members: &Members,
+    limit: Option<u64>,
+    resync: Option<u64>,
+    at: u64,
+    count: u64,
+) -> Option<Refusal>
     requires still { is_reshaping members.now.newest ≡ false }
     requires shape { IsTrue (is_valid_shape (shape_of members.now.newest)) }
     requires multiple { IsTrue (is_multiple members.now.newest.size (shape_of members.now.newest).chunk) }
@@ -36,10 +46,20 @@ fn unwritten_here(members: &Members, resync: Option<u64>, at: u64, count: u64) -
     requires size { members.now.newest.size ≤ 2 ^ 48 }
     requires progress { IfSome resync (λ mended. mended ≤ stripes_of members.now) }
     requires short { at + count < 2 ^ 63 }
-    ensures first { result ≡ call_refusal (list_length members.now.newest) (at + count) (write_refusal (shape_of members.now.newest) (are_mended (shape_of members.now.newest) (mended_rows resync members.now) (at + count)) members.now) }
-    ensures why { IsRefusalOf (list_length members.now.newest) (at + count) (IsUnwritten (shape_of members.now.newest) (are_mended (shape_of members.now.newest) (mended_rows resync members.now) (at + count))) members.now result }
+    ensures first { result ≡ call_refusal (visible_size members.now limit) (at + count) (write_refusal (shape_of members.now.newest) (are_mended (shape_of members.now.newest) (mended_rows resync members.now) (at + count)) members.now) }
+    ensures why { IsRefusalOf (visible_size members.now limit) (at + count) (IsUnwritten (shape_of members.now.newest) (are_mended (shape_of members.now.newest) (mended_rows resync members.now) (at + count))) members.now result }
 {
-    unwritten_from(members, resync, at, count)
+    let size = visible(members);
+    let sectors = visible_of(size, limit);
+    if sectors < at + count {
+        return Some(Refusal::PastEnd(sectors));
+    }
+    let shape = shape_in(members);
+    unwritten(
+        members,
+        &shape,
+        are_mended(members, resync, &shape, at + count),
+    )
 }
 
 impl<B: Bank> Still<B> {
@@ -58,9 +78,9 @@ impl<B: Bank> Still<B> {
         ensures dirty { OnOk result (is_clean self.new.parts.members.newest ≡ false) }
         ensures untouched { OnErr result (IsFalse (has_torn self.old.parts.entries self.new.parts.entries) → B.tells
             → AreOthersPresent (present (B.given self.old.parts.bank) (B.tape self.old.parts.bank)) (present (B.given self.old.parts.bank) (B.tape self.new.parts.bank))) }
-        ensures caused { IsCausedBy (list_length self.old.parts.members.newest) (at + length from.now / 512) (IsUnwritten (shape_of self.old.parts.members.newest)
+        ensures caused { IsCausedBy (visible_in self.old) (at + length from.now / 512) (IsUnwritten (shape_of self.old.parts.members.newest)
             (are_mended (shape_of self.old.parts.members.newest) (mended_rows self.old.parts.work.resync self.old.parts.members) (at + length from.now / 512))) self.old.parts.members self.new.parts.members result }
-        ensures first { IsFirstRefused (λ members. call_refusal (list_length self.old.parts.members.newest) (at + length from.now / 512)
+        ensures first { IsFirstRefused (λ members. call_refusal (visible_in self.old) (at + length from.now / 512)
             (write_refusal (shape_of self.old.parts.members.newest) (are_mended (shape_of self.old.parts.members.newest) (mended_rows self.old.parts.work.resync self.old.parts.members) (at + length from.now / 512)) members)) self.old.parts.members self.new.parts.members result }
         ensures failed { HaveRolesFailed self.old.parts.members self.new.parts.members (B.faults_of self.old.parts.bank) (B.faults_of self.new.parts.bank) }
         ensures given { B.given self.new.parts.bank ≡ B.given self.old.parts.bank }
@@ -76,7 +96,13 @@ impl<B: Bank> Still<B> {
         self.steps = 0;
         check_number(&self.epoch.entries, who);
         let count = (from.len() / 512) as u64;
-        if let Some(refusal) = unwritten_here(&self.members, self.work.resync, at, count) {
+        if let Some(refusal) = unwritten_here(
+            &self.members,
+            self.limit,
+            self.work.resync,
+            at,
+            count,
+        ) {
             let end = self.bank.ops();
             enter(&mut self.epoch, who, end, Event::Refused { refusal });
             return Err(Fault::Refused(refusal));

@@ -4,7 +4,7 @@ use Rattle.bank.specs.Given.{sizes}
 use Rattle.md_base.specs.declared.places.Shape.{Shape}
 use Rattle.md_base.specs.declared.wishes.Phase.{Phase}
 use Rattle.grow_plan.specs.Plans.{AreSound, phases, phases_steps, largest_window, last_shape}
-use Rattle.superblocks.specs.Reading.{is_reshaping, shape_of, final_shape, list_length}
+use Rattle.superblocks.specs.Reading.{is_reshaping, shape_of, final_shape}
 use Rattle.flat_history.specs.declared.events.Entry.{Entry}
 use Rattle.flat_history.specs.declared.events.Event.TheVariants.{Planned}
 use Rattle.flat_history.specs.Fits.{phases_left}
@@ -18,6 +18,7 @@ use Rattle.grow_asked.specs.Asked.{asked_of, grow_refusal}
 use Rattle.grow_asked.specs.Left.{phases_of}
 use Rattle.grow_asked.proofs.FirstLaws.{unrefused-plan}
 use Rattle.history_calls.specs.Reliable.{IsReliable}
+use Rattle.turning.specs.running_words_Parts.{visible_size}
 use Rattle.turning.specs.running_words_Plans.{GoTo}
 use Rattle.turning.proofs.still_kept_Stood.{within-count}
 use Rattle.growing.specs.Planned.{asked_in, HasWideBackup}
@@ -31,7 +32,7 @@ pub plan_of-plan-requires-clause-taken : goal.plan_of-plan-requires-clause-taken
 plan_of-plan-requires-clause-taken g c =
     let taken = subst (λ s. grow_refusal (asked_in (g.B.Bank.given s.parts.bank) s) c.args.wish ≡ None) c.take_apart-pieces.ensures.same c.requires.taken in
     let p = c.take_apart-pieces.result in
-    unrefused-plan (asked_of p.members p.work.resync (length (phases_of p.ahead)) (list_length p.members.newest) (option_map (sizes (g.B.Bank.given p.bank)).sectors p.backup)) c.args.wish taken
+    unrefused-plan (asked_of p.members p.work.resync (length (phases_of p.ahead)) (visible_size p.members p.limit) (option_map (sizes (g.B.Bank.given p.bank)).sectors p.backup)) c.args.wish taken
 
 pub of_pieces-requires : goal.of_pieces-requires
 of_pieces-requires g c =
@@ -43,7 +44,7 @@ of_pieces-requires g c =
     let end = c.ops-end.result in
     let wish = c.args.wish in
     let plan = c.plan_of-plan in
-    let a = asked_of p.members p.work.resync (length (phases_of p.ahead)) (list_length p.members.newest) (option_map (sizes given).sectors p.backup) in
+    let a = asked_of p.members p.work.resync (length (phases_of p.ahead)) (visible_size p.members p.limit) (option_map (sizes given).sectors p.backup) in
     let number = subst (λ s. who.number ≡ next_number who.caller s.parts.entries) same c.requires.next in
     let some : 1 ≤ p.steps = subst (λ s. 1 ≤ s.parts.steps) same c.requires.room in
     let taken = subst (λ s. grow_refusal (asked_in (g.B.Bank.given s.parts.bank) s) wish ≡ None) same c.requires.taken in
@@ -68,7 +69,7 @@ returns-clause-reply g c =
     let who = c.args.who in
     let end = c.ops-end.result in
     let wish = c.args.wish in
-    let a = asked_of p.members p.work.resync (length (phases_of p.ahead)) (list_length p.members.newest) (option_map (sizes given).sectors p.backup) in
+    let a = asked_of p.members p.work.resync (length (phases_of p.ahead)) (visible_size p.members p.limit) (option_map (sizes given).sectors p.backup) in
     let number = subst (λ s. who.number ≡ next_number who.caller s.parts.entries) same c.requires.next in
     let taken = subst (λ s. grow_refusal (asked_in (g.B.Bank.given s.parts.bank) s) wish ≡ None) same c.requires.taken in
     rw (c.of_pieces.ensures.same) (rw (c.take_apart-pieces.ensures.same) (record {
@@ -76,7 +77,7 @@ returns-clause-reply g c =
       at_end = c.ops-end.ensures.count;
       is = c.enter.ensures.items;
       fits = λ t right ahead read. plan-fits (world_in given tape (scope_in given p.epoch.uuid p.epoch.given p.backup) p.epoch.first) p.epoch.entries.items who end a wish c.plan_of-plan.result.steps number (c.ops-end.ensures.count t)
-          (told-by (length (phases_of p.ahead)) end was.kept was.unlimited t right (c.ops-end.ensures.count t) ahead read) taken c.plan_of-plan.ensures.steps;
+          (told-by (length (phases_of p.ahead)) end was.kept was.limited t right (c.ops-end.ensures.count t) ahead read) taken c.plan_of-plan.ensures.steps;
     }))
 
 pub returns-clause-ended : goal.returns-clause-ended
@@ -92,7 +93,7 @@ returns-clause-left g c =
     let given = g.B.Bank.given p.bank in
     let wish = c.args.wish in
     let plan = c.plan_of-plan in
-    let a = asked_of p.members p.work.resync (length (phases_of p.ahead)) (list_length p.members.newest) (option_map (sizes given).sectors p.backup) in
+    let a = asked_of p.members p.work.resync (length (phases_of p.ahead)) (visible_size p.members p.limit) (option_map (sizes given).sectors p.backup) in
     let taken = subst (λ s. grow_refusal (asked_in (g.B.Bank.given s.parts.bank) s) wish ≡ None) c.take_apart-pieces.ensures.same c.requires.taken in
     let ahead : phases_of c.all_left-pieces.result ≡ phases (shape_of p.members.newest) wish = c.all_left-pieces.ensures ∙ plan.ensures.phases in
     let steps : plan.result.steps ≡ phases_steps (shape_of p.members.newest) p.members.newest.size (phases_of c.all_left-pieces.result) =
@@ -111,7 +112,7 @@ returns-clause-planned g c =
     let wish = c.args.wish in
     let plan = c.plan_of-plan in
     let shape = shape_of p.members.newest in
-    let a = asked_of p.members p.work.resync (length (phases_of p.ahead)) (list_length p.members.newest) (option_map (sizes given).sectors p.backup) in
+    let a = asked_of p.members p.work.resync (length (phases_of p.ahead)) (visible_size p.members p.limit) (option_map (sizes given).sectors p.backup) in
     let taken = subst (λ s. grow_refusal (asked_in (g.B.Bank.given s.parts.bank) s) wish ≡ None) c.take_apart-pieces.ensures.same c.requires.taken in
     let ahead : phases_of c.all_left-pieces.result ≡ phases shape wish = c.all_left-pieces.ensures ∙ plan.ensures.phases in
     let scope_is = scope-same given p.backup refl c.enter.ensures.uuid c.enter.ensures.given in
@@ -143,7 +144,7 @@ returns-clause-goes g c =
     let wish = c.args.wish in
     let plan = c.plan_of-plan in
     let shape = shape_of p.members.newest in
-    let a = asked_of p.members p.work.resync (length (phases_of p.ahead)) (list_length p.members.newest) (option_map (sizes given).sectors p.backup) in
+    let a = asked_of p.members p.work.resync (length (phases_of p.ahead)) (visible_size p.members p.limit) (option_map (sizes given).sectors p.backup) in
     let taken = subst (λ s. grow_refusal (asked_in (g.B.Bank.given s.parts.bank) s) wish ≡ None) c.take_apart-pieces.ensures.same c.requires.taken in
     let ahead : phases_of c.all_left-pieces.result ≡ phases shape wish = c.all_left-pieces.ensures ∙ plan.ensures.phases in
     let scope_is = scope-same given p.backup refl c.enter.ensures.uuid c.enter.ensures.given in

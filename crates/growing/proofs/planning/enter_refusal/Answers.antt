@@ -1,7 +1,6 @@
 use Rattle.std.proofs.Common.{◌≡◌, ◌≤◌, Some, [], ◌∷◌, length, refl, subst, arith}
 use Rattle.std.specs.Prelude.{option_map}
 use Rattle.bank.specs.Given.{sizes}
-use Rattle.superblocks.specs.Reading.{list_length}
 use Rattle.flat_history.specs.declared.events.Event.TheVariants.{Refused}
 use Rattle.flat_history.specs.Flat.{next_number}
 use Rattle.flat_history.specs.OneShape.{opening_in}
@@ -12,6 +11,7 @@ use Rattle.array_kept.proofs.ReadyLaws.{scope-same}
 use Rattle.grow_asked.specs.Asked.{asked_of, grow_refusal}
 use Rattle.grow_asked.specs.Left.{phases_of}
 use Rattle.kept_history.proofs.Records.{begins-going}
+use Rattle.turning.specs.running_words_Parts.{visible_size}
 use Rattle.turning.proofs.running_words_Lengths.{alone-keeps}
 use Rattle.turning.proofs.still_laws_Kept.{ready, rows-same}
 use Rattle.turning.proofs.still_laws_PlainBehind.{refused-plain}
@@ -31,7 +31,7 @@ of_pieces-requires g c =
     let end = c.ops-end.result in
     let refusal = c.args.refusal in
     let wish = c.args.wish.now in
-    let a = asked_of p.members p.work.resync (length (phases_of p.ahead)) (list_length p.members.newest) (option_map (sizes given).sectors p.backup) in
+    let a = asked_of p.members p.work.resync (length (phases_of p.ahead)) (visible_size p.members p.limit) (option_map (sizes given).sectors p.backup) in
     let number = subst (λ s. who.number ≡ next_number who.caller s.parts.entries) same c.requires.next in
     let some : 1 ≤ p.steps = subst (λ s. 1 ≤ s.parts.steps) same c.requires.room in
     let why = subst (λ s. grow_refusal (asked_in (g.B.Bank.given s.parts.bank) s) wish ≡ Some refusal) same c.requires.why in
@@ -42,7 +42,7 @@ of_pieces-requires g c =
           (refused-plain was who end (begins-going p.epoch.entries.items who number) c.requires.caller c.ops-end.ensures.count (grows-none (λ t. refl)) refusal
           (λ t kept. grow-shaped (opening_in (world_in given (g.B.Bank.tape p.bank) (scope_in given p.epoch.uuid p.epoch.given p.backup) p.epoch.first)) p.epoch.entries.items a wish refusal (first-of a wish refusal why).holds)
           (grow-plainly a wish refusal (first-of a wish refusal why).holds))
-          (λ slot. omega arith) (alone-keeps who end (Refused refusal) (λ n. refl) refl) refl (scope-same given p.backup refl c.enter.ensures.uuid c.enter.ensures.given) c.enter.ensures.first refl c.enter.ensures.items
+          (λ slot. omega arith) (alone-keeps who end (Refused refusal) (λ n. refl) (λ limit. refl)) refl (scope-same given p.backup refl c.enter.ensures.uuid c.enter.ensures.given) c.enter.ensures.first refl c.enter.ensures.items
           (let had = was.room_left in let room = c.enter.ensures.room in omega (arith, had, room, some));
     }
 
@@ -57,7 +57,7 @@ returns-clause-reply g c =
     let end = c.ops-end.result in
     let refusal = c.args.refusal in
     let wish = c.args.wish.now in
-    let a = asked_of p.members p.work.resync (length (phases_of p.ahead)) (list_length p.members.newest) (option_map (sizes given).sectors p.backup) in
+    let a = asked_of p.members p.work.resync (length (phases_of p.ahead)) (visible_size p.members p.limit) (option_map (sizes given).sectors p.backup) in
     let number = subst (λ s. who.number ≡ next_number who.caller s.parts.entries) same c.requires.next in
     let why = subst (λ s. grow_refusal (asked_in (g.B.Bank.given s.parts.bank) s) wish ≡ Some refusal) same c.requires.why in
     rw (c.of_pieces.ensures.same) (rw (c.take_apart-pieces.ensures.same) (record {
@@ -65,5 +65,5 @@ returns-clause-reply g c =
       at_end = c.ops-end.ensures.count;
       is = c.enter.ensures.items;
       fits = λ t right ahead read. refusal-fits (world_in given tape (scope_in given p.epoch.uuid p.epoch.given p.backup) p.epoch.first) p.epoch.entries.items who end a wish refusal number (c.ops-end.ensures.count t)
-          (told-by (length (phases_of p.ahead)) end was.kept was.unlimited t right (c.ops-end.ensures.count t) ahead read) why;
+          (told-by (length (phases_of p.ahead)) end was.kept was.limited t right (c.ops-end.ensures.count t) ahead read) why;
     }))

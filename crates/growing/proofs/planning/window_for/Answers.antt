@@ -2,11 +2,12 @@ use Rattle.std.proofs.Common.{◌≡◌, ◌*◌, ◌≤◌, None, length, arith
 use Rattle.std.specs.Prelude.{option_map}
 use Rattle.bank.specs.Given.{sizes}
 use Rattle.grow_plan.specs.Plans.{phases, largest_window}
-use Rattle.superblocks.specs.Reading.{shape_of, list_length}
+use Rattle.superblocks.specs.Reading.{shape_of}
 use Rattle.grow_asked.specs.Asked.{asked_of, grow_refusal}
 use Rattle.grow_asked.specs.Left.{phases_of}
 use Rattle.grow_asked.proofs.FirstLaws.{unrefused-plan}
 use Rattle.grow_asked.proofs.PlanLaws.{windows-short}
+use Rattle.turning.specs.running_words_Parts.{visible_size}
 use Rattle.growing.specs.Planned.{asked_in}
 use Rattle.growing.proofs.Kept.{ok-map}
 use Rattle.growing.proofs.planning.window_for.Goals as goal
@@ -15,7 +16,7 @@ pub plan_of-plan-requires-clause-taken : goal.plan_of-plan-requires-clause-taken
 plan_of-plan-requires-clause-taken g c =
     let taken = subst (λ s. grow_refusal (asked_in (g.B.Bank.given s.parts.bank) s) c.args.wish.now ≡ None) c.take_apart-pieces.ensures.same c.requires.taken in
     let p = c.take_apart-pieces.result in
-    unrefused-plan (asked_of p.members p.work.resync (length (phases_of p.ahead)) (list_length p.members.newest) (option_map (sizes (g.B.Bank.given p.bank)).sectors p.backup)) c.args.wish.now taken
+    unrefused-plan (asked_of p.members p.work.resync (length (phases_of p.ahead)) (visible_size p.members p.limit) (option_map (sizes (g.B.Bank.given p.bank)).sectors p.backup)) c.args.wish.now taken
 
 pub overflow_mul-plan : goal.overflow_mul-plan
 overflow_mul-plan g c =

@@ -1,5 +1,5 @@
 use Rattle.std.proofs.Common.{◌++◌, List, sym, ap, ◌∙◌, subst}
-use Rattle.shared_lanes.specs.shared_array_the_Reply.{Reply}
+use Rattle.shared_lanes.specs.running_calls_the_Reply.{Reply}
 use Rattle.shared_lanes.specs.lanes_Lane.{AreDone}
 use Rattle.shared_lanes.specs.Lanes.{carried_by}
 use Rattle.lane_blocks.proofs.threads.lane.Goals as goal

@@ -2,9 +2,9 @@ use Rattle.std.proofs.Common.{rules, ◌≡◌, List, [], ◌∷◌, ◌++◌, t
 use Rattle.std.specs.Vec.Iter.{into_iter_items}
 use Rattle.std.proofs.lemmas.List.Elements.{All-same, All-tail}
 use Rattle.flat_history.specs.declared.events.Request.{Request}
-use Rattle.shared_array.specs.declared.reply.Reply.{Reply}
-use Rattle.shared_array.specs.declared.reply.Reply.TheVariants.{Done, NoMemory as Short}
-use Rattle.shared_array.specs.Replies.{IsAskable}
+use Rattle.running_calls.specs.declared.reply.Reply.{Reply}
+use Rattle.running_calls.specs.declared.reply.Reply.TheVariants.{Done, NoMemory as Short}
+use Rattle.running_calls.specs.Replies.{IsAskable}
 use Rattle.lanes.specs.Carried.{Carried, GoesOn, IsAnswered}
 use Rattle.lanes.specs.Lane.{AreCalls, AreDone, is_short}
 use Rattle.lanes.proofs.Done.{stays, on, none-done, AllEntered, entered-more, calls-more, calls-short, done-more, done-short}

@@ -1,8 +1,8 @@
 use Rattle.std.proofs.Common.{◌≡◌, ◌+◌, ◌≤◌, ◌++◌, List, length, vec_len, vec_capacity}
 use Rattle.std.specs.List.{All}
 use Rattle.std.specs.Vec.Iter.{into_iter_items, into_iter_len}
-use Rattle.shared_array.specs.declared.reply.Reply.{Reply}
-use Rattle.shared_array.specs.Replies.{IsAskable}
+use Rattle.running_calls.specs.declared.reply.Reply.{Reply}
+use Rattle.running_calls.specs.Replies.{IsAskable}
 use Rattle.lanes.specs.Carried.{GoesOn, IsOwn}
 use Rattle.lanes.specs.Lane.{AreCalls, AreDone}
 use Rattle.lanes.proofs.Done.{AllEntered}

@@ -47,6 +47,13 @@ returns-in-Add-clause-answered g c =
     (turn_idle setting c.args.bank c.args.epochs c.args.epochs refl c.requires.own c.args.bank c.args.line NotRunning (λ t. omega arith)
     (subst (λ (l : Line). IsRefusedOutside setting false (length (g.B.Bank.tape c.args.bank)) l NotRunning) (sym c.in-Add.is) refl))
 
+pub returns-in-ArraySize-clause-answered : goal.returns-in-ArraySize-clause-answered
+returns-in-ArraySize-clause-answered g c =
+    let setting = setting_of g.B.Bank.tells (g.B.Bank.given c.args.bank) (g.B.Bank.tape c.args.bank) (g.B.Bank.tape c.args.bank) c.args.backup (g.B.Bank.faults_of c.args.bank) (g.B.Bank.faults_of c.args.bank) in
+    subst (λ (what : Answered). IsTurn setting (IsIdle c.args.bank c.args.epochs) (IsIdle c.args.bank c.args.epochs) c.args.line what) (sym c.refused-in-ArraySize.ensures)
+    (turn_idle setting c.args.bank c.args.epochs c.args.epochs refl c.requires.own c.args.bank c.args.line NotRunning (λ t. omega arith)
+    (subst (λ (l : Line). IsRefusedOutside setting false (length (g.B.Bank.tape c.args.bank)) l NotRunning) (sym c.in-ArraySize.is) refl))
+
 pub returns-in-Grow-clause-answered : goal.returns-in-Grow-clause-answered
 returns-in-Grow-clause-answered g c =
     let setting = setting_of g.B.Bank.tells (g.B.Bank.given c.args.bank) (g.B.Bank.tape c.args.bank) (g.B.Bank.tape c.args.bank) c.args.backup (g.B.Bank.faults_of c.args.bank) (g.B.Bank.faults_of c.args.bank) in
@@ -118,6 +125,11 @@ returns-in-Fail-clause-written g c told =
 
 pub returns-in-Add-clause-written : goal.returns-in-Add-clause-written
 returns-in-Add-clause-written g c told =
+    let setting = setting_of g.B.Bank.tells (g.B.Bank.given c.args.bank) (g.B.Bank.tape c.args.bank) (g.B.Bank.tape c.args.bank) c.args.backup (g.B.Bank.faults_of c.args.bank) (g.B.Bank.faults_of c.args.bank) in
+    written_idle setting c.args.epochs.items c.args.epochs.items (HasWritten (g.B.Bank.given c.args.bank) c.args.backup c.args.line _) refl (omega arith)
+
+pub returns-in-ArraySize-clause-written : goal.returns-in-ArraySize-clause-written
+returns-in-ArraySize-clause-written g c told =
     let setting = setting_of g.B.Bank.tells (g.B.Bank.given c.args.bank) (g.B.Bank.tape c.args.bank) (g.B.Bank.tape c.args.bank) c.args.backup (g.B.Bank.faults_of c.args.bank) (g.B.Bank.faults_of c.args.bank) in
     written_idle setting c.args.epochs.items c.args.epochs.items (HasWritten (g.B.Bank.given c.args.bank) c.args.backup c.args.line _) refl (omega arith)
 

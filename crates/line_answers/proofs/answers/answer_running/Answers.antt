@@ -4,7 +4,7 @@ use Rattle.bank.specs.Given.{NeverFalls}
 use Rattle.script.specs.Script.{is_within_limits}
 use Rattle.md_base.specs.declared.answers.NoMemory.{NoMemory}
 use Rattle.script.specs.declared.lines.Line.{Line}
-use Rattle.script.specs.declared.lines.Line.TheVariants.{Read, Write, Flush, Fail, Add, Grow, Step, Wait, Detail, Mdstat}
+use Rattle.script.specs.declared.lines.Line.TheVariants.{Read, Write, Flush, Fail, Add, ArraySize, Grow, Step, Wait, Detail, Mdstat}
 use Rattle.md_base.specs.declared.answers.Refusal.TheVariants.{Running as RefusedRunning}
 use Rattle.run_laws.specs.Making.{setting_of}
 use Rattle.run_laws.specs.Replies.{IsRefusedOutside}
@@ -16,7 +16,7 @@ use Rattle.run_laws.specs.Ended.{IsRunKept}
 use Rattle.run_laws.proofs.Legal.{grows_longer, going_grown, going_asked}
 use Rattle.run_laws.proofs.Losses.{losses-of, losses-steps, held-before, on-lost, on-added}
 use Rattle.line_answers.proofs.Called.{epoch-opening, epoch-later, ran-sized, ran-later, ran-on, parts-unchanged, told-backup}
-use Rattle.line_answers.proofs.Turns.{turn_of_ask, turn_of_wait, turn_refused, going_read, going_write, going_flush, going_fail, going_add, going_grow, going_steps}
+use Rattle.line_answers.proofs.Turns.{turn_of_ask, turn_of_wait, turn_refused, going_read, going_write, going_flush, going_fail, going_add, going_visible, going_grow, going_steps}
 use Rattle.line_answers.proofs.Statuses.{going_detail, going_mdstat}
 use Rattle.run_laws.specs.Written.{HasWritten}
 use Rattle.run_laws.proofs.Writing.{written-nothing, written_going}
@@ -25,12 +25,6 @@ use Rattle.line_answers.proofs.answers.answer_running.Goals as goal
 none_level : (o : Option ℕ) → is_none o ≡ true → o ≡ None
 none_level None is = refl
 none_level (Some level) is = absurd (cc)
-
-pub ask_write-requires-clause-sized : goal.ask_write-requires-clause-sized
-ask_write-requires-clause-sized g c = c.requires.own.sized
-
-pub ask_write-requires-clause-unlimited : goal.ask_write-requires-clause-unlimited
-ask_write-requires-clause-unlimited g c = c.requires.own.unlimited
 
 pub ask_grow-requires : goal.ask_grow-requires
 ask_grow-requires g c = record { level = none_level c.in-Grow.wish.level (subst (λ (l : Line). IsTrue (is_within_limits l)) c.in-Grow.is c.requires.limits) }
@@ -125,6 +119,20 @@ returns-in-Add-clause-answered g c =
     (subst (λ (r : Result Answered NoMemory). IsTurnOrNone (setting_of g.B.Bank.tells (g.B.Bank.given array.parts.bank) (g.B.Bank.tape array.parts.bank) (g.B.Bank.tape new.parts.bank) c.args.backup (g.B.Bank.faults_of array.parts.bank) (g.B.Bank.faults_of new.parts.bank)) (IsRunning array c.args.epochs) (IsRunning new c.args.epochs) (Add c.in-Add.slot) r) (sym on.ensures.answer)
     (turn_of_ask (setting_of g.B.Bank.tells (g.B.Bank.given array.parts.bank) (g.B.Bank.tape array.parts.bank) (g.B.Bank.tape new.parts.bank) c.args.backup (g.B.Bank.faults_of array.parts.bank) (g.B.Bank.faults_of new.parts.bank)) array new c.args.epochs c.requires.own (losses-of (setting_of g.B.Bank.tells (g.B.Bank.given array.parts.bank) (g.B.Bank.tape array.parts.bank) (g.B.Bank.tape new.parts.bank) c.args.backup (g.B.Bank.faults_of array.parts.bank) (g.B.Bank.faults_of new.parts.bank)) (running_history new.parts) (held-before (g.B.Bank.given array.parts.bank) c.args.backup (running_history array.parts) (running_history new.parts) array.parts.members did.grows (epoch-opening same) c.requires.former.held) did.losses (told-backup c.requires.former.backup_is did.told)) same.uuid same.given same.first did.sized
     (Add c.in-Add.slot) c.ask_add.result (λ p asked. going_add c.in-Add.slot asked) (grows_longer did.grows) did.ended did.asked)))
+
+pub returns-in-ArraySize-clause-answered : goal.returns-in-ArraySize-clause-answered
+returns-in-ArraySize-clause-answered g c =
+    let array = c.args.array in
+    let new = c.ask_visible.new.array in
+    let did = c.ask_visible.ensures in
+    let went = did.went in
+    let same = went.same in
+    let on = c.goes_on-in-ArraySize in
+    subst (λ (l : Line). IsTurnOrNone (setting_of g.B.Bank.tells (g.B.Bank.given array.parts.bank) (g.B.Bank.tape array.parts.bank) (g.B.Bank.tape (bank_in on.result.0)) c.args.backup (g.B.Bank.faults_of array.parts.bank) (g.B.Bank.faults_of (bank_in on.result.0))) (IsRunning array c.args.epochs) on.result.0 l on.result.1) (sym c.in-ArraySize.is)
+    (subst (λ (s : State g.row.B.Denot). IsTurnOrNone (setting_of g.B.Bank.tells (g.B.Bank.given array.parts.bank) (g.B.Bank.tape array.parts.bank) (g.B.Bank.tape (bank_in s)) c.args.backup (g.B.Bank.faults_of array.parts.bank) (g.B.Bank.faults_of (bank_in s))) (IsRunning array c.args.epochs) s (ArraySize c.in-ArraySize.limit) on.result.1) (sym on.ensures.state)
+    (subst (λ (r : Result Answered NoMemory). IsTurnOrNone (setting_of g.B.Bank.tells (g.B.Bank.given array.parts.bank) (g.B.Bank.tape array.parts.bank) (g.B.Bank.tape new.parts.bank) c.args.backup (g.B.Bank.faults_of array.parts.bank) (g.B.Bank.faults_of new.parts.bank)) (IsRunning array c.args.epochs) (IsRunning new c.args.epochs) (ArraySize c.in-ArraySize.limit) r) (sym on.ensures.answer)
+    (turn_of_ask (setting_of g.B.Bank.tells (g.B.Bank.given array.parts.bank) (g.B.Bank.tape array.parts.bank) (g.B.Bank.tape new.parts.bank) c.args.backup (g.B.Bank.faults_of array.parts.bank) (g.B.Bank.faults_of new.parts.bank)) array new c.args.epochs c.requires.own (losses-steps (setting_of g.B.Bank.tells (g.B.Bank.given array.parts.bank) (g.B.Bank.tape array.parts.bank) (g.B.Bank.tape new.parts.bank) c.args.backup (g.B.Bank.faults_of array.parts.bank) (g.B.Bank.faults_of new.parts.bank)) array.parts.entries (running_history new.parts) array.parts.members (held-before (g.B.Bank.given array.parts.bank) c.args.backup (running_history array.parts) (running_history new.parts) array.parts.members went.grows (epoch-opening same) c.requires.former.held) went.more went.grown went.losses (told-backup c.requires.former.backup_is went.refusals)) same.uuid same.given same.first (ran-sized went)
+    (ArraySize c.in-ArraySize.limit) c.ask_visible.result (λ p asked. going_visible c.in-ArraySize.limit asked) (grows_longer went.grows) did.ended did.asked)))
 
 pub returns-in-Grow-clause-answered : goal.returns-in-Grow-clause-answered
 returns-in-Grow-clause-answered g c =
@@ -238,6 +246,15 @@ returns-in-Add-clause-former g c =
     subst (λ (s : State g.row.B.Denot). IsRunKept g.B.Bank.tells (g.B.Bank.given array.parts.bank) (g.B.Bank.tape (bank_in s)) c.args.backup s) (sym c.goes_on-in-Add.ensures.state)
     (going_asked (g.B.Bank.given array.parts.bank) (λ (b : g.row.B.Denot). g.B.Bank.tape b) c.args.backup array.parts new.parts c.args.epochs.items c.ask_add.result did.grows (epoch-later did.same did.losses) did.same.backup (on-added new.parts.entries did.held did.spares) did.ended (parts-unchanged array new c.ask_add.result did.unchanged) c.requires.former)
 
+pub returns-in-ArraySize-clause-former : goal.returns-in-ArraySize-clause-former
+returns-in-ArraySize-clause-former g c =
+    let array = c.args.array in
+    let new = c.ask_visible.new.array in
+    let did = c.ask_visible.ensures in
+    let went = did.went in
+    subst (λ (s : State g.row.B.Denot). IsRunKept g.B.Bank.tells (g.B.Bank.given array.parts.bank) (g.B.Bank.tape (bank_in s)) c.args.backup s) (sym c.goes_on-in-ArraySize.ensures.state)
+    (going_asked (g.B.Bank.given array.parts.bank) (λ (b : g.row.B.Denot). g.B.Bank.tape b) c.args.backup array.parts new.parts c.args.epochs.items c.ask_visible.result went.grows (ran-later went) went.same.backup (ran-on went) did.ended (parts-unchanged array new c.ask_visible.result did.unchanged) c.requires.former)
+
 pub returns-in-Grow-clause-former : goal.returns-in-Grow-clause-former
 returns-in-Grow-clause-former g c =
     let array = c.args.array in
@@ -264,6 +281,10 @@ returns-in-Wait-clause-former g c =
     let went = did.went in
     subst (λ (s : State g.row.B.Denot). IsRunKept g.B.Bank.tells (g.B.Bank.given array.parts.bank) (g.B.Bank.tape (bank_in s)) c.args.backup s) (sym c.goes_on-in-Wait.ensures.state)
     (going_grown (g.B.Bank.given array.parts.bank) c.args.backup array.parts new.parts c.args.epochs.items went.grows (ran-later went) went.same.backup (ran-on went) did.ended c.requires.former)
+
+pub returns-in-ArraySize-clause-never_falls : goal.returns-in-ArraySize-clause-never_falls
+returns-in-ArraySize-clause-never_falls g c =
+    subst (λ (s : State g.row.B.Denot). NeverFalls (g.B.Bank.faults_of c.args.array.parts.bank) (g.B.Bank.faults_of (bank_in s))) (sym c.goes_on-in-ArraySize.ensures.state) c.ask_visible.ensures.went.never_falls
 
 pub returns-in-Grow-clause-never_falls : goal.returns-in-Grow-clause-never_falls
 returns-in-Grow-clause-never_falls g c =
@@ -346,6 +367,12 @@ returns-in-Add-clause-written g c =
     let did = c.ask_add.ensures in
     written_going g.B.Bank.tells (g.B.Bank.given c.args.array.parts.bank) (λ (b : g.row.B.Denot). g.B.Bank.tape b) c.args.backup (λ (b : g.row.B.Denot). g.B.Bank.faults_of b) c.args.array c.ask_add.new.array c.args.epochs c.goes_on-in-Add.result.0 c.args.line c.goes_on-in-Add.result.1
     c.goes_on-in-Add.ensures.state did.same.first did.grows c.requires.former (returns-in-Add-clause-former g c)
+
+pub returns-in-ArraySize-clause-written : goal.returns-in-ArraySize-clause-written
+returns-in-ArraySize-clause-written g c =
+    let did = c.ask_visible.ensures in
+    written_going g.B.Bank.tells (g.B.Bank.given c.args.array.parts.bank) (λ (b : g.row.B.Denot). g.B.Bank.tape b) c.args.backup (λ (b : g.row.B.Denot). g.B.Bank.faults_of b) c.args.array c.ask_visible.new.array c.args.epochs c.goes_on-in-ArraySize.result.0 c.args.line c.goes_on-in-ArraySize.result.1
+    c.goes_on-in-ArraySize.ensures.state did.went.same.first did.went.grows c.requires.former (returns-in-ArraySize-clause-former g c)
 
 pub returns-in-Grow-clause-written : goal.returns-in-Grow-clause-written
 returns-in-Grow-clause-written g c =

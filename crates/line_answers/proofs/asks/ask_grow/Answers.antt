@@ -1,24 +1,26 @@
 use Rattle.superblocks.specs.Reading.{list_length}
+use Rattle.flat_history.specs.declared.events.Event.TheVariants.{Planned}
+use Rattle.flat_history.specs.declared.events.Request.TheVariants.{Grow as AsksGrow}
 use Rattle.script.specs.declared.lines.Line.TheVariants.{Grow as GrowLine}
 use Rattle.run_laws.specs.running_Calls.{running_left}
 use Rattle.run_laws.proofs.AskLaws.{on_no_memory, asked_with, with-grew}
-use Rattle.line_answers.proofs.Called.{grown-reply, grown-none}
+use Rattle.line_answers.proofs.Called.{replied-some, replied-none}
 use Rattle.line_answers.proofs.asks.ask_grow.Goals as goal
 
 pub returns-then-wants_memory-clause-asked : goal.returns-then-wants_memory-clause-asked
 returns-then-wants_memory-clause-asked g c =
-    grown-none (list_length c.args.array.now.parts.members.newest) c.args.wish c.script_call-who.result c.args.array.now.parts.entries c.plan_grow-answer.new.self.parts.entries (running_left c.plan_grow-answer.new.self) c.plan_grow-answer.result
+    replied-none (list_length c.args.array.now.parts.members.newest) (AsksGrow c.args.wish) c.script_call-who.result c.args.array.now.parts.entries c.plan_grow-answer.new.self.parts.entries (Planned (running_left c.plan_grow-answer.new.self) c.args.wish) c.plan_grow-answer.result
     c.plan_grow-answer.ensures.answered (c.wants_memory.ensures.yes c.if-wants_memory.true)
 
 pub last_place-requires : goal.last_place-requires
 last_place-requires g c =
-    with-grew (grown-reply (list_length c.args.array.now.parts.members.newest) c.args.wish c.script_call-who.result c.args.array.now.parts.entries c.plan_grow-answer.new.self.parts.entries (running_left c.plan_grow-answer.new.self) c.plan_grow-answer.result
+    with-grew (replied-some (list_length c.args.array.now.parts.members.newest) (AsksGrow c.args.wish) c.script_call-who.result c.args.array.now.parts.entries c.plan_grow-answer.new.self.parts.entries (Planned (running_left c.plan_grow-answer.new.self) c.args.wish) c.plan_grow-answer.result
     c.plan_grow-answer.ensures.answered (c.wants_memory.ensures.no c.if-wants_memory.false)).1
 
 pub returns-clause-asked : goal.returns-clause-asked
 returns-clause-asked g c =
     asked_with (GrowLine c.args.wish) c.last_place.result
-    (grown-reply (list_length c.args.array.now.parts.members.newest) c.args.wish c.script_call-who.result c.args.array.now.parts.entries c.plan_grow-answer.new.self.parts.entries (running_left c.plan_grow-answer.new.self) c.plan_grow-answer.result
+    (replied-some (list_length c.args.array.now.parts.members.newest) (AsksGrow c.args.wish) c.script_call-who.result c.args.array.now.parts.entries c.plan_grow-answer.new.self.parts.entries (Planned (running_left c.plan_grow-answer.new.self) c.args.wish) c.plan_grow-answer.result
     c.plan_grow-answer.ensures.answered (c.wants_memory.ensures.no c.if-wants_memory.false)).1
     (λ before e fits. fits) c.script_call-who.ensures c.last_place.ensures
 

@@ -7,13 +7,14 @@ use Rattle.flat_history.specs.declared.events.Entry.{Entry}
 use Rattle.flat_history.specs.declared.events.Request.TheVariants.{Write as AsksWrite}
 use Rattle.flat_history.specs.Flat.{visible_of}
 use Rattle.run_laws.specs.running_Calls.{IsWriteLackedIn}
+use Rattle.run_laws.specs.running_words_Parts.{visible_in}
 use Rattle.run_laws.specs.running_replies_Replies.{RunningFits}
 use Rattle.script.specs.declared.lines.Line.TheVariants.{Write as WriteLine}
 use Rattle.run_laws.proofs.AskLaws.{on_no_memory, asked_with, with-grew, written_reply, written_none, seeded_count}
 use Rattle.run_laws.proofs.Sizes.{sized-none, sized-written}
 use Rattle.run_laws.proofs.Told.{told_none, write_told_by}
 use Rattle.line_answers.proofs.Barred.{barred-backup, barred-still, barred-end}
-use Rattle.line_answers.proofs.Called.{called-length, script-numbered, all-visible}
+use Rattle.line_answers.proofs.Called.{called-length, script-numbered, all-seen}
 use Rattle.line_answers.proofs.asks.ask_write.Goals as goal
 
 pub write-answer-requires-clause-some : goal.write-answer-requires-clause-some
@@ -39,7 +40,7 @@ last_place-requires g c =
     let did = c.write-answer.ensures in
     with-grew (written_reply (list_length old.parts.members.newest) c.args.at (sectors_of c.as_bytes.result.now) c.script_call-who.result old.parts.entries c.write-answer.new.self.parts.entries c.write-answer.result
     (script-numbered old.parts.entries c.script_call-who.result c.script_call-who.ensures)
-    (barred-end (list_length old.parts.members.newest) c.args.at (visible_of (list_length old.parts.members.newest) old.parts.entries) c.as_bytes.result.now (IsWriteLackedIn old c.args.at (length c.as_bytes.result.now / 512)) old.parts.members c.write-answer.new.self.parts.members c.write-answer.result did.caused (all-visible (list_length old.parts.members.newest) old.parts.entries c.requires.sized c.requires.unlimited))
+    (barred-end (visible_in old) c.args.at (visible_of (list_length old.parts.members.newest) old.parts.entries) c.as_bytes.result.now (IsWriteLackedIn old c.args.at (length c.as_bytes.result.now / 512)) old.parts.members c.write-answer.new.self.parts.members c.write-answer.result did.caused (all-seen old c.visible.ensures.sized c.visible.ensures.limited))
     did.answered (c.wants_memory.ensures.no c.if-wants_memory.false)).1
 
 pub returns-clause-asked : goal.returns-clause-asked
@@ -49,7 +50,7 @@ returns-clause-asked g c =
     let did = c.write-answer.ensures in
     let was = written_reply size c.args.at (sectors_of c.as_bytes.result.now) c.script_call-who.result old.parts.entries c.write-answer.new.self.parts.entries c.write-answer.result
     (script-numbered old.parts.entries c.script_call-who.result c.script_call-who.ensures)
-    (barred-end size c.args.at (visible_of size old.parts.entries) c.as_bytes.result.now (IsWriteLackedIn old c.args.at (length c.as_bytes.result.now / 512)) old.parts.members c.write-answer.new.self.parts.members c.write-answer.result did.caused (all-visible (list_length old.parts.members.newest) old.parts.entries c.requires.sized c.requires.unlimited))
+    (barred-end (visible_in old) c.args.at (visible_of size old.parts.entries) c.as_bytes.result.now (IsWriteLackedIn old c.args.at (length c.as_bytes.result.now / 512)) old.parts.members c.write-answer.new.self.parts.members c.write-answer.result did.caused (all-seen old c.visible.ensures.sized c.visible.ensures.limited))
     did.answered (c.wants_memory.ensures.no c.if-wants_memory.false) in
     asked_with (WriteLine c.args.at c.args.count c.args.seed) c.last_place.result was.1
     (λ (before : List Entry) (e : Entry) (fits : RunningFits size before e (AsksWrite c.args.at (sectors_of c.as_bytes.result.now))). subst (λ (b : List Sector). RunningFits size before e (AsksWrite c.args.at b)) (c.as_bytes.ensures.sectors ∙ c.in-Ok.ensures) fits)

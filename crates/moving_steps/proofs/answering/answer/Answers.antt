@@ -44,5 +44,5 @@ returns-clause-called g c =
     (ended-behind (g.B.Bank.tape p.bank) c.enter.new.epoch.first p.epoch.entries.items c.args.who end [] c.args.event c.enter.ensures.items c.ops-end.ensures.count)
     (alone-lossless p.members faults faults p.epoch.entries.items p.epoch.entries.items c.enter.new.epoch.entries.items c.args.who end c.args.event (reply-lossless p.work p.members course p.ahead (Held p.members) faults faults c.args.event reply) refl c.enter.ensures.items)
     (λ slot. omega arith)
-    (record { uuid = c.enter.ensures.uuid; given = c.enter.ensures.given; first = c.enter.ensures.first; backup = refl; work = refl; ahead = refl })
+    (record { uuid = c.enter.ensures.uuid; given = c.enter.ensures.given; first = c.enter.ensures.first; backup = refl; work = refl; ahead = refl; limit = refl })
     (λ t. (was.kept.recorded t).begun))

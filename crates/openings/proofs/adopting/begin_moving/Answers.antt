@@ -96,4 +96,5 @@ returns-clause-adopted g c =
       course = refl;
       window = c.requires.opened.found;
       planless = refl;
+      unlimited = refl;
     })

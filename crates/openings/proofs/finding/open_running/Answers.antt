@@ -1,4 +1,4 @@
-use Rattle.std.proofs.Common.{◌≡◌, false, List, [], length, sym, ◌∙◌, ap, subst, arith}
+use Rattle.std.proofs.Common.{◌≡◌, false, None, List, [], length, sym, ◌∙◌, ap, subst, arith}
 use Rattle.bank.specs.declared.bank.Operation.{Operation}
 use Rattle.bank.specs.Given.{Given}
 use Rattle.bank.specs.Tape.{contents}
@@ -63,11 +63,12 @@ returns-else-is_reshaping-clause-found g c =
     let opened : Opened = c.in-Ok.found in
     let found = c.in-Ok.ensures in
     ok-then c.run_still.result
-    (λ run. IsAdopted tells c.find.new.bank tape opened.given c.args.backup opened.members run.parts × (phases_of run.ahead ≡ []))
+    (λ run. IsAdopted tells c.find.new.bank tape opened.given c.args.backup opened.members run.parts × ((phases_of run.ahead ≡ []) × (run.limit ≡ None)))
     (λ run. IsRunningFound tells bank (g.B.Bank.tape run.parts.bank) c.args.backup c.args.uuid (g.B.Bank.faults_of c.args.bank) (g.B.Bank.faults_of run.parts.bank) run)
     (λ run did. still-found g.B.Bank.tape g.B.Bank.faults_of c.find.new.bank bank c.args.backup c.args.uuid (g.B.Bank.faults_of c.args.bank) opened
-    (opened-still bank (contents bank.start tape (length tape)) c.args.backup c.args.uuid opened found.found (sym c.is_reshaping.ensures ∙ c.if-is_reshaping.false)) found.given found.named run did.0 did.1)
-    (ok-both (λ run. IsAdopted tells c.find.new.bank tape opened.given c.args.backup opened.members run.parts) (λ run. phases_of run.ahead ≡ []) c.run_still.result c.run_still.ensures.run c.run_still.ensures.planless)
+    (opened-still bank (contents bank.start tape (length tape)) c.args.backup c.args.uuid opened found.found (sym c.is_reshaping.ensures ∙ c.if-is_reshaping.false)) found.given found.named run did.0 did.1.0 did.1.1)
+    (ok-both (λ run. IsAdopted tells c.find.new.bank tape opened.given c.args.backup opened.members run.parts) (λ run. (phases_of run.ahead ≡ []) × (run.limit ≡ None)) c.run_still.result c.run_still.ensures.run
+    (ok-both (λ run. phases_of run.ahead ≡ []) (λ run. run.limit ≡ None) c.run_still.result c.run_still.ensures.planless c.run_still.ensures.unlimited))
 
 pub returns-in-Some-clause-found : goal.returns-in-Some-clause-found
 returns-in-Some-clause-found g c =

@@ -12,7 +12,7 @@ returns-clause-some g c =
 pub returns-clause-within : goal.returns-clause-within
 returns-clause-within g c =
     let was = c.take_apart-pieces.ensures.ready in
-    rw c.take_apart-pieces.ensures.same (record { begun = λ t. (was.kept.recorded t).begun; ends = λ t. (was.kept.recorded t).ends })
+    rw c.take_apart-pieces.ensures.same (record { begun = λ t. (was.kept.recorded t).begun; ends = λ t. (was.kept.recorded t).ends; sized = was.sized; limited = was.limited })
 
 pub returns-clause-aside : goal.returns-clause-aside
 returns-clause-aside g c =

@@ -123,10 +123,10 @@ of_pieces-requires g c =
     (λ t world told live there array over. subst (λ (k : Members). KeepsSafe world given told k tape (g.B.Bank.tape bank)) none.members (did.kept refusal is t world told live there array over)) in
     record {
       ready = subst
-          (λ (k : Members). IsReady g.B.Bank.tells (g.B.Bank.given bank) (g.B.Bank.tape bank) (scope_in (g.B.Bank.given bank) epoch.uuid epoch.given p.backup) epoch.first epoch.entries.items k p.work p.ahead
+          (λ (k : Members). IsReady g.B.Bank.tells (g.B.Bank.given bank) (g.B.Bank.tape bank) (scope_in (g.B.Bank.given bank) epoch.uuid epoch.given p.backup) epoch.first epoch.entries.items k p.work p.ahead p.limit
           (g.B.Bank.faults_of bank) (p.steps - 1) epoch.entries.room (vec_capacity p.rows) (length p.buffer.items) (vec_capacity p.far_rows) (length p.far_buffer.items)) (sym none.members)
           (ready (entries_of c.args.who end (Refused BackupFault ∷ [])) was (rows-same p.members.newest) kept
-          (turned-plain (turns-first p.epoch.entries.items (entries_of c.args.who end (Refused BackupFault ∷ [])) (ahead-told (phases_of p.ahead) (Reshape c.args.to) (phases_of c.args.behind) was.ahead_told next))) did.counts (alone-keeps c.args.who end (Refused BackupFault) (λ n. refl) refl)
+          (turned-plain (turns-first p.epoch.entries.items (entries_of c.args.who end (Refused BackupFault ∷ [])) (ahead-told (phases_of p.ahead) (Reshape c.args.to) (phases_of c.args.behind) was.ahead_told next))) did.counts (alone-keeps c.args.who end (Refused BackupFault) (λ n. refl) (λ limit. refl))
           did.given (scope-same given p.backup did.given c.enter.ensures.uuid c.enter.ensures.given) c.enter.ensures.first refl
           (c.enter.ensures.items ∙ ap (λ (r : Refusal). p.epoch.entries.items ++ entries_of c.args.who end (Refused r ∷ [])) fault)
           (let had = was.room_left in let room = c.enter.ensures.room in omega (arith, had, room, some)));
@@ -147,7 +147,7 @@ returns-in-Some-refusal-clause-refused g c =
       course = refl;
       ahead = refl;
       steps = omega (arith, some);
-      same = record { uuid = c.enter.ensures.uuid; given = c.enter.ensures.given; first = c.enter.ensures.first; backup = refl; work = refl };
+      same = record { uuid = c.enter.ensures.uuid; given = c.enter.ensures.given; first = c.enter.ensures.first; backup = refl; work = refl; limit = refl };
     }))
 
 pub returns-in-Some-refusal-clause-caused : goal.returns-in-Some-refusal-clause-caused
@@ -209,7 +209,7 @@ of_pieces-requires-2-clause-ready g c =
     let roles = c.told_of-told.result.roles in
     let spares = c.begin-begun.result.spares in
     let was = subst
-    (λ (o : Option ℕ). IsReady g.B.Bank.tells given (g.B.Bank.tape p.bank) (scope_in given p.epoch.uuid p.epoch.given o) p.epoch.first p.epoch.entries.items p.members p.work p.ahead
+    (λ (o : Option ℕ). IsReady g.B.Bank.tells given (g.B.Bank.tape p.bank) (scope_in given p.epoch.uuid p.epoch.given o) p.epoch.first p.epoch.entries.items p.members p.work p.ahead p.limit
     (g.B.Bank.faults_of p.bank) p.steps p.epoch.entries.room (vec_capacity p.rows) (length p.buffer.items) (vec_capacity p.far_rows) (length p.far_buffer.items)) c.in-Some-backup.is c.take_apart-pieces.ensures.ready in
     let turned : HasKeptLength p.epoch.entries.items who = subst (λ s. HasKeptLength s.parts.entries who) same c.requires.open in
     let some : 1 ≤ p.steps = subst (λ s. 1 ≤ s.parts.steps) same c.requires.room in
@@ -293,5 +293,5 @@ returns-clause-begun g c =
       course = refl;
       ahead = refl;
       steps = omega (arith, some);
-      same = record { uuid = c.enter_begun.ensures.uuid; given = c.enter_begun.ensures.given; first = c.enter_begun.ensures.first; backup = refl; work = refl };
+      same = record { uuid = c.enter_begun.ensures.uuid; given = c.enter_begun.ensures.given; first = c.enter_begun.ensures.first; backup = refl; work = refl; limit = refl };
     }))

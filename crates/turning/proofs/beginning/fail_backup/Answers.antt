@@ -42,5 +42,5 @@ returns-clause-back g c =
       course = back.course;
       ahead = back.ahead;
       steps = back.steps;
-      same = record { uuid = back.same.uuid; given = back.same.given; first = back.same.first; backup = back.same.backup; work = back.same.work };
+      same = record { uuid = back.same.uuid; given = back.same.given; first = back.same.first; backup = back.same.backup; work = back.same.work; limit = back.same.limit };
     }

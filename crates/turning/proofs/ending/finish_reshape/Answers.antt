@@ -63,7 +63,7 @@ of_pieces-requires-clause-ready g c =
     who end (Refused refusal) was.kept goes (not_254 who.caller c.requires.caller) c.ops-end.ensures.count (quiet-refusal refusal) (λ told is. is)
     (λ t right. refused-right (world_in given (g.B.Bank.tape p.bank) scope p.epoch.first) p.epoch.entries.items given p.members was.kept.members_are.placed (was.kept.gone t right) (was.kept.levelled t right) refusal c.in-Some-too_many.ensures) in
     ready (entries_of who end (Refused refusal ∷ [])) was (grows-none (λ t. refl)) (shapes-same p.members.newest) kept
-    refl (λ slot. omega arith) (alone-keeps who end (Refused refusal) (λ n. refl) refl) (λ none whole. whole) refl (scope-same given p.backup refl c.enter.ensures.uuid c.enter.ensures.given) c.enter.ensures.first refl c.enter.ensures.items
+    refl (λ slot. omega arith) (alone-keeps who end (Refused refusal) (λ n. refl) (λ limit. refl)) (λ none whole. whole) refl (scope-same given p.backup refl c.enter.ensures.uuid c.enter.ensures.given) c.enter.ensures.first refl c.enter.ensures.items
     (let had = was.room_left in let room = c.enter.ensures.room in omega (arith, had, room, some))
 
 pub returns-in-Some-too_many-clause-refused : goal.returns-in-Some-too_many-clause-refused
@@ -87,7 +87,7 @@ returns-in-Some-too_many-clause-called g c =
     (ended-behind (g.B.Bank.tape p.bank) c.enter.new.epoch.first p.epoch.entries.items who end [] (Refused refusal) c.enter.ensures.items c.ops-end.ensures.count)
     (alone-lossless p.members faults faults p.epoch.entries.items p.epoch.entries.items c.enter.new.epoch.entries.items who end (Refused refusal) tt refl c.enter.ensures.items)
     (λ slot. omega arith)
-    (record { uuid = c.enter.ensures.uuid; given = c.enter.ensures.given; first = c.enter.ensures.first; backup = refl; work = refl; ahead = refl })
+    (record { uuid = c.enter.ensures.uuid; given = c.enter.ensures.given; first = c.enter.ensures.first; backup = refl; work = refl; ahead = refl; limit = refl })
     (λ t. (was.kept.recorded t).begun)))
 
 -- ---- what is asked of the parts
@@ -167,7 +167,7 @@ of_pieces-requires-in-Some-refusal-clause-ready g c =
     let kept = refused-behind course p.ahead who end roles spares refusal was.kept c.in_default-too_many.ensures goes c.requires.caller c.ops-end-2.ensures.count did.grows moved since (did.untouched refusal is).0 many
     did.rise (did.untouched refusal is).1 did.others (did.kept refusal is) in
     ready (entries_of who end (losses_of roles spares ++ Refused refusal ∷ [])) was did.grows (shapes-moved given p.members m moved) kept
-    refl did.counts (behind-keeps who end roles spares (Refused refusal) (λ n. refl) refl)
+    refl did.counts (behind-keeps who end roles spares (Refused refusal) (λ n. refl) (λ limit. refl))
     (behind-whole (g.B.Bank.tape c.finish-done.new.bank) scope p.epoch.first p.epoch.entries.items who end roles spares (Refused refusal) moved (missing-since roles moved since.vacant))
     did.given (scope-same given p.backup did.given c.enter_behind.ensures.uuid c.enter_behind.ensures.given) c.enter_behind.ensures.first refl c.enter_behind.ensures.items
     (let had = was.room_left in let room = c.enter_behind.ensures.room in omega (arith, had, room, some))
@@ -204,7 +204,7 @@ returns-in-Some-refusal-clause-called g c =
     (ended-behind (g.B.Bank.tape c.finish-done.new.bank) c.enter_behind.new.epoch.first p.epoch.entries.items who end (losses_of roles spares) (Refused refusal) c.enter_behind.ensures.items c.ops-end-2.ensures.count)
     (losses-behind p.members m before after p.epoch.entries.items p.epoch.entries.items c.enter_behind.new.epoch.entries.items who end roles spares (Refused refusal) since tt refl c.enter_behind.ensures.items)
     did.counts
-    (record { uuid = c.enter_behind.ensures.uuid; given = c.enter_behind.ensures.given; first = c.enter_behind.ensures.first; backup = refl; work = refl; ahead = refl })
+    (record { uuid = c.enter_behind.ensures.uuid; given = c.enter_behind.ensures.given; first = c.enter_behind.ensures.first; backup = refl; work = refl; ahead = refl; limit = refl })
     (λ t. (was.kept.recorded t).begun)))
 
 -- ---- it is done
@@ -335,5 +335,5 @@ returns-clause-ended g c =
       course = refl;
       ahead = refl;
       steps = omega (arith, some);
-      same = record { uuid = c.enter_ended.ensures.uuid; given = c.enter_ended.ensures.given; first = c.enter_ended.ensures.first; backup = refl; work = refl };
+      same = record { uuid = c.enter_ended.ensures.uuid; given = c.enter_ended.ensures.given; first = c.enter_ended.ensures.first; backup = refl; work = refl; limit = refl };
     }))

@@ -1,4 +1,4 @@
-use Rattle.std.proofs.Common.{◌≡◌, ◌+◌, ◌/◌, None, List, [], length, refl, sym, ◌∙◌, ap, subst, arith, append-nil}
+use Rattle.std.proofs.Common.{◌≡◌, ◌+◌, ◌/◌, List, [], length, refl, sym, ◌∙◌, ap, subst, arith, append-nil}
 use Rattle.std.proofs.lemmas.List.Elements.{All-nil}
 use Rattle.md_base.specs.Sectors.{sectors_of}
 use Rattle.md_base.proofs.SectorLaws.{length-sectors_of}
@@ -16,6 +16,8 @@ use Rattle.moving_laws.specs.Writing.{IsRefusedAlone}
 use Rattle.moving_laws.proofs.Kept.{roomier}
 use Rattle.moving_laws.proofs.WriteLaws.{called-roomed}
 use Rattle.moving_laws.proofs.BarredLaws.{barred-entered, barred-replied}
+use Rattle.md_base.specs.declared.answers.Fault.TheVariants.{NoMemory}
+use Rattle.moving_laws.proofs.FirstLaws.{first-short}
 use Rattle.moving.proofs.state.Moving.bar_write.Goals as goal
 
 -- ---- memory is short
@@ -33,7 +35,7 @@ returns-in-Err-clause-called g c =
     (λ t. ap (λ (l : List Entry). last_end_from a.epoch.first l) c.make_room.ensures.items ∙ (was.kept.recorded t).ended)
     (record { more = []; grown = c.make_room.ensures.items ∙ sym (append-nil a.epoch.entries.items); failed = All-nil (λ e. IsLossBy (Held a.members) faults faults e.event) })
     (λ slot. omega arith)
-    (record { uuid = refl; given = refl; first = refl; backup = refl; work = refl; ahead = refl })
+    (record { uuid = refl; given = refl; first = refl; backup = refl; work = refl; ahead = refl; limit = refl })
     (λ t. (was.kept.recorded t).begun))
 
 -- ---- there is room
@@ -58,8 +60,16 @@ returns-clause-replied g c =
     let at = c.args.at in
     let long = length-sectors_of c.args.from.now in
     let sized = subst (λ p. length_of (list_length p.parts.members.newest) p.parts.entries ≡ list_length p.parts.members.newest) c.self.view_is c.self.invariant.sized in
-    let unlimited = subst (λ p. limit_of p.parts.entries ≡ None) c.self.view_is c.self.invariant.unlimited in
-    barred-replied old.course.window (list_length old.parts.members.newest) (relied_sector old.parts.members.newest old.parts.work.resync) at (at + length c.args.from.now / 512) (sectors_of c.args.from.now) c.args.who
-    old.parts.entries new.parts.entries old.parts.members new.parts.members (left_in new.parts.work new.parts.members new.course new.ahead) (omega (arith, long)) c.requires.next sized unlimited c.refuse_write.result
+    let limited = subst (λ p. limit_of p.parts.entries ≡ p.limit) c.self.view_is c.self.invariant.limited in
+    barred-replied old.course.window (list_length old.parts.members.newest) old.limit (relied_sector old.parts.members.newest old.parts.work.resync) at (at + length c.args.from.now / 512) (sectors_of c.args.from.now) c.args.who
+    old.parts.entries new.parts.entries old.parts.members new.parts.members (left_in new.parts.work new.parts.members new.course new.ahead) (omega (arith, long)) c.requires.next sized limited c.refuse_write.result
     (subst (λ (l : List Entry). IsRefusedAlone c.args.who l new.parts.entries c.refuse_write.result) (c.make_room.ensures.items ∙ ap (λ p. p.parts.entries) c.self.view_is) c.refuse_write.ensures.alone)
     (returns-clause-caused g c)
+
+-- ---- which refusal is the first
+
+pub returns-in-Err-clause-first : goal.returns-in-Err-clause-first
+returns-in-Err-clause-first g c = first-short _ NoMemory refl
+
+pub returns-clause-first : goal.returns-clause-first
+returns-clause-first g c = rw (← c.self.view_is) c.refuse_write.ensures.first

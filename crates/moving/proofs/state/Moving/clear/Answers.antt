@@ -68,7 +68,7 @@ invariant_of-self g c =
     let kept = resting-moves g.B.Bank.tells given tape scope a.epoch.first a.epoch.entries.items a.members (is_carried a.work) a.work.resync a.course (bytes_in a.course.window a.window.items) (left_in a.work a.members a.course a.ahead)
     c.args.who end (Refused BackupFault) was.kept goes (not_254 c.args.who.caller c.requires.caller) (λ t. c.ops-end.ensures.count t ∙ ap (λ l. length l) (same t)) (quiet-refusal BackupFault) (λ told is. is) (λ t right. tt) in
     ready (entries_of c.args.who end (Refused BackupFault ∷ [])) was (grows-none same) (shapes-same a.members.newest) (moving-still same kept)
-    refl c.clear_window.ensures.cause.never_falls (alone-keeps c.args.who end (Refused BackupFault) (λ n. refl) refl) (λ none whole. whole) c.clear_window.ensures.given
+    refl c.clear_window.ensures.cause.never_falls (alone-keeps c.args.who end (Refused BackupFault) (λ n. refl) (λ limit. refl)) (λ none whole. whole) c.clear_window.ensures.given
     (scope-same given (Some a.backup) c.clear_window.ensures.given c.enter.ensures.uuid c.enter.ensures.given) c.enter.ensures.first refl c.enter.ensures.items
     (let had = was.room_left in let room = c.enter.ensures.room in omega (arith, room, had, steps))
 
@@ -86,5 +86,5 @@ returns-clause-called g c =
     (ended-behind (g.B.Bank.tape c.clear_window.new.bank) c.enter.new.epoch.first a.epoch.entries.items c.args.who end [] (Refused BackupFault) c.enter.ensures.items c.ops-end.ensures.count)
     (alone-lossless a.members before after a.epoch.entries.items a.epoch.entries.items c.enter.new.epoch.entries.items c.args.who end (Refused BackupFault) tt refl c.enter.ensures.items)
     c.clear_window.ensures.cause.never_falls
-    (record { uuid = c.enter.ensures.uuid; given = c.enter.ensures.given; first = c.enter.ensures.first; backup = refl; work = refl; ahead = refl })
+    (record { uuid = c.enter.ensures.uuid; given = c.enter.ensures.given; first = c.enter.ensures.first; backup = refl; work = refl; ahead = refl; limit = refl })
     (λ t. (was.kept.recorded t).begun))

@@ -52,7 +52,7 @@ invariant_of-self g c =
     c.args.who end (Refused refusal) was.kept goes (not_254 c.args.who.caller c.requires.caller) c.ops-end.ensures.count (quiet-refusal refusal) (λ told is. is)
     (λ t right. refused-right (world_in given tape scope a.epoch.first) a.epoch.entries.items given a.members was.kept.members_are.placed (was.kept.gone t right) (was.kept.levelled t right) refusal c.in-Some.ensures) in
     ready (entries_of c.args.who end (Refused refusal ∷ [])) was (grows-none (λ t. refl)) (shapes-same a.members.newest) kept
-    refl (λ slot. omega arith) (alone-keeps c.args.who end (Refused refusal) (λ n. refl) refl) (λ none whole. whole) refl (scope-same given (Some a.backup) refl c.enter.ensures.uuid c.enter.ensures.given) c.enter.ensures.first refl c.enter.ensures.items
+    refl (λ slot. omega arith) (alone-keeps c.args.who end (Refused refusal) (λ n. refl) (λ limit. refl)) (λ none whole. whole) refl (scope-same given (Some a.backup) refl c.enter.ensures.uuid c.enter.ensures.given) c.enter.ensures.first refl c.enter.ensures.items
     (let had = was.room_left in let room = c.enter.ensures.room in omega (arith, room, had, steps))
 
 pub returns-in-Some-clause-called : goal.returns-in-Some-clause-called
@@ -67,7 +67,7 @@ returns-in-Some-clause-called g c =
     (ended-behind (g.B.Bank.tape a.bank) c.enter.new.epoch.first a.epoch.entries.items c.args.who end [] (Refused refusal) c.enter.ensures.items c.ops-end.ensures.count)
     (alone-lossless a.members faults faults a.epoch.entries.items a.epoch.entries.items c.enter.new.epoch.entries.items c.args.who end (Refused refusal) tt refl c.enter.ensures.items)
     (λ slot. omega arith)
-    (record { uuid = c.enter.ensures.uuid; given = c.enter.ensures.given; first = c.enter.ensures.first; backup = refl; work = refl; ahead = refl })
+    (record { uuid = c.enter.ensures.uuid; given = c.enter.ensures.given; first = c.enter.ensures.first; backup = refl; work = refl; ahead = refl; limit = refl })
     (λ t. (was.kept.recorded t).begun))
 
 pub returns-in-Some-clause-entered : goal.returns-in-Some-clause-entered
@@ -108,7 +108,7 @@ invariant_of-self-in-Some-refusal g c =
     refusal (many-of m c.copy_next-moved.result.refusal refusal c.in-Some-refusal.is did.refused) in
     with-buffer (let len = (with_items a.buffer c.copy_next-moved.new.scratch).ok.0 in let ok = a.buffer.ok.0 in omega (arith, len, ok, was.buffer_fits))
     (ready (entries_of c.args.who end (losses_of roles spares ++ Refused refusal ∷ [])) was did.grows (shapes-moved given a.members m did.moved) kept
-    refl did.counts (behind-keeps c.args.who end roles spares (Refused refusal) (λ n. refl) refl) (behind-whole tape' (scope_in given a.epoch.uuid a.epoch.given (Some a.backup)) a.epoch.first a.epoch.entries.items c.args.who end roles spares (Refused refusal) did.moved (missing-since roles did.moved did.since.vacant)) did.given (scope-same given (Some a.backup) did.given c.enter_behind.ensures.uuid c.enter_behind.ensures.given) c.enter_behind.ensures.first refl c.enter_behind.ensures.items
+    refl did.counts (behind-keeps c.args.who end roles spares (Refused refusal) (λ n. refl) (λ limit. refl)) (behind-whole tape' (scope_in given a.epoch.uuid a.epoch.given (Some a.backup)) a.epoch.first a.epoch.entries.items c.args.who end roles spares (Refused refusal) did.moved (missing-since roles did.moved did.since.vacant)) did.given (scope-same given (Some a.backup) did.given c.enter_behind.ensures.uuid c.enter_behind.ensures.given) c.enter_behind.ensures.first refl c.enter_behind.ensures.items
     (let had = was.room_left in let room = c.enter_behind.ensures.room in omega (arith, room, had, steps)))
 
 pub returns-in-Some-refusal-clause-called : goal.returns-in-Some-refusal-clause-called
@@ -127,7 +127,7 @@ returns-in-Some-refusal-clause-called g c =
     (ended-behind (g.B.Bank.tape c.copy_next-moved.new.bank) c.enter_behind.new.epoch.first a.epoch.entries.items c.args.who end (losses_of roles spares) event c.enter_behind.ensures.items c.ops-end-2.ensures.count)
     (losses-behind a.members m before after a.epoch.entries.items a.epoch.entries.items c.enter_behind.new.epoch.entries.items c.args.who end roles spares event did.since tt refl c.enter_behind.ensures.items)
     did.counts
-    (record { uuid = c.enter_behind.ensures.uuid; given = c.enter_behind.ensures.given; first = c.enter_behind.ensures.first; backup = refl; work = refl; ahead = refl })
+    (record { uuid = c.enter_behind.ensures.uuid; given = c.enter_behind.ensures.given; first = c.enter_behind.ensures.first; backup = refl; work = refl; ahead = refl; limit = refl })
     (λ t. (was.kept.recorded t).begun))
 
 -- ---- the stripe is copied
@@ -165,7 +165,7 @@ invariant_of-self-2 g c =
     left c.steps_left-left.ensures (λ t list copied. did.stands c.in_default-refusal.is t list (subst (λ (l : List ℕ). IsCopied span (take (512 * (span.hi - span.lo)) l) (tail_of a.members.newest) list) (sym c.as_slice.ensures.value) copied)) in
     with-buffer (let len = (with_items a.buffer c.copy_next-moved.new.scratch).ok.0 in let ok = a.buffer.ok.0 in omega (arith, len, ok, was.buffer_fits))
     (ready-moved (entries_of c.args.who end (losses_of roles spares ++ Step CopiesStripe left ∷ [])) was did.grows (shapes-moved given a.members m did.moved) kept (λ span is. absurd (cc))
-    refl did.counts (behind-keeps c.args.who end roles spares (Step CopiesStripe left) (λ n. refl) refl) (behind-whole tape' (scope_in given a.epoch.uuid a.epoch.given (Some a.backup)) a.epoch.first a.epoch.entries.items c.args.who end roles spares (Step CopiesStripe left) did.moved (missing-since roles did.moved did.since.vacant)) did.given (scope-same given (Some a.backup) did.given c.enter_behind-2.ensures.uuid c.enter_behind-2.ensures.given) c.enter_behind-2.ensures.first refl c.enter_behind-2.ensures.items
+    refl did.counts (behind-keeps c.args.who end roles spares (Step CopiesStripe left) (λ n. refl) (λ limit. refl)) (behind-whole tape' (scope_in given a.epoch.uuid a.epoch.given (Some a.backup)) a.epoch.first a.epoch.entries.items c.args.who end roles spares (Step CopiesStripe left) did.moved (missing-since roles did.moved did.since.vacant)) did.given (scope-same given (Some a.backup) did.given c.enter_behind-2.ensures.uuid c.enter_behind-2.ensures.given) c.enter_behind-2.ensures.first refl c.enter_behind-2.ensures.items
     (let had = was.room_left in let room = c.enter_behind-2.ensures.room in omega (arith, room, had, steps)))
 
 pub returns-clause-called : goal.returns-clause-called
@@ -184,7 +184,7 @@ returns-clause-called g c =
     (ended-behind (g.B.Bank.tape c.copy_next-moved.new.bank) c.enter_behind-2.new.epoch.first a.epoch.entries.items c.args.who end (losses_of roles spares) event c.enter_behind-2.ensures.items c.ops-end-2.ensures.count)
     (losses-behind a.members m before after a.epoch.entries.items a.epoch.entries.items c.enter_behind-2.new.epoch.entries.items c.args.who end roles spares event did.since tt refl c.enter_behind-2.ensures.items)
     did.counts
-    (record { uuid = c.enter_behind-2.ensures.uuid; given = c.enter_behind-2.ensures.given; first = c.enter_behind-2.ensures.first; backup = refl; work = refl; ahead = refl })
+    (record { uuid = c.enter_behind-2.ensures.uuid; given = c.enter_behind-2.ensures.given; first = c.enter_behind-2.ensures.first; backup = refl; work = refl; ahead = refl; limit = refl })
     (λ t. (was.kept.recorded t).begun))
 
 pub returns-clause-copied : goal.returns-clause-copied

@@ -54,7 +54,7 @@ invariant_of-self g c =
     c.args.who end (Refused refusal) was.kept goes (not_254 c.args.who.caller c.requires.caller) c.ops-end.ensures.count (quiet-refusal refusal) (λ told is. is)
     (λ t right. refused-right (world_in given tape scope a.epoch.first) a.epoch.entries.items given a.members was.kept.members_are.placed (was.kept.gone t right) (was.kept.levelled t right) refusal c.in-Some.ensures) in
     ready (entries_of c.args.who end (Refused refusal ∷ [])) was (grows-none (λ t. refl)) (shapes-same a.members.newest) kept
-    refl (λ slot. omega arith) (alone-keeps c.args.who end (Refused refusal) (λ n. refl) refl) (λ none whole. whole) refl (scope-same given (Some a.backup) refl c.enter.ensures.uuid c.enter.ensures.given) c.enter.ensures.first refl c.enter.ensures.items
+    refl (λ slot. omega arith) (alone-keeps c.args.who end (Refused refusal) (λ n. refl) (λ limit. refl)) (λ none whole. whole) refl (scope-same given (Some a.backup) refl c.enter.ensures.uuid c.enter.ensures.given) c.enter.ensures.first refl c.enter.ensures.items
     (let had = was.room_left in let room = c.enter.ensures.room in omega (arith, room, had, steps))
 
 pub returns-in-Some-clause-called : goal.returns-in-Some-clause-called
@@ -69,7 +69,7 @@ returns-in-Some-clause-called g c =
     (ended-behind (g.B.Bank.tape a.bank) c.enter.new.epoch.first a.epoch.entries.items c.args.who end [] (Refused refusal) c.enter.ensures.items c.ops-end.ensures.count)
     (alone-lossless a.members faults faults a.epoch.entries.items a.epoch.entries.items c.enter.new.epoch.entries.items c.args.who end (Refused refusal) tt refl c.enter.ensures.items)
     (λ slot. omega arith)
-    (record { uuid = c.enter.ensures.uuid; given = c.enter.ensures.given; first = c.enter.ensures.first; backup = refl; work = refl; ahead = refl })
+    (record { uuid = c.enter.ensures.uuid; given = c.enter.ensures.given; first = c.enter.ensures.first; backup = refl; work = refl; ahead = refl; limit = refl })
     (λ t. (was.kept.recorded t).begun))
 
 pub returns-in-Some-clause-entered : goal.returns-in-Some-clause-entered
@@ -131,7 +131,7 @@ invariant_of-self-in-Some-refusal g c =
     refusal (elim (when-some _ _ tried.refusal refusal c.in-Some-refusal.is did.refused) [ inl many ↦ inl many | inr fault ↦ inr fault.0 ])) in
     with-buffer (let len = (with_items a.buffer c.enter_next-tried.new.scratch).ok.0 in let ok = a.buffer.ok.0 in omega (arith, len, ok, was.buffer_fits))
     (ready-moved (entries_of c.args.who end (losses_of tried.roles tried.spares ++ Refused refusal ∷ [])) was did.grows (shapes-moved given a.members m did.moved) kept (λ span is. inr (did.dead span is))
-    (let len = (with_items a.window written).ok.0 in let ok = a.window.ok.0 in omega (arith, len, ok)) did.counts (behind-keeps c.args.who end tried.roles tried.spares (Refused refusal) (λ n. refl) refl)
+    (let len = (with_items a.window written).ok.0 in let ok = a.window.ok.0 in omega (arith, len, ok)) did.counts (behind-keeps c.args.who end tried.roles tried.spares (Refused refusal) (λ n. refl) (λ limit. refl))
     (behind-whole tape' scope a.epoch.first a.epoch.entries.items c.args.who end tried.roles tried.spares (Refused refusal) did.moved (missing-since tried.roles did.moved did.since.vacant))
     did.given (scope-same given (Some a.backup) did.given c.enter_behind.ensures.uuid c.enter_behind.ensures.given) c.enter_behind.ensures.first refl c.enter_behind.ensures.items
     (let had = was.room_left in let room = c.enter_behind.ensures.room in omega (arith, room, had, steps)))
@@ -151,7 +151,7 @@ returns-in-Some-refusal-clause-called g c =
     (ended-behind (g.B.Bank.tape c.enter_next-tried.new.bank) c.enter_behind.new.epoch.first a.epoch.entries.items c.args.who end (losses_of tried.roles tried.spares) event c.enter_behind.ensures.items c.ops-end-2.ensures.count)
     (losses-behind a.members m before after a.epoch.entries.items a.epoch.entries.items c.enter_behind.new.epoch.entries.items c.args.who end tried.roles tried.spares event did.since tt refl c.enter_behind.ensures.items)
     did.counts
-    (record { uuid = c.enter_behind.ensures.uuid; given = c.enter_behind.ensures.given; first = c.enter_behind.ensures.first; backup = refl; work = refl; ahead = refl })
+    (record { uuid = c.enter_behind.ensures.uuid; given = c.enter_behind.ensures.given; first = c.enter_behind.ensures.first; backup = refl; work = refl; ahead = refl; limit = refl })
     (λ t. (was.kept.recorded t).begun))
 
 pub returns-in-Some-refusal-clause-caused : goal.returns-in-Some-refusal-clause-caused
@@ -213,7 +213,7 @@ invariant_of-self-2 g c =
     c.is_window_critical-sectioned.result (when-none _ _ tried.refusal c.in_default-refusal.is did.window) (λ critical. c.is_window_critical-sectioned.ensures ∙ critical) left c.steps_left-left.ensures) in
     with-buffer (let len = (with_items a.buffer c.enter_next-tried.new.scratch).ok.0 in let ok = a.buffer.ok.0 in omega (arith, len, ok, was.buffer_fits))
     (ready-moved (entries_of c.args.who end (losses_of tried.roles tried.spares ++ Step EntersWindow left ∷ [])) was did.grows (shapes-moved given a.members m did.moved) kept (λ span is. inr (did.dead span is))
-    (let len = (with_items a.window written).ok.0 in let ok = a.window.ok.0 in omega (arith, len, ok)) did.counts (behind-keeps c.args.who end tried.roles tried.spares (Step EntersWindow left) (λ n. refl) refl)
+    (let len = (with_items a.window written).ok.0 in let ok = a.window.ok.0 in omega (arith, len, ok)) did.counts (behind-keeps c.args.who end tried.roles tried.spares (Step EntersWindow left) (λ n. refl) (λ limit. refl))
     (behind-whole tape' scope a.epoch.first a.epoch.entries.items c.args.who end tried.roles tried.spares (Step EntersWindow left) did.moved (missing-since tried.roles did.moved did.since.vacant))
     did.given (scope-same given (Some a.backup) did.given c.enter_behind-2.ensures.uuid c.enter_behind-2.ensures.given) c.enter_behind-2.ensures.first refl c.enter_behind-2.ensures.items
     (let had = was.room_left in let room = c.enter_behind-2.ensures.room in omega (arith, room, had, steps)))
@@ -233,7 +233,7 @@ returns-clause-called g c =
     (ended-behind (g.B.Bank.tape c.enter_next-tried.new.bank) c.enter_behind-2.new.epoch.first a.epoch.entries.items c.args.who end (losses_of tried.roles tried.spares) event c.enter_behind-2.ensures.items c.ops-end-2.ensures.count)
     (losses-behind a.members m before after a.epoch.entries.items a.epoch.entries.items c.enter_behind-2.new.epoch.entries.items c.args.who end tried.roles tried.spares event did.since tt refl c.enter_behind-2.ensures.items)
     did.counts
-    (record { uuid = c.enter_behind-2.ensures.uuid; given = c.enter_behind-2.ensures.given; first = c.enter_behind-2.ensures.first; backup = refl; work = refl; ahead = refl })
+    (record { uuid = c.enter_behind-2.ensures.uuid; given = c.enter_behind-2.ensures.given; first = c.enter_behind-2.ensures.first; backup = refl; work = refl; ahead = refl; limit = refl })
     (λ t. (was.kept.recorded t).begun))
 
 pub returns-clause-caused : goal.returns-clause-caused

@@ -115,7 +115,7 @@ invariant_of-self-in_default g c =
     (resting-moves g.B.Bank.tells given tape (scope_in given a.epoch.uuid a.epoch.given (Some a.backup)) a.epoch.first a.epoch.entries.items a.members (is_carried a.work) a.work.resync a.course
     (bytes_in a.course.window a.window.items) (left_in a.work a.members a.course a.ahead) c.args.who c.ops-end.result (Refused (NoSuchRole c.args.role))
     was.kept (begins-going a.epoch.entries.items c.args.who number) (not_254 c.args.who.caller c.requires.caller) c.ops-end.ensures.count (quiet-refusal (NoSuchRole c.args.role)) (λ told is. is) (λ t fills. tt))
-    refl (λ slot. omega arith) (alone-keeps c.args.who c.ops-end.result (Refused (NoSuchRole c.args.role)) (λ n. refl) refl) (λ none whole. whole) refl (scope-same given (Some a.backup) refl c.enter.ensures.uuid c.enter.ensures.given) c.enter.ensures.first c.make_room.ensures.items c.enter.ensures.items
+    refl (λ slot. omega arith) (alone-keeps c.args.who c.ops-end.result (Refused (NoSuchRole c.args.role)) (λ n. refl) (λ limit. refl)) (λ none whole. whole) refl (scope-same given (Some a.backup) refl c.enter.ensures.uuid c.enter.ensures.given) c.enter.ensures.first c.make_room.ensures.items c.enter.ensures.items
     (omega (arith, c.enter.ensures.room, c.in-Ok.ensures.ok))
 
 pub returns-in_default-clause-answered : goal.returns-in_default-clause-answered
@@ -135,7 +135,7 @@ returns-in_default-clause-called g c =
     (ended-behind (g.B.Bank.tape a.bank) c.enter.new.epoch.first c.make_room.new.self.items c.args.who end [] (Refused (NoSuchRole c.args.role)) c.enter.ensures.items c.ops-end.ensures.count)
     (alone-lossless a.members faults faults a.epoch.entries.items c.make_room.new.self.items c.enter.new.epoch.entries.items c.args.who end (Refused (NoSuchRole c.args.role)) tt c.make_room.ensures.items c.enter.ensures.items)
     (λ slot. omega arith)
-    (record { uuid = c.enter.ensures.uuid; given = c.enter.ensures.given; first = c.enter.ensures.first; backup = refl; work = refl; ahead = refl })
+    (record { uuid = c.enter.ensures.uuid; given = c.enter.ensures.given; first = c.enter.ensures.first; backup = refl; work = refl; ahead = refl; limit = refl })
     (λ t. (was.kept.recorded t).begun))
 
 -- ---- a slot is taken out
@@ -169,7 +169,7 @@ invariant_of-self-2 g c =
     (sym (left-moved given a.members m a.work.resync a.course a.ahead moved))
     (failed-moves g.B.Bank.tells given tape tape' scope a.epoch.first a.epoch.entries.items a.members m (is_carried a.work) a.work.resync a.course buffer (left_in a.work a.members a.course a.ahead) c.args.who end role roles spares
     was.kept (holder-left given a.members role c.in-Some.slot here.placed here.unlost c.in-Some.ensures.held) (begins-going a.epoch.entries.items c.args.who number) (not_254 c.args.who.caller c.requires.caller) c.ops-end-2.ensures.count did.grows out))
-    refl did.counts (record { long = (behind-keeps c.args.who end roles spares (Failed role) (λ n. refl) refl).long; free = (behind-keeps c.args.who end roles spares (Failed role) (λ n. refl) refl).free })
+    refl did.counts (record { long = (behind-keeps c.args.who end roles spares (Failed role) (λ n. refl) (λ limit. refl)).long; free = (behind-keeps c.args.who end roles spares (Failed role) (λ n. refl) (λ limit. refl)).free })
     (λ none whole. takes-lost (world_in given tape' scope a.epoch.first) role a.epoch.entries.items (entries_of c.args.who end ((Lost role Command ∷ losses_of roles spares) ++ Failed role ∷ [])) (lost-here role c.args.who end Command (losses_of roles spares ++ Failed role ∷ [])) none) did.given (scope-same given (Some a.backup) did.given (c.enter_behind.ensures.uuid ∙ c.enter-2.ensures.uuid) (c.enter_behind.ensures.given ∙ c.enter-2.ensures.given)) (c.enter_behind.ensures.first ∙ c.enter-2.ensures.first)
     c.make_room.ensures.items items (omega (arith, c.enter_behind.ensures.room, c.enter-2.ensures.room, c.in-Ok.ensures.ok))
 
@@ -208,7 +208,7 @@ returns-clause-called g c =
     (ended-behind (g.B.Bank.tape c.name_missing-spares.new.bank) c.enter_behind.new.epoch.first c.make_room.new.self.items c.args.who end (Lost role Command ∷ losses_of roles spares) (Failed role) items c.ops-end-2.ensures.count)
     (losses-failed a.members mid m before after a.epoch.entries.items c.make_room.new.self.items c.enter_behind.new.epoch.entries.items c.args.who end role c.in-Some.slot roles spares first.held since c.in-Some.ensures.held c.make_room.ensures.items items)
     did.counts
-    (record { uuid = c.enter_behind.ensures.uuid ∙ c.enter-2.ensures.uuid; given = c.enter_behind.ensures.given ∙ c.enter-2.ensures.given; first = c.enter_behind.ensures.first ∙ c.enter-2.ensures.first; backup = refl; work = refl; ahead = refl })
+    (record { uuid = c.enter_behind.ensures.uuid ∙ c.enter-2.ensures.uuid; given = c.enter_behind.ensures.given ∙ c.enter-2.ensures.given; first = c.enter_behind.ensures.first ∙ c.enter-2.ensures.first; backup = refl; work = refl; ahead = refl; limit = refl })
     (λ t. (was.kept.recorded t).begun))
 
 pub returns-clause-others : goal.returns-clause-others

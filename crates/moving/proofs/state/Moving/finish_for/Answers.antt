@@ -16,11 +16,12 @@ use Rattle.moving_laws.specs.region_mends_Mends.{relied_sector}
 use Rattle.kept_history.specs.Recorded.{IsCallGoing}
 use Rattle.moving_laws.proofs.moving_kept_Refusals.{quiet-refusal}
 use Rattle.moving_laws.proofs.moving_kept_Resting.{resting-moves}
-use Rattle.moving_laws.specs.running_words_Parts.{left_in}
+use Rattle.moving_laws.specs.running_words_Parts.{visible_size, visible_in, left_in}
 use Rattle.moving_laws.specs.Ready.{bytes_in}
 use Rattle.moving_laws.proofs.running_words_Called.{not_254, called, alone-lossless}
 use Rattle.moving_laws.proofs.Kept.{ready, shapes-same, alone-keeps}
 use Rattle.moving_laws.proofs.WriteLaws.{first-right, wider-refused, finish-caused}
+use Rattle.moving_laws.proofs.FirstLaws.{first-told, first-none}
 use Rattle.moving.proofs.state.Moving.finish_for.Goals as goal
 
 -- ---- refused before the window is finished
@@ -39,9 +40,9 @@ invariant_of-self g c =
     let refusal = c.in-Some.refusal in
     let kept = resting-moves g.B.Bank.tells given tape scope a.epoch.first a.epoch.entries.items a.members (is_carried a.work) a.work.resync a.course (bytes_in a.course.window a.window.items) (left_in a.work a.members a.course a.ahead)
     c.args.who end (Refused refusal) was.kept goes (not_254 c.args.who.caller c.requires.caller) c.ops-end.ensures.count (quiet-refusal refusal) (λ told is. is)
-    (λ t right. first-right was.kept was.unlimited c.open_span-window.result c.relied_sector-relied.result c.args.at to refusal c.relied_sector-relied.ensures.value c.in-Some.ensures t right) in
+    (λ t right. first-right was.kept was.limited c.open_span-window.result c.relied_sector-relied.result c.args.at to refusal c.relied_sector-relied.ensures.value c.in-Some.ensures.why t right) in
     ready (entries_of c.args.who end (Refused refusal ∷ [])) was (grows-none (λ t. refl)) (shapes-same a.members.newest) kept
-    refl (λ slot. omega arith) (alone-keeps c.args.who end (Refused refusal) (λ n. refl) refl) (λ none whole. whole) refl (scope-same given (Some a.backup) refl c.enter.ensures.uuid c.enter.ensures.given) c.enter.ensures.first refl c.enter.ensures.items
+    refl (λ slot. omega arith) (alone-keeps c.args.who end (Refused refusal) (λ n. refl) (λ limit. refl)) (λ none whole. whole) refl (scope-same given (Some a.backup) refl c.enter.ensures.uuid c.enter.ensures.given) c.enter.ensures.first refl c.enter.ensures.items
     (let had = was.room_left in let room = c.enter.ensures.room in omega (arith, room, had, steps))
 
 pub returns-in-Some-clause-entered : goal.returns-in-Some-clause-entered
@@ -60,7 +61,7 @@ returns-in-Some-clause-called g c =
     (ended-behind (g.B.Bank.tape a.bank) c.enter.new.epoch.first a.epoch.entries.items c.args.who end [] (Refused refusal) c.enter.ensures.items c.ops-end.ensures.count)
     (alone-lossless a.members faults faults a.epoch.entries.items a.epoch.entries.items c.enter.new.epoch.entries.items c.args.who end (Refused refusal) tt refl c.enter.ensures.items)
     (λ slot. omega arith)
-    (record { uuid = c.enter.ensures.uuid; given = c.enter.ensures.given; first = c.enter.ensures.first; backup = refl; work = refl; ahead = refl })
+    (record { uuid = c.enter.ensures.uuid; given = c.enter.ensures.given; first = c.enter.ensures.first; backup = refl; work = refl; ahead = refl; limit = refl })
     (λ t. (was.kept.recorded t).begun))
 
 pub returns-in-Some-clause-caused : goal.returns-in-Some-clause-caused
@@ -68,9 +69,9 @@ returns-in-Some-clause-caused g c =
     let a = c.self.inside in
     let to = c.args.at + c.args.count in
     let relied = relied_sector a.members.newest a.work.resync in
-    rw (← c.self.view_is) (wider-refused (list_length a.members.newest) to (IsListUnwritten (open_in a.course.window) relied c.args.at to) a.members c.in-Some.refusal
-    (subst (λ (o : Option Span). IsRefusedFor (list_length a.members.newest) to (IsListUnwritten o relied c.args.at to) a.members a.members c.in-Some.refusal) c.open_span-window.ensures
-    (subst (λ (n : ℕ). IsRefusedFor (list_length a.members.newest) to (IsListUnwritten c.open_span-window.result n c.args.at to) a.members a.members c.in-Some.refusal) c.relied_sector-relied.ensures.value c.in-Some.ensures)))
+    rw (← c.self.view_is) (wider-refused (visible_size a.members a.limit) to (IsListUnwritten (open_in a.course.window) relied c.args.at to) a.members c.in-Some.refusal
+    (subst (λ (o : Option Span). IsRefusedFor (visible_size a.members a.limit) to (IsListUnwritten o relied c.args.at to) a.members a.members c.in-Some.refusal) c.open_span-window.ensures
+    (subst (λ (n : ℕ). IsRefusedFor (visible_size a.members a.limit) to (IsListUnwritten c.open_span-window.result n c.args.at to) a.members a.members c.in-Some.refusal) c.relied_sector-relied.ensures.value c.in-Some.ensures.why)))
 
 -- ---- behind it
 
@@ -79,10 +80,18 @@ returns-clause-caused g c =
     let old = c.args.self.now.parts in
     let m = old.members in
     let to = c.args.at + c.args.count in
-    let fine = subst (λ p. (to ≤ list_length p.parts.members.newest) × ((refusal : Refusal) → IsListUnwritten (open_in p.course.window) (relied_sector p.parts.members.newest p.parts.work.resync) c.args.at to p.parts.members refusal → ⊥)) c.self.view_is
-    (c.in_default.ensures.0, λ refusal why. c.in_default.ensures.1 refusal (subst (λ (o : Option Span). IsListUnwritten o c.relied_sector-relied.result c.args.at to c.self.inside.members refusal) (sym c.open_span-window.ensures)
+    let fine = subst (λ p. (to ≤ visible_in p) × ((refusal : Refusal) → IsListUnwritten (open_in p.course.window) (relied_sector p.parts.members.newest p.parts.work.resync) c.args.at to p.parts.members refusal → ⊥)) c.self.view_is
+    (c.in_default.ensures.why.0, λ refusal why. c.in_default.ensures.why.1 refusal (subst (λ (o : Option Span). IsListUnwritten o c.relied_sector-relied.result c.args.at to c.self.inside.members refusal) (sym c.open_span-window.ensures)
     (subst (λ (n : ℕ). IsListUnwritten (open_in c.self.inside.course.window) n c.args.at to c.self.inside.members refusal) (sym c.relied_sector-relied.ensures.value) why))) in
-    finish-caused (list_length m.newest) to (IsListUnwritten (open_in c.args.self.now.course.window) (relied_sector m.newest old.work.resync) c.args.at to) m c.finish_window.new.self.parts.members c.finish_window.result fine.0 fine.1 c.finish_window.ensures.caused
+    finish-caused (list_length m.newest) (visible_in c.args.self.now) to (IsListUnwritten (open_in c.args.self.now.course.window) (relied_sector m.newest old.work.resync) c.args.at to) m c.finish_window.new.self.parts.members c.finish_window.result fine.0 fine.1 c.finish_window.ensures.caused
 
 pub returns-in-Some-clause-failed : goal.returns-in-Some-clause-failed
 returns-in-Some-clause-failed g c = rw (← c.self.view_is) (λ role slot held. inl held)
+
+-- ---- which refusal is the first
+
+pub returns-in-Some-clause-first : goal.returns-in-Some-clause-first
+returns-in-Some-clause-first g c = rw (← c.self.view_is) (first-told _ c.in-Some.refusal c.in-Some.ensures.first)
+
+pub returns-clause-first : goal.returns-clause-first
+returns-clause-first g c = rw (← c.self.view_is) (first-none _ c.finish_window.result c.in_default.ensures.first)

@@ -46,7 +46,7 @@ invariant_of-self g c =
     let kept = untried-moves g.B.Bank.tells given (g.B.Bank.tape a.bank) scope a.epoch.first a.epoch.entries.items a.members (is_carried a.work) a.work.resync a.course (bytes_in a.course.window a.window.items) (left_in a.work a.members a.course a.ahead)
     c.args.who end c.unwrap_or-stripes.result refusal was.kept goes (not_254 c.args.who.caller c.requires.caller) c.ops-end.ensures.count next.0 next.1 c.in-Some.ensures.why in
     ready (entries_of c.args.who end (Refused refusal ∷ [])) was (grows-none (λ t. refl)) (shapes-same a.members.newest) kept
-    refl (λ slot. omega arith) (alone-keeps c.args.who end (Refused refusal) (λ n. refl) refl) (λ none whole. whole) refl (scope-same given (Some a.backup) refl c.enter.ensures.uuid c.enter.ensures.given) c.enter.ensures.first refl c.enter.ensures.items
+    refl (λ slot. omega arith) (alone-keeps c.args.who end (Refused refusal) (λ n. refl) (λ limit. refl)) (λ none whole. whole) refl (scope-same given (Some a.backup) refl c.enter.ensures.uuid c.enter.ensures.given) c.enter.ensures.first refl c.enter.ensures.items
     (omega (arith, c.enter.ensures.room, was.room_left, some))
 
 pub returns-in-Some-clause-entered : goal.returns-in-Some-clause-entered
@@ -65,7 +65,7 @@ returns-in-Some-clause-called g c =
     (ended-behind (g.B.Bank.tape a.bank) c.enter.new.epoch.first a.epoch.entries.items c.args.who end [] (Refused refusal) c.enter.ensures.items c.ops-end.ensures.count)
     (alone-lossless a.members faults faults a.epoch.entries.items a.epoch.entries.items c.enter.new.epoch.entries.items c.args.who end (Refused refusal) tt refl c.enter.ensures.items)
     (λ slot. omega arith)
-    (record { uuid = c.enter.ensures.uuid; given = c.enter.ensures.given; first = c.enter.ensures.first; backup = refl; work = refl; ahead = refl })
+    (record { uuid = c.enter.ensures.uuid; given = c.enter.ensures.given; first = c.enter.ensures.first; backup = refl; work = refl; ahead = refl; limit = refl })
     (λ t. (was.kept.recorded t).begun))
 
 pub returns-in-Some-clause-caused : goal.returns-in-Some-clause-caused
@@ -148,7 +148,7 @@ invariant_of-self-in-Some-refusal g c =
     (refused-why (IsNotMended (mend_shape a.members.newest stripes) m) (DoWithout m) c.mend_list-mended.result.refusal refusal c.in-Some-refusal.is did.refused) in
     with-buffers (omega (arith, was.rows_fit, did.rows)) (rw did.buffer was.buffer_fits)
     (ready (entries_of c.args.who end (losses_of roles spares ++ Refused refusal ∷ [])) was did.grows (shapes-moved given a.members m did.moved) kept
-    refl did.counts (behind-keeps c.args.who end roles spares (Refused refusal) (λ n. refl) refl) (behind-whole tape' (scope_in given a.epoch.uuid a.epoch.given (Some a.backup)) a.epoch.first a.epoch.entries.items c.args.who end roles spares (Refused refusal) did.moved (missing-since roles did.moved since.vacant)) did.given (scope-same given (Some a.backup) did.given c.enter_behind.ensures.uuid c.enter_behind.ensures.given) c.enter_behind.ensures.first refl c.enter_behind.ensures.items
+    refl did.counts (behind-keeps c.args.who end roles spares (Refused refusal) (λ n. refl) (λ limit. refl)) (behind-whole tape' (scope_in given a.epoch.uuid a.epoch.given (Some a.backup)) a.epoch.first a.epoch.entries.items c.args.who end roles spares (Refused refusal) did.moved (missing-since roles did.moved since.vacant)) did.given (scope-same given (Some a.backup) did.given c.enter_behind.ensures.uuid c.enter_behind.ensures.given) c.enter_behind.ensures.first refl c.enter_behind.ensures.items
     (omega (arith, c.enter_behind.ensures.room, was.room_left, some)))
 
 pub returns-in-Some-refusal-clause-called : goal.returns-in-Some-refusal-clause-called
@@ -171,7 +171,7 @@ returns-in-Some-refusal-clause-called g c =
     (ended-behind (g.B.Bank.tape c.mend_list-mended.new.bank) c.enter_behind.new.epoch.first a.epoch.entries.items c.args.who end (losses_of roles spares) (Refused refusal) c.enter_behind.ensures.items c.ops-end-2.ensures.count)
     (losses-behind a.members m before after a.epoch.entries.items a.epoch.entries.items c.enter_behind.new.epoch.entries.items c.args.who end roles spares (Refused refusal) since tt refl c.enter_behind.ensures.items)
     did.counts
-    (record { uuid = c.enter_behind.ensures.uuid; given = c.enter_behind.ensures.given; first = c.enter_behind.ensures.first; backup = refl; work = refl; ahead = refl })
+    (record { uuid = c.enter_behind.ensures.uuid; given = c.enter_behind.ensures.given; first = c.enter_behind.ensures.first; backup = refl; work = refl; ahead = refl; limit = refl })
     (λ t. (was.kept.recorded t).begun))
 
 pub returns-in-Some-refusal-clause-caused : goal.returns-in-Some-refusal-clause-caused
@@ -241,7 +241,7 @@ invariant_of-self-2 g c =
     (done-why (IsNotMended (mend_shape a.members.newest stripes) m) (DoWithout m) c.mend_list-mended.result.refusal c.in_default-refusal.is did.refused) (did.mended c.in_default-refusal.is) in
     with-buffers (omega (arith, was.rows_fit, did.rows)) (rw did.buffer was.buffer_fits)
     (ready-with (entries_of c.args.who end (losses_of roles spares ++ Step MendsStripe left ∷ [])) was did.grows (shapes-moved given a.members m did.moved) kept
-    refl did.counts (behind-keeps c.args.who end roles spares (Step MendsStripe left) (λ n. refl) refl) (behind-whole tape' (scope_in given a.epoch.uuid a.epoch.given (Some a.backup)) a.epoch.first a.epoch.entries.items c.args.who end roles spares (Step MendsStripe left) did.moved (missing-since roles did.moved since.vacant)) did.given (scope-same given (Some a.backup) did.given c.enter_behind-2.ensures.uuid c.enter_behind-2.ensures.given) c.enter_behind-2.ensures.first refl c.enter_behind-2.ensures.items
+    refl did.counts (behind-keeps c.args.who end roles spares (Step MendsStripe left) (λ n. refl) (λ limit. refl)) (behind-whole tape' (scope_in given a.epoch.uuid a.epoch.given (Some a.backup)) a.epoch.first a.epoch.entries.items c.args.who end roles spares (Step MendsStripe left) did.moved (missing-since roles did.moved since.vacant)) did.given (scope-same given (Some a.backup) did.given c.enter_behind-2.ensures.uuid c.enter_behind-2.ensures.given) c.enter_behind-2.ensures.first refl c.enter_behind-2.ensures.items
     (omega (arith, c.enter_behind-2.ensures.room, was.room_left, some)))
 
 pub returns-clause-called : goal.returns-clause-called
@@ -264,7 +264,7 @@ returns-clause-called g c =
     (ended-behind (g.B.Bank.tape c.mend_list-mended.new.bank) c.enter_behind-2.new.epoch.first a.epoch.entries.items c.args.who end (losses_of roles spares) event c.enter_behind-2.ensures.items c.ops-end-2.ensures.count)
     (losses-behind a.members m before after a.epoch.entries.items a.epoch.entries.items c.enter_behind-2.new.epoch.entries.items c.args.who end roles spares event since tt refl c.enter_behind-2.ensures.items)
     did.counts
-    (record { uuid = c.enter_behind-2.ensures.uuid; given = c.enter_behind-2.ensures.given; first = c.enter_behind-2.ensures.first; backup = refl; work = refl; ahead = refl })
+    (record { uuid = c.enter_behind-2.ensures.uuid; given = c.enter_behind-2.ensures.given; first = c.enter_behind-2.ensures.first; backup = refl; work = refl; ahead = refl; limit = refl })
     (λ t. (was.kept.recorded t).begun))
 
 pub returns-clause-work : goal.returns-clause-work

@@ -29,7 +29,7 @@ use Rattle.kept_history.proofs.Records.{begins-going}
 use Rattle.history_calls.specs.Reliable.{IsReliable}
 use Rattle.moving_laws.proofs.moving_kept_Refusals.{quiet-refusal}
 use Rattle.moving_laws.proofs.moving_kept_Resting.{resting-moves}
-use Rattle.moving_laws.specs.running_words_Parts.{left_in}
+use Rattle.moving_laws.specs.running_words_Parts.{visible_size, left_in}
 use Rattle.moving_laws.specs.Ready.{bytes_in}
 use Rattle.moving_laws.specs.running_words_Calls.{moving_world}
 use Rattle.moving_laws.proofs.Kept.{ready, shapes-same, alone-keeps}
@@ -40,6 +40,7 @@ use Rattle.md_base.specs.declared.answers.Fault.TheVariants.{Refused as IsRefuse
 use Rattle.bank.specs.Tape.{AreSectors}
 use Rattle.array_kept.specs.Calls.{IsAnswered, OnNoMemory}
 use Rattle.moving_laws.proofs.WriteLaws.{roomed, called-roomed}
+use Rattle.moving_laws.proofs.FirstLaws.{first-short, first-told, first-none, first-seen}
 use Rattle.moving.proofs.state.Moving.read.Goals as goal
 
 -- what follows where memory is short, where it never is
@@ -61,15 +62,15 @@ invariant_of-self-in-Some g c =
     let end = c.ops-end.result in
     let refusal = c.in-Some.refusal in
     let count = length c.args.into.now / 512 in
-    let size = list_length a.members.newest in
+    let size = visible_size a.members a.limit in
     let hidden = c.hidden_span-hidden.result in
     let relied = c.relied_sector-relied.result in
-    let why = subst (λ (n : ℕ). IsRefusedFor n (c.args.at + count) (IsUnreadAround hidden relied c.args.at (c.args.at + count)) a.members a.members refusal) c.list_sectors-sectors.ensures.length c.in-Some.ensures.why in
+    let why = subst (λ (n : ℕ). IsRefusedFor n (c.args.at + count) (IsUnreadAround hidden relied c.args.at (c.args.at + count)) a.members a.members refusal) c.visible-sectors.ensures.value c.in-Some.ensures.why in
     let kept = resting-moves g.B.Bank.tells given tape scope a.epoch.first a.epoch.entries.items a.members (is_carried a.work) a.work.resync a.course (bytes_in a.course.window a.window.items) (left_in a.work a.members a.course a.ahead)
     c.args.who end (Refused refusal) was.kept (begins-going a.epoch.entries.items c.args.who number) (not_254 c.args.who.caller c.requires.caller) c.ops-end.ensures.count (quiet-refusal refusal) (λ told is. is)
-    (first-right was.kept was.unlimited hidden relied c.args.at (c.args.at + count) refusal c.relied_sector-relied.ensures.value why) in
+    (first-right was.kept was.limited hidden relied c.args.at (c.args.at + count) refusal c.relied_sector-relied.ensures.value why) in
     ready (entries_of c.args.who end (Refused refusal ∷ [])) was (grows-none (λ t. refl)) (shapes-same a.members.newest) kept
-    refl (λ slot. omega arith) (alone-keeps c.args.who end (Refused refusal) (λ n. refl) refl) (λ none whole. whole) refl (scope-same given (Some a.backup) refl c.enter.ensures.uuid c.enter.ensures.given) c.enter.ensures.first c.make_room.ensures.items c.enter.ensures.items
+    refl (λ slot. omega arith) (alone-keeps c.args.who end (Refused refusal) (λ n. refl) (λ limit. refl)) (λ none whole. whole) refl (scope-same given (Some a.backup) refl c.enter.ensures.uuid c.enter.ensures.given) c.enter.ensures.first c.make_room.ensures.items c.enter.ensures.items
     (omega (arith, c.enter.ensures.room, c.in-Ok-make_room.ensures.ok))
 
 pub returns-in-Some-clause-answered : goal.returns-in-Some-clause-answered
@@ -78,12 +79,12 @@ returns-in-Some-clause-answered g c =
     let a = c.self.inside in
     let number : c.args.who.number ≡ next_number c.args.who.caller a.epoch.entries.items = c.requires.next ∙ ap (λ p. next_number c.args.who.caller p.parts.entries) (sym c.self.view_is) in
     let count = length c.args.into.now / 512 in
-    let size = list_length a.members.newest in
+    let size = visible_size a.members a.limit in
     let refusal = c.in-Some.refusal in
     let hidden = c.hidden_span-hidden.result in
     let relied = c.relied_sector-relied.result in
-    let why = subst (λ (n : ℕ). IsRefusedFor n (c.args.at + count) (IsUnreadAround hidden relied c.args.at (c.args.at + count)) a.members a.members refusal) c.list_sectors-sectors.ensures.length c.in-Some.ensures.why in
-    rw (← c.self.view_is) (first-reply a.members hidden relied a.epoch.entries.items was.sized was.unlimited c.args.who c.args.at count c.enter.new.epoch.entries.items c.ops-end.result refusal why
+    let why = subst (λ (n : ℕ). IsRefusedFor n (c.args.at + count) (IsUnreadAround hidden relied c.args.at (c.args.at + count)) a.members a.members refusal) c.visible-sectors.ensures.value c.in-Some.ensures.why in
+    rw (← c.self.view_is) (first-reply a.members hidden relied a.limit a.epoch.entries.items was.sized was.limited c.args.who c.args.at count c.enter.new.epoch.entries.items c.ops-end.result refusal why
     (c.enter.ensures.items ∙ ap (λ (l : List Entry). l ++ entries_of c.args.who c.ops-end.result (Refused refusal ∷ [])) c.make_room.ensures.items) number)
 
 pub returns-in-Some-clause-called : goal.returns-in-Some-clause-called
@@ -115,6 +116,7 @@ returns-in-Some-clause-called g c =
         final = refl;
         backward = refl;
         ahead = refl;
+        limit = refl;
       };
     })
 
@@ -122,11 +124,11 @@ pub returns-in-Some-clause-caused : goal.returns-in-Some-clause-caused
 returns-in-Some-clause-caused g c =
     let a = c.self.inside in
     let to = c.args.at + length c.args.into.now / 512 in
-    let size = list_length a.members.newest in
+    let size = visible_size a.members a.limit in
     let refusal = c.in-Some.refusal in
     rw (← c.self.view_is) (subst (λ (o : Option Span). IsRefusedFor size to (IsUnreadAround o (relied_sector a.members.newest a.work.resync) c.args.at to) a.members a.members refusal) c.hidden_span-hidden.ensures
     (subst (λ (n : ℕ). IsRefusedFor size to (IsUnreadAround c.hidden_span-hidden.result n c.args.at to) a.members a.members refusal) c.relied_sector-relied.ensures.value
-    (subst (λ (n : ℕ). IsRefusedFor n to (IsUnreadAround c.hidden_span-hidden.result c.relied_sector-relied.result c.args.at to) a.members a.members refusal) c.list_sectors-sectors.ensures.length c.in-Some.ensures.why)))
+    (subst (λ (n : ℕ). IsRefusedFor n to (IsUnreadAround c.hidden_span-hidden.result c.relied_sector-relied.result c.args.at to) a.members a.members refusal) c.visible-sectors.ensures.value c.in-Some.ensures.why)))
 
 -- ---- none are asked for
 
@@ -143,12 +145,12 @@ invariant_of-self-then-asked-eq0 g c =
     let count = length c.args.into.now / 512 in
     let zero = c.if-asked-eq0.true in
     let none : length body ≡ 0 = ap (λ (l : List Sector). length l) (c.from_bytes-body.ensures ∙ no-sectors c.in-Ok.bytes.items (ap (λ (n : ℕ). n / 512) c.in-Ok.ensures.len ∙ zero)) in
-    let within : c.args.at ≤ list_length a.members.newest = let below = c.in_default.ensures.why.0 in let sectors = c.list_sectors-sectors.ensures.length in omega (arith, below, sectors) in
+    let within : c.args.at ≤ visible_size a.members a.limit = let below = c.in_default.ensures.why.0 in let sectors = c.visible-sectors.ensures.value in omega (arith, below, sectors) in
     let kept = resting-moves g.B.Bank.tells given tape scope a.epoch.first a.epoch.entries.items a.members (is_carried a.work) a.work.resync a.course (bytes_in a.course.window a.window.items) (left_in a.work a.members a.course a.ahead)
     c.args.who end (Read c.args.at body) was.kept (begins-going a.epoch.entries.items c.args.who number) (not_254 c.args.who.caller c.requires.caller) c.ops-end-then-asked-eq0.ensures.count (read-quiet c.args.at body) (λ told is. is)
-    (none-read was.kept was.unlimited c.args.at body none within) in
+    (none-read was.kept was.limited c.args.at body none within) in
     ready (entries_of c.args.who end (Read c.args.at body ∷ [])) was (grows-none (λ t. refl)) (shapes-same a.members.newest) kept
-    refl (λ slot. omega arith) (alone-keeps c.args.who end (Read c.args.at body) (λ n. refl) refl) (λ none whole. whole) refl (scope-same given (Some a.backup) refl c.enter-then-asked-eq0.ensures.uuid c.enter-then-asked-eq0.ensures.given)
+    refl (λ slot. omega arith) (alone-keeps c.args.who end (Read c.args.at body) (λ n. refl) (λ limit. refl)) (λ none whole. whole) refl (scope-same given (Some a.backup) refl c.enter-then-asked-eq0.ensures.uuid c.enter-then-asked-eq0.ensures.given)
     c.enter-then-asked-eq0.ensures.first c.make_room.ensures.items c.enter-then-asked-eq0.ensures.items
     (omega (arith, c.enter-then-asked-eq0.ensures.room, c.in-Ok-make_room.ensures.ok))
 
@@ -198,13 +200,14 @@ returns-then-asked-eq0-clause-called g c =
         final = refl;
         backward = refl;
         ahead = refl;
+        limit = refl;
       };
     })
 
 pub returns-then-asked-eq0-clause-caused : goal.returns-then-asked-eq0-clause-caused
 returns-then-asked-eq0-clause-caused g c =
     let below = c.in_default.ensures.why.0 in
-    let sectors = c.list_sectors-sectors.ensures.length in
+    let sectors = c.visible-sectors.ensures.value in
     let a = c.self.inside in
     let to = c.args.at + length c.args.into.now / 512 in
     rw (← c.self.view_is) (
@@ -225,7 +228,7 @@ returns-in-Err-make_room-clause-called g c =
     (λ t. ap (λ (l : List Entry). last_end_from a.epoch.first l) c.make_room.ensures.items ∙ (was.kept.recorded t).ended)
     (record { more = []; grown = c.make_room.ensures.items ∙ sym (append-nil a.epoch.entries.items); failed = All-nil (λ e. IsLossBy (Held a.members) faults faults e.event) })
     (λ slot. omega arith)
-    (record { uuid = refl; given = refl; first = refl; backup = refl; work = refl; ahead = refl })
+    (record { uuid = refl; given = refl; first = refl; backup = refl; work = refl; ahead = refl; limit = refl })
     (λ t. (was.kept.recorded t).begun))
 
 -- ---- the others
@@ -238,7 +241,7 @@ read_some-requires-clause-fine g c =
     let a = c.self.inside in
     let to = c.args.at + length c.args.into.now / 512 in
     let below = c.in_default.ensures.why.0 in
-    let sectors = c.list_sectors-sectors.ensures.length in (
+    let sectors = c.visible-sectors.ensures.value in (
       omega (arith, below, sectors),
       λ refusal why. c.in_default.ensures.why.1 refusal (subst (λ (o : Option Span). IsUnreadAround o c.relied_sector-relied.result c.args.at to a.members refusal) (sym c.hidden_span-hidden.ensures)
           (subst (λ (n : ℕ). IsUnreadAround (hidden_in a.course.window) n c.args.at to a.members refusal) (sym c.relied_sector-relied.ensures.value) why)),
@@ -287,3 +290,20 @@ returns-clause-course g c = rw (← c.self.view_is) c.read_some.ensures.course
 
 pub returns-clause-given : goal.returns-clause-given
 returns-clause-given g c = rw (← c.self.view_is) c.read_some.ensures.given
+
+-- ---- which refusal is the first
+
+pub returns-in-Err-clause-first : goal.returns-in-Err-clause-first
+returns-in-Err-clause-first g c = first-short _ c.in-Err.fault c.in-Err.ensures.no_memory
+
+pub returns-in-Err-make_room-clause-first : goal.returns-in-Err-make_room-clause-first
+returns-in-Err-make_room-clause-first g c = first-short _ NoMemory refl
+
+pub returns-in-Some-clause-first : goal.returns-in-Some-clause-first
+returns-in-Some-clause-first g c = rw (← c.self.view_is) (first-told _ c.in-Some.refusal (first-seen c.visible-sectors.ensures.value c.in-Some.ensures.first))
+
+pub returns-then-asked-eq0-clause-first : goal.returns-then-asked-eq0-clause-first
+returns-then-asked-eq0-clause-first g c = rw (← c.self.view_is) (first-none _ _ (first-seen c.visible-sectors.ensures.value c.in_default.ensures.first))
+
+pub returns-clause-first : goal.returns-clause-first
+returns-clause-first g c = rw (← c.self.view_is) (first-none _ c.read_some.result (first-seen c.visible-sectors.ensures.value c.in_default.ensures.first))

@@ -24,7 +24,7 @@ use Rattle.array_kept.specs.Kept.{scope_in}
 use Rattle.array_kept.specs.Calls.{IsRefusedFor, IsRefusalOf}
 use Rattle.array_kept.proofs.LossLaws.{losses-behind, ended-behind}
 use Rattle.array_kept.proofs.ReadyLaws.{scope-same}
-use Rattle.array_kept.proofs.ReplyLaws.{lost_reply, inside-losses, replied, read_kind, refused-for}
+use Rattle.array_kept.proofs.ReplyLaws.{inside-losses, replied, refused-for}
 use Rattle.calls_kept.proofs.ReadLaws.{some-of}
 use Rattle.moving_laws.specs.region_mends_Mends.{relied_sector}
 use Rattle.moving_laws.specs.course_kept_Course.{hidden_in}
@@ -37,6 +37,9 @@ use Rattle.moving_laws.specs.moving_kept_Moving.{IsMoving}
 use Rattle.moving_laws.proofs.moving_kept_Steps.{missing-since}
 use Rattle.moving_laws.specs.Ready.{bytes_in}
 use Rattle.moving_laws.specs.running_words_Calls.{moving_world}
+use Rattle.moving_laws.specs.running_words_Parts.{visible_size, visible_in}
+use Rattle.moving_laws.proofs.running_words_Replies.{lost_reply, read_kind}
+use Rattle.moving_laws.proofs.running_words_Visible.{visible-within}
 use Rattle.moving_laws.proofs.Kept.{ready, with-buffer, shapes-moved, left-moved, behind-keeps, behind-whole, written-whole}
 use Rattle.moving_laws.proofs.running_words_Called.{not_254, called}
 use Rattle.moving_laws.proofs.Settled.{risen-told}
@@ -87,10 +90,10 @@ invariant_of-self g c =
     let was = c.self.invariant in
     let a = c.self.inside in
     let steps : 1 ≤ a.steps = subst (λ p. 1 ≤ p.parts.steps) (sym c.self.view_is) c.requires.room in
-    let fine : IsRefusalOf (list_length a.members.newest) (c.args.at + length c.args.into.now / 512) (IsUnreadAround c.hidden_span-hidden.result c.relied_sector-relied.result c.args.at (c.args.at + length c.args.into.now / 512)) a.members None =
-    subst (λ (o : Option Span). IsRefusalOf (list_length a.members.newest) (c.args.at + length c.args.into.now / 512) (IsUnreadAround o c.relied_sector-relied.result c.args.at (c.args.at + length c.args.into.now / 512)) a.members None) (sym c.hidden_span-hidden.ensures)
-    (subst (λ (n : ℕ). IsRefusalOf (list_length a.members.newest) (c.args.at + length c.args.into.now / 512) (IsUnreadAround (hidden_in a.course.window) n c.args.at (c.args.at + length c.args.into.now / 512)) a.members None) (sym c.relied_sector-relied.ensures.value)
-    (subst (λ p. IsRefusalOf (list_length p.parts.members.newest) (c.args.at + length c.args.into.now / 512) (IsUnreadAround (hidden_in p.course.window) (relied_sector p.parts.members.newest p.parts.work.resync) c.args.at (c.args.at + length c.args.into.now / 512)) p.parts.members None) (sym c.self.view_is) c.requires.fine)) in
+    let fine : IsRefusalOf (visible_size a.members a.limit) (c.args.at + length c.args.into.now / 512) (IsUnreadAround c.hidden_span-hidden.result c.relied_sector-relied.result c.args.at (c.args.at + length c.args.into.now / 512)) a.members None =
+    subst (λ (o : Option Span). IsRefusalOf (visible_size a.members a.limit) (c.args.at + length c.args.into.now / 512) (IsUnreadAround o c.relied_sector-relied.result c.args.at (c.args.at + length c.args.into.now / 512)) a.members None) (sym c.hidden_span-hidden.ensures)
+    (subst (λ (n : ℕ). IsRefusalOf (visible_size a.members a.limit) (c.args.at + length c.args.into.now / 512) (IsUnreadAround (hidden_in a.course.window) n c.args.at (c.args.at + length c.args.into.now / 512)) a.members None) (sym c.relied_sector-relied.ensures.value)
+    (subst (λ p. IsRefusalOf (visible_in p) (c.args.at + length c.args.into.now / 512) (IsUnreadAround (hidden_in p.course.window) (relied_sector p.parts.members.newest p.parts.work.resync) c.args.at (c.args.at + length c.args.into.now / 512)) p.parts.members None) (sym c.self.view_is) c.requires.fine)) in
     let given = g.B.Bank.given a.bank in
     let scope = scope_in given a.epoch.uuid a.epoch.given (Some a.backup) in
     let number : c.args.who.number ≡ next_number c.args.who.caller a.epoch.entries.items = c.requires.next ∙ ap (λ p. next_number c.args.who.caller p.parts.entries) (sym c.self.view_is) in
@@ -121,7 +124,7 @@ invariant_of-self g c =
     } in
     let refusal = c.in-Some.refusal in
     let same : asked ≡ count = asked-is c.args.bytes.items c.as_mut_slice.result.now c.args.into.now c.requires.same c.as_mut_slice.ensures.value in
-    let within : c.args.at + count ≤ size = let below = fine.0 in omega (arith, below) in
+    let within : c.args.at + count ≤ visible_size a.members a.limit = let below = fine.0 in omega (arith, below) in
     let hidden = c.hidden_span-hidden.result in
     let relied = c.relied_sector-relied.result in
     let why : IsUnreadAround hidden relied c.args.at (c.args.at + count) m refusal =
@@ -131,8 +134,8 @@ invariant_of-self g c =
     with-buffer (let len = (with_items a.buffer c.fetch_beside-fetched.new.scratch).ok.0 in let ok = a.buffer.ok.0 in let fits = was.buffer_fits in omega (arith, len, ok, fits))
     (ready (entries_of c.args.who end (losses_of roles spares ++ Refused refusal ∷ [])) was did.grows (shapes-moved given a.members m did.moved)
     (subst (λ (left : ℕ). IsMoving g.B.Bank.tells given tape' scope a.epoch.first (a.epoch.entries.items ++ entries_of c.args.who end (losses_of roles spares ++ Refused refusal ∷ [])) m (is_carried a.work) a.work.resync a.course (bytes_in a.course.window a.window.items) left)
-    (sym (left-moved given a.members m a.work.resync a.course a.ahead did.moved)) (unread-moves was.kept was.unlimited (read-live c.hidden_span-hidden.result c.relied_sector-relied.result c.args.at (c.args.at + count) was.kept fine.1 (read-some count c.args.at (λ zero. let some = c.requires.some in omega (arith, some, zero)))) c.args.who end roles spares (begins-going a.epoch.entries.items c.args.who number) (not_254 c.args.who.caller c.requires.caller) c.ops-end.ensures.count did.grows named hidden relied c.args.at (c.args.at + count) refusal c.relied_sector-relied.ensures.value within why))
-    refl did.counts (behind-keeps c.args.who end roles spares (Refused refusal) (λ n. refl) refl)
+    (sym (left-moved given a.members m a.work.resync a.course a.ahead did.moved)) (unread-moves was.kept was.limited (read-live c.hidden_span-hidden.result c.relied_sector-relied.result c.args.at (c.args.at + count) was.kept fine.1 (read-some count c.args.at (λ zero. let some = c.requires.some in omega (arith, some, zero)))) c.args.who end roles spares (begins-going a.epoch.entries.items c.args.who number) (not_254 c.args.who.caller c.requires.caller) c.ops-end.ensures.count did.grows named hidden relied c.args.at (c.args.at + count) refusal c.relied_sector-relied.ensures.value within why))
+    refl did.counts (behind-keeps c.args.who end roles spares (Refused refusal) (λ n. refl) (λ limit. refl))
     (behind-whole tape' scope a.epoch.first a.epoch.entries.items c.args.who end roles spares (Refused refusal) did.moved (missing-since roles did.moved since.vacant)) did.given (scope-same given (Some a.backup) did.given c.enter_behind.ensures.uuid c.enter_behind.ensures.given) c.enter_behind.ensures.first refl
     c.enter_behind.ensures.items
     (let had = was.room_left in let room = c.enter_behind.ensures.room in omega (arith, room, had, steps)))
@@ -141,10 +144,10 @@ pub returns-in-Some-clause-answered : goal.returns-in-Some-clause-answered
 returns-in-Some-clause-answered g c =
     let was = c.self.invariant in
     let a = c.self.inside in
-    let fine : IsRefusalOf (list_length a.members.newest) (c.args.at + length c.args.into.now / 512) (IsUnreadAround c.hidden_span-hidden.result c.relied_sector-relied.result c.args.at (c.args.at + length c.args.into.now / 512)) a.members None =
-    subst (λ (o : Option Span). IsRefusalOf (list_length a.members.newest) (c.args.at + length c.args.into.now / 512) (IsUnreadAround o c.relied_sector-relied.result c.args.at (c.args.at + length c.args.into.now / 512)) a.members None) (sym c.hidden_span-hidden.ensures)
-    (subst (λ (n : ℕ). IsRefusalOf (list_length a.members.newest) (c.args.at + length c.args.into.now / 512) (IsUnreadAround (hidden_in a.course.window) n c.args.at (c.args.at + length c.args.into.now / 512)) a.members None) (sym c.relied_sector-relied.ensures.value)
-    (subst (λ p. IsRefusalOf (list_length p.parts.members.newest) (c.args.at + length c.args.into.now / 512) (IsUnreadAround (hidden_in p.course.window) (relied_sector p.parts.members.newest p.parts.work.resync) c.args.at (c.args.at + length c.args.into.now / 512)) p.parts.members None) (sym c.self.view_is) c.requires.fine)) in
+    let fine : IsRefusalOf (visible_size a.members a.limit) (c.args.at + length c.args.into.now / 512) (IsUnreadAround c.hidden_span-hidden.result c.relied_sector-relied.result c.args.at (c.args.at + length c.args.into.now / 512)) a.members None =
+    subst (λ (o : Option Span). IsRefusalOf (visible_size a.members a.limit) (c.args.at + length c.args.into.now / 512) (IsUnreadAround o c.relied_sector-relied.result c.args.at (c.args.at + length c.args.into.now / 512)) a.members None) (sym c.hidden_span-hidden.ensures)
+    (subst (λ (n : ℕ). IsRefusalOf (visible_size a.members a.limit) (c.args.at + length c.args.into.now / 512) (IsUnreadAround (hidden_in a.course.window) n c.args.at (c.args.at + length c.args.into.now / 512)) a.members None) (sym c.relied_sector-relied.ensures.value)
+    (subst (λ p. IsRefusalOf (visible_in p) (c.args.at + length c.args.into.now / 512) (IsUnreadAround (hidden_in p.course.window) (relied_sector p.parts.members.newest p.parts.work.resync) c.args.at (c.args.at + length c.args.into.now / 512)) p.parts.members None) (sym c.self.view_is) c.requires.fine)) in
     let given = g.B.Bank.given a.bank in
     let scope = scope_in given a.epoch.uuid a.epoch.given (Some a.backup) in
     let number : c.args.who.number ≡ next_number c.args.who.caller a.epoch.entries.items = c.requires.next ∙ ap (λ p. next_number c.args.who.caller p.parts.entries) (sym c.self.view_is) in
@@ -164,7 +167,7 @@ returns-in-Some-clause-answered g c =
     (c.len-count.ensures ∙ was.kept.members_are.backed.roles) c.vacant_roles-before.ensures c.newly_vacant-roles.ensures in
     let refusal = c.in-Some.refusal in
     let same : asked ≡ count = asked-is c.args.bytes.items c.as_mut_slice.result.now c.args.into.now c.requires.same c.as_mut_slice.ensures.value in
-    let within : c.args.at + count ≤ size = let below = fine.0 in omega (arith, below) in
+    let within : c.args.at + count ≤ visible_size a.members a.limit = let below = fine.0 in omega (arith, below) in
     let hidden = c.hidden_span-hidden.result in
     let relied = c.relied_sector-relied.result in
     let why : IsUnreadAround hidden relied c.args.at (c.args.at + count) m refusal =
@@ -172,7 +175,7 @@ returns-in-Some-clause-answered g c =
     (beside-unread hidden relied c.args.at (c.args.at + asked) m refusal
     (some-of (IsUnreadBeside hidden relied c.args.at (c.args.at + asked) m) c.fetch_beside-fetched.result.refusal refusal c.in-Some.is did.refused)) in
     let missing = unread-missing hidden relied c.args.at (c.args.at + count) m refusal why in
-    rw (← c.self.view_is) (lost_reply size a.epoch.entries.items was.sized was.unlimited (AsksRead c.args.at count) c.args.who (c.args.at + count)
+    rw (← c.self.view_is) (lost_reply size a.limit a.epoch.entries.items was.sized was.limited (AsksRead c.args.at count) c.args.who (c.args.at + count)
     c.enter_behind.new.epoch.entries.items end roles spares refusal (read_kind c.args.at count) within missing
     (c.enter_behind.ensures.items) number)
 
@@ -180,10 +183,10 @@ pub returns-in-Some-clause-caused : goal.returns-in-Some-clause-caused
 returns-in-Some-clause-caused g c =
     let was = c.self.invariant in
     let a = c.self.inside in
-    let fine : IsRefusalOf (list_length a.members.newest) (c.args.at + length c.args.into.now / 512) (IsUnreadAround c.hidden_span-hidden.result c.relied_sector-relied.result c.args.at (c.args.at + length c.args.into.now / 512)) a.members None =
-    subst (λ (o : Option Span). IsRefusalOf (list_length a.members.newest) (c.args.at + length c.args.into.now / 512) (IsUnreadAround o c.relied_sector-relied.result c.args.at (c.args.at + length c.args.into.now / 512)) a.members None) (sym c.hidden_span-hidden.ensures)
-    (subst (λ (n : ℕ). IsRefusalOf (list_length a.members.newest) (c.args.at + length c.args.into.now / 512) (IsUnreadAround (hidden_in a.course.window) n c.args.at (c.args.at + length c.args.into.now / 512)) a.members None) (sym c.relied_sector-relied.ensures.value)
-    (subst (λ p. IsRefusalOf (list_length p.parts.members.newest) (c.args.at + length c.args.into.now / 512) (IsUnreadAround (hidden_in p.course.window) (relied_sector p.parts.members.newest p.parts.work.resync) c.args.at (c.args.at + length c.args.into.now / 512)) p.parts.members None) (sym c.self.view_is) c.requires.fine)) in
+    let fine : IsRefusalOf (visible_size a.members a.limit) (c.args.at + length c.args.into.now / 512) (IsUnreadAround c.hidden_span-hidden.result c.relied_sector-relied.result c.args.at (c.args.at + length c.args.into.now / 512)) a.members None =
+    subst (λ (o : Option Span). IsRefusalOf (visible_size a.members a.limit) (c.args.at + length c.args.into.now / 512) (IsUnreadAround o c.relied_sector-relied.result c.args.at (c.args.at + length c.args.into.now / 512)) a.members None) (sym c.hidden_span-hidden.ensures)
+    (subst (λ (n : ℕ). IsRefusalOf (visible_size a.members a.limit) (c.args.at + length c.args.into.now / 512) (IsUnreadAround (hidden_in a.course.window) n c.args.at (c.args.at + length c.args.into.now / 512)) a.members None) (sym c.relied_sector-relied.ensures.value)
+    (subst (λ p. IsRefusalOf (visible_in p) (c.args.at + length c.args.into.now / 512) (IsUnreadAround (hidden_in p.course.window) (relied_sector p.parts.members.newest p.parts.work.resync) c.args.at (c.args.at + length c.args.into.now / 512)) p.parts.members None) (sym c.self.view_is) c.requires.fine)) in
     let given = g.B.Bank.given a.bank in
     let scope = scope_in given a.epoch.uuid a.epoch.given (Some a.backup) in
     let number : c.args.who.number ≡ next_number c.args.who.caller a.epoch.entries.items = c.requires.next ∙ ap (λ p. next_number c.args.who.caller p.parts.entries) (sym c.self.view_is) in
@@ -203,7 +206,7 @@ returns-in-Some-clause-caused g c =
     (c.len-count.ensures ∙ was.kept.members_are.backed.roles) c.vacant_roles-before.ensures c.newly_vacant-roles.ensures in
     let refusal = c.in-Some.refusal in
     let same : asked ≡ count = asked-is c.args.bytes.items c.as_mut_slice.result.now c.args.into.now c.requires.same c.as_mut_slice.ensures.value in
-    let within : c.args.at + count ≤ size = let below = fine.0 in omega (arith, below) in
+    let within : c.args.at + count ≤ visible_size a.members a.limit = let below = fine.0 in omega (arith, below) in
     let hidden = c.hidden_span-hidden.result in
     let relied = c.relied_sector-relied.result in
     let why : IsUnreadAround hidden relied c.args.at (c.args.at + count) m refusal =
@@ -211,9 +214,9 @@ returns-in-Some-clause-caused g c =
     (beside-unread hidden relied c.args.at (c.args.at + asked) m refusal
     (some-of (IsUnreadBeside hidden relied c.args.at (c.args.at + asked) m) c.fetch_beside-fetched.result.refusal refusal c.in-Some.is did.refused)) in
     let missing = unread-missing hidden relied c.args.at (c.args.at + count) m refusal why in
-    rw (← c.self.view_is) (subst (λ (o : Option Span). IsRefusedFor size (c.args.at + count) (IsUnreadAround o (relied_sector a.members.newest a.work.resync) c.args.at (c.args.at + count)) a.members m refusal) c.hidden_span-hidden.ensures
-    (subst (λ (n : ℕ). IsRefusedFor size (c.args.at + count) (IsUnreadAround hidden n c.args.at (c.args.at + count)) a.members m refusal) c.relied_sector-relied.ensures.value
-    (refused-for size (c.args.at + count) (IsUnreadAround hidden relied c.args.at (c.args.at + count)) a.members m refusal missing within why)))
+    rw (← c.self.view_is) (subst (λ (o : Option Span). IsRefusedFor (visible_size a.members a.limit) (c.args.at + count) (IsUnreadAround o (relied_sector a.members.newest a.work.resync) c.args.at (c.args.at + count)) a.members m refusal) c.hidden_span-hidden.ensures
+    (subst (λ (n : ℕ). IsRefusedFor (visible_size a.members a.limit) (c.args.at + count) (IsUnreadAround hidden n c.args.at (c.args.at + count)) a.members m refusal) c.relied_sector-relied.ensures.value
+    (refused-for (visible_size a.members a.limit) (c.args.at + count) (IsUnreadAround hidden relied c.args.at (c.args.at + count)) a.members m refusal missing within why)))
 
 pub returns-in-Some-clause-called : goal.returns-in-Some-clause-called
 returns-in-Some-clause-called g c =
@@ -239,7 +242,7 @@ returns-in-Some-clause-called g c =
     rw (← c.self.view_is) (called did.grows did.moved
     (ended-behind tape' c.enter_behind.new.epoch.first a.epoch.entries.items c.args.who end (losses_of roles spares) (Refused c.in-Some.refusal) c.enter_behind.ensures.items c.ops-end.ensures.count)
     (losses-behind a.members m before after a.epoch.entries.items a.epoch.entries.items c.enter_behind.new.epoch.entries.items c.args.who end roles spares (Refused c.in-Some.refusal) since tt refl c.enter_behind.ensures.items)
-    did.counts (record { uuid = c.enter_behind.ensures.uuid; given = c.enter_behind.ensures.given; first = c.enter_behind.ensures.first; backup = refl; work = refl; ahead = refl }) (λ t. (was.kept.recorded t).begun))
+    did.counts (record { uuid = c.enter_behind.ensures.uuid; given = c.enter_behind.ensures.given; first = c.enter_behind.ensures.first; backup = refl; work = refl; ahead = refl; limit = refl }) (λ t. (was.kept.recorded t).begun))
 
 pub returns-in-Some-clause-others : goal.returns-in-Some-clause-others
 returns-in-Some-clause-others g c = rw (← c.self.view_is) c.fetch_beside-fetched.ensures.others
@@ -258,10 +261,10 @@ invariant_of-self-2 g c =
     let was = c.self.invariant in
     let a = c.self.inside in
     let steps : 1 ≤ a.steps = subst (λ p. 1 ≤ p.parts.steps) (sym c.self.view_is) c.requires.room in
-    let fine : IsRefusalOf (list_length a.members.newest) (c.args.at + length c.args.into.now / 512) (IsUnreadAround c.hidden_span-hidden.result c.relied_sector-relied.result c.args.at (c.args.at + length c.args.into.now / 512)) a.members None =
-    subst (λ (o : Option Span). IsRefusalOf (list_length a.members.newest) (c.args.at + length c.args.into.now / 512) (IsUnreadAround o c.relied_sector-relied.result c.args.at (c.args.at + length c.args.into.now / 512)) a.members None) (sym c.hidden_span-hidden.ensures)
-    (subst (λ (n : ℕ). IsRefusalOf (list_length a.members.newest) (c.args.at + length c.args.into.now / 512) (IsUnreadAround (hidden_in a.course.window) n c.args.at (c.args.at + length c.args.into.now / 512)) a.members None) (sym c.relied_sector-relied.ensures.value)
-    (subst (λ p. IsRefusalOf (list_length p.parts.members.newest) (c.args.at + length c.args.into.now / 512) (IsUnreadAround (hidden_in p.course.window) (relied_sector p.parts.members.newest p.parts.work.resync) c.args.at (c.args.at + length c.args.into.now / 512)) p.parts.members None) (sym c.self.view_is) c.requires.fine)) in
+    let fine : IsRefusalOf (visible_size a.members a.limit) (c.args.at + length c.args.into.now / 512) (IsUnreadAround c.hidden_span-hidden.result c.relied_sector-relied.result c.args.at (c.args.at + length c.args.into.now / 512)) a.members None =
+    subst (λ (o : Option Span). IsRefusalOf (visible_size a.members a.limit) (c.args.at + length c.args.into.now / 512) (IsUnreadAround o c.relied_sector-relied.result c.args.at (c.args.at + length c.args.into.now / 512)) a.members None) (sym c.hidden_span-hidden.ensures)
+    (subst (λ (n : ℕ). IsRefusalOf (visible_size a.members a.limit) (c.args.at + length c.args.into.now / 512) (IsUnreadAround (hidden_in a.course.window) n c.args.at (c.args.at + length c.args.into.now / 512)) a.members None) (sym c.relied_sector-relied.ensures.value)
+    (subst (λ p. IsRefusalOf (visible_in p) (c.args.at + length c.args.into.now / 512) (IsUnreadAround (hidden_in p.course.window) (relied_sector p.parts.members.newest p.parts.work.resync) c.args.at (c.args.at + length c.args.into.now / 512)) p.parts.members None) (sym c.self.view_is) c.requires.fine)) in
     let given = g.B.Bank.given a.bank in
     let scope = scope_in given a.epoch.uuid a.epoch.given (Some a.backup) in
     let number : c.args.who.number ≡ next_number c.args.who.caller a.epoch.entries.items = c.requires.next ∙ ap (λ p. next_number c.args.who.caller p.parts.entries) (sym c.self.view_is) in
@@ -294,7 +297,7 @@ invariant_of-self-2 g c =
     let filled : length bytes ≡ length c.as_mut_slice.result.now = c.fetch_beside-fetched.auto.into in
     let same : length bytes / 512 ≡ asked = ap (λ (n : ℕ). n / 512) filled in
     let whole = written-whole c.args.bytes.len c.args.bytes.items bytes (filled ∙ ap (λ (l : List ℕ). length l) c.as_mut_slice.ensures.value) c.args.bytes.ok.0 in
-    let within : c.args.at + length bytes / 512 ≤ size = let below = fine.0 in
+    let within : c.args.at + length bytes / 512 ≤ visible_size a.members a.limit = let below = fine.0 in
     let long = asked-is c.args.bytes.items c.as_mut_slice.result.now c.args.into.now c.requires.same c.as_mut_slice.ensures.value in omega (arith, below, same, long) in
     let does : (x : ℕ) → c.args.at ≤ x → x < c.args.at + length bytes / 512 → DoesWithout (shape_for a.members.newest x) a.members = λ x low high. read-does a.members c.hidden_span-hidden.result c.relied_sector-relied.result c.args.at (c.args.at + count) fine.1 x low
     (let long = asked-is c.args.bytes.items c.as_mut_slice.result.now c.args.into.now c.requires.same c.as_mut_slice.ensures.value in omega (arith, high, same, long)) in
@@ -303,8 +306,8 @@ invariant_of-self-2 g c =
     with-buffer (let len = (with_items a.buffer c.fetch_beside-fetched.new.scratch).ok.0 in let ok = a.buffer.ok.0 in let fits = was.buffer_fits in omega (arith, len, ok, fits))
     (ready (entries_of c.args.who end (losses_of roles spares ++ Read c.args.at (sectors_of bytes) ∷ [])) was did.grows (shapes-moved given a.members m did.moved)
     (subst (λ (left : ℕ). IsMoving g.B.Bank.tells given tape' scope a.epoch.first (a.epoch.entries.items ++ entries_of c.args.who end (losses_of roles spares ++ Read c.args.at (sectors_of bytes) ∷ [])) m (is_carried a.work) a.work.resync a.course (bytes_in a.course.window a.window.items) left)
-    (sym (left-moved given a.members m a.work.resync a.course a.ahead did.moved)) (read-moves was.kept was.unlimited (read-live c.hidden_span-hidden.result c.relied_sector-relied.result c.args.at (c.args.at + count) was.kept fine.1 (read-some count c.args.at (λ zero. let some = c.requires.some in omega (arith, some, zero)))) c.args.who end roles spares (begins-going a.epoch.entries.items c.args.who number) (not_254 c.args.who.caller c.requires.caller) c.ops-end.ensures.count did.grows named c.relied_sector-relied.result c.args.at bytes c.relied_sector-relied.ensures.value does within holds))
-    refl did.counts (behind-keeps c.args.who end roles spares (Read c.args.at (sectors_of bytes)) (λ n. refl) refl)
+    (sym (left-moved given a.members m a.work.resync a.course a.ahead did.moved)) (read-moves was.kept was.limited (read-live c.hidden_span-hidden.result c.relied_sector-relied.result c.args.at (c.args.at + count) was.kept fine.1 (read-some count c.args.at (λ zero. let some = c.requires.some in omega (arith, some, zero)))) c.args.who end roles spares (begins-going a.epoch.entries.items c.args.who number) (not_254 c.args.who.caller c.requires.caller) c.ops-end.ensures.count did.grows named c.relied_sector-relied.result c.args.at bytes c.relied_sector-relied.ensures.value does within holds))
+    refl did.counts (behind-keeps c.args.who end roles spares (Read c.args.at (sectors_of bytes)) (λ n. refl) (λ limit. refl))
     (behind-whole tape' scope a.epoch.first a.epoch.entries.items c.args.who end roles spares (Read c.args.at (sectors_of bytes)) did.moved (missing-since roles did.moved since.vacant)) did.given (scope-same given (Some a.backup) did.given c.enter_behind-2.ensures.uuid c.enter_behind-2.ensures.given) c.enter_behind-2.ensures.first refl
     (c.enter_behind-2.ensures.items ∙ ap (λ (b : List Sector). a.epoch.entries.items ++ entries_of c.args.who end (losses_of roles spares ++ Read c.args.at b ∷ [])) (c.from_bytes-body.ensures ∙ ap sectors_of whole))
     (let had = was.room_left in let room = c.enter_behind-2.ensures.room in omega (arith, room, had, steps)))
@@ -343,10 +346,10 @@ pub returns-clause-holds : goal.returns-clause-holds
 returns-clause-holds g c = λ t right i lt.
     let was = c.self.invariant in
     let a = c.self.inside in
-    let fine : IsRefusalOf (list_length a.members.newest) (c.args.at + length c.args.into.now / 512) (IsUnreadAround c.hidden_span-hidden.result c.relied_sector-relied.result c.args.at (c.args.at + length c.args.into.now / 512)) a.members None =
-    subst (λ (o : Option Span). IsRefusalOf (list_length a.members.newest) (c.args.at + length c.args.into.now / 512) (IsUnreadAround o c.relied_sector-relied.result c.args.at (c.args.at + length c.args.into.now / 512)) a.members None) (sym c.hidden_span-hidden.ensures)
-    (subst (λ (n : ℕ). IsRefusalOf (list_length a.members.newest) (c.args.at + length c.args.into.now / 512) (IsUnreadAround (hidden_in a.course.window) n c.args.at (c.args.at + length c.args.into.now / 512)) a.members None) (sym c.relied_sector-relied.ensures.value)
-    (subst (λ p. IsRefusalOf (list_length p.parts.members.newest) (c.args.at + length c.args.into.now / 512) (IsUnreadAround (hidden_in p.course.window) (relied_sector p.parts.members.newest p.parts.work.resync) c.args.at (c.args.at + length c.args.into.now / 512)) p.parts.members None) (sym c.self.view_is) c.requires.fine)) in
+    let fine : IsRefusalOf (visible_size a.members a.limit) (c.args.at + length c.args.into.now / 512) (IsUnreadAround c.hidden_span-hidden.result c.relied_sector-relied.result c.args.at (c.args.at + length c.args.into.now / 512)) a.members None =
+    subst (λ (o : Option Span). IsRefusalOf (visible_size a.members a.limit) (c.args.at + length c.args.into.now / 512) (IsUnreadAround o c.relied_sector-relied.result c.args.at (c.args.at + length c.args.into.now / 512)) a.members None) (sym c.hidden_span-hidden.ensures)
+    (subst (λ (n : ℕ). IsRefusalOf (visible_size a.members a.limit) (c.args.at + length c.args.into.now / 512) (IsUnreadAround (hidden_in a.course.window) n c.args.at (c.args.at + length c.args.into.now / 512)) a.members None) (sym c.relied_sector-relied.ensures.value)
+    (subst (λ p. IsRefusalOf (visible_in p) (c.args.at + length c.args.into.now / 512) (IsUnreadAround (hidden_in p.course.window) (relied_sector p.parts.members.newest p.parts.work.resync) c.args.at (c.args.at + length c.args.into.now / 512)) p.parts.members None) (sym c.self.view_is) c.requires.fine)) in
     let given = g.B.Bank.given a.bank in
     let scope = scope_in given a.epoch.uuid a.epoch.given (Some a.backup) in
     let number : c.args.who.number ≡ next_number c.args.who.caller a.epoch.entries.items = c.requires.next ∙ ap (λ p. next_number c.args.who.caller p.parts.entries) (sym c.self.view_is) in
@@ -379,7 +382,7 @@ returns-clause-holds g c = λ t right i lt.
     let filled : length bytes ≡ length c.as_mut_slice.result.now = c.fetch_beside-fetched.auto.into in
     let same : length bytes / 512 ≡ asked = ap (λ (n : ℕ). n / 512) filled in
     let whole = written-whole c.args.bytes.len c.args.bytes.items bytes (filled ∙ ap (λ (l : List ℕ). length l) c.as_mut_slice.ensures.value) c.args.bytes.ok.0 in
-    let within : c.args.at + length bytes / 512 ≤ size = let below = fine.0 in
+    let within : c.args.at + length bytes / 512 ≤ visible_size a.members a.limit = let below = fine.0 in
     let long = asked-is c.args.bytes.items c.as_mut_slice.result.now c.args.into.now c.requires.same c.as_mut_slice.ensures.value in omega (arith, below, same, long) in
     let does : (x : ℕ) → c.args.at ≤ x → x < c.args.at + length bytes / 512 → DoesWithout (shape_for a.members.newest x) a.members = λ x low high. read-does a.members c.hidden_span-hidden.result c.relied_sector-relied.result c.args.at (c.args.at + count) fine.1 x low
     (let long = asked-is c.args.bytes.items c.as_mut_slice.result.now c.args.into.now c.requires.same c.as_mut_slice.ensures.value in omega (arith, high, same, long)) in
@@ -391,7 +394,7 @@ returns-clause-holds g c = λ t right i lt.
     c.enter_behind-2.ensures.items
     ∙ ap (λ (b : List Sector). a.epoch.entries.items ++ entries_of c.args.who end (losses_of roles spares ++ Read c.args.at b ∷ [])) body in
     ap (λ (l : List ℕ). take 512 (drop (512 * i) l)) copied ∙ sym (row-sector bytes i)
-    ∙ holds-read was.kept was.unlimited (read-live c.hidden_span-hidden.result c.relied_sector-relied.result c.args.at (c.args.at + count) was.kept fine.1 (read-some count c.args.at (λ zero. let some = c.requires.some in omega (arith, some, zero)))) c.args.who end roles spares (begins-going a.epoch.entries.items c.args.who number) (not_254 c.args.who.caller c.requires.caller) c.ops-end.ensures.count did.grows named c.relied_sector-relied.result c.args.at bytes c.relied_sector-relied.ensures.value does within holds t
+    ∙ holds-read was.kept was.limited (read-live c.hidden_span-hidden.result c.relied_sector-relied.result c.args.at (c.args.at + count) was.kept fine.1 (read-some count c.args.at (λ zero. let some = c.requires.some in omega (arith, some, zero)))) c.args.who end roles spares (begins-going a.epoch.entries.items c.args.who number) (not_254 c.args.who.caller c.requires.caller) c.ops-end.ensures.count did.grows named c.relied_sector-relied.result c.args.at bytes c.relied_sector-relied.ensures.value does within holds t
     (subst (λ (w : World). IsReliable w (a.epoch.entries.items ++ entries_of c.args.who end (losses_of roles spares ++ Read c.args.at (sectors_of bytes) ∷ [])))
     (λ k. world_in (did.given k) tape' (scope-same given (Some a.backup) did.given c.enter_behind-2.ensures.uuid c.enter_behind-2.ensures.given k) (c.enter_behind-2.ensures.first k))
     (subst (λ (l : List Entry). IsReliable (world_in (g.B.Bank.given c.fetch_beside-fetched.new.bank) tape' (scope_in (g.B.Bank.given c.fetch_beside-fetched.new.bank) c.enter_behind-2.new.epoch.uuid c.enter_behind-2.new.epoch.given (Some a.backup)) c.enter_behind-2.new.epoch.first) l) items right)) i (subst (λ (l : List ℕ). i < length l / 512) copied lt)
@@ -424,14 +427,15 @@ returns-clause-called g c =
     rw (← c.self.view_is) (called did.grows did.moved
     (ended-behind tape' c.enter_behind-2.new.epoch.first a.epoch.entries.items c.args.who end (losses_of roles spares) (Read c.args.at c.from_bytes-body.result) c.enter_behind-2.ensures.items c.ops-end.ensures.count)
     (losses-behind a.members m before after a.epoch.entries.items a.epoch.entries.items c.enter_behind-2.new.epoch.entries.items c.args.who end roles spares (Read c.args.at c.from_bytes-body.result) since tt refl c.enter_behind-2.ensures.items)
-    did.counts (record { uuid = c.enter_behind-2.ensures.uuid; given = c.enter_behind-2.ensures.given; first = c.enter_behind-2.ensures.first; backup = refl; work = refl; ahead = refl }) (λ t. (was.kept.recorded t).begun))
+    did.counts (record { uuid = c.enter_behind-2.ensures.uuid; given = c.enter_behind-2.ensures.given; first = c.enter_behind-2.ensures.first; backup = refl; work = refl; ahead = refl; limit = refl }) (λ t. (was.kept.recorded t).begun))
 
 pub fetch_beside-fetched-requires-clause-within : goal.fetch_beside-fetched-requires-clause-within
 fetch_beside-fetched-requires-clause-within g c =
     let a = c.self.inside in
-    let within = subst (λ p. c.args.at + length c.args.into.now / 512 ≤ list_length p.parts.members.newest) (sym c.self.view_is) c.requires.fine.0 in
+    let within = subst (λ p. c.args.at + length c.args.into.now / 512 ≤ visible_in p) (sym c.self.view_is) c.requires.fine.0 in
+    let below = visible-within (list_length a.members.newest) a.limit in
     let same = asked-is c.args.bytes.items c.as_mut_slice.result.now c.args.into.now c.requires.same c.as_mut_slice.ensures.value in
-    omega (arith, within, same)
+    omega (arith, within, below, same)
 
 pub fetch_beside-fetched-requires-clause-into : goal.fetch_beside-fetched-requires-clause-into
 fetch_beside-fetched-requires-clause-into g c = subst (λ (l : List ℕ). IsWhole l) (sym c.as_mut_slice.ensures.value) (let whole = c.requires.whole in let same = c.requires.same in omega (arith, whole, same))

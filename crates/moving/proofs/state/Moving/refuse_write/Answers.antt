@@ -6,7 +6,6 @@ use Rattle.md_base.specs.declared.answers.Refusal.{Refusal}
 use Rattle.md_base.specs.declared.answers.Refusal.TheVariants.{BackupFault}
 use Rattle.md_base.specs.declared.places.Span.{Span}
 use Rattle.superblocks.specs.declared.members.Members.{Members}
-use Rattle.superblocks.specs.Reading.{list_length}
 use Rattle.flat_history.specs.declared.events.Event.TheVariants.{Refused}
 use Rattle.flat_history.specs.Plain.{entries_of}
 use Rattle.views.specs.Numbers.{is_carried}
@@ -22,13 +21,14 @@ use Rattle.moving_laws.specs.region_mends_Mends.{relied_sector}
 use Rattle.kept_history.specs.Recorded.{IsCallGoing}
 use Rattle.moving_laws.proofs.moving_kept_Refusals.{quiet-refusal}
 use Rattle.moving_laws.proofs.moving_kept_Resting.{resting-moves}
-use Rattle.moving_laws.specs.running_words_Parts.{left_in}
+use Rattle.moving_laws.specs.running_words_Parts.{visible_size, visible_in, left_in}
 use Rattle.moving_laws.proofs.running_words_Called.{not_254, called, alone-lossless}
 use Rattle.moving_laws.specs.Ready.{bytes_in}
 use Rattle.moving_laws.specs.Writing.{TouchesUnsure, IsWriteBarred}
 use Rattle.moving_laws.proofs.Kept.{ready, shapes-same, alone-keeps}
 use Rattle.moving_laws.proofs.WriteLaws.{first-right, torn-missing}
 use Rattle.moving_laws.proofs.BarredLaws.{unwritten-barred}
+use Rattle.moving_laws.proofs.FirstLaws.{first-told, first-none}
 use Rattle.moving.proofs.state.Moving.refuse_write.Goals as goal
 
 -- ---- refused before the backup is asked
@@ -46,9 +46,9 @@ invariant_of-self g c =
     let refusal = c.in-Some.refusal in
     let kept = resting-moves g.B.Bank.tells given tape scope a.epoch.first a.epoch.entries.items a.members (is_carried a.work) a.work.resync a.course (bytes_in a.course.window a.window.items) (left_in a.work a.members a.course a.ahead)
     c.args.who end (Refused refusal) was.kept goes (not_254 c.args.who.caller c.requires.caller) c.ops-end.ensures.count (quiet-refusal refusal) (λ told is. is)
-    (λ t right. first-right was.kept was.unlimited c.open_span-window.result c.relied_sector-relied.result c.args.at (c.args.at + c.args.count) refusal c.relied_sector-relied.ensures.value c.in-Some.ensures t right) in
+    (λ t right. first-right was.kept was.limited c.open_span-window.result c.relied_sector-relied.result c.args.at (c.args.at + c.args.count) refusal c.relied_sector-relied.ensures.value c.in-Some.ensures.why t right) in
     ready (entries_of c.args.who end (Refused refusal ∷ [])) was (grows-none (λ t. refl)) (shapes-same a.members.newest) kept
-    refl (λ slot. omega arith) (alone-keeps c.args.who end (Refused refusal) (λ n. refl) refl) (λ none whole. whole) refl (scope-same given (Some a.backup) refl c.enter.ensures.uuid c.enter.ensures.given) c.enter.ensures.first refl c.enter.ensures.items
+    refl (λ slot. omega arith) (alone-keeps c.args.who end (Refused refusal) (λ n. refl) (λ limit. refl)) (λ none whole. whole) refl (scope-same given (Some a.backup) refl c.enter.ensures.uuid c.enter.ensures.given) c.enter.ensures.first refl c.enter.ensures.items
     (let had = was.room_left in let room = c.enter.ensures.room in omega (arith, room, had, steps))
 
 pub returns-in-Some-clause-called : goal.returns-in-Some-clause-called
@@ -63,7 +63,7 @@ returns-in-Some-clause-called g c =
     (ended-behind (g.B.Bank.tape a.bank) c.enter.new.epoch.first a.epoch.entries.items c.args.who end [] (Refused refusal) c.enter.ensures.items c.ops-end.ensures.count)
     (alone-lossless a.members faults faults a.epoch.entries.items a.epoch.entries.items c.enter.new.epoch.entries.items c.args.who end (Refused refusal) tt refl c.enter.ensures.items)
     (λ slot. omega arith)
-    (record { uuid = c.enter.ensures.uuid; given = c.enter.ensures.given; first = c.enter.ensures.first; backup = refl; work = refl; ahead = refl })
+    (record { uuid = c.enter.ensures.uuid; given = c.enter.ensures.given; first = c.enter.ensures.first; backup = refl; work = refl; ahead = refl; limit = refl })
     (λ t. (was.kept.recorded t).begun))
 
 -- a sector lies in an unsure window only where there is one
@@ -88,13 +88,13 @@ returns-in-Some-clause-caused g c =
     let a = c.self.inside in
     let to = c.args.at + c.args.count in
     let relied = relied_sector a.members.newest a.work.resync in
-    rw (← c.self.view_is) (unwritten-barred a.course.window (list_length a.members.newest) relied c.args.at to a.members c.in-Some.refusal
-    (subst (λ (o : Option Span). IsRefusedFor (list_length a.members.newest) to (IsListUnwritten o relied c.args.at to) a.members a.members c.in-Some.refusal) c.open_span-window.ensures
-    (subst (λ (n : ℕ). IsRefusedFor (list_length a.members.newest) to (IsListUnwritten c.open_span-window.result n c.args.at to) a.members a.members c.in-Some.refusal) c.relied_sector-relied.ensures.value c.in-Some.ensures)))
+    rw (← c.self.view_is) (unwritten-barred a.course.window (visible_size a.members a.limit) relied c.args.at to a.members c.in-Some.refusal
+    (subst (λ (o : Option Span). IsRefusedFor (visible_size a.members a.limit) to (IsListUnwritten o relied c.args.at to) a.members a.members c.in-Some.refusal) c.open_span-window.ensures
+    (subst (λ (n : ℕ). IsRefusedFor (visible_size a.members a.limit) to (IsListUnwritten c.open_span-window.result n c.args.at to) a.members a.members c.in-Some.refusal) c.relied_sector-relied.ensures.value c.in-Some.ensures.why)))
 
 pub returns-in-Some-clause-backup : goal.returns-in-Some-clause-backup
 returns-in-Some-clause-backup g c = λ is.
-    unwritten-never c.open_span-window.result (list_length c.self.inside.members.newest) c.relied_sector-relied.result c.args.at (c.args.at + c.args.count) c.self.inside.members c.in-Some.refusal c.in-Some.ensures (let same = is in cc)
+    unwritten-never c.open_span-window.result (visible_size c.self.inside.members c.self.inside.limit) c.relied_sector-relied.result c.args.at (c.args.at + c.args.count) c.self.inside.members c.in-Some.refusal c.in-Some.ensures.why (let same = is in cc)
 
 -- ---- the backup fails
 
@@ -105,6 +105,14 @@ pub returns-clause-caused : goal.returns-clause-caused
 returns-clause-caused g c =
     let old = c.args.self.now in
     let to = c.args.at + c.args.count in
-    let within = subst (λ p. to ≤ list_length p.parts.members.newest) c.self.view_is c.in_default.ensures.0 in
-    backup-caused old.course.window (list_length old.parts.members.newest) (relied_sector old.parts.members.newest old.parts.work.resync) c.args.at to old.parts.members c.clear.new.self.parts.members c.clear.result
+    let within = subst (λ p. to ≤ visible_in p) c.self.view_is c.in_default.ensures.why.0 in
+    backup-caused old.course.window (visible_in old) (relied_sector old.parts.members.newest old.parts.work.resync) c.args.at to old.parts.members c.clear.new.self.parts.members c.clear.result
     c.clear.ensures.refused within c.requires.touches
+
+-- ---- which refusal is the first
+
+pub returns-in-Some-clause-first : goal.returns-in-Some-clause-first
+returns-in-Some-clause-first g c = rw (← c.self.view_is) (first-told _ c.in-Some.refusal c.in-Some.ensures.first)
+
+pub returns-clause-first : goal.returns-clause-first
+returns-clause-first g c = rw (← c.self.view_is) (first-none _ c.clear.result c.in_default.ensures.first)

@@ -122,7 +122,7 @@ invariant_of-self-in-Some-refusal g c =
     ready (entries_of c.args.who end (losses_of roles spares ++ Refused refusal ∷ [])) was did.grows (shapes-moved given a.members m did.moved)
     (subst (λ (left : ℕ). IsMoving g.B.Bank.tells given tape' scope a.epoch.first (a.epoch.entries.items ++ entries_of c.args.who end (losses_of roles spares ++ Refused refusal ∷ [])) m (is_carried a.work) a.work.resync a.course (bytes_in a.course.window a.window.items) left)
     (sym (left-moved given a.members m a.work.resync a.course a.ahead did.moved)) kept)
-    refl did.counts (behind-keeps c.args.who end roles spares (Refused refusal) (λ n. refl) refl) (behind-whole tape' (scope_in given a.epoch.uuid a.epoch.given (Some a.backup)) a.epoch.first a.epoch.entries.items c.args.who end roles spares (Refused refusal) did.moved (missing-since roles did.moved since.vacant)) did.given (scope-same given (Some a.backup) did.given c.enter_behind.ensures.uuid c.enter_behind.ensures.given) c.enter_behind.ensures.first c.make_room.ensures.items c.enter_behind.ensures.items
+    refl did.counts (behind-keeps c.args.who end roles spares (Refused refusal) (λ n. refl) (λ limit. refl)) (behind-whole tape' (scope_in given a.epoch.uuid a.epoch.given (Some a.backup)) a.epoch.first a.epoch.entries.items c.args.who end roles spares (Refused refusal) did.moved (missing-since roles did.moved since.vacant)) did.given (scope-same given (Some a.backup) did.given c.enter_behind.ensures.uuid c.enter_behind.ensures.given) c.enter_behind.ensures.first c.make_room.ensures.items c.enter_behind.ensures.items
     (omega (arith, c.enter_behind.ensures.room, c.in-Ok.ensures.ok))
 
 pub returns-clause-called : goal.returns-clause-called
@@ -163,6 +163,7 @@ returns-clause-called g c =
         final = did.moved.reshape.final;
         backward = did.moved.reshape.backward;
         ahead = refl;
+        limit = refl;
       };
     })
 
@@ -195,7 +196,7 @@ invariant_of-self-in-Some g c =
     c.args.who end (Refused refusal) was.kept (begins-going a.epoch.entries.items c.args.who number) (not_254 c.args.who.caller c.requires.caller) c.ops-end.ensures.count (quiet-refusal refusal) (λ told is. is)
     (λ t right. refused-right (world_in given tape scope a.epoch.first) a.epoch.entries.items given a.members was.kept.members_are.placed (was.kept.gone t right) (was.kept.levelled t right) refusal c.in-Some.ensures) in
     ready (entries_of c.args.who end (Refused refusal ∷ [])) was (grows-none (λ t. refl)) (shapes-same a.members.newest) kept
-    refl (λ slot. omega arith) (alone-keeps c.args.who end (Refused refusal) (λ n. refl) refl) (λ none whole. whole) refl (scope-same given (Some a.backup) refl c.enter.ensures.uuid c.enter.ensures.given) c.enter.ensures.first c.make_room.ensures.items c.enter.ensures.items
+    refl (λ slot. omega arith) (alone-keeps c.args.who end (Refused refusal) (λ n. refl) (λ limit. refl)) (λ none whole. whole) refl (scope-same given (Some a.backup) refl c.enter.ensures.uuid c.enter.ensures.given) c.enter.ensures.first c.make_room.ensures.items c.enter.ensures.items
     (omega (arith, c.enter.ensures.room, c.in-Ok.ensures.ok))
 
 pub returns-in-Some-clause-called : goal.returns-in-Some-clause-called
@@ -227,6 +228,7 @@ returns-in-Some-clause-called g c =
         final = refl;
         backward = refl;
         ahead = refl;
+        limit = refl;
       };
     })
 
@@ -268,6 +270,7 @@ returns-in-Some-refusal-clause-called g c =
         final = did.moved.reshape.final;
         backward = did.moved.reshape.backward;
         ahead = refl;
+        limit = refl;
       };
     })
 

@@ -25,7 +25,7 @@ invariant_of-self-2 g c =
     let steps : c.in-Ok.shown.left ≡ left_in a.work a.members a.course a.ahead = c.in-Ok.ensures.left ∙ ap (λ p. left_in p.parts.work p.parts.members p.course p.ahead) (sym c.self.view_is) in
     ready (entries_of c.args.who c.ops-end.result (Shown c.in-Ok.shown ∷ [])) was (grows-none (λ t. refl)) (shapes-same a.members.newest)
     (shown-moves c.args.who c.ops-end.result was.kept number c.requires.caller c.ops-end.ensures.count c.in-Ok.shown steps)
-    refl (λ slot. omega arith) (alone-keeps c.args.who c.ops-end.result (Shown c.in-Ok.shown) (λ n. refl) refl) (λ none whole. whole) refl (scope-same given (Some a.backup) refl c.enter.ensures.uuid c.enter.ensures.given) c.enter.ensures.first c.make_room.ensures.items c.enter.ensures.items
+    refl (λ slot. omega arith) (alone-keeps c.args.who c.ops-end.result (Shown c.in-Ok.shown) (λ n. refl) (λ limit. refl)) (λ none whole. whole) refl (scope-same given (Some a.backup) refl c.enter.ensures.uuid c.enter.ensures.given) c.enter.ensures.first c.make_room.ensures.items c.enter.ensures.items
     (omega (arith, c.enter.ensures.room, c.in-Ok-make_room.ensures.ok))
 
 pub returns-clause-ended : goal.returns-clause-ended

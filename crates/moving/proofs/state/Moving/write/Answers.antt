@@ -5,6 +5,7 @@ use Rattle.superblocks.specs.Reading.{list_length}
 use Rattle.flat_history.specs.Stands.{covers}
 use Rattle.moving_laws.specs.moving_state_Due.{unsure_in}
 use Rattle.moving_laws.specs.region_mends_Mends.{relied_sector}
+use Rattle.moving_laws.specs.running_words_Parts.{visible_in}
 use Rattle.moving_laws.specs.Writing.{TouchesUnsure}
 use Rattle.moving_laws.proofs.BarredLaws.{sure-caused, sure-replied, sure-never, err-ok}
 use Rattle.moving.proofs.state.Moving.write.Goals as goal
@@ -33,7 +34,7 @@ pub returns-clause-caused : goal.returns-clause-caused
 returns-clause-caused g c =
     let old = c.args.self.now in
     let to = c.args.at + length c.args.from.now / 512 in
-    sure-caused old.course.window (list_length old.parts.members.newest) (relied_sector old.parts.members.newest old.parts.work.resync) c.args.at to old.parts.members c.write_sure.new.self.parts.members c.write_sure.result
+    sure-caused old.course.window (visible_in old) (relied_sector old.parts.members.newest old.parts.work.resync) c.args.at to old.parts.members c.write_sure.new.self.parts.members c.write_sure.result
     (λ touched.
     let no = subst (λ p. covers (unsure_in p.course.window) touched.0 ≡ false) c.self.view_is
     (subst (λ (s : Option Span). covers s touched.0 ≡ false) c.unsure_span.ensures (c.meets.ensures.no c.if-meets.false touched.0 touched.1 touched.2)) in
@@ -45,12 +46,12 @@ returns-clause-answered g c =
     let old = c.args.self.now in
     let new = c.write_sure.new.self in
     let to = c.args.at + length c.args.from.now / 512 in
-    sure-replied old.course.window (list_length old.parts.members.newest) (relied_sector old.parts.members.newest old.parts.work.resync) c.args.at to (sectors_of c.args.from.now) c.args.who old.parts.entries new.parts.entries
+    sure-replied old.course.window (list_length old.parts.members.newest) (visible_in old) (relied_sector old.parts.members.newest old.parts.work.resync) c.args.at to (sectors_of c.args.from.now) c.args.who old.parts.entries new.parts.entries
     old.parts.members new.parts.members c.write_sure.result c.write_sure.ensures.caused c.write_sure.ensures.answered
 
 pub returns-clause-backup : goal.returns-clause-backup
 returns-clause-backup g c = λ is.
     let old = c.args.self.now in
     let to = c.args.at + length c.args.from.now / 512 in
-    sure-never old.course.window (list_length old.parts.members.newest) (relied_sector old.parts.members.newest old.parts.work.resync) c.args.at to old.parts.members c.write_sure.new.self.parts.members c.write_sure.result
+    sure-never old.course.window (visible_in old) (relied_sector old.parts.members.newest old.parts.work.resync) c.args.at to old.parts.members c.write_sure.new.self.parts.members c.write_sure.result
     c.write_sure.ensures.caused is

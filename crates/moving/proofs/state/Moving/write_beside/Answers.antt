@@ -30,12 +30,14 @@ use Rattle.moving_laws.proofs.moving_kept_Refusals.{quiet-refusal}
 use Rattle.moving_laws.proofs.moving_kept_Resting.{resting-moves}
 use Rattle.moving_laws.proofs.moving_kept_Steps.{missing-since}
 use Rattle.moving_laws.proofs.moving_kept_Writing.{ArePut}
-use Rattle.moving_laws.specs.running_words_Parts.{left_in}
+use Rattle.moving_laws.specs.running_words_Parts.{visible_size, left_in}
+use Rattle.moving_laws.proofs.running_words_Visible.{visible-within}
 use Rattle.moving_laws.specs.Ready.{bytes_in}
 use Rattle.moving_laws.proofs.running_words_Called.{not_254, called, alone-lossless}
 use Rattle.moving_laws.proofs.Kept.{ready, shapes-same, shapes-moved, alone-keeps, behind-keeps, behind-whole, left-moved}
 use Rattle.moving_laws.proofs.Settled.{risen-told}
 use Rattle.moving_laws.proofs.WriteLaws.{first-right, wrote-kept, unwritten-kept, with-rooms, failure-keeps, failure-whole, torn-missing}
+use Rattle.moving_laws.proofs.FirstLaws.{first-told, first-none}
 use Rattle.moving.proofs.state.Moving.write_beside.Goals as goal
 
 -- ---- refused before any row is read
@@ -54,9 +56,9 @@ invariant_of-self g c =
     let refusal = c.in-Some.refusal in
     let kept = resting-moves g.B.Bank.tells given tape scope a.epoch.first a.epoch.entries.items a.members (is_carried a.work) a.work.resync a.course (bytes_in a.course.window a.window.items) (left_in a.work a.members a.course a.ahead)
     c.args.who end (Refused refusal) was.kept goes (not_254 c.args.who.caller c.requires.caller) c.ops-end.ensures.count (quiet-refusal refusal) (λ told is. is)
-    (λ t right. first-right was.kept was.unlimited c.args.past c.relied_sector-relied.result c.args.at to refusal c.relied_sector-relied.ensures.value c.in-Some.ensures t right) in
+    (λ t right. first-right was.kept was.limited c.args.past c.relied_sector-relied.result c.args.at to refusal c.relied_sector-relied.ensures.value c.in-Some.ensures.why t right) in
     ready (entries_of c.args.who end (Refused refusal ∷ [])) was (grows-none (λ t. refl)) (shapes-same a.members.newest) kept
-    refl (λ slot. omega arith) (alone-keeps c.args.who end (Refused refusal) (λ n. refl) refl) (λ none whole. whole) refl (scope-same given (Some a.backup) refl c.enter.ensures.uuid c.enter.ensures.given) c.enter.ensures.first refl c.enter.ensures.items
+    refl (λ slot. omega arith) (alone-keeps c.args.who end (Refused refusal) (λ n. refl) (λ limit. refl)) (λ none whole. whole) refl (scope-same given (Some a.backup) refl c.enter.ensures.uuid c.enter.ensures.given) c.enter.ensures.first refl c.enter.ensures.items
     (let had = was.room_left in let room = c.enter.ensures.room in omega (arith, room, had, steps))
 
 pub returns-in-Some-clause-entered : goal.returns-in-Some-clause-entered
@@ -77,14 +79,14 @@ returns-in-Some-clause-called g c =
     (ended-behind (g.B.Bank.tape a.bank) c.enter.new.epoch.first a.epoch.entries.items c.args.who end [] (Refused refusal) c.enter.ensures.items c.ops-end.ensures.count)
     (alone-lossless a.members faults faults a.epoch.entries.items a.epoch.entries.items c.enter.new.epoch.entries.items c.args.who end (Refused refusal) tt refl c.enter.ensures.items)
     (λ slot. omega arith)
-    (record { uuid = c.enter.ensures.uuid; given = c.enter.ensures.given; first = c.enter.ensures.first; backup = refl; work = refl; ahead = refl })
+    (record { uuid = c.enter.ensures.uuid; given = c.enter.ensures.given; first = c.enter.ensures.first; backup = refl; work = refl; ahead = refl; limit = refl })
     (λ t. (was.kept.recorded t).begun))
 
 pub returns-in-Some-clause-caused : goal.returns-in-Some-clause-caused
 returns-in-Some-clause-caused g c =
     let a = c.self.inside in
     let to = c.args.at + length c.args.from.now / 512 in
-    rw (← c.self.view_is) (subst (λ (n : ℕ). IsRefusedFor (list_length a.members.newest) to (IsListUnwritten c.args.past n c.args.at to) a.members a.members c.in-Some.refusal) c.relied_sector-relied.ensures.value c.in-Some.ensures)
+    rw (← c.self.view_is) (subst (λ (n : ℕ). IsRefusedFor (visible_size a.members a.limit) to (IsListUnwritten c.args.past n c.args.at to) a.members a.members c.in-Some.refusal) c.relied_sector-relied.ensures.value c.in-Some.ensures.why)
 
 -- ---- the roles, and the sectors
 
@@ -114,8 +116,9 @@ newly_vacant-roles-requires-clause-few g c =
 
 pub put_list-done-requires-clause-within : goal.put_list-done-requires-clause-within
 put_list-done-requires-clause-within g c =
-    let within = c.in_default.ensures.0 in
-    omega (arith, within)
+    let within = c.in_default.ensures.why.0 in
+    let below = visible-within (list_length c.self.inside.members.newest) c.self.inside.limit in
+    omega (arith, within, below)
 
 -- ---- it isn't done
 
@@ -147,12 +150,12 @@ invariant_of-self-in-Some-refusal g c =
     let since : AreLostSince a.members m roles spares before after = lost-since given a.members m c.len-count.result c.vacant_roles-before.result roles spares before after here.placed did.moved did.failed
     (c.len-count.ensures ∙ here.backed.roles) c.vacant_roles-before.ensures c.newly_vacant-roles.ensures in
     let fine : (refusal : Refusal) → IsListUnwritten c.args.past relied at to a.members refusal → ⊥ =
-    c.in_default.ensures.1 in
+    c.in_default.ensures.why.1 in
     let stood = subst (λ p. g.B.Bank.tells → IsWindowStanding c.args.past (moving_world (g.B.Bank.given p.parts.bank) (g.B.Bank.tape p.parts.bank) p) p.parts.entries p.parts.members (present (g.B.Bank.given p.parts.bank) (g.B.Bank.tape p.parts.bank))) (sym c.self.view_is)
     c.requires.stood in
     let put : ArePut g.B.Bank.tells given tape tape' a.members m a.course at from c.args.past relied roles begun =
     record {
-      within = c.in_default.ensures.0;
+      within = let within = c.in_default.ensures.why.0 in let below = visible-within (list_length a.members.newest) a.limit in omega (arith, within, below);
       beside = subst (λ p. (x : ℕ) → at ≤ x → x < to → covers (span_in p.course.window) x ≡ false) (sym c.self.view_is) c.requires.beside;
       moved = did.moved;
       few = few-roles m.newest did.moved.placed.fit.valid;
@@ -162,7 +165,7 @@ invariant_of-self-in-Some-refusal g c =
       stays = did.stays;
       safe = did.safe;
     } in
-    let kept = unwritten-kept a.course a.ahead (bytes_in a.course.window a.window.items) c.args.who end roles spares at from c.args.past relied begun was.kept goes c.requires.caller c.ops-end-2.ensures.count did.grows was.unlimited c.requires.some fine c.relied_sector-relied.ensures.value stood put refusal
+    let kept = unwritten-kept a.course a.ahead (bytes_in a.course.window a.window.items) c.args.who end roles spares at from c.args.past relied begun was.kept goes c.requires.caller c.ops-end-2.ensures.count did.grows was.limited c.in_default.ensures.why.0 c.requires.some fine c.relied_sector-relied.ensures.value stood put refusal
     (record {
       refused = some-of (IsListUnwritten c.args.past relied at to m) c.put_list-done.result.refusal refusal is did.refused;
       torn = λ begun. some-of (IsListTorn at to m) c.put_list-done.result.refusal refusal is (did.torn begun);
@@ -211,7 +214,7 @@ returns-in-Some-refusal-clause-called g c =
     (ended-failure (g.B.Bank.tape c.put_list-done.new.bank) c.enter_failure.new.epoch.first a.epoch.entries.items c.args.who end roles spares begun c.args.at c.args.body refusal c.enter_failure.ensures.items c.ops-end-2.ensures.count)
     (losses-failure a.members m before after a.epoch.entries.items a.epoch.entries.items c.enter_failure.new.epoch.entries.items c.args.who end roles spares begun c.args.at c.args.body refusal since refl c.enter_failure.ensures.items)
     did.counts
-    (record { uuid = c.enter_failure.ensures.uuid; given = c.enter_failure.ensures.given; first = c.enter_failure.ensures.first; backup = refl; work = refl; ahead = refl })
+    (record { uuid = c.enter_failure.ensures.uuid; given = c.enter_failure.ensures.given; first = c.enter_failure.ensures.first; backup = refl; work = refl; ahead = refl; limit = refl })
     (λ t. (was.kept.recorded t).begun))
 
 pub returns-in-Some-refusal-clause-caused : goal.returns-in-Some-refusal-clause-caused
@@ -224,7 +227,7 @@ returns-in-Some-refusal-clause-caused g c =
     let refusal = c.in-Some-refusal.refusal in
     let why = subst (λ (n : ℕ). IsListUnwritten c.args.past n at to m refusal) c.relied_sector-relied.ensures.value
     (some-of (IsListUnwritten c.args.past c.relied_sector-relied.result at to m) c.put_list-done.result.refusal refusal c.in-Some-refusal.is c.put_list-done.ensures.refused) in
-    rw (← c.self.view_is) (refused-for (list_length a.members.newest) to (IsListUnwritten c.args.past relied at to) a.members m refusal (torn-missing c.args.past relied at to m refusal why) c.in_default.ensures.0 why)
+    rw (← c.self.view_is) (refused-for (visible_size a.members a.limit) to (IsListUnwritten c.args.past relied at to) a.members m refusal (torn-missing c.args.past relied at to m refusal why) c.in_default.ensures.why.0 why)
 
 pub returns-in-Some-refusal-clause-left : goal.returns-in-Some-refusal-clause-left
 returns-in-Some-refusal-clause-left g c =
@@ -260,12 +263,12 @@ invariant_of-self-2 g c =
     let since : AreLostSince a.members m roles spares before after = lost-since given a.members m c.len-count.result c.vacant_roles-before.result roles spares before after here.placed did.moved did.failed
     (c.len-count.ensures ∙ here.backed.roles) c.vacant_roles-before.ensures c.newly_vacant-roles.ensures in
     let fine : (refusal : Refusal) → IsListUnwritten c.args.past relied at to a.members refusal → ⊥ =
-    c.in_default.ensures.1 in
+    c.in_default.ensures.why.1 in
     let stood = subst (λ p. g.B.Bank.tells → IsWindowStanding c.args.past (moving_world (g.B.Bank.given p.parts.bank) (g.B.Bank.tape p.parts.bank) p) p.parts.entries p.parts.members (present (g.B.Bank.given p.parts.bank) (g.B.Bank.tape p.parts.bank))) (sym c.self.view_is)
     c.requires.stood in
     let put : ArePut g.B.Bank.tells given tape tape' a.members m a.course at from c.args.past relied roles begun =
     record {
-      within = c.in_default.ensures.0;
+      within = let within = c.in_default.ensures.why.0 in let below = visible-within (list_length a.members.newest) a.limit in omega (arith, within, below);
       beside = subst (λ p. (x : ℕ) → at ≤ x → x < to → covers (span_in p.course.window) x ≡ false) (sym c.self.view_is) c.requires.beside;
       moved = did.moved;
       few = few-roles m.newest did.moved.placed.fit.valid;
@@ -275,11 +278,11 @@ invariant_of-self-2 g c =
       stays = did.stays;
       safe = did.safe;
     } in
-    let kept = wrote-kept a.course a.ahead (bytes_in a.course.window a.window.items) c.args.who end roles spares at from c.args.past relied begun was.kept goes c.requires.caller c.ops-end-2.ensures.count did.grows was.unlimited c.requires.some fine c.relied_sector-relied.ensures.value stood put
+    let kept = wrote-kept a.course a.ahead (bytes_in a.course.window a.window.items) c.args.who end roles spares at from c.args.past relied begun was.kept goes c.requires.caller c.ops-end-2.ensures.count did.grows was.limited c.in_default.ensures.why.0 c.requires.some fine c.relied_sector-relied.ensures.value stood put
     (record { bytes = λ i. (c.type_inv.from i).fits; whole = c.requires.whole; put = did.put none; tail = did.tail none; ends = did.ends none; others = did.others; good = did.good none }) in
     with-rooms did.rows did.buffer did.far_rows did.far_buffer
     (ready (entries_of c.args.who end (losses_of roles spares ++ Wrote at (sectors_of from) ∷ [])) was did.grows (shapes-moved given a.members m did.moved) kept
-    refl did.counts (behind-keeps c.args.who end roles spares (Wrote at (sectors_of from)) (λ n. refl) refl)
+    refl did.counts (behind-keeps c.args.who end roles spares (Wrote at (sectors_of from)) (λ n. refl) (λ limit. refl))
     (behind-whole tape' scope a.epoch.first a.epoch.entries.items c.args.who end roles spares (Wrote at (sectors_of from)) did.moved (missing-since roles did.moved since.vacant)) did.given (scope-same given (Some a.backup) did.given c.enter_behind.ensures.uuid c.enter_behind.ensures.given) c.enter_behind.ensures.first refl
     (c.enter_behind.ensures.items ∙ ap (λ (b : List Sector). a.epoch.entries.items ++ entries_of c.args.who end (losses_of roles spares ++ Wrote at b ∷ [])) c.requires.body)
     (let had = was.room_left in let room = c.enter_behind.ensures.room in omega (arith, room, had, steps)))
@@ -317,7 +320,7 @@ returns-clause-called g c =
     (ended-behind (g.B.Bank.tape c.put_list-done.new.bank) c.enter_behind.new.epoch.first a.epoch.entries.items c.args.who end (losses_of roles spares) event c.enter_behind.ensures.items c.ops-end-2.ensures.count)
     (losses-behind a.members m before after a.epoch.entries.items a.epoch.entries.items c.enter_behind.new.epoch.entries.items c.args.who end roles spares event since tt refl c.enter_behind.ensures.items)
     did.counts
-    (record { uuid = c.enter_behind.ensures.uuid; given = c.enter_behind.ensures.given; first = c.enter_behind.ensures.first; backup = refl; work = refl; ahead = refl })
+    (record { uuid = c.enter_behind.ensures.uuid; given = c.enter_behind.ensures.given; first = c.enter_behind.ensures.first; backup = refl; work = refl; ahead = refl; limit = refl })
     (λ t. (was.kept.recorded t).begun))
 
 pub returns-clause-caused : goal.returns-clause-caused
@@ -325,8 +328,8 @@ returns-clause-caused g c =
     let a = c.self.inside in
     let to = c.args.at + length c.args.from.now / 512 in
     rw (← c.self.view_is) (
-      c.in_default.ensures.0,
-      λ refusal why. c.in_default.ensures.1 refusal (subst (λ (n : ℕ). IsListUnwritten c.args.past n c.args.at to a.members refusal) (sym c.relied_sector-relied.ensures.value) why),
+      c.in_default.ensures.why.0,
+      λ refusal why. c.in_default.ensures.why.1 refusal (subst (λ (n : ℕ). IsListUnwritten c.args.past n c.args.at to a.members refusal) (sym c.relied_sector-relied.ensures.value) why),
     )
 
 pub returns-clause-dirty : goal.returns-clause-dirty
@@ -347,3 +350,14 @@ returns-in-Some-refusal-clause-failed g c = rw (← c.self.view_is) c.put_list-d
 
 pub returns-clause-failed : goal.returns-clause-failed
 returns-clause-failed g c = rw (← c.self.view_is) c.put_list-done.ensures.failed.roles
+
+-- ---- which refusal is the first
+
+pub returns-in-Some-clause-first : goal.returns-in-Some-clause-first
+returns-in-Some-clause-first g c = rw (← c.self.view_is) (first-told _ c.in-Some.refusal c.in-Some.ensures.first)
+
+pub returns-in-Some-refusal-clause-first : goal.returns-in-Some-refusal-clause-first
+returns-in-Some-refusal-clause-first g c = rw (← c.self.view_is) (first-none _ _ c.in_default.ensures.first)
+
+pub returns-clause-first : goal.returns-clause-first
+returns-clause-first g c = rw (← c.self.view_is) (first-none _ _ c.in_default.ensures.first)

@@ -1,4 +1,4 @@
-use Rattle.std.proofs.Common.{inl, ◌≡◌, ◌≤◌, ◌<◌, ◌+◌, ◌/◌, ℕ, true, false, Option, None, Err, List, [], length, refl, sym, ◌∙◌, ap, subst, arith, append-nil}
+use Rattle.std.proofs.Common.{inl, ◌≡◌, ◌≤◌, ◌<◌, ◌+◌, ◌/◌, ℕ, true, false, Option, Err, List, [], length, refl, sym, ◌∙◌, ap, ap₂, subst, arith, append-nil}
 use Rattle.std.proofs.lemmas.List.Elements.{All-nil}
 use Rattle.md_base.specs.Sectors.{sectors_of}
 use Rattle.md_base.proofs.SectorLaws.{length-sectors_of}
@@ -20,12 +20,15 @@ use Rattle.moving_laws.specs.moving_kept_Moving.{IsWindowStanding}
 use Rattle.moving_laws.specs.moving_state_Due.{open_in, unsure_in}
 use Rattle.moving_laws.specs.region_mends_Mends.{relied_sector}
 use Rattle.moving_laws.specs.running_words_Calls.{moving_world}
-use Rattle.moving_laws.specs.running_words_Parts.{left_in}
+use Rattle.moving_laws.specs.running_words_Parts.{visible_size, visible_in, left_in}
+use Rattle.moving_laws.specs.moving_state_Left.{visible_by}
 use Rattle.moving_laws.specs.Writing.{TouchesWindow, IsWriteLacked, IsWriteEntered}
 use Rattle.moving_laws.proofs.running_words_Called.{called}
 use Rattle.moving_laws.proofs.Kept.{roomier, long-same}
 use Rattle.moving_laws.proofs.WriteLaws.{failed-then, beside-of, touched-open, roomed, called-then, called-roomed, alone-caused, refused-caused, behind-caused, alone-entered, refused-entered, behind-entered, untouched, never-ok, none-recorded}
 use Rattle.moving_laws.proofs.WriteReplies.{write-answered}
+use Rattle.md_base.specs.declared.answers.Fault.TheVariants.{NoMemory}
+use Rattle.moving_laws.proofs.FirstLaws.{first-short, first-done}
 use Rattle.moving.proofs.state.Moving.write_sure.Goals as goal
 
 -- ---- memory is short
@@ -43,7 +46,7 @@ returns-in-Err-make_room-clause-called g c =
     (λ t. ap (λ (l : List Entry). last_end_from a.epoch.first l) c.make_room.ensures.items ∙ (was.kept.recorded t).ended)
     (record { more = []; grown = c.make_room.ensures.items ∙ sym (append-nil a.epoch.entries.items); failed = All-nil (λ e. IsLossBy (Held a.members) faults faults e.event) })
     (λ slot. omega arith)
-    (record { uuid = refl; given = refl; first = refl; backup = refl; work = refl; ahead = refl })
+    (record { uuid = refl; given = refl; first = refl; backup = refl; work = refl; ahead = refl; limit = refl })
     (λ t. (was.kept.recorded t).begun))
 
 -- ---- it doesn't touch the window
@@ -80,7 +83,7 @@ returns-then-not-meets-clause-caused g c =
     let to = c.args.at + length c.args.from.now / 512 in
     let out : (x : ℕ) → c.args.at ≤ x → x < to → covers (open_in a.course.window) x ≡ false =
     λ x low high. subst (λ (s : Option Span). covers s x ≡ false) c.open_span-window.ensures (c.meets.ensures.no c.if-not-meets.true x low high) in
-    rw (← c.self.view_is) (alone-caused a.course.window (list_length a.members.newest) (relied_sector a.members.newest a.work.resync) c.args.at to a.members c.write_beside.new.self.parts.members c.write_beside.result (untouched a.course.window c.args.at to out) c.write_beside.ensures.caused)
+    rw (← c.self.view_is) (alone-caused a.course.window (visible_size a.members a.limit) (relied_sector a.members.newest a.work.resync) c.args.at to a.members c.write_beside.new.self.parts.members c.write_beside.result (untouched a.course.window c.args.at to out) c.write_beside.ensures.caused)
 
 pub returns-then-not-meets-clause-closed : goal.returns-then-not-meets-clause-closed
 returns-then-not-meets-clause-closed g c =
@@ -125,8 +128,8 @@ returns-in-Err-finish_for-clause-caused g c =
     let to = c.args.at + length c.args.from.now / 512 in
     let met = c.meets.ensures.yes c.if-not-meets.false in
     let touches : TouchesWindow a.course.window c.args.at to = (met.0, met.1, met.2, subst (λ (s : Option Span). covers s met.0 ≡ true) c.open_span-window.ensures met.3) in
-    subst (λ p. IsCausedBy {T = ℕ} (list_length p.parts.members.newest) to (IsWriteLacked p.course.window (relied_sector p.parts.members.newest p.parts.work.resync) c.args.at to) p.parts.members c.finish_for.new.self.parts.members (Err c.in-Err-finish_for.fault)) c.self.view_is
-    (refused-caused ℕ a.course.window (list_length a.members.newest) (relied_sector a.members.newest a.work.resync) c.args.at to a.members c.finish_for.new.self.parts.members c.in-Err-finish_for.fault touches c.in-Err-finish_for.ensures.caused)
+    subst (λ p. IsCausedBy {T = ℕ} (visible_in p) to (IsWriteLacked p.course.window (relied_sector p.parts.members.newest p.parts.work.resync) c.args.at to) p.parts.members c.finish_for.new.self.parts.members (Err c.in-Err-finish_for.fault)) c.self.view_is
+    (refused-caused ℕ a.course.window (visible_size a.members a.limit) (relied_sector a.members.newest a.work.resync) c.args.at to a.members c.finish_for.new.self.parts.members c.in-Err-finish_for.fault touches c.in-Err-finish_for.ensures.caused)
 
 -- ---- and the sectors are written behind it
 
@@ -154,9 +157,9 @@ returns-clause-caused g c =
     let new = c.write_beside-2.new.self in
     let same = c.in-Ok-finish_for.ensures.called.same in
     let long : list_length mid.parts.members.newest ≡ list_length a.members.newest = long-same a.members.newest mid.parts.members.newest (record { shape = same.array.shape; final = same.final; size = same.array.size }) in
-    rw (← c.self.view_is) (behind-caused a.course.window (list_length a.members.newest) (list_length mid.parts.members.newest) (relied_sector a.members.newest a.work.resync) (relied_sector mid.parts.members.newest mid.parts.work.resync) c.args.at to a.members mid.parts.members new.parts.members c.write_beside-2.result c.args.who
-    mid.parts.entries new.parts.entries (sectors_of c.args.from.now) long c.in-Ok-finish_for.ensures.relied c.in-Ok-finish_for.ensures.caused c.write_beside-2.ensures.entered
-    (subst (λ (o : Option Span). IsCausedBy (list_length mid.parts.members.newest) to (IsListUnwritten o (relied_sector mid.parts.members.newest mid.parts.work.resync) c.args.at to) mid.parts.members new.parts.members c.write_beside-2.result) c.open_span-window.ensures
+    rw (← c.self.view_is) (behind-caused a.course.window (visible_size a.members a.limit) (visible_in mid) (relied_sector a.members.newest a.work.resync) (relied_sector mid.parts.members.newest mid.parts.work.resync) c.args.at to a.members mid.parts.members new.parts.members c.write_beside-2.result c.args.who
+    mid.parts.entries new.parts.entries (sectors_of c.args.from.now) (ap₂ visible_by long same.limit) c.in-Ok-finish_for.ensures.relied c.in-Ok-finish_for.ensures.caused c.write_beside-2.ensures.entered
+    (subst (λ (o : Option Span). IsCausedBy (visible_in mid) to (IsListUnwritten o (relied_sector mid.parts.members.newest mid.parts.work.resync) c.args.at to) mid.parts.members new.parts.members c.write_beside-2.result) c.open_span-window.ensures
     c.write_beside-2.ensures.caused))
 
 -- ---- what failed
@@ -190,9 +193,9 @@ returns-then-not-meets-clause-answered g c =
     let at = c.args.at in
     let long = length-sectors_of c.args.from.now in
     let sized = subst (λ p. length_of (list_length p.parts.members.newest) p.parts.entries ≡ list_length p.parts.members.newest) c.self.view_is c.self.invariant.sized in
-    let unlimited = subst (λ p. limit_of p.parts.entries ≡ None) c.self.view_is c.self.invariant.unlimited in
-    write-answered old.course.window (list_length old.parts.members.newest) (relied_sector old.parts.members.newest old.parts.work.resync) at (at + length c.args.from.now / 512) (sectors_of c.args.from.now) c.args.who old.parts.entries new.parts.entries old.parts.members new.parts.members
-    (left_in new.parts.work new.parts.members new.course new.ahead) (omega (arith, long)) c.requires.next sized unlimited c.write_beside.result (returns-then-not-meets-clause-entered g c) (returns-then-not-meets-clause-caused g c)
+    let limited = subst (λ p. limit_of p.parts.entries ≡ p.limit) c.self.view_is c.self.invariant.limited in
+    write-answered old.course.window (list_length old.parts.members.newest) old.limit (relied_sector old.parts.members.newest old.parts.work.resync) at (at + length c.args.from.now / 512) (sectors_of c.args.from.now) c.args.who old.parts.entries new.parts.entries old.parts.members new.parts.members
+    (left_in new.parts.work new.parts.members new.course new.ahead) (omega (arith, long)) c.requires.next sized limited c.write_beside.result (returns-then-not-meets-clause-entered g c) (returns-then-not-meets-clause-caused g c)
 
 pub returns-in-Err-finish_for-clause-answered : goal.returns-in-Err-finish_for-clause-answered
 returns-in-Err-finish_for-clause-answered g c =
@@ -201,9 +204,9 @@ returns-in-Err-finish_for-clause-answered g c =
     let at = c.args.at in
     let long = length-sectors_of c.args.from.now in
     let sized = subst (λ p. length_of (list_length p.parts.members.newest) p.parts.entries ≡ list_length p.parts.members.newest) c.self.view_is c.self.invariant.sized in
-    let unlimited = subst (λ p. limit_of p.parts.entries ≡ None) c.self.view_is c.self.invariant.unlimited in
-    write-answered old.course.window (list_length old.parts.members.newest) (relied_sector old.parts.members.newest old.parts.work.resync) at (at + length c.args.from.now / 512) (sectors_of c.args.from.now) c.args.who old.parts.entries new.parts.entries old.parts.members new.parts.members
-    (left_in new.parts.work new.parts.members new.course new.ahead) (omega (arith, long)) c.requires.next sized unlimited {T = ℕ} (Err c.in-Err-finish_for.fault) (returns-in-Err-finish_for-clause-entered g c) (returns-in-Err-finish_for-clause-caused g c)
+    let limited = subst (λ p. limit_of p.parts.entries ≡ p.limit) c.self.view_is c.self.invariant.limited in
+    write-answered old.course.window (list_length old.parts.members.newest) old.limit (relied_sector old.parts.members.newest old.parts.work.resync) at (at + length c.args.from.now / 512) (sectors_of c.args.from.now) c.args.who old.parts.entries new.parts.entries old.parts.members new.parts.members
+    (left_in new.parts.work new.parts.members new.course new.ahead) (omega (arith, long)) c.requires.next sized limited {T = ℕ} (Err c.in-Err-finish_for.fault) (returns-in-Err-finish_for-clause-entered g c) (returns-in-Err-finish_for-clause-caused g c)
 
 pub returns-clause-answered : goal.returns-clause-answered
 returns-clause-answered g c =
@@ -212,6 +215,23 @@ returns-clause-answered g c =
     let at = c.args.at in
     let long = length-sectors_of c.args.from.now in
     let sized = subst (λ p. length_of (list_length p.parts.members.newest) p.parts.entries ≡ list_length p.parts.members.newest) c.self.view_is c.self.invariant.sized in
-    let unlimited = subst (λ p. limit_of p.parts.entries ≡ None) c.self.view_is c.self.invariant.unlimited in
-    write-answered old.course.window (list_length old.parts.members.newest) (relied_sector old.parts.members.newest old.parts.work.resync) at (at + length c.args.from.now / 512) (sectors_of c.args.from.now) c.args.who old.parts.entries new.parts.entries old.parts.members new.parts.members
-    (left_in new.parts.work new.parts.members new.course new.ahead) (omega (arith, long)) c.requires.next sized unlimited c.write_beside-2.result (returns-clause-entered g c) (returns-clause-caused g c)
+    let limited = subst (λ p. limit_of p.parts.entries ≡ p.limit) c.self.view_is c.self.invariant.limited in
+    write-answered old.course.window (list_length old.parts.members.newest) old.limit (relied_sector old.parts.members.newest old.parts.work.resync) at (at + length c.args.from.now / 512) (sectors_of c.args.from.now) c.args.who old.parts.entries new.parts.entries old.parts.members new.parts.members
+    (left_in new.parts.work new.parts.members new.course new.ahead) (omega (arith, long)) c.requires.next sized limited c.write_beside-2.result (returns-clause-entered g c) (returns-clause-caused g c)
+
+-- ---- which refusal is the first
+
+pub returns-in-Err-clause-first : goal.returns-in-Err-clause-first
+returns-in-Err-clause-first g c = first-short _ NoMemory refl
+
+pub returns-in-Err-make_room-clause-first : goal.returns-in-Err-make_room-clause-first
+returns-in-Err-make_room-clause-first g c = first-short _ NoMemory refl
+
+pub returns-then-not-meets-clause-first : goal.returns-then-not-meets-clause-first
+returns-then-not-meets-clause-first g c = rw (← c.self.view_is) c.write_beside.ensures.first
+
+pub returns-in-Err-finish_for-clause-first : goal.returns-in-Err-finish_for-clause-first
+returns-in-Err-finish_for-clause-first g c = rw (← c.self.view_is) c.in-Err-finish_for.ensures.first
+
+pub returns-clause-first : goal.returns-clause-first
+returns-clause-first g c = rw (← c.self.view_is) (first-done _ _ c.write_beside-2.result c.in-Ok-finish_for.ensures.first)

@@ -42,7 +42,7 @@ invariant_of-self-2 g c =
     (refused-going c.args.who end refusal was.kept (begins-going a.epoch.entries.items c.args.who number) c.requires.caller c.ops-end.ensures.count
     (unaddable-refused given a.backup c.args.slot a.members a.work.resync refusal c.in-Some.ensures))
     (unaddable-plain was c.args.who end (begins-going a.epoch.entries.items c.args.who number) c.requires.caller c.ops-end.ensures.count c.args.slot a.backup refl refusal c.in-Some.ensures)
-    (λ slot. omega arith) (alone-keeps c.args.who end (Refused refusal) (λ n. refl) refl)
+    (λ slot. omega arith) (alone-keeps c.args.who end (Refused refusal) (λ n. refl) (λ limit. refl))
     refl (scope-same given a.backup refl c.enter.ensures.uuid c.enter.ensures.given) c.enter.ensures.first c.make_room.ensures.items c.enter.ensures.items
     (omega (arith, c.enter.ensures.room, c.in-Ok.ensures.ok))
 
@@ -66,7 +66,7 @@ returns-clause-stepped g c =
     (λ role slot held. inl held)
     (alone-lossless a.members faults faults a.epoch.entries.items c.make_room.new.self.items c.enter.new.epoch.entries.items c.args.who c.ops-end.result event tt c.make_room.ensures.items c.enter.ensures.items)
     (λ slot. omega arith)
-    (record { uuid = c.enter.ensures.uuid; given = c.enter.ensures.given; first = c.enter.ensures.first; backup = refl; ahead = refl })
+    (record { uuid = c.enter.ensures.uuid; given = c.enter.ensures.given; first = c.enter.ensures.first; backup = refl; ahead = refl; limit = refl })
     (λ t. (was.kept.recorded t).begun))
 
 pub is_held_up-requires : goal.is_held_up-requires

@@ -45,5 +45,5 @@ returns-clause-stepped g c =
     (λ role slot held. inl held)
     (alone-lossless a.members faults faults a.epoch.entries.items a.epoch.entries.items c.enter.new.epoch.entries.items c.args.who end c.args.event lossless refl c.enter.ensures.items)
     (λ slot. omega arith)
-    (record { uuid = c.enter.ensures.uuid; given = c.enter.ensures.given; first = c.enter.ensures.first; backup = refl; ahead = refl })
+    (record { uuid = c.enter.ensures.uuid; given = c.enter.ensures.given; first = c.enter.ensures.first; backup = refl; ahead = refl; limit = refl })
     (λ t. (was.kept.recorded t).begun))

@@ -201,7 +201,7 @@ returns-then-is_vacant-clause-stepped g c =
     c.args.who end roles spares since refl [] (All-nil (λ e. IsLossBy (Held a.members) before after e.event))
     (alone a.epoch.entries.items c.enter_lost.new.epoch.entries.items c.args.who end (losses_of roles spares) c.enter_lost.ensures.items))
     did.counts
-    (record { uuid = c.enter_lost.ensures.uuid; given = c.enter_lost.ensures.given; first = c.enter_lost.ensures.first; backup = refl; ahead = refl })
+    (record { uuid = c.enter_lost.ensures.uuid; given = c.enter_lost.ensures.given; first = c.enter_lost.ensures.first; backup = refl; ahead = refl; limit = refl })
     (λ t. (was.kept.recorded t).begun))
 
 pub returns-then-is_vacant-clause-whole : goal.returns-then-is_vacant-clause-whole
@@ -340,7 +340,7 @@ invariant_of-self-2 g c =
     ready (entries_of c.args.who end (losses_of roles spares ++ Step RebuildEnded left ∷ Rebuilt role ∷ [])) was (rows-moved given (with_whole role slot a.members) m did.moved)
     (whole-done a.ahead c.args.who end role slot roles spares was.kept c.in_default.ensures unbroken.goes c.requires.caller c.ops-end.ensures.count pending.1 synced leaves left c.all_left-left.ensures plans whole_is unbroken.kept)
     (whole-plain was c.args.who end c.in_default.ensures unbroken.goes c.requires.caller c.ops-end.ensures.count pending.1 synced leaves left whole_is c.all_left-left.ensures)
-    did.counts (behind-keeps c.args.who end roles spares (Step RebuildEnded left ∷ Rebuilt role ∷ []) (record { long = λ n. refl; free = refl }))
+    did.counts (behind-keeps c.args.who end roles spares (Step RebuildEnded left ∷ Rebuilt role ∷ []) (record { long = λ n. refl; free = λ limit. refl }))
     did.given (scope-same given a.backup did.given (c.enter.ensures.uuid ∙ c.enter_behind.ensures.uuid) (c.enter.ensures.given ∙ c.enter_behind.ensures.given)) (c.enter.ensures.first ∙ c.enter_behind.ensures.first) refl
     (both a.epoch.entries.items c.enter_behind.new.epoch.entries.items c.enter.new.epoch.entries.items c.args.who end (losses_of roles spares) (Step RebuildEnded c.all_left-left.result) (Rebuilt role) c.enter_behind.ensures.items c.enter.ensures.items)
     (omega (arith, c.enter_behind.ensures.room, c.enter.ensures.room, was.room_left, some))
@@ -402,7 +402,7 @@ returns-clause-stepped g c =
     (All-cons P (one c.args.who end (Step RebuildEnded c.all_left-left.result)) (one c.args.who end (Rebuilt role) ∷ []) tt (All-cons P (one c.args.who end (Rebuilt role)) [] tt (All-nil P)))
     (both a.epoch.entries.items c.enter_behind.new.epoch.entries.items c.enter.new.epoch.entries.items c.args.who end (losses_of roles spares) (Step RebuildEnded c.all_left-left.result) (Rebuilt role) c.enter_behind.ensures.items c.enter.ensures.items))
     did.counts
-    (record { uuid = (c.enter.ensures.uuid ∙ c.enter_behind.ensures.uuid); given = (c.enter.ensures.given ∙ c.enter_behind.ensures.given); first = (c.enter.ensures.first ∙ c.enter_behind.ensures.first); backup = refl; ahead = refl })
+    (record { uuid = (c.enter.ensures.uuid ∙ c.enter_behind.ensures.uuid); given = (c.enter.ensures.given ∙ c.enter_behind.ensures.given); first = (c.enter.ensures.first ∙ c.enter_behind.ensures.first); backup = refl; ahead = refl; limit = refl })
     (λ t. (was.kept.recorded t).begun))
 
 pub returns-clause-whole : goal.returns-clause-whole

@@ -15,6 +15,7 @@ use Rattle.array_kept.proofs.ReadyLaws.{scope-same}
 use Rattle.array_kept.proofs.ReplyLaws.{too-many-of, refused-for}
 use Rattle.array_kept.proofs.StepsLeft.{left-ended, steps-fewer, steps-kept}
 use Rattle.kept_history.specs.Recorded.{IsCallGoing}
+use Rattle.still_laws.specs.running_words_Parts.{visible_size}
 use Rattle.still_laws.proofs.still_kept_Flushing.{IsFlushedStill, IsSettledStill}
 use Rattle.still_laws.specs.running_words_Calls.{moving_world}
 use Rattle.still_laws.specs.running_words_Plans.{ArePlansKept}
@@ -78,8 +79,8 @@ invariant_of-self g c =
     (resync-refused a.ahead c.args.who end roles spares was.kept c.in_default.ensures goes c.requires.caller c.ops-end.ensures.count all leaves refusal
     (refused-of (AreTooMany m) c.settle-settled.result.refusal refusal c.in-Some-refusal.is did.refused))
     (plain-refused was c.args.who end goes c.requires.caller c.ops-end.ensures.count did.grows did.moved since refusal
-    (too-many-here (list_length a.members.newest) a.work.resync m refusal (refused-of (AreTooMany m) c.settle-settled.result.refusal refusal c.in-Some-refusal.is did.refused)))
-    did.counts (behind-keeps c.args.who end roles spares (Refused refusal ∷ []) (alone-keeps c.args.who end (Refused refusal) (λ n. refl) refl))
+    (too-many-here (visible_size a.members a.limit) a.work.resync m refusal (refused-of (AreTooMany m) c.settle-settled.result.refusal refusal c.in-Some-refusal.is did.refused)))
+    did.counts (behind-keeps c.args.who end roles spares (Refused refusal ∷ []) (alone-keeps c.args.who end (Refused refusal) (λ n. refl) (λ limit. refl)))
     did.given (scope-same given a.backup did.given c.enter_behind.ensures.uuid c.enter_behind.ensures.given) c.enter_behind.ensures.first refl c.enter_behind.ensures.items
     (omega (arith, c.enter_behind.ensures.room, was.room_left, some))
 
@@ -104,7 +105,7 @@ returns-in-Some-refusal-clause-stepped g c =
     did.failed.roles
     (losses-behind a.members m before after a.epoch.entries.items a.epoch.entries.items c.enter_behind.new.epoch.entries.items c.args.who end roles spares (Refused refusal) since tt refl c.enter_behind.ensures.items)
     did.counts
-    (record { uuid = c.enter_behind.ensures.uuid; given = c.enter_behind.ensures.given; first = c.enter_behind.ensures.first; backup = refl; ahead = refl })
+    (record { uuid = c.enter_behind.ensures.uuid; given = c.enter_behind.ensures.given; first = c.enter_behind.ensures.first; backup = refl; ahead = refl; limit = refl })
     (λ t. (was.kept.recorded t).begun))
 
 pub returns-in-Some-refusal-clause-stays : goal.returns-in-Some-refusal-clause-stays
@@ -175,7 +176,7 @@ invariant_of-self-2 g c =
     ready (entries_of c.args.who end (losses_of roles spares ++ Step ResyncEnded left ∷ [])) was (rows-moved given a.members m did.moved)
     (resync-done a.ahead c.args.who end roles spares was.kept c.in_default.ensures goes c.requires.caller c.ops-end.ensures.count all leaves left c.all_left-left.ensures plans done)
     (resynced-plain was c.args.who end goes c.requires.caller c.ops-end.ensures.count did.grows did.moved since left all c.all_left-left.ensures)
-    did.counts (behind-keeps c.args.who end roles spares (Step ResyncEnded left ∷ []) (alone-keeps c.args.who end (Step ResyncEnded left) (λ n. refl) refl))
+    did.counts (behind-keeps c.args.who end roles spares (Step ResyncEnded left ∷ []) (alone-keeps c.args.who end (Step ResyncEnded left) (λ n. refl) (λ limit. refl)))
     did.given (scope-same given a.backup did.given c.enter_behind-2.ensures.uuid c.enter_behind-2.ensures.given) c.enter_behind-2.ensures.first refl c.enter_behind-2.ensures.items
     (omega (arith, c.enter_behind-2.ensures.room, was.room_left, some))
 
@@ -200,7 +201,7 @@ returns-clause-stepped g c =
     did.failed.roles
     (losses-behind a.members m before after a.epoch.entries.items a.epoch.entries.items c.enter_behind-2.new.epoch.entries.items c.args.who end roles spares event since tt refl c.enter_behind-2.ensures.items)
     did.counts
-    (record { uuid = c.enter_behind-2.ensures.uuid; given = c.enter_behind-2.ensures.given; first = c.enter_behind-2.ensures.first; backup = refl; ahead = refl })
+    (record { uuid = c.enter_behind-2.ensures.uuid; given = c.enter_behind-2.ensures.given; first = c.enter_behind-2.ensures.first; backup = refl; ahead = refl; limit = refl })
     (λ t. (was.kept.recorded t).begun))
 
 pub returns-clause-left : goal.returns-clause-left

@@ -28,7 +28,7 @@ use Rattle.calls_kept.proofs.RebuildLaws.{losses-open, losses-end}
 use Rattle.kept_history.specs.Recorded.{IsCallGoing}
 use Rattle.still_laws.specs.still_kept_Still.{IsStill}
 use Rattle.still_laws.proofs.still_kept_Rebuilding.{IsFillingStill}
-use Rattle.still_laws.specs.running_words_Parts.{still_left}
+use Rattle.still_laws.specs.running_words_Parts.{visible_size, still_left}
 use Rattle.still_laws.proofs.running_words_Called.{risen-told}
 use Rattle.still_laws.proofs.running_words_Lengths.{alone-keeps, behind-keeps}
 use Rattle.still_laws.proofs.Kept.{ready, rows-moved, with-buffers}
@@ -128,9 +128,9 @@ invariant_of-self g c =
     (fill-refused a.ahead c.args.who end role slot roles spares c.shape_in-shape.result was.kept c.in_default.ensures goes c.requires.caller c.ops-end.ensures.count c.shape_in-shape.ensures below leaves refusal
     (refused-of (LacksTooMany c.shape_in-shape.result m) c.fill_and_name-filled.result.refusal refusal c.in-Some-refusal.is did.refused))
     (plain-refused was c.args.who end goes c.requires.caller c.ops-end.ensures.count did.grows did.moved since refusal
-    (lacks-here (list_length a.members.newest) a.work.resync c.shape_in-shape.result m refusal (c.shape_in-shape.ensures ∙ sym did.moved.shape)
+    (lacks-here (visible_size a.members a.limit) a.work.resync c.shape_in-shape.result m refusal (c.shape_in-shape.ensures ∙ sym did.moved.shape)
     (refused-of (LacksTooMany c.shape_in-shape.result m) c.fill_and_name-filled.result.refusal refusal c.in-Some-refusal.is did.refused)))
-    did.counts (behind-keeps c.args.who end roles spares (Refused refusal ∷ []) (alone-keeps c.args.who end (Refused refusal) (λ n. refl) refl))
+    did.counts (behind-keeps c.args.who end roles spares (Refused refusal ∷ []) (alone-keeps c.args.who end (Refused refusal) (λ n. refl) (λ limit. refl)))
     did.given (scope-same given a.backup did.given c.enter_behind.ensures.uuid c.enter_behind.ensures.given) c.enter_behind.ensures.first refl c.enter_behind.ensures.items
     (omega (arith, c.enter_behind.ensures.room, was.room_left, some)))
 
@@ -155,7 +155,7 @@ returns-in-Some-refusal-clause-stepped g c =
     did.failed.roles
     (losses-behind a.members m before after a.epoch.entries.items a.epoch.entries.items c.enter_behind.new.epoch.entries.items c.args.who end roles spares event since tt refl c.enter_behind.ensures.items)
     did.counts
-    (record { uuid = c.enter_behind.ensures.uuid; given = c.enter_behind.ensures.given; first = c.enter_behind.ensures.first; backup = refl; ahead = refl })
+    (record { uuid = c.enter_behind.ensures.uuid; given = c.enter_behind.ensures.given; first = c.enter_behind.ensures.first; backup = refl; ahead = refl; limit = refl })
     (λ t. (was.kept.recorded t).begun))
 
 pub returns-in-Some-refusal-clause-stays : goal.returns-in-Some-refusal-clause-stays
@@ -295,7 +295,7 @@ returns-then-is_vacant-clause-stepped g c =
     (losses-tail (Held a.members) a.members m (λ r s held. held) before after a.epoch.entries.items a.epoch.entries.items c.enter_lost.new.epoch.entries.items c.args.who end roles spares since refl [] (All-nil (λ e. IsLossBy (Held a.members) before after e.event))
     (alone a.epoch.entries.items c.enter_lost.new.epoch.entries.items c.args.who end (losses_of roles spares) c.enter_lost.ensures.items))
     did.counts
-    (record { uuid = c.enter_lost.ensures.uuid; given = c.enter_lost.ensures.given; first = c.enter_lost.ensures.first; backup = refl; ahead = refl })
+    (record { uuid = c.enter_lost.ensures.uuid; given = c.enter_lost.ensures.given; first = c.enter_lost.ensures.first; backup = refl; ahead = refl; limit = refl })
     (λ t. (was.kept.recorded t).begun))
 
 pub returns-then-is_vacant-clause-left : goal.returns-then-is_vacant-clause-left
@@ -379,7 +379,7 @@ invariant_of-self-2 g c =
     left synced c.set_rebuilt.ensures.known pending.1 (sym c.is_vacant.ensures ∙ c.if-is_vacant.false) told (did.filled c.in_default-refusal.is)) in
     with-buffers (omega (arith, was.rows_fit, did.rows)) (rw did.buffer was.buffer_fits) (ready (entries_of c.args.who end (losses_of roles spares ++ Step RebuildStripe left ∷ [])) was (rows-moved given a.members m did.moved)
     kept (filled-plain was c.args.who end goes c.requires.caller c.ops-end.ensures.count did.grows did.moved since left role slot below c.set_rebuilt.ensures.known c.in-Some-recovering_slot.ensures.some pending.1 told)
-    did.counts (behind-keeps c.args.who end roles spares (Step RebuildStripe left ∷ []) (alone-keeps c.args.who end (Step RebuildStripe left) (λ n. refl) refl))
+    did.counts (behind-keeps c.args.who end roles spares (Step RebuildStripe left ∷ []) (alone-keeps c.args.who end (Step RebuildStripe left) (λ n. refl) (λ limit. refl)))
     did.given (scope-same given a.backup did.given c.enter_behind-2.ensures.uuid c.enter_behind-2.ensures.given) c.enter_behind-2.ensures.first refl c.enter_behind-2.ensures.items
     (omega (arith, c.enter_behind-2.ensures.room, was.room_left, some)))
 
@@ -404,7 +404,7 @@ returns-clause-stepped g c =
     did.failed.roles
     (losses-behind a.members m before after a.epoch.entries.items a.epoch.entries.items c.enter_behind-2.new.epoch.entries.items c.args.who end roles spares event since tt refl c.enter_behind-2.ensures.items)
     did.counts
-    (record { uuid = c.enter_behind-2.ensures.uuid; given = c.enter_behind-2.ensures.given; first = c.enter_behind-2.ensures.first; backup = refl; ahead = refl })
+    (record { uuid = c.enter_behind-2.ensures.uuid; given = c.enter_behind-2.ensures.given; first = c.enter_behind-2.ensures.first; backup = refl; ahead = refl; limit = refl })
     (λ t. (was.kept.recorded t).begun))
 
 pub returns-clause-left : goal.returns-clause-left

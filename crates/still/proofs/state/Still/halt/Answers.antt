@@ -56,11 +56,11 @@ returns-clause-plain g c =
     let tape = g.B.Bank.tape a.bank in
     let end = c.ops-end.result in
     let number : c.args.who.number ≡ next_number c.args.who.caller a.epoch.entries.items = c.requires.next ∙ ap (λ p. next_number c.args.who.caller p.parts.entries) (sym c.self.view_is) in
-    let ended : IsReady g.B.Bank.tells given tape (scope_in given epoch.uuid epoch.given a.backup) epoch.first epoch.entries.items a.members a.work a.ahead (g.B.Bank.faults_of a.bank) 0 1
+    let ended : IsReady g.B.Bank.tells given tape (scope_in given epoch.uuid epoch.given a.backup) epoch.first epoch.entries.items a.members a.work a.ahead a.limit (g.B.Bank.faults_of a.bank) 0 1
     (vec_capacity a.rows) (length a.buffer.items) (vec_capacity a.far_rows) (length a.far_buffer.items) =
     ready (entries_of c.args.who end (Halted ∷ [])) was (rows-same a.members.newest) (halted-stands c.args.who end was.kept number c.requires.caller c.ops-end.ensures.count)
     (halted-plain was c.args.who end (begins-going a.epoch.entries.items c.args.who number) c.requires.caller c.ops-end.ensures.count (grows-none (λ t. refl)))
-    (λ slot. omega arith) (alone-keeps c.args.who end Halted (λ n. refl) refl)
+    (λ slot. omega arith) (alone-keeps c.args.who end Halted (λ n. refl) (λ limit. refl))
     refl (scope-same given a.backup refl c.enter.ensures.uuid c.enter.ensures.given) c.enter.ensures.first refl c.enter.ensures.items (omega arith) in
     rw (← c.self.view_is) (λ t keeps. plain-epoch given tape a.backup epoch a.members (ended.plain t keeps) (ended.plainly keeps.none))
 

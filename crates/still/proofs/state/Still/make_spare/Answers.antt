@@ -64,7 +64,7 @@ invariant_of-self-in_default g c =
     ready (entries_of c.args.who end (Refused (SlotFault c.args.slot) ∷ [])) was (rows-same a.members.newest)
     (looked-refused c.args.who end c.args.slot was.kept (without-left given a.members here.placed here.unlost (slot-does given a.backup c.args.slot a.members here.placed addable)) number c.requires.caller c.ops-end.ensures.count did.tape)
     (refused-plain was c.args.who end (begins-going a.epoch.entries.items c.args.who number) c.requires.caller c.ops-end.ensures.count (record { more = λ t. ((did.tape t).0, (did.tape t).2) }) (SlotFault c.args.slot) (λ t p. tt) tt)
-    did.counts (alone-keeps c.args.who end (Refused (SlotFault c.args.slot)) (λ n. refl) refl)
+    did.counts (alone-keeps c.args.who end (Refused (SlotFault c.args.slot)) (λ n. refl) (λ limit. refl))
     did.given (scope-same given a.backup did.given c.enter.ensures.uuid c.enter.ensures.given) c.enter.ensures.first c.make_room.ensures.items c.enter.ensures.items
     (omega (arith, c.enter.ensures.room, c.in-Ok.ensures.ok))
 
@@ -98,7 +98,7 @@ returns-in_default-clause-stepped g c =
     (alone-lossless a.members (g.B.Bank.faults_of a.bank) (g.B.Bank.faults_of c.look_at.new.bank) a.epoch.entries.items c.make_room.new.self.items c.enter.new.epoch.entries.items c.args.who c.ops-end.result
     (Refused (SlotFault c.args.slot)) tt c.make_room.ensures.items c.enter.ensures.items)
     did.counts
-    (record { uuid = c.enter.ensures.uuid; given = c.enter.ensures.given; first = c.enter.ensures.first; backup = refl; ahead = refl })
+    (record { uuid = c.enter.ensures.uuid; given = c.enter.ensures.given; first = c.enter.ensures.first; backup = refl; ahead = refl; limit = refl })
     (λ t. (was.kept.recorded t).begun))
 
 -- ---- what the update needs
@@ -205,7 +205,7 @@ invariant_of-self-then-contains g c =
     (λ t sector may. second-half sb c.in-Some.second sector c.spare_for-sb.ensures.second (c.in-Some.ensures.second t sector may)) safe (e.lost (sym c.contains.ensures ∙ c.if-contains.true))) in
     ready (entries_of c.args.who end (losses_of roles spares ++ Refused (SlotFault c.args.slot) ∷ [])) was (rows-moved given (with_spare c.args.slot sb a.members) m did.moved) kept
     (unadded-plain was c.args.who end (begins-going a.epoch.entries.items c.args.who number) c.requires.caller c.ops-end-2.ensures.count look.tape did since (e.lost (sym c.contains.ensures ∙ c.if-contains.true)))
-    did.counts (behind-keeps c.args.who end roles spares (Refused (SlotFault c.args.slot) ∷ []) (alone-keeps c.args.who end (Refused (SlotFault c.args.slot)) (λ n. refl) refl))
+    did.counts (behind-keeps c.args.who end roles spares (Refused (SlotFault c.args.slot) ∷ []) (alone-keeps c.args.who end (Refused (SlotFault c.args.slot)) (λ n. refl) (λ limit. refl)))
     given_is (scope-same given a.backup given_is c.enter_behind.ensures.uuid c.enter_behind.ensures.given) c.enter_behind.ensures.first c.make_room.ensures.items c.enter_behind.ensures.items
     (omega (arith, c.enter_behind.ensures.room, c.in-Ok.ensures.ok))
 
@@ -268,7 +268,7 @@ returns-then-contains-clause-stepped g c =
     (losses-behind a.members m (g.B.Bank.faults_of a.bank) (g.B.Bank.faults_of c.add_member-lost.new.bank) a.epoch.entries.items c.make_room.new.self.items c.enter_behind.new.epoch.entries.items c.args.who end roles spares
     (Refused (SlotFault c.args.slot)) since tt c.make_room.ensures.items c.enter_behind.ensures.items)
     did.counts
-    (record { uuid = c.enter_behind.ensures.uuid; given = c.enter_behind.ensures.given; first = c.enter_behind.ensures.first; backup = refl; ahead = refl })
+    (record { uuid = c.enter_behind.ensures.uuid; given = c.enter_behind.ensures.given; first = c.enter_behind.ensures.first; backup = refl; ahead = refl; limit = refl })
     (λ t. (was.kept.recorded t).begun))
 
 pub returns-then-contains-clause-others : goal.returns-then-contains-clause-others
@@ -339,7 +339,7 @@ invariant_of-self-2 g c =
     (λ t sector may. second-half sb c.in-Some.second sector c.spare_for-sb.ensures.second (c.in-Some.ensures.second t sector may)) safe) in
     ready (entries_of c.args.who end (losses_of roles spares ++ Added c.args.slot ∷ [])) was (rows-moved given (with_spare c.args.slot sb a.members) m did.moved) kept
     (added-plain was c.args.who end (begins-going a.epoch.entries.items c.args.who number) c.requires.caller c.ops-end-2.ensures.count look.tape did since (e.spare (sym c.contains.ensures ∙ c.if-contains.false)))
-    did.counts (behind-keeps c.args.who end roles spares (Added c.args.slot ∷ []) (alone-keeps c.args.who end (Added c.args.slot) (λ n. refl) refl))
+    did.counts (behind-keeps c.args.who end roles spares (Added c.args.slot ∷ []) (alone-keeps c.args.who end (Added c.args.slot) (λ n. refl) (λ limit. refl)))
     given_is (scope-same given a.backup given_is c.enter_behind-2.ensures.uuid c.enter_behind-2.ensures.given) c.enter_behind-2.ensures.first c.make_room.ensures.items c.enter_behind-2.ensures.items
     (omega (arith, c.enter_behind-2.ensures.room, c.in-Ok.ensures.ok))
 
@@ -395,7 +395,7 @@ returns-clause-stepped g c =
     (losses-behind a.members m (g.B.Bank.faults_of a.bank) (g.B.Bank.faults_of c.add_member-lost.new.bank) a.epoch.entries.items c.make_room.new.self.items c.enter_behind-2.new.epoch.entries.items c.args.who end roles spares
     (Added c.args.slot) since tt c.make_room.ensures.items c.enter_behind-2.ensures.items)
     did.counts
-    (record { uuid = c.enter_behind-2.ensures.uuid; given = c.enter_behind-2.ensures.given; first = c.enter_behind-2.ensures.first; backup = refl; ahead = refl })
+    (record { uuid = c.enter_behind-2.ensures.uuid; given = c.enter_behind-2.ensures.given; first = c.enter_behind-2.ensures.first; backup = refl; ahead = refl; limit = refl })
     (λ t. (was.kept.recorded t).begun))
 
 pub returns-clause-others : goal.returns-clause-others

@@ -18,6 +18,7 @@ use Rattle.array_kept.proofs.StepsLeft.{left-mended, steps-fewer, steps-kept}
 use Rattle.array_state.proofs.UnmendableLaws.{unmendable-of, unwritten-then}
 use Rattle.calls_kept.proofs.MendLaws.{is-pending, next-stripe}
 use Rattle.kept_history.specs.Recorded.{IsCallGoing}
+use Rattle.still_laws.specs.running_words_Parts.{visible_size}
 use Rattle.still_laws.proofs.still_kept_Resync.{IsMendingStill}
 use Rattle.still_laws.proofs.running_words_Called.{risen-told}
 use Rattle.still_laws.proofs.running_words_Lengths.{alone-keeps, behind-keeps}
@@ -106,9 +107,9 @@ invariant_of-self g c =
     (mend-refused a.ahead c.args.who end roles spares shape stripe was.kept does goes c.requires.caller c.ops-end.ensures.count c.shape_in-shape.ensures next.0 leaves refusal
     (refused-of (IsUnwritten shape false m) c.mend-mended.result.refusal refusal c.in-Some-refusal.is did.refused))
     (plain-refused was c.args.who end goes c.requires.caller c.ops-end.ensures.count did.grows did.moved since refusal
-    (unmended-plain given a.members m did.moved a.work.resync (list_length a.members.newest) stripe shape refusal c.shape_in-shape.ensures next.0
+    (unmended-plain given a.members m did.moved a.work.resync (visible_size a.members a.limit) stripe shape refusal c.shape_in-shape.ensures next.0
     (refused-of (IsUnwritten shape false m) c.mend-mended.result.refusal refusal c.in-Some-refusal.is did.refused)))
-    did.counts (behind-keeps c.args.who end roles spares (Refused refusal ∷ []) (alone-keeps c.args.who end (Refused refusal) (λ n. refl) refl))
+    did.counts (behind-keeps c.args.who end roles spares (Refused refusal ∷ []) (alone-keeps c.args.who end (Refused refusal) (λ n. refl) (λ limit. refl)))
     did.given (scope-same given a.backup did.given c.enter_behind.ensures.uuid c.enter_behind.ensures.given) c.enter_behind.ensures.first refl c.enter_behind.ensures.items
     (omega (arith, c.enter_behind.ensures.room, was.room_left, some)))
 
@@ -133,7 +134,7 @@ returns-in-Some-refusal-clause-stepped g c =
     did.failed.roles
     (losses-behind a.members m before after a.epoch.entries.items a.epoch.entries.items c.enter_behind.new.epoch.entries.items c.args.who end roles spares (Refused refusal) since tt refl c.enter_behind.ensures.items)
     did.counts
-    (record { uuid = c.enter_behind.ensures.uuid; given = c.enter_behind.ensures.given; first = c.enter_behind.ensures.first; backup = refl; ahead = refl })
+    (record { uuid = c.enter_behind.ensures.uuid; given = c.enter_behind.ensures.given; first = c.enter_behind.ensures.first; backup = refl; ahead = refl; limit = refl })
     (λ t. (was.kept.recorded t).begun))
 
 pub returns-in-Some-refusal-clause-stays : goal.returns-in-Some-refusal-clause-stays
@@ -216,7 +217,7 @@ invariant_of-self-2 g c =
     (mend-done a.ahead c.args.who end roles spares shape stripe was.kept does goes c.requires.caller c.ops-end.ensures.count c.shape_in-shape.ensures next.0 leaves left next.1 c.all_left-left.ensures
     (did.mended c.in_default-refusal.is))
     (mended-plain was c.args.who end goes c.requires.caller c.ops-end.ensures.count did.grows did.moved since left stripe next.0 next.1 c.all_left-left.ensures)
-    did.counts (behind-keeps c.args.who end roles spares (Step ResyncStripe left ∷ []) (alone-keeps c.args.who end (Step ResyncStripe left) (λ n. refl) refl))
+    did.counts (behind-keeps c.args.who end roles spares (Step ResyncStripe left ∷ []) (alone-keeps c.args.who end (Step ResyncStripe left) (λ n. refl) (λ limit. refl)))
     did.given (scope-same given a.backup did.given c.enter_behind-2.ensures.uuid c.enter_behind-2.ensures.given) c.enter_behind-2.ensures.first refl c.enter_behind-2.ensures.items
     (omega (arith, c.enter_behind-2.ensures.room, was.room_left, some)))
 
@@ -241,7 +242,7 @@ returns-clause-stepped g c =
     did.failed.roles
     (losses-behind a.members m before after a.epoch.entries.items a.epoch.entries.items c.enter_behind-2.new.epoch.entries.items c.args.who end roles spares event since tt refl c.enter_behind-2.ensures.items)
     did.counts
-    (record { uuid = c.enter_behind-2.ensures.uuid; given = c.enter_behind-2.ensures.given; first = c.enter_behind-2.ensures.first; backup = refl; ahead = refl })
+    (record { uuid = c.enter_behind-2.ensures.uuid; given = c.enter_behind-2.ensures.given; first = c.enter_behind-2.ensures.first; backup = refl; ahead = refl; limit = refl })
     (λ t. (was.kept.recorded t).begun))
 
 pub returns-clause-left : goal.returns-clause-left

@@ -1,5 +1,6 @@
 use Rattle.std.proofs.Common.{◌≡◌, ◌+◌, ◌*◌, ◌/◌, ◌<◌, ◌≤◌, ◌++◌, ◌∷◌, [], ℕ, Some, List, length, take, take_all, drop, inl, refl, sym, ◌∙◌, ap, subst, arith}
 use Rattle.std.specs.Prelude.{IsTrue}
+use Rattle.std.proofs.Math.Nat.{le_trans}
 use Rattle.std.proofs.lemmas.List.{take-append-le}
 use Rattle.std.specs.Vec.{with_items}
 use Rattle.md_base.specs.Sectors.{Sector, sectors_of}
@@ -31,7 +32,7 @@ use Rattle.call_entries.proofs.CallLaws.{losses-are, torn-losses}
 use Rattle.array_kept.specs.Kept.{scope_in}
 use Rattle.array_kept.proofs.LossLaws.{losses-behind, ended-behind}
 use Rattle.array_kept.proofs.ReadyLaws.{scope-same}
-use Rattle.array_kept.proofs.ReplyLaws.{refused_reply, lost_reply, inside-losses, replied, read_kind, unread-of, refused-for}
+use Rattle.array_kept.proofs.ReplyLaws.{inside-losses, replied, unread-of, refused-for}
 use Rattle.calls_kept.proofs.ReadLaws.{some-of}
 use Rattle.array_state.proofs.FirstLaws.{call-within}
 use Rattle.kept_history.specs.Safe.{world_in, IsFilledRight}
@@ -41,10 +42,12 @@ use Rattle.still_laws.proofs.still_kept_Reading.{read-stands}
 use Rattle.still_laws.proofs.still_kept_Staying.{IsNamedStill, refused-stands}
 use Rattle.still_laws.proofs.still_kept_Stood.{mended-moved}
 use Rattle.views.proofs.LiveLeft.{without-left}
-use Rattle.still_laws.specs.running_words_Parts.{still_left}
 use Rattle.still_laws.specs.running_words_Calls.{moving_world}
 use Rattle.still_laws.proofs.running_words_Called.{not_254, called, alone-lossless, risen-told}
+use Rattle.still_laws.specs.running_words_Parts.{visible_size, still_left}
 use Rattle.still_laws.proofs.running_words_Lengths.{alone-keeps, behind-keeps}
+use Rattle.still_laws.proofs.running_words_Replies.{refused_reply, lost_reply, read_kind}
+use Rattle.still_laws.proofs.running_words_Visible.{visible-within}
 use Rattle.still_laws.proofs.Asking.{refused-alone}
 use Rattle.still_laws.proofs.Kept.{ready, rows-same, rows-moved, with-buffers}
 use Rattle.still_laws.proofs.PlainBehind.{unread-plain, plain-refused, plain-read, first-plain}
@@ -72,12 +75,12 @@ invariant_of-self-in-Some g c =
     let refusal = c.in-Some.refusal in
     ready (entries_of c.args.who c.ops-end.result (Refused refusal ∷ [])) was (rows-same a.members.newest)
     (refused-alone c.args.who c.ops-end.result was.kept number c.requires.caller c.ops-end.ensures.count refusal
-    (refused-first was.kept was.unlimited (c.args.at + count) (IsUnread (shape_of a.members.newest) (mended_rows a.work.resync a.members) c.args.at count) refusal
+    (refused-first was.kept was.limited (c.args.at + count) (IsUnread (shape_of a.members.newest) (mended_rows a.work.resync a.members) c.args.at count) refusal
     (λ within. unread-still given a.members was.kept.members_are a.work.resync c.args.at count refusal within) c.in-Some.ensures.why))
     (first-plain was c.args.who c.ops-end.result (begins-going a.epoch.entries.items c.args.who number) c.requires.caller c.ops-end.ensures.count (grows-none (λ t. refl)) (c.args.at + count)
     (IsUnread (shape_of a.members.newest) (mended_rows a.work.resync a.members) c.args.at count) refusal
-    (λ within. unread-plain given a.members was.kept.members_are a.work.resync (list_length a.members.newest) c.args.at count refusal within) c.in-Some.ensures.why)
-    (λ slot. omega arith) (alone-keeps c.args.who c.ops-end.result (Refused refusal) (λ n. refl) refl)
+    (λ within. unread-plain given a.members was.kept.members_are a.work.resync (visible_size a.members a.limit) c.args.at count refusal within) c.in-Some.ensures.why)
+    (λ slot. omega arith) (alone-keeps c.args.who c.ops-end.result (Refused refusal) (λ n. refl) (λ limit. refl))
     refl (scope-same given a.backup refl c.enter.ensures.uuid c.enter.ensures.given) c.enter.ensures.first c.make_room.ensures.items c.enter.ensures.items
     (omega (arith, c.enter.ensures.room, c.in-Ok-make_room.ensures.ok))
 
@@ -87,7 +90,7 @@ returns-in-Some-clause-answered g c =
     let a = c.self.inside in
     let number : c.args.who.number ≡ next_number c.args.who.caller a.epoch.entries.items = c.requires.next ∙ ap (λ p. next_number c.args.who.caller p.parts.entries) (sym c.self.view_is) in
     let count = length c.args.into.now / 512 in
-    rw (← c.self.view_is) (refused_reply (list_length a.members.newest) a.epoch.entries.items was.sized was.unlimited (AsksRead c.args.at count) c.args.who (c.args.at + count)
+    rw (← c.self.view_is) (refused_reply (list_length a.members.newest) a.limit a.epoch.entries.items was.sized was.limited (AsksRead c.args.at count) c.args.who (c.args.at + count)
     (IsUnread (shape_of a.members.newest) (mended_rows a.work.resync a.members) c.args.at count) c.enter.new.epoch.entries.items c.ops-end.result a.members c.in-Some.refusal (read_kind c.args.at count)
     (unread-of (shape_of a.members.newest) (mended_rows a.work.resync a.members) c.args.at count a.members c.in-Some.refusal) c.in-Some.ensures.why
     (c.enter.ensures.items ∙ ap (λ (l : List Entry). l ++ entries_of c.args.who c.ops-end.result (Refused c.in-Some.refusal ∷ [])) c.make_room.ensures.items) number)
@@ -104,7 +107,7 @@ returns-in-Some-clause-called g c =
     (ended-behind (g.B.Bank.tape a.bank) c.enter.new.epoch.first c.make_room.new.self.items c.args.who end [] (Refused refusal) c.enter.ensures.items c.ops-end.ensures.count)
     (alone-lossless a.members faults faults a.epoch.entries.items c.make_room.new.self.items c.enter.new.epoch.entries.items c.args.who end (Refused refusal) tt c.make_room.ensures.items c.enter.ensures.items)
     (λ slot. omega arith)
-    (record { uuid = c.enter.ensures.uuid; given = c.enter.ensures.given; first = c.enter.ensures.first; backup = refl; work = refl; ahead = refl })
+    (record { uuid = c.enter.ensures.uuid; given = c.enter.ensures.given; first = c.enter.ensures.first; backup = refl; work = refl; ahead = refl; limit = refl })
     (λ t. (was.kept.recorded t).begun))
 
 pub returns-in-Some-clause-caused : goal.returns-in-Some-clause-caused
@@ -139,7 +142,8 @@ fetch-fetched-requires-clause-within g c =
     let m = c.self.inside.members in
     let same = asked-is c.in-Ok.bytes.items c.as_mut_slice.result.now c.args.into.now c.in-Ok.ensures.len c.as_mut_slice.ensures.value in
     let below : c.args.at + length c.args.into.now / 512 ≤ data_disks (shape_of m.newest) * m.newest.size =
-    subst (λ (n : ℕ). c.args.at + length c.args.into.now / 512 ≤ n) (list-still m.newest c.self.invariant.kept.members_are.still) c.in_default.ensures.why.0 in
+    subst (λ (n : ℕ). c.args.at + length c.args.into.now / 512 ≤ n) (list-still m.newest c.self.invariant.kept.members_are.still)
+    (le_trans c.in_default.ensures.why.0 (visible-within (list_length m.newest) c.self.inside.limit)) in
     subst (λ (s : Shape). c.args.at + length c.as_mut_slice.result.now / 512 ≤ data_disks s * m.newest.size) (sym c.shape_in-shape.ensures)
     (subst (λ (n : ℕ). c.args.at + n ≤ data_disks (shape_of m.newest) * m.newest.size) (sym same) below)
 
@@ -154,7 +158,8 @@ fetch-fetched-requires-clause-short g c =
     let few = list-few (g.B.Bank.given c.self.inside.bank) m c.self.invariant.kept.members_are.placed in
     let same = asked-is c.in-Ok.bytes.items c.as_mut_slice.result.now c.args.into.now c.in-Ok.ensures.len c.as_mut_slice.ensures.value in
     let below : c.args.at + length c.args.into.now / 512 ≤ list_size (places_of m) =
-    subst (λ (n : ℕ). c.args.at + length c.args.into.now / 512 ≤ n) (list-still m.newest c.self.invariant.kept.members_are.still) c.in_default.ensures.why.0 in
+    subst (λ (n : ℕ). c.args.at + length c.args.into.now / 512 ≤ n) (list-still m.newest c.self.invariant.kept.members_are.still)
+    (le_trans c.in_default.ensures.why.0 (visible-within (list_length m.newest) c.self.inside.limit)) in
     omega (arith, few, same, below)
 
 -- ---- refused since members are missing
@@ -186,7 +191,7 @@ invariant_of-self-in-Some-refusal g c =
     let named : IsNamedStill g.B.Bank.tells given tape tape' a.members m roles spares before after =
     record { moved = did.moved; since = since; grows = did.grows; clean = did.clean; rise = risen-told did.rise; others = did.others; safe = did.safe } in
     let why = some-of (IsUnread c.shape_in-shape.result c.mended_rows-mended.result c.args.at asked m) c.fetch-fetched.result.refusal refusal c.in-Some-refusal.is did.refused in
-    let inside : c.args.at + count ≤ list_length m.newest = (let long = (rows-moved given a.members m did.moved).long in let below = c.in_default.ensures.why.0 in omega (arith, long, below)) in
+    let inside : c.args.at + count ≤ list_length m.newest = (let long = (rows-moved given a.members m did.moved).long in let below = c.in_default.ensures.why.0 in let most = visible-within (list_length a.members.newest) a.limit in omega (arith, long, below, most)) in
     let unread : IsUnread (shape_of m.newest) (mended_rows a.work.resync m) c.args.at count m refusal =
     subst (λ (s : Shape). IsUnread s (mended_rows a.work.resync m) c.args.at count m refusal) (c.shape_in-shape.ensures ∙ sym did.moved.shape)
     (subst (λ (n : ℕ). IsUnread c.shape_in-shape.result n c.args.at count m refusal) (c.mended_rows-mended.ensures.rows ∙ sym (mended-moved did.moved a.work.resync))
@@ -198,8 +203,8 @@ invariant_of-self-in-Some-refusal g c =
     (left-alike a.work a.ahead roles spares before after did.moved since)
     (unread-still given m (rest-moved given a.members m did.moved here) a.work.resync c.args.at count refusal inside unread))
     (plain-refused was c.args.who end (begins-going a.epoch.entries.items c.args.who number) c.requires.caller c.ops-end-2.ensures.count did.grows did.moved since refusal
-    (unread-plain given m (rest-moved given a.members m did.moved here) a.work.resync (list_length a.members.newest) c.args.at count refusal inside unread))
-    did.counts (behind-keeps c.args.who end roles spares (Refused refusal ∷ []) (alone-keeps c.args.who end (Refused refusal) (λ n. refl) refl))
+    (unread-plain given m (rest-moved given a.members m did.moved here) a.work.resync (visible_size a.members a.limit) c.args.at count refusal inside unread))
+    did.counts (behind-keeps c.args.who end roles spares (Refused refusal ∷ []) (alone-keeps c.args.who end (Refused refusal) (λ n. refl) (λ limit. refl)))
     did.given (scope-same given a.backup did.given c.enter_behind.ensures.uuid c.enter_behind.ensures.given) c.enter_behind.ensures.first c.make_room.ensures.items c.enter_behind.ensures.items
     (omega (arith, c.enter_behind.ensures.room, c.in-Ok-make_room.ensures.ok)))
 
@@ -216,7 +221,7 @@ returns-in-Some-refusal-clause-answered g c =
     let count = length c.args.into.now / 512 in
     let asked = length c.as_mut_slice.result.now / 512 in
     let why = some-of (IsUnread c.shape_in-shape.result c.mended_rows-mended.result c.args.at asked m) c.fetch-fetched.result.refusal refusal c.in-Some-refusal.is c.fetch-fetched.ensures.refused in
-    rw (← c.self.view_is) (lost_reply (list_length a.members.newest) a.epoch.entries.items was.sized was.unlimited (AsksRead c.args.at count) c.args.who (c.args.at + count)
+    rw (← c.self.view_is) (lost_reply (list_length a.members.newest) a.limit a.epoch.entries.items was.sized was.limited (AsksRead c.args.at count) c.args.who (c.args.at + count)
     c.enter_behind.new.epoch.entries.items end roles spares refusal (read_kind c.args.at count) c.in_default.ensures.why.0 (unread-of c.shape_in-shape.result c.mended_rows-mended.result c.args.at asked m refusal why)
     (c.enter_behind.ensures.items ∙ ap (λ (l : List Entry). l ++ entries_of c.args.who end (losses_of roles spares ++ Refused refusal ∷ [])) c.make_room.ensures.items) number)
 
@@ -240,7 +245,7 @@ returns-in-Some-refusal-clause-called g c =
     (ended-behind (g.B.Bank.tape c.fetch-fetched.new.bank) c.enter_behind.new.epoch.first c.make_room.new.self.items c.args.who end (losses_of roles spares) event c.enter_behind.ensures.items c.ops-end-2.ensures.count)
     (losses-behind a.members m before after a.epoch.entries.items c.make_room.new.self.items c.enter_behind.new.epoch.entries.items c.args.who end roles spares event since tt c.make_room.ensures.items c.enter_behind.ensures.items)
     did.counts
-    (record { uuid = c.enter_behind.ensures.uuid; given = c.enter_behind.ensures.given; first = c.enter_behind.ensures.first; backup = refl; work = refl; ahead = refl })
+    (record { uuid = c.enter_behind.ensures.uuid; given = c.enter_behind.ensures.given; first = c.enter_behind.ensures.first; backup = refl; work = refl; ahead = refl; limit = refl })
     (λ t. (was.kept.recorded t).begun))
 
 pub returns-in-Some-refusal-clause-caused : goal.returns-in-Some-refusal-clause-caused
@@ -252,7 +257,7 @@ returns-in-Some-refusal-clause-caused g c =
     let asked = length c.as_mut_slice.result.now / 512 in
     let same : asked ≡ count = asked-is c.in-Ok.bytes.items c.as_mut_slice.result.now c.args.into.now c.in-Ok.ensures.len c.as_mut_slice.ensures.value in
     let why = some-of (IsUnread c.shape_in-shape.result c.mended_rows-mended.result c.args.at asked m) c.fetch-fetched.result.refusal refusal c.in-Some-refusal.is c.fetch-fetched.ensures.refused in
-    rw (← c.self.view_is) (refused-for (list_length a.members.newest) (c.args.at + count) (IsUnread (shape_of a.members.newest) (mended_rows a.work.resync a.members) c.args.at count) a.members m refusal
+    rw (← c.self.view_is) (refused-for (visible_size a.members a.limit) (c.args.at + count) (IsUnread (shape_of a.members.newest) (mended_rows a.work.resync a.members) c.args.at count) a.members m refusal
     (unread-of c.shape_in-shape.result c.mended_rows-mended.result c.args.at asked m refusal why) c.in_default.ensures.why.0
     (subst (λ (s : Shape). IsUnread s (mended_rows a.work.resync a.members) c.args.at count m refusal) c.shape_in-shape.ensures
     (subst (λ (n : ℕ). IsUnread c.shape_in-shape.result n c.args.at count m refusal) c.mended_rows-mended.ensures.rows (subst (λ (n : ℕ). IsUnread c.shape_in-shape.result c.mended_rows-mended.result c.args.at n m refusal) same why))))
@@ -267,7 +272,7 @@ returns-in-Some-refusal-clause-first g c =
     let mended = mended_rows a.work.resync a.members in
     let same : asked ≡ count = asked-is c.in-Ok.bytes.items c.as_mut_slice.result.now c.args.into.now c.in-Ok.ensures.len c.as_mut_slice.ensures.value in
     let why = some-of (λ r. read_refusal c.shape_in-shape.result c.mended_rows-mended.result c.args.at asked m ≡ Some r) c.fetch-fetched.result.refusal refusal c.in-Some-refusal.is c.fetch-fetched.ensures.first in
-    rw (← c.self.view_is) (call-within (list_length a.members.newest) (c.args.at + count) (read_refusal (shape_of a.members.newest) mended c.args.at count m) c.in_default.ensures.why.0
+    rw (← c.self.view_is) (call-within (visible_size a.members a.limit) (c.args.at + count) (read_refusal (shape_of a.members.newest) mended c.args.at count m) c.in_default.ensures.why.0
     ∙ subst (λ (s : Shape). read_refusal s mended c.args.at count m ≡ Some refusal) c.shape_in-shape.ensures
     (subst (λ (n : ℕ). read_refusal c.shape_in-shape.result n c.args.at count m ≡ Some refusal) c.mended_rows-mended.ensures.rows (subst (λ (n : ℕ). read_refusal c.shape_in-shape.result c.mended_rows-mended.result c.args.at n m ≡ Some refusal) same why)))
 
@@ -306,7 +311,8 @@ invariant_of-self-2 g c =
     let len : length bytes ≡ length c.args.into.now = c.fetch-fetched.auto.into ∙ ap (λ (l : List ℕ). length l) c.as_mut_slice.ensures.value ∙ c.in-Ok.ensures.len in
     let same : length bytes / 512 ≡ length c.as_mut_slice.result.now / 512 = ap (λ (n : ℕ). n / 512) c.fetch-fetched.auto.into in
     let whole = written-whole c.in-Ok.bytes.len c.in-Ok.bytes.items bytes (c.fetch-fetched.auto.into ∙ ap (λ (l : List ℕ). length l) c.as_mut_slice.ensures.value) c.in-Ok.bytes.ok.0 in
-    let within : c.args.at + length bytes / 512 ≤ list_length a.members.newest = rw len c.in_default.ensures.why.0 in
+    let seen_within : c.args.at + length bytes / 512 ≤ visible_size a.members a.limit = rw len c.in_default.ensures.why.0 in
+    let within : c.args.at + length bytes / 512 ≤ list_length a.members.newest = le_trans seen_within (visible-within (list_length a.members.newest) a.limit) in
     let does = without-still a.members here.still (shape-without (shape_of a.members.newest) a.members (λ refusal many. c.in_default.ensures.why.1 refusal (inl many))) in
     let since = lost-since given a.members m c.shape_in-shape.result.disks c.vacant_roles-before.result roles spares before after here.placed did.moved did.failed
     (ap (λ (s : Shape). s.disks) c.shape_in-shape.ensures ∙ sym (count-still a.members.newest here.still)) c.vacant_roles-before.ensures c.newly_vacant-roles.ensures in
@@ -318,9 +324,9 @@ invariant_of-self-2 g c =
     (ready (entries_of c.args.who end (losses_of roles spares ++ Read c.args.at (sectors_of bytes) ∷ [])) was (rows-moved given a.members m did.moved)
     (read-stands g.B.Bank.tells given tape tape' scope a.epoch.first a.epoch.entries.items a.members m a.work (still_left a.work a.members a.ahead) (still_left a.work m a.ahead) c.args.who end roles spares before after
     was.kept does (begins-going a.epoch.entries.items c.args.who number) (not_254 c.args.who.caller c.requires.caller) c.ops-end-2.ensures.count named (left-alike a.work a.ahead roles spares before after did.moved since)
-    c.args.at bytes within (λ t. let all = seen was.kept was.unlimited t in omega (arith, all, within)) fetched)
-    (plain-read was c.args.who end (begins-going a.epoch.entries.items c.args.who number) c.requires.caller c.ops-end-2.ensures.count did.grows did.moved since c.args.at bytes does within fetched)
-    did.counts (behind-keeps c.args.who end roles spares (Read c.args.at (sectors_of bytes) ∷ []) (alone-keeps c.args.who end (Read c.args.at (sectors_of bytes)) (λ n. refl) refl))
+    c.args.at bytes within (λ t. let all = seen was.kept was.limited t in omega (arith, all, seen_within)) fetched)
+    (plain-read was c.args.who end (begins-going a.epoch.entries.items c.args.who number) c.requires.caller c.ops-end-2.ensures.count did.grows did.moved since c.args.at bytes does seen_within fetched)
+    did.counts (behind-keeps c.args.who end roles spares (Read c.args.at (sectors_of bytes) ∷ []) (alone-keeps c.args.who end (Read c.args.at (sectors_of bytes)) (λ n. refl) (λ limit. refl)))
     did.given (scope-same given a.backup did.given c.enter_behind-2.ensures.uuid c.enter_behind-2.ensures.given) c.enter_behind-2.ensures.first c.make_room.ensures.items
     (c.enter_behind-2.ensures.items ∙ ap (λ (b : List Sector). c.make_room.new.self.items ++ entries_of c.args.who end (losses_of roles spares ++ Read c.args.at b ∷ [])) (c.from_bytes-body.ensures ∙ ap sectors_of whole))
     (omega (arith, c.enter_behind-2.ensures.room, c.in-Ok-make_room.ensures.ok)))
@@ -392,7 +398,7 @@ returns-clause-called g c =
     (ended-behind (g.B.Bank.tape c.fetch-fetched.new.bank) c.enter_behind-2.new.epoch.first c.make_room.new.self.items c.args.who end (losses_of roles spares) event c.enter_behind-2.ensures.items c.ops-end-2.ensures.count)
     (losses-behind a.members m before after a.epoch.entries.items c.make_room.new.self.items c.enter_behind-2.new.epoch.entries.items c.args.who end roles spares event since tt c.make_room.ensures.items c.enter_behind-2.ensures.items)
     did.counts
-    (record { uuid = c.enter_behind-2.ensures.uuid; given = c.enter_behind-2.ensures.given; first = c.enter_behind-2.ensures.first; backup = refl; work = refl; ahead = refl })
+    (record { uuid = c.enter_behind-2.ensures.uuid; given = c.enter_behind-2.ensures.given; first = c.enter_behind-2.ensures.first; backup = refl; work = refl; ahead = refl; limit = refl })
     (λ t. (was.kept.recorded t).begun))
 
 pub returns-clause-tape : goal.returns-clause-tape

@@ -7,12 +7,12 @@ use Rattle.array_kept.specs.Calls.{IsUnmendable}
 use Rattle.array_kept.proofs.LossLaws.{ended-behind, behind-alone}
 use Rattle.array_kept.proofs.ReadyLaws.{scope-same}
 use Rattle.kept_history.specs.Recorded.{IsCallGoing}
+use Rattle.still_laws.specs.running_words_Parts.{visible_size}
 use Rattle.still_laws.proofs.running_words_Called.{alone-lossless}
 use Rattle.still_laws.proofs.running_words_Lengths.{alone-keeps}
 use Rattle.still_laws.proofs.Kept.{ready, rows-same}
 use Rattle.still_laws.proofs.Going.{still-going}
 use Rattle.still_laws.proofs.StepLaws.{shapes-same, stepped, step-refused, refused-going}
-use Rattle.superblocks.specs.Reading.{list_length}
 use Rattle.still_laws.proofs.PlainBehind.{step-here, here-plain}
 use Rattle.still.proofs.state.Still.refuse_step.Goals as goal
 
@@ -30,8 +30,8 @@ invariant_of-self g c =
     ready (entries_of c.args.who end (Refused c.args.refusal ∷ [])) was (rows-same a.members.newest)
     (refused-going c.args.who end c.args.refusal was.kept goes c.requires.caller c.ops-end.ensures.count why)
     (here-plain was c.args.who end goes c.requires.caller c.ops-end.ensures.count (grows-none (λ t. refl)) c.args.refusal
-    (step-here given a.members was.kept.members_are.placed (list_length a.members.newest) c.args.refusal a.work.resync unmendable many))
-    (λ slot. omega arith) (alone-keeps c.args.who end (Refused c.args.refusal) (λ n. refl) refl)
+    (step-here given a.members was.kept.members_are.placed (visible_size a.members a.limit) c.args.refusal a.work.resync unmendable many))
+    (λ slot. omega arith) (alone-keeps c.args.who end (Refused c.args.refusal) (λ n. refl) (λ limit. refl))
     refl (scope-same given a.backup refl c.enter.ensures.uuid c.enter.ensures.given) c.enter.ensures.first refl c.enter.ensures.items
     (omega (arith, c.enter.ensures.room, was.room_left, some))
 
@@ -49,7 +49,7 @@ returns-clause-stepped g c =
     (λ role slot held. inl held)
     (alone-lossless a.members faults faults a.epoch.entries.items a.epoch.entries.items c.enter.new.epoch.entries.items c.args.who end (Refused c.args.refusal) tt refl c.enter.ensures.items)
     (λ slot. omega arith)
-    (record { uuid = c.enter.ensures.uuid; given = c.enter.ensures.given; first = c.enter.ensures.first; backup = refl; ahead = refl })
+    (record { uuid = c.enter.ensures.uuid; given = c.enter.ensures.given; first = c.enter.ensures.first; backup = refl; ahead = refl; limit = refl })
     (λ t. (was.kept.recorded t).begun))
 
 pub returns-clause-open : goal.returns-clause-open

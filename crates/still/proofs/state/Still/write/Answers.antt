@@ -1,3 +1,4 @@
+use Rattle.std.proofs.Math.Nat.{le_trans}
 use Rattle.std.proofs.Common.{inl, ◌≡◌, ◌+◌, ◌*◌, ◌/◌, ◌≤◌, ◌++◌, ◌∷◌, [], ℕ, Bool, Some, List, length, refl, sym, ◌∙◌, ap, subst, arith}
 use Rattle.md_base.specs.Sectors.{Sector, sectors_of}
 use Rattle.md_base.specs.Shapes.{data_disks}
@@ -24,14 +25,16 @@ use Rattle.array_kept.specs.Calls.{IsRefusedFor}
 use Rattle.array_kept.specs.Kept.{scope_in}
 use Rattle.array_kept.proofs.LossLaws.{losses-behind, losses-failure, ended-behind, ended-failure, torn-told}
 use Rattle.array_kept.proofs.ReadyLaws.{scope-same}
-use Rattle.array_kept.proofs.ReplyLaws.{refused_reply, failed_reply, inside-losses, replied, write_kind, unwritten-of, refused-for}
+use Rattle.array_kept.proofs.ReplyLaws.{inside-losses, replied, unwritten-of, refused-for}
 use Rattle.calls_kept.proofs.ReadLaws.{some-of}
 use Rattle.array_state.proofs.FirstLaws.{call-within}
 use Rattle.kept_history.proofs.Records.{begins-going}
 use Rattle.still_laws.proofs.still_kept_Writing.{wrote-stands}
-use Rattle.still_laws.specs.running_words_Parts.{still_left}
+use Rattle.still_laws.specs.running_words_Parts.{visible_size, still_left}
 use Rattle.still_laws.proofs.running_words_Called.{not_254, called, alone-lossless}
 use Rattle.still_laws.proofs.running_words_Lengths.{alone-keeps, behind-keeps, failure-keeps}
+use Rattle.still_laws.proofs.running_words_Replies.{refused_reply, failed_reply, write_kind}
+use Rattle.still_laws.proofs.running_words_Visible.{visible-within}
 use Rattle.still_laws.proofs.Asking.{refused-alone}
 use Rattle.still_laws.proofs.Kept.{ready, rows-same, rows-moved, with-buffers}
 use Rattle.still_laws.proofs.PlainBehind.{unwritten-plain, put-plain, plain-wrote, plain-unwritten, first-plain}
@@ -52,12 +55,12 @@ invariant_of-self-in-Some g c =
     let refusal = c.in-Some.refusal in
     ready (entries_of c.args.who c.ops-end.result (Refused refusal ∷ [])) was (rows-same a.members.newest)
     (refused-alone c.args.who c.ops-end.result was.kept number c.requires.caller c.ops-end.ensures.count refusal
-    (refused-first was.kept was.unlimited to (IsUnwritten (shape_of a.members.newest) (are_mended (shape_of a.members.newest) (mended_rows a.work.resync a.members) to)) refusal
+    (refused-first was.kept was.limited to (IsUnwritten (shape_of a.members.newest) (are_mended (shape_of a.members.newest) (mended_rows a.work.resync a.members) to)) refusal
     (λ within. unwritten-still given a.members was.kept.members_are a.work.resync to refusal within) c.in-Some.ensures.why))
     (first-plain was c.args.who c.ops-end.result (begins-going a.epoch.entries.items c.args.who number) c.requires.caller c.ops-end.ensures.count (grows-none (λ t. refl)) to
     (IsUnwritten (shape_of a.members.newest) (are_mended (shape_of a.members.newest) (mended_rows a.work.resync a.members) to)) refusal
-    (λ within. unwritten-plain given a.members was.kept.members_are a.work.resync (list_length a.members.newest) to refusal within) c.in-Some.ensures.why)
-    (λ slot. omega arith) (alone-keeps c.args.who c.ops-end.result (Refused refusal) (λ n. refl) refl)
+    (λ within. unwritten-plain given a.members was.kept.members_are a.work.resync (visible_size a.members a.limit) to refusal within) c.in-Some.ensures.why)
+    (λ slot. omega arith) (alone-keeps c.args.who c.ops-end.result (Refused refusal) (λ n. refl) (λ limit. refl))
     refl (scope-same given a.backup refl c.enter.ensures.uuid c.enter.ensures.given) c.enter.ensures.first c.make_room.ensures.items c.enter.ensures.items
     (omega (arith, c.enter.ensures.room, c.in-Ok-make_room.ensures.ok))
 
@@ -69,8 +72,8 @@ returns-in-Some-clause-answered g c =
     let size = list_length a.members.newest in
     let body = sectors_of c.args.from.now in
     let synced = are_mended (shape_of a.members.newest) (mended_rows a.work.resync a.members) (c.args.at + length c.args.from.now / 512) in
-    let why = subst (λ (n : ℕ). IsRefusedFor size (c.args.at + n) (IsUnwritten (shape_of a.members.newest) synced) a.members a.members c.in-Some.refusal) (sym (length-sectors_of c.args.from.now)) c.in-Some.ensures.why in
-    rw (← c.self.view_is) (refused_reply size a.epoch.entries.items was.sized was.unlimited (AsksWrite c.args.at body) c.args.who (c.args.at + length body)
+    let why = subst (λ (n : ℕ). IsRefusedFor (visible_size a.members a.limit) (c.args.at + n) (IsUnwritten (shape_of a.members.newest) synced) a.members a.members c.in-Some.refusal) (sym (length-sectors_of c.args.from.now)) c.in-Some.ensures.why in
+    rw (← c.self.view_is) (refused_reply size a.limit a.epoch.entries.items was.sized was.limited (AsksWrite c.args.at body) c.args.who (c.args.at + length body)
     (IsUnwritten (shape_of a.members.newest) synced) c.enter.new.epoch.entries.items c.ops-end.result a.members c.in-Some.refusal (write_kind c.args.at body)
     (unwritten-of (shape_of a.members.newest) synced a.members c.in-Some.refusal) why
     (c.enter.ensures.items ∙ ap (λ (l : List Entry). l ++ entries_of c.args.who c.ops-end.result (Refused c.in-Some.refusal ∷ [])) c.make_room.ensures.items) number)
@@ -87,7 +90,7 @@ returns-in-Some-clause-called g c =
     (ended-behind (g.B.Bank.tape a.bank) c.enter.new.epoch.first c.make_room.new.self.items c.args.who end [] (Refused refusal) c.enter.ensures.items c.ops-end.ensures.count)
     (alone-lossless a.members faults faults a.epoch.entries.items c.make_room.new.self.items c.enter.new.epoch.entries.items c.args.who end (Refused refusal) tt c.make_room.ensures.items c.enter.ensures.items)
     (λ slot. omega arith)
-    (record { uuid = c.enter.ensures.uuid; given = c.enter.ensures.given; first = c.enter.ensures.first; backup = refl; work = refl; ahead = refl })
+    (record { uuid = c.enter.ensures.uuid; given = c.enter.ensures.given; first = c.enter.ensures.first; backup = refl; work = refl; ahead = refl; limit = refl })
     (λ t. (was.kept.recorded t).begun))
 
 pub returns-in-Some-clause-caused : goal.returns-in-Some-clause-caused
@@ -105,7 +108,8 @@ pub put-done-requires-clause-within : goal.put-done-requires-clause-within
 put-done-requires-clause-within g c =
     let m = c.self.inside.members in
     subst (λ (s : Shape). c.args.at + length c.args.from.now / 512 ≤ data_disks s * m.newest.size) (sym c.shape_in-shape.ensures)
-    (subst (λ (n : ℕ). c.args.at + length c.args.from.now / 512 ≤ n) (list-still m.newest c.self.invariant.kept.members_are.still) c.in_default.ensures.why.0)
+    (subst (λ (n : ℕ). c.args.at + length c.args.from.now / 512 ≤ n) (list-still m.newest c.self.invariant.kept.members_are.still)
+    (le_trans c.in_default.ensures.why.0 (visible-within (list_length m.newest) c.self.inside.limit)))
 
 -- the list is short
 pub put-done-requires-clause-short : goal.put-done-requires-clause-short
@@ -113,7 +117,8 @@ put-done-requires-clause-short g c =
     let m = c.self.inside.members in
     let few = list-few (g.B.Bank.given c.self.inside.bank) m c.self.invariant.kept.members_are.placed in
     let within : c.args.at + length c.args.from.now / 512 ≤ list_size (places_of m) =
-    subst (λ (n : ℕ). c.args.at + length c.args.from.now / 512 ≤ n) (list-still m.newest c.self.invariant.kept.members_are.still) c.in_default.ensures.why.0 in
+    subst (λ (n : ℕ). c.args.at + length c.args.from.now / 512 ≤ n) (list-still m.newest c.self.invariant.kept.members_are.still)
+    (le_trans c.in_default.ensures.why.0 (visible-within (list_length m.newest) c.self.inside.limit)) in
     omega (arith, few, within)
 
 -- ---- refused since members are missing
@@ -139,6 +144,7 @@ invariant_of-self-in-Some-refusal g c =
     let from = c.args.from.now in
     let body = sectors_of from in
     let shape = c.shape_in-shape.result in
+    let within : c.args.at + length from / 512 ≤ list_length a.members.newest = le_trans c.in_default.ensures.why.0 (visible-within (list_length a.members.newest) a.limit) in
     let does = without-still a.members here.still (shape-without (shape_of a.members.newest) a.members (λ refusal many. c.in_default.ensures.why.1 refusal (inl many))) in
     let synced = c.are_mended-synced.result in
     let asked : synced ≡ are_mended (shape_of a.members.newest) (mended_rows a.work.resync a.members) (c.args.at + length from / 512) =
@@ -149,13 +155,13 @@ invariant_of-self-in-Some-refusal g c =
     with-buffers (let fits = was.rows_fit in let more = did.rows in omega (arith, fits, more)) (rw did.buffer was.buffer_fits)
     (ready (entries_of c.args.who end (failure_events roles spares torn c.args.at body refusal)) was (rows-moved given a.members m did.moved)
     (failed-stands (still_left a.work m a.ahead) c.args.who end shape c.args.at from synced torn refusal was.kept does (begins-going a.epoch.entries.items c.args.who number) (not_254 c.args.who.caller c.requires.caller) c.ops-end-2.ensures.count
-    (left-alike a.work a.ahead roles spares before after did.moved since) c.shape_in-shape.ensures asked c.in_default.ensures.why.0
-    (λ t. let all = seen was.kept was.unlimited t in let within = c.in_default.ensures.why.0 in omega (arith, all, within)) put
+    (left-alike a.work a.ahead roles spares before after did.moved since) c.shape_in-shape.ensures asked within
+    (λ t. let all = seen was.kept was.limited t in let within = c.in_default.ensures.why.0 in omega (arith, all, within)) put
     (some-of (IsUnwritten shape synced m) c.put-done.result.refusal refusal c.in-Some-refusal.is did.refused)
     (λ begun. some-of (LacksTooMany shape m) c.put-done.result.refusal refusal c.in-Some-refusal.is (did.torn begun)) did.untouched)
     (plain-unwritten was c.args.who end (begins-going a.epoch.entries.items c.args.who number) c.requires.caller c.ops-end-2.ensures.count did.grows did.moved since c.args.at from shape torn refusal c.in_default.ensures.why.0
     (c.shape_in-shape.ensures ∙ sym did.moved.shape)
-    (put-plain given a.members m here did.moved a.work.resync (list_length a.members.newest) (c.args.at + length from / 512) shape synced refusal c.shape_in-shape.ensures asked c.in_default.ensures.why.0
+    (put-plain given a.members m here did.moved a.work.resync (visible_size a.members a.limit) (c.args.at + length from / 512) shape synced refusal c.shape_in-shape.ensures asked within
     (some-of (IsUnwritten shape synced m) c.put-done.result.refusal refusal c.in-Some-refusal.is did.refused))
     (λ begun. some-of (LacksTooMany shape m) c.put-done.result.refusal refusal c.in-Some-refusal.is (did.torn begun)))
     did.counts (failure-keeps c.args.who end roles spares torn c.args.at body refusal)
@@ -176,10 +182,10 @@ returns-in-Some-refusal-clause-answered g c =
     let end = c.ops-end-2.result in
     let size = list_length a.members.newest in
     let body = sectors_of c.args.from.now in
-    let within : c.args.at + length body ≤ size = omega (arith, c.in_default.ensures.why.0, length-sectors_of c.args.from.now) in
+    let within : c.args.at + length body ≤ visible_size a.members a.limit = omega (arith, c.in_default.ensures.why.0, length-sectors_of c.args.from.now) in
     let synced = c.are_mended-synced.result in
     let why = some-of (IsUnwritten c.shape_in-shape.result synced m) c.put-done.result.refusal refusal c.in-Some-refusal.is c.put-done.ensures.refused in
-    rw (← c.self.view_is) (failed_reply size a.epoch.entries.items was.sized was.unlimited torn c.args.who c.args.at body c.enter_failure.new.epoch.entries.items end roles spares refusal within
+    rw (← c.self.view_is) (failed_reply size a.limit a.epoch.entries.items was.sized was.limited torn c.args.who c.args.at body c.enter_failure.new.epoch.entries.items end roles spares refusal within
     (unwritten-of c.shape_in-shape.result synced m refusal why)
     (subst (λ (l : List Entry). c.enter_failure.new.epoch.entries.items ≡ l ++ entries_of c.args.who end (failure_events roles spares torn c.args.at body refusal)) c.make_room.ensures.items
     (subst (λ (b : List Sector). c.enter_failure.new.epoch.entries.items ≡ c.make_room.new.self.items ++ entries_of c.args.who end (failure_events roles spares torn c.args.at b refusal)) c.in-Ok.ensures c.enter_failure.ensures.items)) number)
@@ -200,7 +206,7 @@ returns-in-Some-refusal-clause-caused g c =
     let synced = c.are_mended-synced.result in
     let asked : synced ≡ are_mended (shape_of a.members.newest) (mended_rows a.work.resync a.members) (c.args.at + length c.args.from.now / 512) = c.are_mended-synced.ensures ∙ ap (λ (s : Shape). are_mended s (mended_rows a.work.resync a.members) (c.args.at + length c.args.from.now / 512)) c.shape_in-shape.ensures in
     let why = some-of (IsUnwritten c.shape_in-shape.result synced m) c.put-done.result.refusal refusal c.in-Some-refusal.is c.put-done.ensures.refused in
-    rw (← c.self.view_is) (refused-for (list_length a.members.newest) (c.args.at + length c.args.from.now / 512)
+    rw (← c.self.view_is) (refused-for (visible_size a.members a.limit) (c.args.at + length c.args.from.now / 512)
     (IsUnwritten (shape_of a.members.newest) (are_mended (shape_of a.members.newest) (mended_rows a.work.resync a.members) (c.args.at + length c.args.from.now / 512))) a.members m refusal
     (unwritten-of c.shape_in-shape.result synced m refusal why) c.in_default.ensures.why.0 (subst (λ (s : Shape). IsUnwritten s (are_mended (shape_of a.members.newest) (mended_rows a.work.resync a.members) (c.args.at + length c.args.from.now / 512)) m refusal) c.shape_in-shape.ensures
     (subst (λ (b : Bool). IsUnwritten c.shape_in-shape.result b m refusal) asked why)))
@@ -214,7 +220,7 @@ returns-in-Some-refusal-clause-first g c =
     let asked = are_mended (shape_of a.members.newest) (mended_rows a.work.resync a.members) to in
     let same = c.are_mended-synced.ensures ∙ ap (λ (s : Shape). are_mended s (mended_rows a.work.resync a.members) to) c.shape_in-shape.ensures in
     let why = some-of (λ r. write_refusal c.shape_in-shape.result c.are_mended-synced.result m ≡ Some r) c.put-done.result.refusal refusal c.in-Some-refusal.is c.put-done.ensures.first in
-    rw (← c.self.view_is) (call-within (list_length a.members.newest) to (write_refusal (shape_of a.members.newest) asked m) c.in_default.ensures.why.0
+    rw (← c.self.view_is) (call-within (visible_size a.members a.limit) to (write_refusal (shape_of a.members.newest) asked m) c.in_default.ensures.why.0
     ∙ subst (λ (s : Shape). write_refusal s asked m ≡ Some refusal) c.shape_in-shape.ensures (subst (λ (b : Bool). write_refusal c.shape_in-shape.result b m ≡ Some refusal) same why))
 
 pub returns-in-Some-refusal-clause-failed : goal.returns-in-Some-refusal-clause-failed
@@ -244,7 +250,7 @@ returns-in-Some-refusal-clause-called g c =
     (losses-failure a.members m before after a.epoch.entries.items c.make_room.new.self.items c.enter_failure.new.epoch.entries.items c.args.who end roles spares torn c.args.at c.in-Ok.body c.in-Some-refusal.refusal since
     c.make_room.ensures.items c.enter_failure.ensures.items)
     did.counts
-    (record { uuid = c.enter_failure.ensures.uuid; given = c.enter_failure.ensures.given; first = c.enter_failure.ensures.first; backup = refl; work = refl; ahead = refl })
+    (record { uuid = c.enter_failure.ensures.uuid; given = c.enter_failure.ensures.given; first = c.enter_failure.ensures.first; backup = refl; work = refl; ahead = refl; limit = refl })
     (λ t. (was.kept.recorded t).begun))
 
 -- ---- done
@@ -269,6 +275,7 @@ invariant_of-self-2 g c =
     let from = c.args.from.now in
     let body = sectors_of from in
     let shape = c.shape_in-shape.result in
+    let within : c.args.at + length from / 512 ≤ list_length a.members.newest = le_trans c.in_default.ensures.why.0 (visible-within (list_length a.members.newest) a.limit) in
     let done = c.in_default-refusal.is in
     let bytes : AreBytes from = λ i. (c.type_inv.from i).fits in
     let does = without-still a.members here.still (shape-without (shape_of a.members.newest) a.members (λ refusal many. c.in_default.ensures.why.1 refusal (inl many))) in
@@ -283,10 +290,10 @@ invariant_of-self-2 g c =
     with-buffers (let fits = was.rows_fit in let more = did.rows in omega (arith, fits, more)) (rw did.buffer was.buffer_fits)
     (ready (entries_of c.args.who end (losses_of roles spares ++ Wrote c.args.at body ∷ [])) was (rows-moved given a.members m did.moved)
     (wrote-stands g.B.Bank.tells given tape tape' scope a.epoch.first a.epoch.entries.items a.members m a.work (still_left a.work a.members a.ahead) (still_left a.work m a.ahead) c.args.who end roles spares before after c.args.at from c.put-done.result.begun
-    was.kept does (begins-going a.epoch.entries.items c.args.who number) (not_254 c.args.who.caller c.requires.caller) c.ops-end-2.ensures.count (left-alike a.work a.ahead roles spares before after did.moved since) c.in_default.ensures.why.0
-    (λ t. let all = seen was.kept was.unlimited t in let within = c.in_default.ensures.why.0 in omega (arith, all, within)) put written c.requires.whole bytes)
+    was.kept does (begins-going a.epoch.entries.items c.args.who number) (not_254 c.args.who.caller c.requires.caller) c.ops-end-2.ensures.count (left-alike a.work a.ahead roles spares before after did.moved since) within
+    (λ t. let all = seen was.kept was.limited t in let within = c.in_default.ensures.why.0 in omega (arith, all, within)) put written c.requires.whole bytes)
     (plain-wrote was c.args.who end (begins-going a.epoch.entries.items c.args.who number) c.requires.caller c.ops-end-2.ensures.count did.grows did.moved since c.args.at from c.in_default.ensures.why.0)
-    did.counts (behind-keeps c.args.who end roles spares (Wrote c.args.at body ∷ []) (alone-keeps c.args.who end (Wrote c.args.at body) (λ n. refl) refl))
+    did.counts (behind-keeps c.args.who end roles spares (Wrote c.args.at body ∷ []) (alone-keeps c.args.who end (Wrote c.args.at body) (λ n. refl) (λ limit. refl)))
     did.given (scope-same given a.backup did.given c.enter_behind.ensures.uuid c.enter_behind.ensures.given) c.enter_behind.ensures.first c.make_room.ensures.items
     (c.enter_behind.ensures.items ∙ ap (λ (b : List Sector). c.make_room.new.self.items ++ entries_of c.args.who end (losses_of roles spares ++ Wrote c.args.at b ∷ [])) c.in-Ok.ensures)
     (omega (arith, c.enter_behind.ensures.room, c.in-Ok-make_room.ensures.ok)))
@@ -325,7 +332,7 @@ returns-clause-called g c =
     (ended-behind (g.B.Bank.tape c.put-done.new.bank) c.enter_behind.new.epoch.first c.make_room.new.self.items c.args.who end (losses_of roles spares) event c.enter_behind.ensures.items c.ops-end-2.ensures.count)
     (losses-behind a.members m before after a.epoch.entries.items c.make_room.new.self.items c.enter_behind.new.epoch.entries.items c.args.who end roles spares event since tt c.make_room.ensures.items c.enter_behind.ensures.items)
     did.counts
-    (record { uuid = c.enter_behind.ensures.uuid; given = c.enter_behind.ensures.given; first = c.enter_behind.ensures.first; backup = refl; work = refl; ahead = refl })
+    (record { uuid = c.enter_behind.ensures.uuid; given = c.enter_behind.ensures.given; first = c.enter_behind.ensures.first; backup = refl; work = refl; ahead = refl; limit = refl })
     (λ t. (was.kept.recorded t).begun))
 
 pub returns-clause-caused : goal.returns-clause-caused

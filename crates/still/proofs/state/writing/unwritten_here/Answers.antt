@@ -1,20 +1,43 @@
-use Rattle.std.proofs.Common.{ℕ, ◌+◌, sym, ◌∙◌, ap, subst}
+use Rattle.std.proofs.Common.{◌≡◌, ◌≤◌, ◌+◌, Bool, refl, ◌∙◌, ap, ap₂, arith}
+use Rattle.md_base.specs.declared.places.Shape.{Shape}
 use Rattle.superblocks.specs.Reading.{shape_of}
-use Rattle.shape_views.proofs.Stands.{list-still}
-use Rattle.views.specs.Lacking.{IsUnwritten, are_mended, mended_rows}
-use Rattle.safe_updates.specs.First.{write_refusal, call_refusal}
-use Rattle.array_kept.specs.Calls.{IsRefusalOf}
+use Rattle.views.specs.Lacking.{are_mended, mended_rows}
+use Rattle.safe_updates.specs.First.{write_refusal}
+use Rattle.array_state.proofs.FirstLaws.{past-is, within-is, write-judged}
+use Rattle.still_laws.specs.running_words_Parts.{visible_size}
+use Rattle.still_laws.proofs.Reading.{visible-still}
 use Rattle.still.proofs.state.writing.unwritten_here.Goals as goal
+
+pub returns-then-sectors-at-clause-first : goal.returns-then-sectors-at-clause-first
+returns-then-sectors-at-clause-first c =
+    past-is c.visible_of-sectors.result _ _ _ (visible-still c.args.members.now c.args.limit c.visible-size.result c.visible_of-sectors.result c.requires.still c.visible-size.ensures c.visible_of-sectors.ensures.value)
+    c.if-sectors-at.true
+
+pub returns-then-sectors-at-clause-why : goal.returns-then-sectors-at-clause-why
+returns-then-sectors-at-clause-why c =
+    let same = visible-still c.args.members.now c.args.limit c.visible-size.result c.visible_of-sectors.result c.requires.still c.visible-size.ensures c.visible_of-sectors.ensures.value in
+    (same, (let past = c.if-sectors-at.true in omega (arith, same, past)), refl)
 
 pub returns-clause-first : goal.returns-clause-first
 returns-clause-first c =
     let m = c.args.members.now in
     let to = c.args.at + c.args.count in
-    c.unwritten_from.ensures.first
-    ∙ ap (λ (n : ℕ). call_refusal n to (write_refusal (shape_of m.newest) (are_mended (shape_of m.newest) (mended_rows c.args.resync m) to) m)) (sym (list-still m.newest c.requires.still))
+    let mended = mended_rows c.args.resync m in
+    let asked = are_mended (shape_of m.newest) mended to in
+    let seen = visible-still m c.args.limit c.visible-size.result c.visible_of-sectors.result c.requires.still c.visible-size.ensures c.visible_of-sectors.ensures.value in
+    let within : to ≤ visible_size m c.args.limit = omega (arith, seen, c.if-sectors-at.false) in
+    let same = c.are_mended.ensures ∙ ap (λ (s : Shape). are_mended s mended to) c.shape_in-shape.ensures in
+    within-is (visible_size m c.args.limit) to c.unwritten.result (write_refusal (shape_of m.newest) asked m) within
+    (c.unwritten.ensures ∙ ap₂ (λ (s : Shape) (b : Bool). write_refusal s b m) c.shape_in-shape.ensures same)
 
 pub returns-clause-why : goal.returns-clause-why
 returns-clause-why c =
     let m = c.args.members.now in
     let to = c.args.at + c.args.count in
-    subst (λ (n : ℕ). IsRefusalOf n to (IsUnwritten (shape_of m.newest) (are_mended (shape_of m.newest) (mended_rows c.args.resync m) to)) m c.unwritten_from.result) (sym (list-still m.newest c.requires.still)) c.unwritten_from.ensures.why
+    let mended = mended_rows c.args.resync m in
+    let asked = are_mended (shape_of m.newest) mended to in
+    let seen = visible-still m c.args.limit c.visible-size.result c.visible_of-sectors.result c.requires.still c.visible-size.ensures c.visible_of-sectors.ensures.value in
+    let within : to ≤ visible_size m c.args.limit = omega (arith, seen, c.if-sectors-at.false) in
+    let same = c.are_mended.ensures ∙ ap (λ (s : Shape). are_mended s mended to) c.shape_in-shape.ensures in
+    write-judged (shape_of m.newest) (visible_size m c.args.limit) to asked m c.unwritten.result within
+    (c.unwritten.ensures ∙ ap₂ (λ (s : Shape) (b : Bool). write_refusal s b m) c.shape_in-shape.ensures same)

@@ -11,9 +11,9 @@ use Rattle.array_kept.specs.Kept.{scope_in, world_in}
 use Rattle.array_kept.proofs.LossLaws.{ended-behind}
 use Rattle.array_kept.proofs.ReadyLaws.{scope-same}
 use Rattle.turning.proofs.moving_laws_Kept.{ready, roomier, shapes-same, alone-keeps}
-use Rattle.growing.proofs.Kept.{all-visible}
+use Rattle.turning.proofs.running_words_Visible.{visible-is}
 use Rattle.growing.proofs.Busy.{busy-fits, busy-moves}
-use Rattle.growing.proofs.refusing.refuse_grow.Goals as goal
+use Rattle.growing.proofs.refusing.enter_busy.Goals as goal
 
 pub of_pieces-moving-requires-clause-ready : goal.of_pieces-moving-requires-clause-ready
 of_pieces-moving-requires-clause-ready g c = roomier c.take_apart-pieces.ensures.ready c.make_room.ensures.items c.make_room.ensures.keeps
@@ -28,11 +28,11 @@ of_pieces-moving-requires-2-clause-ready g c =
     let number = subst (λ s. who.number ≡ next_number who.caller s.parts.entries) c.take_apart-pieces.ensures.same c.requires.next in
     ready (entries_of who end (Refused (Busy Reshape) ∷ [])) was (grows-none (λ t. refl)) (shapes-same p.members.newest)
     (busy-moves who end was.kept number c.requires.caller c.ops-end.ensures.count)
-    refl (λ slot. omega arith) (alone-keeps who end (Refused (Busy Reshape)) (λ n. refl) refl) (λ none whole. whole) refl (scope-same given p.backup refl c.enter.ensures.uuid c.enter.ensures.given) c.enter.ensures.first c.make_room.ensures.items c.enter.ensures.items
+    refl (λ slot. omega arith) (alone-keeps who end (Refused (Busy Reshape)) (λ n. refl) (λ limit. refl)) (λ none whole. whole) refl (scope-same given p.backup refl c.enter.ensures.uuid c.enter.ensures.given) c.enter.ensures.first c.make_room.ensures.items c.enter.ensures.items
     (omega (arith, c.enter.ensures.room, c.in-Ok.ensures.ok))
 
-pub returns-clause-answered : goal.returns-clause-answered
-returns-clause-answered g c =
+pub returns-clause-reply : goal.returns-clause-reply
+returns-clause-reply g c request may =
     let was = c.take_apart-pieces.ensures.ready in
     let p = c.take_apart-pieces.result.0 in
     let given = g.B.Bank.given p.bank in
@@ -44,7 +44,7 @@ returns-clause-answered g c =
       end = end;
       at_end = c.ops-end.ensures.count;
       is = c.enter.ensures.items ∙ ap (λ (l : List Entry). l ++ entries_of who end (Refused (Busy Reshape) ∷ [])) c.make_room.ensures.items;
-      fits = λ t right ahead read. busy-fits (world_in given tape (scope_in given p.epoch.uuid p.epoch.given p.backup) p.epoch.first) p.epoch.entries.items who end c.args.wish.now p.members number (c.ops-end.ensures.count t)
+      fits = λ t right ahead read. busy-fits (world_in given tape (scope_in given p.epoch.uuid p.epoch.given p.backup) p.epoch.first) p.epoch.entries.items who end request p.members may number (c.ops-end.ensures.count t)
           was.kept.members_are.active read;
     }))
 
@@ -58,4 +58,4 @@ pub returns-clause-visible : goal.returns-clause-visible
 returns-clause-visible g c =
     let was = c.take_apart-pieces.ensures.ready in
     let p = c.take_apart-pieces.result.0 in
-    rw (c.take_apart-pieces.ensures.same) (all-visible (list_length p.members.newest) p.epoch.entries.items was.unlimited was.sized)
+    rw (c.take_apart-pieces.ensures.same) (visible-is (list_length p.members.newest) (list_length p.members.newest) p.limit p.epoch.entries.items was.sized was.limited)

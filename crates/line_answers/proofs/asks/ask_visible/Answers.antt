@@ -1,0 +1,28 @@
+use Rattle.superblocks.specs.Reading.{list_length}
+use Rattle.flat_history.specs.declared.events.Event.TheVariants.{Visible}
+use Rattle.flat_history.specs.declared.events.Request.TheVariants.{Visible as AsksVisible}
+use Rattle.script.specs.declared.lines.Line.TheVariants.{ArraySize as ArraySizeLine}
+use Rattle.run_laws.specs.running_words_Parts.{visible_in}
+use Rattle.run_laws.proofs.AskLaws.{on_no_memory, asked_with, with-grew}
+use Rattle.line_answers.proofs.Called.{replied-some, replied-none}
+use Rattle.line_answers.proofs.asks.ask_visible.Goals as goal
+
+pub returns-then-wants_memory-clause-asked : goal.returns-then-wants_memory-clause-asked
+returns-then-wants_memory-clause-asked g c =
+    replied-none (list_length c.args.array.now.parts.members.newest) (AsksVisible c.args.limit) c.script_call-who.result c.args.array.now.parts.entries c.set_visible-answer.new.self.parts.entries (Visible c.args.limit (visible_in c.set_visible-answer.new.self)) c.set_visible-answer.result
+    c.set_visible-answer.ensures.answered (c.wants_memory.ensures.yes c.if-wants_memory.true)
+
+pub last_place-requires : goal.last_place-requires
+last_place-requires g c =
+    with-grew (replied-some (list_length c.args.array.now.parts.members.newest) (AsksVisible c.args.limit) c.script_call-who.result c.args.array.now.parts.entries c.set_visible-answer.new.self.parts.entries (Visible c.args.limit (visible_in c.set_visible-answer.new.self)) c.set_visible-answer.result
+    c.set_visible-answer.ensures.answered (c.wants_memory.ensures.no c.if-wants_memory.false)).1
+
+pub returns-clause-asked : goal.returns-clause-asked
+returns-clause-asked g c =
+    asked_with (ArraySizeLine c.args.limit) c.last_place.result
+    (replied-some (list_length c.args.array.now.parts.members.newest) (AsksVisible c.args.limit) c.script_call-who.result c.args.array.now.parts.entries c.set_visible-answer.new.self.parts.entries (Visible c.args.limit (visible_in c.set_visible-answer.new.self)) c.set_visible-answer.result
+    c.set_visible-answer.ensures.answered (c.wants_memory.ensures.no c.if-wants_memory.false)).1
+    (λ before e fits. fits) c.script_call-who.ensures c.last_place.ensures
+
+pub returns-then-wants_memory-clause-unchanged : goal.returns-then-wants_memory-clause-unchanged
+returns-then-wants_memory-clause-unchanged g c = on_no_memory c.set_visible-answer.result c.set_visible-answer.ensures.unchanged (c.wants_memory.ensures.yes c.if-wants_memory.true)

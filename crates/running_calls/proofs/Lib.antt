@@ -1,0 +1,7 @@
+pub mod Leaving
+pub mod Sizes
+mod Plain
+mod Told
+mod Held
+pub mod GoneOn
+mod Done

@@ -1,0 +1,31 @@
+use Rattle.superblocks.specs.Reading.{list_length}
+use Rattle.flat_history.specs.declared.events.Event.TheVariants.{Added}
+use Rattle.flat_history.specs.declared.events.Request.TheVariants.{Add as AsksAdd}
+use Rattle.running_steps.proofs.running_replies_Fitting.{fits-add}
+use Rattle.running_calls.proofs.Plain.{IsCallAnswered, answered-so, told-answer}
+use Rattle.running_calls.proofs.Told.{told-answered, add-told}
+use Rattle.running_calls.proofs.GoneOn.{plain-added, gone-added}
+use Rattle.running_calls.proofs.performing.add.Given.{Over}
+use Rattle.running_calls.proofs.performing.add.Goals as goal
+
+entered : (g : Over) (c : goal.After-told g)
+    → IsCallAnswered (list_length c.args.array.now.parts.members.newest) (AsksAdd c.args.slot) c.args.who c.args.array.now.parts.entries c.add-answer.new.self.parts.entries (Added c.args.slot) c.add-answer.result
+entered g c =
+    answered-so (list_length c.args.array.now.parts.members.newest) (AsksAdd c.args.slot) c.args.who c.args.array.now.parts.entries c.add-answer.new.self.parts.entries (Added c.args.slot) c.add-answer.result
+    (λ before e fits. fits-add (list_length c.args.array.now.parts.members.newest) before e c.args.slot fits) c.add-answer.ensures.answered
+
+pub returns-clause-replied : goal.returns-clause-replied
+returns-clause-replied g c =
+    told-answer (list_length c.args.array.now.parts.members.newest) (AsksAdd c.args.slot) c.args.who c.args.array.now.parts.entries c.add-answer.new.self.parts.entries (Added c.args.slot) c.add-answer.result c.told.result c.told.ensures (entered g c)
+
+pub returns-clause-went : goal.returns-clause-went
+returns-clause-went g c =
+    let old = c.args.array.now in
+    let new = c.add-answer.new.self in
+    let size = list_length old.parts.members.newest in
+    let did = c.add-answer.ensures in
+    let bank = g.B.Bank.given old.parts.bank in
+    gone-added g.B.Bank.tells g.B.Bank.given g.B.Bank.tape g.B.Bank.faults_of old new size c.args.slot c.args.who bank old.parts.backup c.add-answer.result (entered g c)
+    (plain-added g.B.Bank.tells g.B.Bank.given g.B.Bank.tape g.B.Bank.faults_of old new did.called did.given) did.called.spares did.caused
+    (told-answered old.parts.backup (g.B.Bank.faults_of old.parts.bank) (g.B.Bank.faults_of new.parts.bank) size (AsksAdd c.args.slot) c.args.who old.parts.entries new.parts.entries (Added c.args.slot) c.add-answer.result
+    (add-told old.parts.backup (g.B.Bank.faults_of old.parts.bank) (g.B.Bank.faults_of new.parts.bank) size c.args.slot bank old.parts.backup old.parts.members new.parts.members c.add-answer.result did.caused) (entered g c))

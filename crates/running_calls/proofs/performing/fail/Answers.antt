@@ -1,0 +1,30 @@
+use Rattle.superblocks.specs.Reading.{list_length}
+use Rattle.flat_history.specs.declared.events.Event.TheVariants.{Failed}
+use Rattle.flat_history.specs.declared.events.Request.TheVariants.{Fail as AsksFail}
+use Rattle.running_steps.proofs.running_replies_Fitting.{fits-fail}
+use Rattle.running_calls.proofs.Plain.{IsCallAnswered, answered-so, told-answer}
+use Rattle.running_calls.proofs.Told.{told-answered, fail-told}
+use Rattle.running_calls.proofs.GoneOn.{plain-called, gone-answered}
+use Rattle.running_calls.proofs.performing.fail.Given.{Over}
+use Rattle.running_calls.proofs.performing.fail.Goals as goal
+
+entered : (g : Over) (c : goal.After-told g)
+    → IsCallAnswered (list_length c.args.array.now.parts.members.newest) (AsksFail c.args.role) c.args.who c.args.array.now.parts.entries c.fail-answer.new.self.parts.entries (Failed c.args.role) c.fail-answer.result
+entered g c =
+    answered-so (list_length c.args.array.now.parts.members.newest) (AsksFail c.args.role) c.args.who c.args.array.now.parts.entries c.fail-answer.new.self.parts.entries (Failed c.args.role) c.fail-answer.result
+    (λ before e fits. fits-fail (list_length c.args.array.now.parts.members.newest) before e c.args.role fits) c.fail-answer.ensures.answered
+
+pub returns-clause-replied : goal.returns-clause-replied
+returns-clause-replied g c =
+    told-answer (list_length c.args.array.now.parts.members.newest) (AsksFail c.args.role) c.args.who c.args.array.now.parts.entries c.fail-answer.new.self.parts.entries (Failed c.args.role) c.fail-answer.result c.told.result c.told.ensures (entered g c)
+
+pub returns-clause-went : goal.returns-clause-went
+returns-clause-went g c =
+    let old = c.args.array.now in
+    let new = c.fail-answer.new.self in
+    let size = list_length old.parts.members.newest in
+    let did = c.fail-answer.ensures in
+    gone-answered g.B.Bank.tells g.B.Bank.given g.B.Bank.tape g.B.Bank.faults_of old new size (AsksFail c.args.role) c.args.who (Failed c.args.role) c.fail-answer.result (entered g c)
+    (plain-called g.B.Bank.tells g.B.Bank.given g.B.Bank.tape g.B.Bank.faults_of old new did.called did.given) did.called.spares
+    (told-answered old.parts.backup (g.B.Bank.faults_of old.parts.bank) (g.B.Bank.faults_of new.parts.bank) size (AsksFail c.args.role) c.args.who old.parts.entries new.parts.entries (Failed c.args.role) c.fail-answer.result
+    (fail-told old.parts.backup (g.B.Bank.faults_of old.parts.bank) (g.B.Bank.faults_of new.parts.bank) size c.args.role (Failed c.args.role) c.fail-answer.result) (entered g c))

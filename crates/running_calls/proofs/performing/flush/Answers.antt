@@ -1,0 +1,29 @@
+use Rattle.superblocks.specs.Reading.{list_length}
+use Rattle.flat_history.specs.declared.events.Event.TheVariants.{Flushed}
+use Rattle.flat_history.specs.declared.events.Request.TheVariants.{Flush as AsksFlush}
+use Rattle.running_steps.proofs.running_replies_Fitting.{fits-flush}
+use Rattle.running_calls.proofs.Plain.{IsCallAnswered, answered-so, told-answer}
+use Rattle.running_calls.proofs.Told.{told-answered, flush-told}
+use Rattle.running_calls.proofs.GoneOn.{plain-called, gone-answered}
+use Rattle.running_calls.proofs.performing.flush.Given.{Over}
+use Rattle.running_calls.proofs.performing.flush.Goals as goal
+
+entered : (g : Over) (c : goal.After-told g) → IsCallAnswered (list_length c.args.array.now.parts.members.newest) AsksFlush c.args.who c.args.array.now.parts.entries c.flush-answer.new.self.parts.entries Flushed c.flush-answer.result
+entered g c =
+    answered-so (list_length c.args.array.now.parts.members.newest) AsksFlush c.args.who c.args.array.now.parts.entries c.flush-answer.new.self.parts.entries Flushed c.flush-answer.result
+    (λ before e fits. fits-flush (list_length c.args.array.now.parts.members.newest) before e fits) c.flush-answer.ensures.answered
+
+pub returns-clause-replied : goal.returns-clause-replied
+returns-clause-replied g c =
+    told-answer (list_length c.args.array.now.parts.members.newest) AsksFlush c.args.who c.args.array.now.parts.entries c.flush-answer.new.self.parts.entries Flushed c.flush-answer.result c.told.result c.told.ensures (entered g c)
+
+pub returns-clause-went : goal.returns-clause-went
+returns-clause-went g c =
+    let old = c.args.array.now in
+    let new = c.flush-answer.new.self in
+    let size = list_length old.parts.members.newest in
+    let did = c.flush-answer.ensures in
+    gone-answered g.B.Bank.tells g.B.Bank.given g.B.Bank.tape g.B.Bank.faults_of old new size AsksFlush c.args.who Flushed c.flush-answer.result (entered g c)
+    (plain-called g.B.Bank.tells g.B.Bank.given g.B.Bank.tape g.B.Bank.faults_of old new did.called did.given) did.called.spares
+    (told-answered old.parts.backup (g.B.Bank.faults_of old.parts.bank) (g.B.Bank.faults_of new.parts.bank) size AsksFlush c.args.who old.parts.entries new.parts.entries Flushed c.flush-answer.result
+    (flush-told old.parts.backup (g.B.Bank.faults_of old.parts.bank) (g.B.Bank.faults_of new.parts.bank) size Flushed c.flush-answer.result) (entered g c))

@@ -1,0 +1,48 @@
+use Rattle.std.proofs.Common.{◌≡◌, ◌*◌, ◌/◌, ℕ, List, length, drop, sym, ◌∙◌, ap, subst, subst₂, arith}
+use Rattle.std.proofs.lemmas.List.{take_at}
+use Rattle.md_base.specs.Sectors.{Sector, sectors_of}
+use Rattle.superblocks.specs.Reading.{list_length}
+use Rattle.flat_history.specs.declared.events.Event.TheVariants.{Read}
+use Rattle.flat_history.specs.declared.events.Request.TheVariants.{Read as AsksRead}
+use Rattle.array_kept.specs.Calls.{IsAnswered}
+use Rattle.running_steps.proofs.running_replies_Fitting.{fits-read}
+use Rattle.running_calls.proofs.Plain.{IsCallAnswered, answered-so, told-answer}
+use Rattle.running_calls.proofs.Told.{told-answered, read-told}
+use Rattle.running_calls.proofs.GoneOn.{gone-none, plain-called, gone-answered}
+use Rattle.running_calls.proofs.performing.read.Given.{Over}
+use Rattle.running_calls.proofs.performing.read.Goals as goal
+
+sectors_in : (n len : ℕ) → len ≡ n * 512 → len / 512 ≡ n
+sectors_in n len is = omega (arith, is)
+
+entered : (g : Over) (c : goal.After-told g)
+    → IsCallAnswered (list_length c.args.array.now.parts.members.newest) (AsksRead c.args.at c.args.count) c.args.who c.args.array.now.parts.entries c.read-answer.new.self.parts.entries (Read c.args.at c.from_bytes-body.result) c.read-answer.result
+entered g c =
+    let size = list_length c.args.array.now.parts.members.newest in
+    let body : c.from_bytes-body.result ≡ sectors_of c.read-answer.new.into =
+    c.from_bytes-body.ensures
+    ∙ ap (λ (l : List ℕ). sectors_of l) (take_at c.read-answer.new.into (drop (length c.read-answer.new.into) c.in-Ok.into.items) c.in-Ok.into.len (c.read-answer.auto.into ∙ c.as_mut_slice.ensures.len)) in
+    let count : length c.as_mut_slice.result.now / 512 ≡ c.args.count = sectors_in c.args.count (length c.as_mut_slice.result.now) (c.as_mut_slice.ensures.len ∙ c.in-Ok.ensures.len) in
+    answered-so size (AsksRead c.args.at c.args.count) c.args.who c.args.array.now.parts.entries c.read-answer.new.self.parts.entries (Read c.args.at c.from_bytes-body.result) c.read-answer.result
+    (λ before e fits. fits-read size before e c.args.at c.args.count fits)
+    (subst₂ (λ (n : ℕ) (b : List Sector). IsAnswered size (AsksRead c.args.at n) c.args.who c.args.array.now.parts.entries c.read-answer.new.self.parts.entries (Read c.args.at b) c.read-answer.result)
+    count (sym body) c.read-answer.ensures.answered)
+
+pub returns-clause-replied : goal.returns-clause-replied
+returns-clause-replied g c =
+    told-answer (list_length c.args.array.now.parts.members.newest) (AsksRead c.args.at c.args.count) c.args.who c.args.array.now.parts.entries c.read-answer.new.self.parts.entries (Read c.args.at c.from_bytes-body.result) c.read-answer.result c.told.result c.told.ensures (entered g c)
+
+pub returns-clause-went : goal.returns-clause-went
+returns-clause-went g c =
+    let old = c.args.array.now in
+    let new = c.read-answer.new.self in
+    let size = list_length old.parts.members.newest in
+    let did = c.read-answer.ensures in
+    let event = Read c.args.at c.from_bytes-body.result in
+    gone-answered g.B.Bank.tells g.B.Bank.given g.B.Bank.tape g.B.Bank.faults_of old new size (AsksRead c.args.at c.args.count) c.args.who event c.read-answer.result (entered g c)
+    (plain-called g.B.Bank.tells g.B.Bank.given g.B.Bank.tape g.B.Bank.faults_of old new did.called did.given) did.called.spares
+    (told-answered old.parts.backup (g.B.Bank.faults_of old.parts.bank) (g.B.Bank.faults_of new.parts.bank) size (AsksRead c.args.at c.args.count) c.args.who old.parts.entries new.parts.entries event c.read-answer.result
+    (read-told old.parts.backup (g.B.Bank.faults_of old.parts.bank) (g.B.Bank.faults_of new.parts.bank) size c.args.at c.args.count event c.read-answer.result) (entered g c))
+
+pub returns-in-Err-clause-went : goal.returns-in-Err-clause-went
+returns-in-Err-clause-went g c = gone-none g.B.Bank.tells g.B.Bank.given g.B.Bank.tape g.B.Bank.faults_of c.args.array.now

@@ -1,0 +1,77 @@
+use Rattle.std.proofs.Common.{◌≡◌, ◌+◌, ◌≤◌, ◌/◌, min, ℕ, Option, None, List, length, Result, Err, sym, ◌∙◌, ap, subst, arith}
+use Rattle.std.specs.Option.{option_map_or}
+use Rattle.md_base.specs.Sectors.{Sector, sectors_of}
+use Rattle.md_base.proofs.SectorLaws.{length-sectors_of}
+use Rattle.md_base.specs.declared.answers.Fault.{Fault}
+use Rattle.md_base.specs.declared.answers.Fault.TheVariants.{Refused as IsRefusedWith}
+use Rattle.md_base.specs.declared.answers.Refusal.{Refusal}
+use Rattle.md_base.specs.declared.answers.Refusal.TheVariants.{BackupFault}
+use Rattle.bank.specs.Given.{IsFaulted}
+use Rattle.superblocks.specs.declared.members.Members.{Members}
+use Rattle.superblocks.specs.Reading.{is_reshaping, list_length}
+use Rattle.flat_history.specs.declared.events.Entry.{Entry}
+use Rattle.flat_history.specs.declared.events.Event.TheVariants.{Wrote}
+use Rattle.flat_history.specs.declared.events.Request.TheVariants.{Write as AsksWrite}
+use Rattle.flat_history.specs.Flat.{length_of, limit_of, visible_of}
+use Rattle.array_kept.specs.Calls.{IsCausedBy}
+use Rattle.running_steps.specs.running_Calls.{IsWriteLackedIn}
+use Rattle.running_steps.specs.moving_laws_Writing.{IsWriteReplied}
+use Rattle.running_calls.proofs.Plain.{IsCallAnswered, answered-written, told-answer}
+use Rattle.running_calls.proofs.Told.{told-answered, write-told, barred-still, barred-backup}
+use Rattle.running_calls.proofs.GoneOn.{plain-called, gone-answered}
+use Rattle.running_calls.proofs.performing.write.Given.{Over}
+use Rattle.running_calls.proofs.performing.write.Goals as goal
+
+count_in : (bytes : List ℕ) (body : List Sector) → sectors_of bytes ≡ body → length bytes / 512 ≡ length body
+count_in bytes body is = sym (length-sectors_of bytes) ∙ ap (λ (l : List Sector). length l) is
+
+-- a write that was refused for the backup doesn't go past the end
+within : {T : Type 0} (size to : ℕ) (why : Members → Refusal → Type 0) (old new : Members) (result : Result T Fault) → IsCausedBy size to why old new result → result ≡ Err (IsRefusedWith BackupFault) → to ≤ size
+within {T = T} size to why old new result caused is = (subst (λ (x : Result T Fault). IsCausedBy size to why old new x) is caused).0
+
+-- all of a list that is limited nowhere can be read and written
+all-visible : (size : ℕ) (entries : List Entry) → length_of size entries ≡ size → limit_of entries ≡ None → visible_of size entries ≡ size
+all-visible size entries sized unlimited = ap (λ (o : Option ℕ). option_map_or (λ limit. min limit (length_of size entries)) o (length_of size entries)) unlimited ∙ sized
+
+pub write-answer-requires-clause-some : goal.write-answer-requires-clause-some
+write-answer-requires-clause-some g c = let count = count_in c.as_bytes.result.now c.args.body c.as_bytes.ensures.sectors in omega (arith, count, c.requires.askable.0)
+
+pub write-answer-requires-clause-few : goal.write-answer-requires-clause-few
+write-answer-requires-clause-few g c = let count = count_in c.as_bytes.result.now c.args.body c.as_bytes.ensures.sectors in omega (arith, count, c.requires.askable.1)
+
+pub write-answer-requires-clause-short : goal.write-answer-requires-clause-short
+write-answer-requires-clause-short g c = let count = count_in c.as_bytes.result.now c.args.body c.as_bytes.ensures.sectors in omega (arith, count, c.requires.askable.2)
+
+entered : (g : Over) (c : goal.After-told g)
+    → IsCallAnswered (list_length c.args.array.now.parts.members.newest) (AsksWrite c.args.at c.args.body) c.args.who c.args.array.now.parts.entries c.write-answer.new.self.parts.entries (Wrote c.args.at c.args.body) c.write-answer.result
+entered g c =
+    let old = c.args.array.now in
+    let size = list_length old.parts.members.newest in
+    let tells = c.requires.tells in
+    let count = count_in c.as_bytes.result.now c.args.body c.as_bytes.ensures.sectors in
+    answered-written size c.args.at c.args.body c.args.who old.parts.entries c.write-answer.new.self.parts.entries c.write-answer.result c.requires.next
+    (λ is. let upto = within size (c.args.at + length c.as_bytes.result.now / 512) (IsWriteLackedIn old c.args.at (length c.as_bytes.result.now / 512)) old.parts.members c.write-answer.new.self.parts.members c.write-answer.result c.write-answer.ensures.caused is in
+      let all = all-visible size old.parts.entries tells.sized tells.unlimited in
+      omega (arith, upto, count, all))
+    (subst (λ (b : List Sector). IsWriteReplied size c.args.at b c.args.who old.parts.entries c.write-answer.new.self.parts.entries c.write-answer.result) c.as_bytes.ensures.sectors c.write-answer.ensures.answered)
+
+pub returns-clause-replied : goal.returns-clause-replied
+returns-clause-replied g c =
+    told-answer (list_length c.args.array.now.parts.members.newest) (AsksWrite c.args.at c.args.body) c.args.who c.args.array.now.parts.entries c.write-answer.new.self.parts.entries (Wrote c.args.at c.args.body) c.write-answer.result c.told.result c.told.ensures (entered g c)
+
+pub returns-clause-went : goal.returns-clause-went
+returns-clause-went g c =
+    let old = c.args.array.now in
+    let new = c.write-answer.new.self in
+    let size = list_length old.parts.members.newest in
+    let did = c.write-answer.ensures in
+    let before = g.B.Bank.faults_of old.parts.bank in
+    let now = g.B.Bank.faults_of new.parts.bank in
+    gone-answered g.B.Bank.tells g.B.Bank.given g.B.Bank.tape g.B.Bank.faults_of old new size (AsksWrite c.args.at c.args.body) c.args.who (Wrote c.args.at c.args.body) c.write-answer.result (entered g c)
+    (plain-called g.B.Bank.tells g.B.Bank.given g.B.Bank.tape g.B.Bank.faults_of old new did.called did.given) did.called.spares
+    (told-answered old.parts.backup before now size (AsksWrite c.args.at c.args.body) c.args.who old.parts.entries new.parts.entries (Wrote c.args.at c.args.body) c.write-answer.result
+    (write-told old.parts.backup before now size c.args.at c.args.body c.write-answer.result
+    (λ barred. barred-backup (is_reshaping old.parts.members.newest) old.parts.backup (λ slot. IsFaulted slot before now)
+    (barred-still size c.args.at (sectors_of c.as_bytes.result.now) c.args.who old.parts.entries new.parts.entries (is_reshaping old.parts.members.newest) c.write-answer.result did.answered_still barred)
+    did.backed (did.backup barred)))
+    (entered g c))

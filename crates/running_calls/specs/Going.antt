@@ -1,0 +1,55 @@
+-- What callers' calls leave of a running array, whatever they ask: steps may be among them, and slots that are made spares.
+use Rattle.std.specs.Prelude.{◌≡◌, ◌⊎◌, ℕ, ◌++◌, ◌==◌, Bool, true, false, List, [], ◌∷◌, IsTrue, ⊤}
+use Rattle.std.specs.List.{list_any}
+use Rattle.bank.specs.declared.bank.Operation.{Operation}
+use Rattle.bank.specs.Given.{Given, NeverFalls}
+use Rattle.superblocks.specs.declared.members.Members.{Members}
+use Rattle.superblocks.specs.Reads.{has_spare}
+use Rattle.superblocks.specs.Reading.{list_length}
+use Rattle.flat_history.specs.declared.events.Entry.{Entry}
+use Rattle.flat_history.specs.declared.events.Event.{Event}
+use Rattle.flat_history.specs.declared.events.Event.TheVariants.{Added}
+use Rattle.flat_history.specs.Flat.{length_of}
+use Rattle.views.specs.Moving.{Grows}
+use Rattle.views.specs.Rebuilding.{Held, MayHold}
+use Rattle.array_kept.specs.Calls.{IsLossBy}
+use Rattle.running_steps.specs.running_words_Parts.{RunningParts}
+use Rattle.running_steps.specs.running_replies_Replies.{HasToldBy}
+use Rattle.running_steps.specs.running_replies_Going.{MayBeDropped, IsSameEpoch}
+
+-- the event tells that the slot was made a spare
+abbrev pub is_added : ℕ → Event → Bool
+is_added slot (Added added) = added == slot
+is_added slot event = false
+
+-- these entries may have made the slot a spare: it was added, or a reshape ended that dropped the role that it had
+abbrev pub MayBeNewSpare : Members → List Entry → ℕ → Type 0
+MayBeNewSpare members entries slot = IsTrue (list_any (λ e. is_added slot e.event) entries) ⊎ MayBeDropped members entries slot
+
+-- the slot had the role, or was a spare, or may be one since
+abbrev pub MayHoldSince : Members → List Entry → ℕ → ℕ → Type 0
+MayHoldSince members entries role slot = MayHold members role slot ⊎ MayBeNewSpare members entries slot
+
+-- Each role that has a slot had it before, or that slot was a spare, or may be one since these entries; and so it is of each spare.
+pub record AreHeldSince (old new : Members) (entries : List Entry) : Type 0 where
+  pub roles : (role slot : ℕ) → Held new role slot → MayHoldSince old entries role slot
+  pub spares : (slot : ℕ) → has_spare new.spares slot ≡ true → (has_spare old.spares slot ≡ true) ⊎ MayBeNewSpare old entries slot
+
+-- each loss has its cause, by what may have held its role behind the entries before it
+abbrev pub AreLossesSince : Members → (ℕ → ℕ) → (ℕ → ℕ) → List Entry → List Entry → Type 0
+AreLossesSince members before now done [] = ⊤
+AreLossesSince members before now done (e ∷ entries) = IsLossBy (MayHoldSince members done) before now e.event × AreLossesSince members before now (done ++ e ∷ []) entries
+
+-- What callers' calls leave of an array over its bank: more is entered, which tells what the list's length is then; roles are lost, or given to spares, each loss and refusal has its cause, and
+-- it is the array of the same epoch.
+pub record HasGoneOn {B : Type 0} (tells : Type 0) (given : B → Given) (tape : B → List Operation) (faults : B → ℕ → ℕ) (old new : RunningParts B) : Type 0 where
+  pub more : List Entry
+  pub grown : new.parts.entries ≡ old.parts.entries ++ more
+  pub sized : list_length new.parts.members.newest ≡ length_of (list_length old.parts.members.newest) more
+  pub held : AreHeldSince old.parts.members new.parts.members more
+  pub losses : AreLossesSince old.parts.members (faults old.parts.bank) (faults new.parts.bank) [] more
+  pub refusals : HasToldBy old.parts.backup (faults old.parts.bank) (faults new.parts.bank) old.parts.entries new.parts.entries
+  pub grows : Grows tells (tape old.parts.bank) (tape new.parts.bank)
+  pub never_falls : NeverFalls (faults old.parts.bank) (faults new.parts.bank)
+  pub given_is : given new.parts.bank ≡ given old.parts.bank
+  pub same : IsSameEpoch old new

@@ -1,0 +1,190 @@
+//! The requests of a caller to a running array.
+
+ghost use Rattle.std.specs.Prelude.{◌≡◌, ◌≢◌, IfOk, IfErr};
+ghost use Rattle.superblocks.specs.Reading.{list_length};
+ghost use Rattle.flat_history.specs.Flat.{next_number};
+ghost use Rattle.flat_history.specs.declared.events.Request.TheVariants.{Read as AsksRead, Write as AsksWrite, Flush as AsksFlush, Fail as AsksFail, Add as AsksAdd, Grow as AsksGrow};
+ghost use Rattle.array_kept.specs.Calls.{IsEndOf};
+ghost use Rattle.running_steps.specs.running_replies_Replies.{IsAnsweredWith};
+ghost use Rattle.running_calls.specs.Going.{HasGoneOn};
+ghost use Rattle.running_calls.specs.Replies.{IsAskable, TellsLength, told_by, IsShownBy, IsPerformed, IsRepliedBy, IsCountedBy, OnReply};
+
+use crate::reply::Reply;
+use bank::Bank;
+use flat_history::{Event, Request};
+use md_base::{Fault, NoMemory, Sectors, Who, Wish};
+use running_steps::running::Running;
+use running_steps::steps;
+use std::alloc::Global;
+
+// The event of a call's last entry, by its answer.
+fn told(answer: Result<(), Fault>, event: Event) -> Result<Event, NoMemory>
+    ensures { result ≡ told_by answer event }
+{
+    match answer {
+        Ok(()) => Ok(event),
+        Err(Fault::Refused(refusal)) => Ok(Event::Refused { refusal }),
+        Err(Fault::NoMemory) => Err(NoMemory {}),
+    }
+}
+
+fn read<B: Bank>(
+    alloc: Global,
+    array: &mut Running<B>,
+    who: Who,
+    at: u64,
+    count: u32,
+) -> Result<Event, NoMemory>
+    requires next { who.number ≡ next_number who.caller array.old.parts.entries }
+    requires caller { who.caller ≢ 254 }
+    requires askable { IsAskable (AsksRead at count) }
+    ensures replied { IfOk result (λ event. IsAnsweredWith (list_length array.old.parts.members.newest) (AsksRead at count) who array.old.parts.entries array.new.parts.entries event) }
+    ensures unchanged { IfErr result (λ none. array.new ≡ array.old) }
+    ensures ended { IfOk result (λ event. IsEndOf B.tells array.new.parts.first array.new.parts.entries (B.tape array.new.parts.bank)) }
+    ensures went { HasGoneOn B.tells B.given B.tape B.faults_of array.old array.new }
+{
+    let mut into = match vec![in alloc; 0u8; count as usize * 512] {
+        Ok(into) => into,
+        Err(_) => return Err(NoMemory {}),
+    };
+    let answer = array.read(who, at, into.as_mut_slice());
+    let body = Sectors::from_bytes(into);
+    told(answer, Event::Read { at, body })
+}
+
+fn write<B: Bank>(
+    array: &mut Running<B>,
+    who: Who,
+    at: u64,
+    body: Sectors,
+) -> Result<Event, NoMemory>
+    requires next { who.number ≡ next_number who.caller array.old.parts.entries }
+    requires caller { who.caller ≢ 254 }
+    requires askable { IsAskable (AsksWrite at body) }
+    requires tells { TellsLength array.old }
+    ensures replied { IfOk result (λ event. IsAnsweredWith (list_length array.old.parts.members.newest) (AsksWrite at body) who array.old.parts.entries array.new.parts.entries event) }
+    ensures unchanged { IfErr result (λ none. array.new ≡ array.old) }
+    ensures ended { IfOk result (λ event. IsEndOf B.tells array.new.parts.first array.new.parts.entries (B.tape array.new.parts.bank)) }
+    ensures went { HasGoneOn B.tells B.given B.tape B.faults_of array.old array.new }
+{
+    let answer = array.write(who, at, body.as_bytes());
+    told(answer, Event::Wrote { at, body })
+}
+
+fn flush<B: Bank>(array: &mut Running<B>, who: Who) -> Result<Event, NoMemory>
+    requires next { who.number ≡ next_number who.caller array.old.parts.entries }
+    requires caller { who.caller ≢ 254 }
+    ensures replied { IfOk result (λ event. IsAnsweredWith (list_length array.old.parts.members.newest) AsksFlush who array.old.parts.entries array.new.parts.entries event) }
+    ensures unchanged { IfErr result (λ none. array.new ≡ array.old) }
+    ensures ended { IfOk result (λ event. IsEndOf B.tells array.new.parts.first array.new.parts.entries (B.tape array.new.parts.bank)) }
+    ensures went { HasGoneOn B.tells B.given B.tape B.faults_of array.old array.new }
+{
+    let answer = array.flush(who);
+    told(answer, Event::Flushed)
+}
+
+fn fail<B: Bank>(array: &mut Running<B>, who: Who, role: u32) -> Result<Event, NoMemory>
+    requires next { who.number ≡ next_number who.caller array.old.parts.entries }
+    requires caller { who.caller ≢ 254 }
+    ensures replied { IfOk result (λ event. IsAnsweredWith (list_length array.old.parts.members.newest) (AsksFail role) who array.old.parts.entries array.new.parts.entries event) }
+    ensures unchanged { IfErr result (λ none. array.new ≡ array.old) }
+    ensures ended { IfOk result (λ event. IsEndOf B.tells array.new.parts.first array.new.parts.entries (B.tape array.new.parts.bank)) }
+    ensures went { HasGoneOn B.tells B.given B.tape B.faults_of array.old array.new }
+{
+    let answer = array.fail(who, role);
+    told(answer, Event::Failed { role })
+}
+
+fn add<B: Bank>(array: &mut Running<B>, who: Who, slot: u32) -> Result<Event, NoMemory>
+    requires next { who.number ≡ next_number who.caller array.old.parts.entries }
+    requires caller { who.caller ≢ 254 }
+    ensures replied { IfOk result (λ event. IsAnsweredWith (list_length array.old.parts.members.newest) (AsksAdd slot) who array.old.parts.entries array.new.parts.entries event) }
+    ensures unchanged { IfErr result (λ none. array.new ≡ array.old) }
+    ensures ended { IfOk result (λ event. IsEndOf B.tells array.new.parts.first array.new.parts.entries (B.tape array.new.parts.bank)) }
+    ensures went { HasGoneOn B.tells B.given B.tape B.faults_of array.old array.new }
+{
+    let answer = array.add(who, slot);
+    told(answer, Event::Added { slot })
+}
+
+fn grow<B: Bank>(array: &mut Running<B>, who: Who, wish: Wish) -> Result<Event, NoMemory>
+    requires next { who.number ≡ next_number who.caller array.old.parts.entries }
+    requires caller { who.caller ≢ 254 }
+    requires askable { IsAskable (AsksGrow wish) }
+    ensures replied { IfOk result (λ event. IsAnsweredWith (list_length array.old.parts.members.newest) (AsksGrow wish) who array.old.parts.entries array.new.parts.entries event) }
+    ensures unchanged { IfErr result (λ none. array.new ≡ array.old) }
+    ensures ended { IfOk result (λ event. IsEndOf B.tells array.new.parts.first array.new.parts.entries (B.tape array.new.parts.bank)) }
+    ensures went { HasGoneOn B.tells B.given B.tape B.faults_of array.old array.new }
+{
+    match array.plan_grow(who, wish) {
+        Ok(left) => Ok(Event::Planned { left, wish }),
+        Err(Fault::Refused(refusal)) => Ok(Event::Refused { refusal }),
+        Err(Fault::NoMemory) => Err(NoMemory {}),
+    }
+}
+
+fn show<B: Bank>(array: &mut Running<B>, who: Who) -> Result<Event, NoMemory>
+    requires next { who.number ≡ next_number who.caller array.old.parts.entries }
+    requires caller { who.caller ≢ 254 }
+    ensures shown { IfOk result (λ event. IsShownBy who array.old array.new.parts.entries event) }
+    ensures unchanged { IfErr result (λ none. array.new ≡ array.old) }
+    ensures ended { IfOk result (λ event. IsEndOf B.tells array.new.parts.first array.new.parts.entries (B.tape array.new.parts.bank)) }
+    ensures went { HasGoneOn B.tells B.given B.tape B.faults_of array.old array.new }
+{
+    match array.status(who) {
+        Ok(status) => Ok(Event::Shown { status }),
+        Err(none) => Err(none),
+    }
+}
+
+// The event of the request's reply.
+fn answer<B: Bank>(
+    alloc: Global,
+    array: &mut Running<B>,
+    who: Who,
+    request: Request,
+) -> Result<Event, NoMemory>
+    requires next { who.number ≡ next_number who.caller array.old.parts.entries }
+    requires caller { who.caller ≢ 254 }
+    requires askable { IsAskable request }
+    requires tells { TellsLength array.old }
+    ensures replied { IfOk result (λ event. IsPerformed request who array.old array.new.parts.entries event) }
+    ensures counted { IfOk result (λ event. IsCountedBy request array.old array.new event) }
+    ensures unchanged { IfErr result (λ none. array.new ≡ array.old) }
+    ensures ended { IfOk result (λ event. IsEndOf B.tells array.new.parts.first array.new.parts.entries (B.tape array.new.parts.bank)) }
+    ensures went { HasGoneOn B.tells B.given B.tape B.faults_of array.old array.new }
+{
+    match request {
+        Request::Read { at, count } => read(alloc, array, who, at, count),
+        Request::Write { at, body } => write(array, who, at, body),
+        Request::Flush => flush(array, who),
+        Request::Fail { role } => fail(array, who, role),
+        Request::Add { slot } => add(array, who, slot),
+        Request::Visible { limit: _ } => unreachable!(),
+        Request::Grow { wish } => grow(array, who, wish),
+        Request::Steps { most } => steps(array, who, most),
+        Request::Show => show(array, who),
+    }
+}
+
+/// Does a request, and answers with the place of its reply's entry and a copy of its event; `NoMemory` has done nothing. A request
+/// for a limit isn't answered yet, and a wish keeps the level.
+pub fn perform<B: Bank>(alloc: Global, array: &mut Running<B>, who: Who, request: Request) -> Reply
+    requires next { who.number ≡ next_number who.caller array.old.parts.entries }
+    requires caller { who.caller ≢ 254 }
+    requires askable { IsAskable request }
+    requires tells { TellsLength array.old }
+    ensures replied { IsRepliedBy request who array.old array.new result }
+    ensures counted { OnReply result (λ event. IsCountedBy request array.old array.new event) }
+    ensures ended { OnReply result (λ event. IsEndOf B.tells array.new.parts.first array.new.parts.entries (B.tape array.new.parts.bank)) }
+    ensures tells { TellsLength array.new }
+    ensures went { HasGoneOn B.tells B.given B.tape B.faults_of array.old array.new }
+{
+    match answer(alloc, array, who, request) {
+        Ok(event) => Reply::Done {
+            at: array.epoch().entries.len() as u64 - 1,
+            event,
+        },
+        Err(_) => Reply::NoMemory,
+    }
+}

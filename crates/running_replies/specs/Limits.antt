@@ -1,0 +1,12 @@
+-- A request to limit how much of a running array's list can be read and written: what speaks against it.
+use Rattle.std.specs.Prelude.{ℕ, if◌then◌else◌, Option, Some}
+use Rattle.md_base.specs.declared.answers.BusyKind.TheVariants.{Reshape}
+use Rattle.md_base.specs.declared.answers.Refusal.{Refusal}
+use Rattle.md_base.specs.declared.answers.Refusal.TheVariants.{Busy}
+use Rattle.superblocks.specs.Reading.{is_reshaping}
+use Rattle.running_words.specs.Parts.{RunningParts}
+use Rattle.running_words.specs.Visible.{still_refusal}
+
+-- the first of the refusals: a reshape is active, or else a plan is pending, or the limit is past the list's end
+abbrev pub limit_refusal : {B : Type 0} → RunningParts B → Option ℕ → Option Refusal
+limit_refusal array limit = if is_reshaping array.parts.members.newest then Some (Busy Reshape) else still_refusal array limit

@@ -1,0 +1,2 @@
+pub mod TakenPlan
+pub mod TakenLosses
