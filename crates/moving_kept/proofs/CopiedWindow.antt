@@ -37,7 +37,7 @@ use Rattle.shape_views.proofs.UnderWay.{under-way, is-reshaping, shape-on}
 use Rattle.shape_ends.specs.Grown.{IsZeroPast}
 use Rattle.views.specs.Moving.{Grows, IsMoved}
 use Rattle.views.specs.Lacking.{DoesWithout}
-use Rattle.views.proofs.Fit.{list-alike, for-alike}
+use Rattle.views.proofs.Fit.{list-alike, for-alike, force-multiple}
 use Rattle.window_calls.specs.Finishing.{AreStripesCopied}
 use Rattle.window_calls.proofs.Windows.{all-first}
 use Rattle.call_entries.specs.Losing.{losses_of}
@@ -129,7 +129,7 @@ module _ (given : Given) (old new : Members) (span : Span) (placed : AreShapesFi
       subst (λ (s : Shape). RowStands (reading_of new) c s two (place s x).row) (sym here)
       (row-by new c (final_shape old.newest) one two (place (final_shape old.newest) x).row placed.valid.final
       (λ y at. same-behind old.newest placed (is-reshaping old.newest span next) one two same one-zero two-zero y
-      (place-sector_below (final_shape old.newest) placed.valid.final y old.newest.size placed.final_size (below y at here)))
+      (place-sector_below (final_shape old.newest) placed.valid.final y old.newest.size (force-multiple old.newest placed (final_shape old.newest) (inr refl)) (below y at here)))
       (copied (place (final_shape old.newest) x).row (all-first (final_shape old.newest) span (stripes (final_shape old.newest) span.lo span.hi) (place (final_shape old.newest) x).row refl
       (rows_hold (final_shape old.newest) span x placed.valid.final (is-in span x inside)))))
     where
