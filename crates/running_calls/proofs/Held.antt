@@ -6,15 +6,18 @@ use Rattle.std.proofs.Math.Seq.{drop-append_seam}
 use Rattle.std.specs.Prelude.{length, drop, IsTrue}
 use Rattle.std.specs.List.{All, list_any}
 use Rattle.bank.specs.Given.{NeverFalls}
+use Rattle.bank.proofs.Causes.{faulted_longer}
 use Rattle.superblocks.specs.declared.members.Members.{Members}
 use Rattle.superblocks.specs.Reads.{has_spare}
 use Rattle.flat_history.specs.declared.events.Entry.{Entry}
 use Rattle.flat_history.specs.declared.events.Event.{Event}
+use Rattle.flat_history.specs.declared.events.Event.TheVariants.{Lost, SpareLost}
+use Rattle.flat_history.specs.declared.events.LostCause.{LostCause}
+use Rattle.flat_history.specs.declared.events.LostCause.TheVariants.{Absent, Recovering, Command, Fault}
 use Rattle.views.specs.Placed.{AreStillHeld}
 use Rattle.views.specs.Rebuilding.{Held}
-use Rattle.array_kept.specs.Calls.{AreSparesFewer, IsLossBy, AreLossesBy}
+use Rattle.array_kept.specs.Calls.{IsRoleLossBy, IsLossBy, AreLossesBy}
 use Rattle.running_steps.specs.running_replies_Going.{is_finish, MayBeDropped, MayHoldBehind, AreHeldBehind, AreLossesAlong}
-use Rattle.running_steps.proofs.running_replies_GoneOn.{loss-wider}
 use Rattle.running_calls.specs.Going.{is_added, MayBeNewSpare, MayHoldSince, AreHeldSince, AreLossesSince}
 
 -- ---- some entry is of a kind, in one list or in the other
@@ -31,6 +34,20 @@ any-left p xs ys is = list_any-append (λ e. p e.event) xs ys ∙ or-left (list_
 
 pub any-right : (p : Event → Bool) (xs ys : List Entry) → IsTrue (list_any (λ e. p e.event) ys) → IsTrue (list_any (λ e. p e.event) (xs ++ ys))
 any-right p xs ys is = list_any-append (λ e. p e.event) xs ys ∙ or-right (list_any (λ e. p e.event) xs) (list_any (λ e. p e.event) ys) is
+
+pub none-left : (p : Event → Bool) (xs ys : List Entry) → list_any (λ e. p e.event) (xs ++ ys) ≡ false → list_any (λ e. p e.event) xs ≡ false
+none-left p xs ys none = by (list_any (λ e. p e.event) xs) (sym (list_any-append (λ e. p e.event) xs ys) ∙ none)
+  where
+    by : (a : Bool) → (a || list_any (λ e. p e.event) ys) ≡ false → a ≡ false
+    by false is = refl
+    by true is = absurd (cc)
+
+pub none-right : (p : Event → Bool) (xs ys : List Entry) → list_any (λ e. p e.event) (xs ++ ys) ≡ false → list_any (λ e. p e.event) ys ≡ false
+none-right p xs ys none = by (list_any (λ e. p e.event) xs) (sym (list_any-append (λ e. p e.event) xs ys) ∙ none)
+  where
+    by : (a : Bool) → (a || list_any (λ e. p e.event) ys) ≡ false → list_any (λ e. p e.event) ys ≡ false
+    by false is = is
+    by true is = absurd (cc)
 
 -- ---- one call after another
 
@@ -72,6 +89,19 @@ module _ (old mid : Members) (one : List Entry) (held : AreHeldSince old mid one
   spares-then slot (inr new) = new-then slot new
 
 -- ---- the losses of more calls
+
+-- by more slots, by counts that rise later, and that rose before
+module _ {first before now last : ℕ → ℕ} (early : NeverFalls first before) (between : NeverFalls before now) (late : NeverFalls now last) (Had More : ℕ → ℕ → Type 0) (more : (role slot : ℕ) → Had role slot → More role slot) where
+  role-wider : (role : ℕ) (cause : LostCause) → IsRoleLossBy Had before now role cause → IsRoleLossBy More first last role cause
+  role-wider role Fault (slot, had, failed) = (slot, more role slot had, faulted_longer slot first before now last (early slot) (late slot) (between slot) failed)
+  role-wider role Command (slot, had) = (slot, more role slot had)
+  role-wider role Absent loss = absurd loss
+  role-wider role Recovering loss = absurd loss
+
+  loss-wider : (event : Event) → IsLossBy Had before now event → IsLossBy More first last event
+  loss-wider (Lost role cause) loss = role-wider role cause loss
+  loss-wider (SpareLost slot) failed = faulted_longer slot first before now last (early slot) (late slot) (between slot) failed
+  loss-wider event loss = tt
 
 module _ (old mid : Members) (first before now : ℕ → ℕ) (one : List Entry) (held : AreHeldSince old mid one) (early : NeverFalls first before) (late : NeverFalls before now) where
   pub losses-later : (done more : List Entry) → AreLossesSince mid before now done more → AreLossesSince old first now (one ++ done) more

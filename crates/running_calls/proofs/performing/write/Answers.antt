@@ -69,7 +69,7 @@ returns-clause-went g c =
     let before = g.B.Bank.faults_of old.parts.bank in
     let now = g.B.Bank.faults_of new.parts.bank in
     gone-answered g.B.Bank.tells g.B.Bank.given g.B.Bank.tape g.B.Bank.faults_of old new size (AsksWrite c.args.at c.args.body) c.args.who (Wrote c.args.at c.args.body) c.write-answer.result (entered g c)
-    (plain-called g.B.Bank.tells g.B.Bank.given g.B.Bank.tape g.B.Bank.faults_of old new did.called did.given) did.called.spares
+    (plain-called g.B.Bank.tells g.B.Bank.given g.B.Bank.tape g.B.Bank.faults_of old new did.called did.given did.active) did.called.spares
     (told-answered old.parts.backup before now size (AsksWrite c.args.at c.args.body) c.args.who old.parts.entries new.parts.entries (Wrote c.args.at c.args.body) c.write-answer.result
     (write-told old.parts.backup before now size c.args.at c.args.body c.write-answer.result
     (λ barred. barred-backup (is_reshaping old.parts.members.newest) old.parts.backup (λ slot. IsFaulted slot before now)
