@@ -2,7 +2,5 @@
 #![tactic(auto)]
 
 mod array;
-mod spec;
 
 pub use array::{Array, Opened};
-pub use spec::CreateSpec;

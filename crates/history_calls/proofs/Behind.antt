@@ -26,7 +26,7 @@ use Rattle.call_entries.specs.Losing.{losses_of}
 use Rattle.call_entries.proofs.CallLaws.{AreLossEvents, losses-are, told-losses, values-losses}
 use Rattle.call_entries.proofs.StepLaws.{faults-are}
 use Rattle.kept_history.specs.Recorded.{IsHistoryKept, IsLegalCall, entry_of, ends_reshape, gives_some}
-use Rattle.kept_history.specs.Safe.{world_in, IsFilledRight}
+use Rattle.kept_history.specs.Safe.{world_in, is_taken_over, IsFilledRight}
 use Rattle.kept_history.proofs.Growing.{reading-grown, opening-grown, fit-grown, course-before, gone-grown, takes-grown, alike-before, room-before}
 use Rattle.kept_history.proofs.Tests.{none-before}
 use Rattle.kept_history.proofs.Ledgers.{any-gone}
@@ -210,7 +210,8 @@ module _ (given : Given) (tape : List Operation) (scope : Scope) (first : ℕ) (
 
   fills-before : IsFilledRight later (entries ++ added) → IsFilledRight world entries
   fills-before (inl none) =
-      inl (λ role. sym (takes-grown world ops entries role recorded.ends) ∙ none-before (loses later role) entries added (none.0 role), course-before world ops recorded.begun none.1)
+      inl (λ role. sym (takes-grown world ops entries role recorded.ends) ∙ none-before (loses later role) entries added (none.0 role), course-before world ops recorded.begun none.1,
+      none-before (λ e. is_taken_over e.event) entries added none.2)
   fills-before (inr fit) = inr (subst (λ (p : Type 0). p) (fit-grown world ops recorded.begun) fit)
 
   right-before : IsReliable later (entries ++ added) → IsReliable world entries

@@ -31,7 +31,7 @@ use Rattle.views.proofs.SoundViews.{throughout-kept}
 use Rattle.call_entries.proofs.CallLaws.{last_end-behind}
 use Rattle.call_entries.proofs.LosingLaws.{entries-both}
 use Rattle.kept_history.specs.Recorded.{IsHistoryKept, IsLegalCall, IsCallGoing, IsOpenBehind, entry_of, gives_some}
-use Rattle.kept_history.specs.Safe.{world_in, IsFilledRight, IsSafeHistory}
+use Rattle.kept_history.specs.Safe.{world_in, is_taken_over, IsFilledRight, IsSafeHistory}
 use Rattle.kept_history.specs.Told.{told_now, told_by}
 use Rattle.kept_history.proofs.Growing.{now-grown, alike-before, room-before, room-now}
 use Rattle.kept_history.proofs.Seen.{now-more}
@@ -129,6 +129,8 @@ module _ (given : Given) (tape : List Operation) (scope : Scope) (first : ℕ) (
     λ r. subst (λ (l : List Entry). list_any (loses later r) l ≡ false) (sym none-nil)
         (none-before (loses later r) (entries ++ more) (given_at ∷ []) (subst (λ (l : List Entry). list_any (loses later r) l ≡ false) whole (none.0 r))),
     none.1,
+    subst (λ (l : List Entry). list_any (λ e. is_taken_over e.event) l ≡ false) (sym none-nil)
+        (none-before (λ e. is_taken_over e.event) (entries ++ more) (given_at ∷ []) (subst (λ (l : List Entry). list_any (λ e. is_taken_over e.event) l ≡ false) whole none.2)),
   )
   fills-early (inr fit) = inr fit
 

@@ -29,7 +29,7 @@ use Rattle.call_entries.proofs.LosingLaws.{entries-both}
 use Rattle.bank.proofs.Marks.{each_mark-map}
 use Rattle.shape_changes.proofs.Steady.{views-told}
 use Rattle.kept_history.specs.Recorded.{IsHistoryKept, IsLegalCall, IsCallGoing, entry_of, ends_reshape, gives_some, IsReshapedCall}
-use Rattle.kept_history.specs.Safe.{world_in, IsFilledRight, IsSafeHistory}
+use Rattle.kept_history.specs.Safe.{world_in, is_taken_over, IsFilledRight, IsSafeHistory}
 use Rattle.kept_history.specs.Told.{told_now, told_by}
 use Rattle.kept_history.proofs.Growing.{fit-grown, now-grown, alike-before, room-before, room-now}
 use Rattle.kept_history.proofs.Ledgers.{more-then}
@@ -312,7 +312,8 @@ resting-leaves given tape scope first entries m carried reshaping who event goes
 
     -- what is filled in was right before it, too
     before : IsFilledRight (world_in given tape scope first) (entries ++ entries_of who (length tape) (event ∷ [])) → IsFilledRight (world_in given tape scope first) entries
-    before (inl none) = inl (λ role. none-before (loses (world_in given tape scope first) role) entries (entries_of who (length tape) (event ∷ [])) (none.0 role), none.1)
+    before (inl none) = inl (λ role. none-before (loses (world_in given tape scope first) role) entries (entries_of who (length tape) (event ∷ [])) (none.0 role), none.1,
+        none-before (λ e. is_taken_over e.event) entries (entries_of who (length tape) (event ∷ [])) none.2)
     before (inr fit) = inr fit
 
     idle : Safe tape

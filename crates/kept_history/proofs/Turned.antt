@@ -26,7 +26,7 @@ use Rattle.flat_history.proofs.GoneCounts.{few_missing}
 use Rattle.flat_history.proofs.SoundLaws.{fit-before}
 use Rattle.shape_changes.specs.Steady.{IsMoreTold, given_back}
 use Rattle.kept_history.specs.Recorded.{gives_some}
-use Rattle.kept_history.specs.Safe.{IsReshapeFit, OpensOnCourse, IsFilledRight}
+use Rattle.kept_history.specs.Safe.{is_taken_over, IsReshapeFit, OpensOnCourse, IsFilledRight}
 use Rattle.kept_history.specs.Told.{told_now, told_by}
 use Rattle.kept_history.proofs.Entered.{adds_only, AreAdding, length-adding, values-adding, settle-none}
 use Rattle.kept_history.proofs.Longer.{regains-none}
@@ -132,12 +132,8 @@ fills-on_course world entries (inr fit) = fit-on_course world fit
 -- it is right before more entries
 pub filled-before : (world : World) (ops : List Operation) (entries added : List Entry) → world.first ≤ length world.tape → EndBy (length world.tape) entries → IsFilledRight (grown world ops) (entries ++ added) → IsFilledRight world entries
 filled-before world ops entries added within ends (inl none) =
-    inl (λ role. sym (takes-grown world ops entries role ends) ∙ none-before (loses (grown world ops) role) entries added (none.0 role), course-before world ops within none.1)
+    inl (λ role. sym (takes-grown world ops entries role ends) ∙ none-before (loses (grown world ops) role) entries added (none.0 role), course-before world ops within none.1, none-before (λ e. is_taken_over e.event) entries added none.2)
 filled-before world ops entries added within ends (inr fit) = inr (fit-before world ops within fit)
-
-abbrev pub is_taken_over : Event → Bool
-is_taken_over (Step TakenOver left) = true
-is_taken_over event = false
 
 takes-told : (found : Option Reading) (role : ℕ) (event : Event) → is_taken_over event ≡ false → takes found role event ≡ loses_role role event
 takes-told found role (Lost lost cause) none = refl
@@ -152,7 +148,7 @@ told-only world role (x ∷ xs) none =
 
 -- where no level is taken over it is so where no role is told lost and a reshape is found on its course, or the epoch opened fit
 pub filled-told : (world : World) (entries : List Entry) → list_any (λ e. is_taken_over e.event) entries ≡ false → OpensOnCourse world → FillsRight world entries → IsFilledRight world entries
-filled-told world entries none on (inl whole) = inl (λ role. told-only world role entries none ∙ whole role, on)
+filled-told world entries none on (inl whole) = inl (λ role. told-only world role entries none ∙ whole role, on, none)
 filled-told world entries none on (inr fit) = inr fit
 
 -- ---- a refusal

@@ -7,6 +7,9 @@ use Rattle.bank.specs.Tape.{Contents, disk}
 use Rattle.superblocks.specs.declared.members.Members.{Members}
 use Rattle.superblocks.specs.Reading.{Scope, Reading, is_reshaping}
 use Rattle.flat_history.specs.declared.events.Entry.{Entry}
+use Rattle.flat_history.specs.declared.events.Event.{Event}
+use Rattle.flat_history.specs.declared.events.Event.TheVariants.{Step}
+use Rattle.flat_history.specs.declared.events.StepKind.TheVariants.{TakenOver}
 use Rattle.flat_history.specs.World.{World, contents_at, opening_list, reading_at}
 use Rattle.flat_history.specs.Flat.{length_of, values_of}
 use Rattle.flat_history.specs.Losses.{loses, is_gone_after, is_unsynced}
@@ -29,6 +32,15 @@ world_in given tape scope first = record { start = given.start; tape = tape; sco
 abbrev pub TakesNone : World → List Entry → Type 0
 TakesNone world entries = (role : ℕ) → list_any (loses world role) entries ≡ false
 
+-- the event takes a level over
+abbrev pub is_taken_over : Event → Bool
+is_taken_over (Step TakenOver left) = true
+is_taken_over event = false
+
+-- no entry takes a level over
+abbrev pub KeepsLevel : List Entry → Type 0
+KeepsLevel entries = list_any (λ e. is_taken_over e.event) entries ≡ false
+
 -- What a sound opening finds of a reshape itself: each section that the header names is that of the next window, or lies in the new region, and the tail is zero.
 pub record IsReshapeFit (scope : Scope) (c : Contents) (r : Reading) : Type 0 where
   pub sections : HasFittingSections scope c r.newest
@@ -38,9 +50,9 @@ pub record IsReshapeFit (scope : Scope) (c : Contents) (r : Reading) : Type 0 wh
 abbrev pub OpensOnCourse : World → Type 0
 OpensOnCourse world = IfSome (reading_at world world.first) (λ r. IsTrue (is_reshaping r.newest) → IsReshapeFit world.scope (contents_at world world.first) r)
 
--- What is filled in is right: there is nothing to fill in, and a reshape is found on its course, or the epoch opened fit.
+-- What is filled in is right: there is nothing to fill in, for no role was taken from its holder and no level taken over, and a reshape is found on its course; or the epoch opened fit.
 abbrev pub IsFilledRight : World → List Entry → Type 0
-IsFilledRight world entries = (TakesNone world entries × OpensOnCourse world) ⊎ OpensFit world
+IsFilledRight world entries = (TakesNone world entries × OpensOnCourse world × KeepsLevel entries) ⊎ OpensFit world
 
 -- the event count rose by no more than the operations since the opening
 pub record IsCounted (world : World) (members : Members) : Type 0 where

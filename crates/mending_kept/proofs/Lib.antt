@@ -1,6 +1,7 @@
 pub mod Resync
 pub use Rattle.moving_kept.proofs.AddedSpare as moving_kept_AddedSpare
 pub use Rattle.moving_kept.proofs.BackupKept as moving_kept_BackupKept
+pub use Rattle.moving_kept.proofs.CopiedWindow as moving_kept_CopiedWindow
 pub use Rattle.moving_kept.proofs.Failing as moving_kept_Failing
 pub use Rattle.moving_kept.proofs.FinishedCall as moving_kept_FinishedCall
 pub use Rattle.moving_kept.proofs.Flushing as moving_kept_Flushing

@@ -11,6 +11,7 @@ pub mod Staying
 pub mod Going
 pub mod Finishing
 pub mod FinishedCall
+pub mod CopiedWindow
 pub mod Adding
 pub mod Writing
 pub mod Settling

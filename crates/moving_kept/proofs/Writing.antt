@@ -52,7 +52,7 @@ use Rattle.call_entries.proofs.LosingLaws.{entries-both}
 use Rattle.array_kept.proofs.LedgerLaws.{written-allowed, wrote-in, torn-in}
 use Rattle.array_kept.proofs.NowLaws.{wrote-is}
 use Rattle.course_mends.specs.region_rows_Stretches.{relied_rows, IsShapeOf, ListStandsIn, RowsStandIn}
-use Rattle.course_mends.specs.region_writes_Runs.{IsListTouched, MayBeHidden, IsListTorn, IsListUnwritten}
+use Rattle.course_mends.specs.region_writes_Runs.{IsListTouched, MayBeHidden, WindowRowsStand, IsListTorn, IsListUnwritten}
 use Rattle.course_mends.proofs.region_writes_Together.{shape-force}
 use Rattle.course_mends.proofs.region_writes_RunLists.{written-same}
 use Rattle.kept_history.specs.Recorded.{IsCallGoing, IsLegalCall, entry_of}
@@ -73,7 +73,7 @@ use Rattle.course_mends.specs.Mended.{StandsMended}
 use Rattle.course_mends.proofs.Mended.{whole-on, mended-writes-go-on}
 use Rattle.course_mends.proofs.Torn.{mended-torn-writes-go-on}
 use Rattle.history_calls.specs.Reliable.{IsReliable, AreToldGone}
-use Rattle.moving_kept.specs.Moving.{HasListInCourse, IsMoving}
+use Rattle.moving_kept.specs.Moving.{HasListInCourse, IsWindowStanding, IsMoving}
 use Rattle.moving_kept.proofs.Adding.{behind-moves}
 use Rattle.history_calls.proofs.LastStep.{AreWithin, losses-within}
 use Rattle.history_calls.proofs.Behind.{IsAmong, early-losses, legal-losses, first-of, first-more}
@@ -86,8 +86,9 @@ use Rattle.moving_kept.proofs.Steps.{AreMissingSince, missing-moved}
 
 -- ---- what a write leaves
 
--- What a call leaves that was asked to put these sectors into the list from a place on, none of them in the window under way, whether it is done or not.
-pub record ArePut (tells : Type 0) (given : Given) (tape tape' : List Operation) (old new : Members) (course : Course) (at : ℕ) (from : List ℕ) (relied roles : ℕ) (begun : Bool) : Type 0 where
+-- What a call leaves that was asked to put these sectors into the list from a place on, none of them in the window under way, whether it is done or not; they may lie
+-- in a window that was just recorded.
+pub record ArePut (tells : Type 0) (given : Given) (tape tape' : List Operation) (old new : Members) (course : Course) (at : ℕ) (from : List ℕ) (past : Option Span) (relied roles : ℕ) (begun : Bool) : Type 0 where
   pub within : at + length from / 512 ≤ list_length old.newest
   pub beside : (x : ℕ) → at ≤ x → x < at + length from / 512 → covers (span_in course.window) x ≡ false
   pub moved : IsMoved given old new
@@ -99,13 +100,13 @@ pub record ArePut (tells : Type 0) (given : Given) (tape tape' : List Operation)
   pub safe : tells → (world : World) → (told : Ledger) → HasRoomLeft old tape tape' → AreGoneTold told new → told.unclean ≡ true → (hidden : Option Span) → MayBeHidden old.newest hidden
       → (list list' : ℕ → Sector) → IsWritten list list' at from → ((x : ℕ) → at ≤ x → x < at + length from / 512 → IsShown hidden old.newest x)
       → ListStandsIn (IsShapeOf old.newest at (at + length from / 512)) hidden old (present given tape) list
-      → AreWhole new ⊎ RowsStandIn (IsShapeOf old.newest at (at + length from / 512)) hidden relied old (present given tape) list
+      → AreWhole new ⊎ (RowsStandIn (IsShapeOf old.newest at (at + length from / 512)) hidden relied old (present given tape) list × WindowRowsStand past old (present given tape) list)
       → (IsShapeOf old.newest at (at + length from / 512) (final_shape old.newest) → AreTailsStanding old (present given tape) list)
       → (begun ≡ true → AreWritesAllowed old told.values list') → (OpensFit world → IsTailZero old.newest list)
       → IsSafeOver world given told old tape → KeepsSafe world given told new tape tape'
 
 -- What it leaves besides where it is done.
-pub record AreWritten (tells : Type 0) (given : Given) (tape tape' : List Operation) (old new : Members) (at : ℕ) (from : List ℕ) (relied : ℕ) : Type 0 where
+pub record AreWritten (tells : Type 0) (given : Given) (tape tape' : List Operation) (old new : Members) (at : ℕ) (from : List ℕ) (past : Option Span) (relied : ℕ) : Type 0 where
   pub whole : IsWhole from
   pub bytes : AreBytes from
   pub put : tells → (among : Shape → Bool) → (hidden : Option Span) → (list list' : ℕ → Sector) → IsWritten list list' at from
@@ -114,12 +115,12 @@ pub record AreWritten (tells : Type 0) (given : Given) (tape tape' : List Operat
   pub ends : tells → (list list' : ℕ → Sector) → IsWritten list list' at from → AreEndsStanding old (present given tape) list → AreEndsStanding new (present given tape') list'
   pub others : tells → AreOtherRowsKept (IsListTouched old.newest at (at + length from / 512)) (reading_of new) (present given tape) (present given tape')
   pub good : tells → (among : Shape → Bool) → (hidden : Option Span) → (list list' : ℕ → Sector) → IsWritten list list' at from → AreBytes from
-      → ((x : ℕ) → at ≤ x → x < at + length from / 512 → IsShown hidden old.newest x) → (bound : ℕ) → relied ≤ bound
+      → ((x : ℕ) → at ≤ x → x < at + length from / 512 → IsShown hidden old.newest x) → WindowRowsStand past old (present given tape) list → (bound : ℕ) → relied ≤ bound
       → RowsStandIn (λ s. among s ≡ true) hidden bound old (present given tape) list → RowsStandIn (λ s. among s ≡ true) hidden bound new (present given tape') list'
 
 -- And where it is refused: it was torn only where too many are missing, and no row is written but those that sectors have by a shape of which too many are.
-pub record AreUnwritten (tells : Type 0) (given : Given) (tape tape' : List Operation) (old new : Members) (at : ℕ) (from : List ℕ) (relied : ℕ) (begun : Bool) (refusal : Refusal) : Type 0 where
-  pub refused : IsListUnwritten relied at (at + length from / 512) new refusal
+pub record AreUnwritten (tells : Type 0) (given : Given) (tape tape' : List Operation) (old new : Members) (at : ℕ) (from : List ℕ) (past : Option Span) (relied : ℕ) (begun : Bool) (refusal : Refusal) : Type 0 where
+  pub refused : IsListUnwritten past relied at (at + length from / 512) new refusal
   pub torn : begun ≡ true → IsListTorn at (at + length from / 512) new refusal
   pub torn_rows : tells → AreOtherRowsKept (IsOtherTouched (λ shape. DoesWithout shape new) old.newest at (at + length from / 512)) (reading_of new) (present given tape) (present given tape')
 
@@ -222,11 +223,12 @@ written-sector at from list list' x w whole bytes was = elim (cases_lt x at) [
 -- ---- the call
 
 module _ (tells : Type 0) (given : Given) (tape tape' : List Operation) (scope : Scope) (first : ℕ) (entries : List Entry) (old new : Members) (carried : ℕ → Bool)
-    (resync : Option ℕ) (course : Course) (buffer : List ℕ) (left : ℕ) (who : Who) (end roles spares at : ℕ) (from : List ℕ) (relied : ℕ) (begun : Bool)
+    (resync : Option ℕ) (course : Course) (buffer : List ℕ) (left : ℕ) (who : Who) (end roles spares at : ℕ) (from : List ℕ) (past : Option Span) (relied : ℕ) (begun : Bool)
     (was : IsMoving tells given tape scope first entries old carried resync course buffer left) (live : HasLiveSlot old) (goes : IsCallGoing entries who) (caller : IsFalse (who.caller == 254))
     (at_end : tells → end ≡ length tape') (grows : Grows tells tape tape') (does : (x : ℕ) → at ≤ x → x < at + length from / 512 → DoesWithout (shape_for old.newest x) old)
     (visible : tells → at + length from / 512 ≤ visible_of (length (opening_list (world_in given tape scope first))) entries)
-    (relies : relied ≡ relied_sector old.newest resync) (did : ArePut tells given tape tape' old new course at from relied roles begun) where
+    (relies : relied ≡ relied_sector old.newest resync) (stood : tells → IsWindowStanding past (world_in given tape scope first) entries old (present given tape))
+    (did : ArePut tells given tape tape' old new course at from past relied roles begun) where
   has : HasResync new resync course
   has = resync-moved did.moved (λ some. did.stays) was.beside (resync-of was)
 
@@ -287,7 +289,7 @@ module _ (tells : Type 0) (given : Given) (tape tape' : List Operation) (scope :
       l.list (list-with l.list at from) (list-with-is l.list at from) shown here.in_course.stands
       (elim whole [
         | inl all ↦ inl all
-        | inr fit ↦ inr (λ x lt. here.rows fit x (subst (λ (n : ℕ). x < n) relies lt))
+        | inr fit ↦ inr ((λ x lt. here.rows fit x (subst (λ (n : ℕ). x < n) relies lt)), stood t fills l.list l.is l.stands.in_course.zeros)
       ])
       here.in_course.tail
       (λ is. written-allowed (list_length old.newest) at from l.list (list-with l.list at from) told.values (list-with-is l.list at from)
@@ -298,7 +300,7 @@ module _ (tells : Type 0) (given : Given) (tape tape' : List Operation) (scope :
 
   -- ---- it is done
 
-  pub written-moves : AreWritten tells given tape tape' old new at from relied
+  pub written-moves : AreWritten tells given tape tape' old new at from past relied
       → IsMoving tells given tape' scope first (entries ++ entries_of who end (losses_of roles spares ++ Wrote at (sectors_of from) ∷ [])) new carried resync course buffer left
   written-moves done =
       behind-moves tells given tape tape' scope first entries old new carried resync course course buffer buffer left left who end (losses_of roles spares) (IsAmong roles) (Wrote at (sectors_of from))
@@ -358,13 +360,13 @@ module _ (tells : Type 0) (given : Given) (tape tape' : List Operation) (scope :
             is = λ x lt. written-same l.list (list-with l.list at from) (now (opening_list (world_in given tape scope first)) entries)
                 (now (opening_list (world_in given tape scope first)) (entries ++ entries_of who end (losses_of roles spares ++ Wrote at (sectors_of from) ∷ []))) at from w is-written x
                 (l.is x (subst (λ (n : ℕ). x < n) list-same lt));
-            stands = stand t l.list (list-with l.list at from) w (later-stands l.list l.stands);
+            stands = stand t l.list (list-with l.list at from) w (stood t fills l.list l.is l.stands.in_course.zeros) (later-stands l.list l.stands);
           }
         where
-          stand : (t : tells) (list list' : ℕ → Sector) → IsWritten list list' at from
+          stand : (t : tells) (list list' : ℕ → Sector) → IsWritten list list' at from → WindowRowsStand past old (present given tape) list
               → StandsMended (OpensFit (world_in given tape scope first)) (λ shape. DoesWithout shape new) resync old course buffer (present given tape) list
               → StandsMended (OpensFit (world_in given tape scope first)) (λ shape. DoesWithout shape new) resync new course buffer (present given tape') list'
-          stand t list list' w before =
+          stand t list list' w rows before =
               mended-writes-go-on (OpensFit (world_in given tape scope first)) (λ shape. DoesWithout shape new) given old new resync course buffer (present given tape) (present given tape') list list' at from
               was.members_are.placed did.moved was.course_is w did.within did.beside (done.others t)
               (λ x slot own out held. done.put t tolerated (hidden_in course.window) list list' w
@@ -372,14 +374,14 @@ module _ (tells : Type 0) (given : Given) (tape tape' : List Operation) (scope :
               (λ own. done.tail t list list' w (before.in_course.tail (subst (λ (s : Shape). DoesWithout s new) did.moved.reshape.final own)))
               (λ some aside own. done.ends t list list' w (before.ends some aside (subst (λ (s : Shape). DoesWithout s new) (low-alike old.newest new.newest did.moved.reshape did.moved.shape did.moved.size) own)))
               (λ some fit x at_x. written-sector at from list list' x w done.whole done.bytes (whole-on given old new did.moved list (before.whole some fit) x at_x))
-              (λ fit x below own out. done.good t tolerated (hidden_in course.window) list list' w done.bytes shown (relied_sector old.newest resync) (subst (λ (n : ℕ). relied ≤ n) relies (omega arith))
+              (λ fit x below own out. done.good t tolerated (hidden_in course.window) list list' w done.bytes shown rows (relied_sector old.newest resync) (subst (λ (n : ℕ). relied ≤ n) relies (omega arith))
               (λ x lt own out. before.rows fit x lt (tolerated-is (shape_for old.newest x) own) out) x
               (subst (λ (n : ℕ). x < n) (relied-alike old.newest new.newest did.moved.reshape did.moved.shape did.moved.size resync) below) (is-tolerated (shape_for new.newest x) own) out)
               before
 
   -- ---- it is refused
 
-  module _ (refusal : Refusal) (undone : AreUnwritten tells given tape tape' old new at from relied begun refusal) where
+  module _ (refusal : Refusal) (undone : AreUnwritten tells given tape tape' old new at from past relied begun refusal) where
     -- The list stands by the shapes that do without what is missing, if the history says the same of it.
     same-listed : (t : tells) (current : ℕ → Sector) → ((x : ℕ) → current x ≡ now (opening_list (world_in given tape scope first)) entries x) → IsFilledRight (world_in given tape scope first) entries
         → HasListInCourse (OpensFit (world_in given tape scope first)) new resync course buffer (present given tape') current
@@ -490,16 +492,16 @@ module _ (tells : Type 0) (given : Given) (tape tape' : List Operation) (scope :
             let short = unrelied-short new.newest did.moved.placed.fit relied x (omega (arith, high, within, list-same)) far in
             was.pending t ∙ short-pending old.newest resync relied relies (omega (arith, short, list-same))
 
-        clean : (t : tells) → IsListUnwritten relied at (at + length from / 512) new refusal
+        clean : (t : tells) → IsListUnwritten past relied at (at + length from / 512) new refusal
             → ((is_unsynced (world_in given tape scope first) entries || is_unsettled entries) ≡ true) ⊎ (unsettles (Refused refusal) ≡ true)
         clean t (inl torn) = inr (torn-unsettles at (at + length from / 512) new refusal torn)
-        clean t (inr (each, there)) = inl (or-first (is_unsynced (world_in given tape scope first) entries) (is_unsettled entries) (pending-is t there.0 there.2 there.3))
+        clean t (inr (each, there)) = inl (or-first (is_unsynced (world_in given tape scope first) entries) (is_unsettled entries) (pending-is t there.0 there.2 there.4))
 
         told-unclean : (t : tells) → (told : Ledger) → IsMoreTold (told_now (world_in given tape scope first) carried true entries) told → (unsettles (Refused refusal) ≡ true → told.unclean ≡ true)
-            → IsListUnwritten relied at (at + length from / 512) new refusal → told.unclean ≡ true
+            → IsListUnwritten past relied at (at + length from / 512) new refusal → told.unclean ≡ true
         told-unclean t told more unsettled (inl torn) = unsettled (torn-unsettles at (at + length from / 512) new refusal torn)
         told-unclean t told more unsettled (inr (each, there)) =
-            more.unclean (or-first (is_unsynced (world_in given tape scope first) entries) (is_unsettled entries) (pending-is t there.0 there.2 there.3))
+            more.unclean (or-first (is_unsynced (world_in given tape scope first) entries) (is_unsettled entries) (pending-is t there.0 there.2 there.4))
 
         now-same : (x : ℕ) → now (opening_list (world_in given tape scope first)) (entries ++ entries_of who end (losses_of roles spares ++ Refused refusal ∷ [])) x
             ≡ now (opening_list (world_in given tape scope first)) entries x
@@ -510,13 +512,13 @@ module _ (tells : Type 0) (given : Given) (tape tape' : List Operation) (scope :
         legal : (t : tells) → IsReliable (world_in given tape scope first) entries
             → AreToldGone (world_in given tape' scope first) (entries ++ entries_of who end (losses_of roles spares)) new
             → level_at (world_in given tape' scope first) (entries ++ entries_of who end (losses_of roles spares)) ≡ level_at (world_in given tape scope first) entries
-            → IsListUnwritten relied at (at + length from / 512) new refusal → IsRefusedRight (world_in given tape' scope first) (entries ++ entries_of who end (losses_of roles spares)) refusal
+            → IsListUnwritten past relied at (at + length from / 512) new refusal → IsRefusedRight (world_in given tape' scope first) (entries ++ entries_of who end (losses_of roles spares)) refusal
         legal t fills gone level (inl torn) = torn-right t (entries ++ entries_of who end (losses_of roles spares)) fills gone level torn
         legal t fills gone level (inr (each, there)) =
-            let why = there.4 in
+            let why = there.5 in
             subst (λ (r : Refusal). IsRefusedRight (world_in given tape' scope first) (entries ++ entries_of who end (losses_of roles spares)) r) (sym why.1) (
               gone why.0 (let lt = why.4.0 in let disks = force-disks new.newest did.moved.placed.fit (shape_for new.newest there.0) (shape-force new.newest there.0) in omega (arith, lt, disks)) why.3,
-              losses-unsynced who end roles spares (world_in given tape' scope first) entries ∙ unsynced-later t ∙ pending-is t there.0 there.2 there.3,
+              losses-unsynced who end roles spares (world_in given tape' scope first) entries ∙ unsynced-later t ∙ pending-is t there.0 there.2 there.4,
             )
 
     -- as a write enters it that is refused

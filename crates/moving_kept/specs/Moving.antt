@@ -2,11 +2,12 @@
 use Rattle.std.specs.Prelude.{◌≡◌, ◌⊎◌, ℕ, ◌<◌, ◌≤◌, ◌||◌, Bool, true, false, List, length, Option, IfSome, IsSome, is_some, None, ⊤}
 use Rattle.md_base.specs.Sectors.{Sector}
 use Rattle.md_base.specs.Shapes.{tolerance, tolerance_of}
+use Rattle.md_base.specs.declared.places.Span.{Span}
 use Rattle.bank.specs.declared.bank.Operation.{Operation}
 use Rattle.bank.specs.Given.{Given, sizes}
 use Rattle.bank.specs.Tape.{Contents, disk}
 use Rattle.superblocks.specs.declared.members.Members.{Members}
-use Rattle.superblocks.specs.Reading.{Scope, is_reshaping, is_clean, shape_of, list_length}
+use Rattle.superblocks.specs.Reading.{Scope, is_reshaping, is_backward, is_clean, shape_of, list_length}
 use Rattle.row_io.specs.Rows.{present}
 use Rattle.flat_history.specs.declared.events.Entry.{Entry}
 use Rattle.flat_history.specs.Epochs.{HasRoomForEvents, OpensAlike}
@@ -15,7 +16,7 @@ use Rattle.flat_history.specs.Legal.{told_left, level_at}
 use Rattle.flat_history.specs.Losses.{is_unsynced}
 use Rattle.flat_history.specs.OneShape.{is_unsettled}
 use Rattle.flat_history.specs.Sound.{OpensFit}
-use Rattle.flat_history.specs.World.{opening_list}
+use Rattle.flat_history.specs.World.{World, opening_list}
 use Rattle.shape_views.specs.Regions.{ArePlaced, DoWithout, backup_of}
 use Rattle.shape_views.specs.Windows.{ListStands, RowsStand}
 use Rattle.shape_changes.specs.Safety.{HasLiveSlot}
@@ -32,6 +33,7 @@ use Rattle.history_calls.specs.Reliable.{IsReliable, AreToldGone, IsNonePast, Ha
 use Rattle.course_mends.specs.course_kept_the_Course.{Course}
 use Rattle.course_mends.specs.course_kept_Course.{IsCourseOf, IsStored}
 use Rattle.course_mends.specs.region_mends_Mends.{mend_stripes}
+use Rattle.course_mends.specs.region_writes_Runs.{WindowRowsStand}
 use Rattle.course_mends.specs.Mended.{IsAside, IsUnmended, StandsMended}
 
 -- The members of an array in a reshape: each has its place, the backup has room for the sections, holds no role and is no spare, and no slot recovers a role.
@@ -50,6 +52,11 @@ pub record HasListInCourse (sound : Type 0) (members : Members) (resync : Option
   pub list : ℕ → Sector
   pub is : (x : ℕ) → x < list_length members.newest → list x ≡ current x
   pub stands : StandsMended sound (λ shape. DoesWithout shape members) resync members course buffer c list
+
+-- The rows of a window that was just recorded, if there is one, stand as the list of the history, which is zero behind its end in a forward reshape.
+abbrev pub IsWindowStanding : Option Span → World → List Entry → Members → Contents → Type 0
+IsWindowStanding window world entries m c = IsFilledRight world entries → (list : ℕ → Sector) → ((x : ℕ) → x < list_length m.newest → list x ≡ now (opening_list world) entries x)
+    → (is_backward m.newest ≡ false → IsZeroPast (list_length m.newest) list) → WindowRowsStand window m c list
 
 -- The list of the history stands on members without a reshape: it is zero behind its end, and where the epoch opened sound, its rows stand too.
 pub record HasListStill (sound : Type 0) (members : Members) (c : Contents) (current : ℕ → Sector) : Type 0 where

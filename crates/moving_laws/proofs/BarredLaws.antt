@@ -26,6 +26,7 @@ use Rattle.mending_kept.specs.region_writes_Runs.{IsListUnwritten}
 use Rattle.moving_state.specs.Left.{visible_by}
 use Rattle.running_words.specs.Calls.{IsStepTaken, IsEnterCaused}
 use Rattle.flat_history.specs.declared.events.StepKind.{StepKind}
+use Rattle.moving_state.specs.Due.{open_in}
 use Rattle.moving_laws.specs.Writing.{TouchesUnsure, IsWriteLacked, IsWriteBarred, IsWriteEntered, IsWriteAnswered, IsWriteReplied, IsRefusedAlone}
 use Rattle.moving_laws.proofs.WriteReplies.{lacked-missing, write-answered}
 
@@ -69,7 +70,7 @@ err-ok P (Ok x) is = absurd (cc)
 err-ok P (Err e) is = tt
 
 -- it ends past the list, or too many roles are missing
-pub unwritten-barred : (window : Window) (visible relied at to : ℕ) (m : Members) (refusal : Refusal) → IsRefusedFor visible to (IsListUnwritten relied at to) m m refusal → IsRefusedFor visible to (IsWriteBarred window relied at to) m m refusal
+pub unwritten-barred : (window : Window) (visible relied at to : ℕ) (m : Members) (refusal : Refusal) → IsRefusedFor visible to (IsListUnwritten (open_in window) relied at to) m m refusal → IsRefusedFor visible to (IsWriteBarred window relied at to) m m refusal
 unwritten-barred window visible relied at to m (PastEnd told) is = is
 unwritten-barred window visible relied at to m refusal is = (is.0, inl (inl is.1))
 

@@ -12,10 +12,11 @@ use Rattle.md_base.specs.declared.answers.Who.{Who}
 use Rattle.md_base.specs.declared.places.Span.{Span}
 use Rattle.bank.specs.declared.bank.Operation.{Operation}
 use Rattle.bank.specs.Given.{Given, NeverFalls}
+use Rattle.bank.specs.Tape.{Contents}
 use Rattle.bank.proofs.Causes.{faulted_longer}
 use Rattle.superblocks.specs.declared.members.Members.{Members}
 use Rattle.superblocks.proofs.ValidFields.{few-roles}
-use Rattle.row_io.specs.Rows.{reading_of, is_missing}
+use Rattle.row_io.specs.Rows.{reading_of, is_missing, present}
 use Rattle.superblocks.specs.Reading.{Scope, is_reshaping, final_shape, list_length, next_window, role_count}
 use Rattle.flat_history.specs.declared.events.Entry.{Entry}
 use Rattle.flat_history.specs.declared.events.Event.{Event}
@@ -27,7 +28,7 @@ use Rattle.flat_history.specs.Flat.{limit_of, visible_of}
 use Rattle.flat_history.specs.Legal.{visible_at, IsRefusedRight}
 use Rattle.flat_history.specs.Plain.{entries_of}
 use Rattle.flat_history.specs.Stands.{covers, shape_for}
-use Rattle.flat_history.specs.World.{opening_list}
+use Rattle.flat_history.specs.World.{World, opening_list}
 use Rattle.shape_views.specs.Regions.{DoWithout}
 use Rattle.shape_views.specs.Windows.{moved_past}
 use Rattle.shape_changes.specs.Safety.{HasLiveSlot}
@@ -64,7 +65,8 @@ use Rattle.mending_kept.proofs.region_mends_LeftLaws.{records-leave}
 use Rattle.mending_kept.proofs.region_mends_ReliedLaws.{relied-reaches}
 use Rattle.mending_kept.specs.course_mends_Mended.{IsUnmended}
 use Rattle.moving_state.specs.Due.{open_in, unsure_in}
-use Rattle.mending_kept.specs.moving_kept_Moving.{IsMoving}
+use Rattle.mending_kept.specs.moving_kept_Moving.{IsWindowStanding, IsMoving}
+use Rattle.mending_kept.proofs.moving_kept_CopiedWindow.{window-stands}
 use Rattle.mending_kept.proofs.moving_kept_NoneLeft.{shape-left}
 use Rattle.mending_kept.proofs.moving_kept_FinishedCall.{IsFinishedBy, finish-moves}
 use Rattle.mending_kept.proofs.moving_kept_Refusals.{lacking-right}
@@ -238,6 +240,16 @@ module _ {tells : Type 0} {given : Given} {tape tape' : List Operation} {scope :
       some : left ≢ 0
       some zero = absurd (record-some given old new resync span ahead (moved-none given span old new refusal none did.moved) was.members_are.active (sym told ∙ zero))
 
+  -- and the window's rows stand then
+  pub finish-stands : (left : ℕ) → refusal ≡ None → left ≡ left_by resync new (closed 0) ahead
+      → tells → IsWindowStanding (Some span) (world_in given tape' scope first) (entries ++ entries_of who end (losses_of roles spares ++ Step FinishesWindow left ∷ [])) new (present given tape')
+  finish-stands left none told =
+      window-stands tells given tape tape' scope first entries old new carried resync span copied done sectioned bytes who end roles spares (left_by resync old course ahead) left opened enough grows some
+      (subst (λ (o : Option Refusal). IsFinishedBy tells given tape tape' old new (final_shape old.newest) span copied done bytes roles o) none did)
+    where
+      some : left ≢ 0
+      some zero = absurd (record-some given old new resync span ahead (moved-none given span old new refusal none did.moved) was.members_are.active (sym told ∙ zero))
+
   -- it is refused: the window is open as before
   pub finish-refused : (why : Refusal) → refusal ≡ Some why
       → IsMoving tells given tape' scope first (entries ++ entries_of who end (losses_of roles spares ++ Refused why ∷ [])) new carried resync course (bytes_in course.window window) (left_by resync new course ahead)
@@ -272,12 +284,28 @@ finish-relied given old new (Some mended) span placed moved (inr none) =
     ∙ sym (ap (λ (n : ℕ). relied_sector old.newest (Some n)) none ∙ (relied-reaches old.newest placed.fit).0)
 finish-relied given old new (Some mended) span placed moved (inl none) = absurd none
 
+-- ---- a window that was recorded
+
+-- where there is none, nothing is asked
+pub none-recorded : (world : World) (entries : List Entry) (m : Members) (c : Contents) → IsWindowStanding None world entries m c
+none-recorded world entries m c fills list is zeros x inside = absurd (let none : ◌≡◌ {A = Bool} false true = inside in cc)
+
+-- its rows stand by the array's own world
+pub recorded-as : (window : Option Span) (tape : List Operation) (m : Members) {given given' : Given} {scope scope' : Scope} {first first' : ℕ} {entries entries' : List Entry}
+    → given' ≡ given → scope' ≡ scope → first' ≡ first → entries' ≡ entries
+    → IsWindowStanding window (world_in given tape scope first) entries m (present given tape) → IsWindowStanding window (world_in given' tape scope' first') entries' m (present given' tape)
+recorded-as window tape m {given = given} {given' = given'} {scope = scope} {scope' = scope'} {first = first} {first' = first'} {entries = entries} {entries' = entries'} one two three four was =
+    subst (λ (b : Given). IsWindowStanding window (world_in b tape scope' first') entries' m (present b tape)) (sym one)
+    (subst (λ (s : Scope). IsWindowStanding window (world_in given tape s first') entries' m (present given tape)) (sym two)
+    (subst (λ (n : ℕ). IsWindowStanding window (world_in given tape scope n) entries' m (present given tape)) (sym three)
+    (subst (λ (l : List Entry). IsWindowStanding window (world_in given tape scope first) l m (present given tape)) (sym four) was)))
+
 -- ---- sectors beside the window
 
 -- a refusal tells that members are missing
-pub torn-missing : (relied at to : ℕ) (m : Members) (refusal : Refusal) → IsListUnwritten relied at to m refusal → IsOfMissing refusal
-torn-missing relied at to m refusal (inl torn) = unwritten-of (shape_for m.newest torn.0) false m refusal (inl torn.3)
-torn-missing relied at to m refusal (inr (each, there)) = unwritten-of (shape_for m.newest there.0) false m refusal (inr there.4)
+pub torn-missing : (window : Option Span) (relied at to : ℕ) (m : Members) (refusal : Refusal) → IsListUnwritten window relied at to m refusal → IsOfMissing refusal
+torn-missing window relied at to m refusal (inl torn) = unwritten-of (shape_for m.newest torn.0) false m refusal (inl torn.3)
+torn-missing window relied at to m refusal (inr (each, there)) = unwritten-of (shape_for m.newest there.0) false m refusal (inr there.5)
 
 module _ {tells : Type 0} {given : Given} {tape : List Operation} {scope : Scope} {first : ℕ} {entries : List Entry} {old : Members} {carried : ℕ → Bool} {resync : Option ℕ} {course : Course} {buffer : List ℕ} {left : ℕ} {limit : Option ℕ}
     (was : IsMoving tells given tape scope first entries old carried resync course buffer left) (limited : limit_of entries ≡ limit) where
@@ -286,27 +314,29 @@ module _ {tells : Type 0} {given : Given} {tape : List Operation} {scope : Scope
   all-seen t = visible-is (length (opening_list (world_in given tape scope first))) (list_length old.newest) limit entries (was.recorded t).sized limited
 
   -- why it is refused before any row is read
-  pub first-right : (relied at to : ℕ) (refusal : Refusal) → relied ≡ relied_sector old.newest resync → IsRefusedFor (visible_size old limit) to (IsListUnwritten relied at to) old old refusal
+  pub first-right : (window : Option Span) (relied at to : ℕ) (refusal : Refusal) → relied ≡ relied_sector old.newest resync
+      → IsRefusedFor (visible_size old limit) to (IsListUnwritten window relied at to) old old refusal
       → tells → IsReliable (world_in given tape scope first) entries → IsRefusedRight (world_in given tape scope first) entries refusal
-  first-right relied at to (PastEnd told) relies why t right = why.0 ∙ sym (all-seen t)
-  first-right relied at to refusal relies why t right = by (let below = visible-within (list_length old.newest) limit in let within = why.0 in omega (arith, below, within)) why.1
+  first-right window relied at to (PastEnd told) relies why t right = why.0 ∙ sym (all-seen t)
+  first-right window relied at to refusal relies why t right = by (let below = visible-within (list_length old.newest) limit in let within = why.0 in omega (arith, below, within)) why.1
     where
-      by : to ≤ list_length old.newest → IsListUnwritten relied at to old refusal → IsRefusedRight (world_in given tape scope first) entries refusal
+      by : to ≤ list_length old.newest → IsListUnwritten window relied at to old refusal → IsRefusedRight (world_in given tape scope first) entries refusal
       by within (inl torn) =
           lacking-right (world_in given tape scope first) entries given old was.members_are.placed (was.gone t right) (was.levelled t right) (shape_for old.newest torn.0) refusal (shape-force old.newest torn.0) torn.3
       by within (inr (each, there)) =
-          let cause = there.4 in
+          let cause = there.5 in
           let high = there.2 in
           let few = cause.4.0 in
           let disks = force-disks old.newest was.members_are.placed.fit (shape_for old.newest there.0) (shape-force old.newest there.0) in
           unsynced-right (world_in given tape scope first) entries old (was.gone t right) refusal cause.0 cause.1 (omega (arith, few, disks)) cause.3
-          (pending-at was relied relies old was.members_are.placed.fit refl there.0 (omega (arith, high, within)) there.3 t)
+          (pending-at was relied relies old was.members_are.placed.fit refl there.0 (omega (arith, high, within)) there.4 t)
 
 module _ {tells : Type 0} {given : Given} {tape tape' : List Operation} {scope : Scope} {first : ℕ} {entries : List Entry} {old new : Members} {carried : ℕ → Bool} {resync : Option ℕ} {limit : Option ℕ} (course : Course) (ahead : PhasesLeft) (buffer : List ℕ)
-    (who : Who) (end roles spares at : ℕ) (from : List ℕ) (relied : ℕ) (begun : Bool)
+    (who : Who) (end roles spares at : ℕ) (from : List ℕ) (past : Option Span) (relied : ℕ) (begun : Bool)
     (was : IsMoving tells given tape scope first entries old carried resync course buffer (left_by resync old course ahead)) (goes : IsCallGoing entries who) (caller : who.caller ≢ 254)
     (at_end : tells → end ≡ length tape') (grows : Grows tells tape tape') (limited : limit_of entries ≡ limit) (visible : at + length from / 512 ≤ visible_size old limit) (some : 0 < length from / 512)
-    (fine : (refusal : Refusal) → IsListUnwritten relied at (at + length from / 512) old refusal → ⊥) (relies : relied ≡ relied_sector old.newest resync) (did : ArePut tells given tape tape' old new course at from relied roles begun) where
+    (fine : (refusal : Refusal) → IsListUnwritten past relied at (at + length from / 512) old refusal → ⊥) (relies : relied ≡ relied_sector old.newest resync)
+    (stood : tells → IsWindowStanding past (world_in given tape scope first) entries old (present given tape)) (did : ArePut tells given tape tape' old new course at from past relied roles begun) where
   -- no shape of the write misses too many
   each-does : (x : ℕ) → at ≤ x → x < at + length from / 512 → DoesWithout (shape_for old.newest x) old
   each-does x low high = shape-without (shape_for old.newest x) old (λ refusal many. fine refusal (inl (x, low, high, many)))
@@ -319,18 +349,18 @@ module _ {tells : Type 0} {given : Given} {tape tape' : List Operation} {scope :
   seen t = let same = all-seen was limited t in omega (arith, same, visible)
 
   -- it is done
-  pub wrote-kept : AreWritten tells given tape tape' old new at from relied
+  pub wrote-kept : AreWritten tells given tape tape' old new at from past relied
       → IsMoving tells given tape' scope first (entries ++ entries_of who end (losses_of roles spares ++ Wrote at (sectors_of from) ∷ [])) new carried resync course buffer (left_by resync new course ahead)
   wrote-kept done =
       subst (λ (n : ℕ). IsMoving tells given tape' scope first (entries ++ entries_of who end (losses_of roles spares ++ Wrote at (sectors_of from) ∷ [])) new carried resync course buffer n) (sym (left-moved given old new resync course ahead did.moved))
-      (written-moves tells given tape tape' scope first entries old new carried resync course buffer (left_by resync old course ahead) who end roles spares at from relied begun was live goes (not_254 who.caller caller) at_end grows each-does seen relies did done)
+      (written-moves tells given tape tape' scope first entries old new carried resync course buffer (left_by resync old course ahead) who end roles spares at from past relied begun was live goes (not_254 who.caller caller) at_end grows each-does seen relies stood did done)
 
   -- it is refused
-  pub unwritten-kept : (refusal : Refusal) → AreUnwritten tells given tape tape' old new at from relied begun refusal
+  pub unwritten-kept : (refusal : Refusal) → AreUnwritten tells given tape tape' old new at from past relied begun refusal
       → IsMoving tells given tape' scope first (entries ++ entries_of who end (failure_events roles spares begun at (sectors_of from) refusal)) new carried resync course buffer (left_by resync new course ahead)
   unwritten-kept refusal undone =
       subst (λ (n : ℕ). IsMoving tells given tape' scope first (entries ++ entries_of who end (failure_events roles spares begun at (sectors_of from) refusal)) new carried resync course buffer n) (sym (left-moved given old new resync course ahead did.moved))
-      (unwritten-moves tells given tape tape' scope first entries old new carried resync course buffer (left_by resync old course ahead) who end roles spares at from relied begun was live goes (not_254 who.caller caller) at_end grows each-does seen relies did refusal undone)
+      (unwritten-moves tells given tape tape' scope first entries old new carried resync course buffer (left_by resync old course ahead) who end roles spares at from past relied begun was live goes (not_254 who.caller caller) at_end grows each-does seen relies stood did refusal undone)
 
 -- ---- one call behind another
 
@@ -453,38 +483,52 @@ finish-caused size visible to why old new (Err (IsRefusedWith refusal)) within f
     by refusal is = (within, inr is.1)
 finish-caused size visible to why old new (Err NoMemory) within fine caused = caused
 
+-- why sectors outside a window aren't written, where none lies in it
+unwritten-less : (window : Option Span) (relied at to : ℕ) (m : Members) (refusal : Refusal) → IsListUnwritten window relied at to m refusal → IsListUnwritten None relied at to m refusal
+unwritten-less window relied at to m refusal (inl torn) = inl torn
+unwritten-less window relied at to m refusal (inr (each, there)) = inr (each, (there.0, there.1, there.2, refl, there.4, there.5))
+
+unwritten-more : (window : Window) (relied at to : ℕ) (m : Members) (refusal : Refusal) → (TouchesWindow window at to → ⊥) → IsListUnwritten None relied at to m refusal → IsListUnwritten (open_in window) relied at to m refusal
+unwritten-more window relied at to m refusal none (inl torn) = inl torn
+unwritten-more window relied at to m refusal none (inr (each, there)) = inr (each, (there.0, there.1, there.2, out (covers (open_in window) there.0) refl, there.4, there.5))
+  where
+    out : (b : Bool) → covers (open_in window) there.0 ≡ b → covers (open_in window) there.0 ≡ false
+    out true inside = absurd (none (there.0, there.1, there.2, inside))
+    out false is = is
+
 -- a write beside the window, which it doesn't touch
 pub alone-caused : {T : Type 0} (window : Window) (visible relied at to : ℕ) (old new : Members) (result : Result T AnyFault) → (TouchesWindow window at to → ⊥)
-    → IsCausedBy visible to (IsListUnwritten relied at to) old new result → IsCausedBy visible to (IsWriteLacked window relied at to) old new result
-alone-caused window visible relied at to old new (Ok x) none caused = (caused.0, λ refusal which. elim which [ inl asked ↦ caused.1 refusal asked | inr many ↦ none many.0 ])
+    → IsCausedBy visible to (IsListUnwritten None relied at to) old new result → IsCausedBy visible to (IsWriteLacked window relied at to) old new result
+alone-caused window visible relied at to old new (Ok x) none caused =
+    (caused.0, λ refusal which. elim which [ inl asked ↦ caused.1 refusal (unwritten-less (open_in window) relied at to old refusal asked) | inr many ↦ none many.0 ])
 alone-caused window visible relied at to old new (Err (IsRefusedWith refusal)) none caused = by refusal caused
   where
-    by : (refusal : Refusal) → IsRefusedFor visible to (IsListUnwritten relied at to) old new refusal → IsRefusedFor visible to (IsWriteLacked window relied at to) old new refusal
+    by : (refusal : Refusal) → IsRefusedFor visible to (IsListUnwritten None relied at to) old new refusal → IsRefusedFor visible to (IsWriteLacked window relied at to) old new refusal
     by (PastEnd told) is = is
-    by refusal is = (is.0, inl is.1)
+    by refusal is = (is.0, inl (unwritten-more window relied at to new refusal none is.1))
 alone-caused window visible relied at to old new (Err NoMemory) none caused = caused
 
 -- a window that it touches isn't finished
 pub refused-caused : (T : Type 0) (window : Window) (visible relied at to : ℕ) (old new : Members) (fault : AnyFault) → TouchesWindow window at to
-    → IsCausedBy {T = T} visible to (λ m refusal. IsListUnwritten relied at to m refusal ⊎ AreTooMany m refusal) old new (Err fault) → IsCausedBy {T = T} visible to (IsWriteLacked window relied at to) old new (Err fault)
+    → IsCausedBy {T = T} visible to (λ m refusal. IsListUnwritten (open_in window) relied at to m refusal ⊎ AreTooMany m refusal) old new (Err fault) → IsCausedBy {T = T} visible to (IsWriteLacked window relied at to) old new (Err fault)
 refused-caused T window visible relied at to old new (IsRefusedWith refusal) touches caused = by refusal caused
   where
-    by : (refusal : Refusal) → IsRefusedFor visible to (λ m refusal. IsListUnwritten relied at to m refusal ⊎ AreTooMany m refusal) old new refusal → IsRefusedFor visible to (IsWriteLacked window relied at to) old new refusal
+    by : (refusal : Refusal) → IsRefusedFor visible to (λ m refusal. IsListUnwritten (open_in window) relied at to m refusal ⊎ AreTooMany m refusal) old new refusal → IsRefusedFor visible to (IsWriteLacked window relied at to) old new refusal
     by (PastEnd told) is = is
     by refusal is = (is.0, elim is.1 [ inl asked ↦ inl asked | inr many ↦ inr (touches, many) ])
 refused-caused T window visible relied at to old new NoMemory touches caused = caused
 
 -- it is finished, and the sectors are written behind it, or aren't
 pub behind-caused : {T : Type 0} (window : Window) (visible long relied mended at to : ℕ) (old mid new : Members) (result : Result T AnyFault) (who : Who) (entries entries' : List Entry) (body : List Sector) → long ≡ visible → mended ≡ relied
-    → (to ≤ visible) × ((refusal : Refusal) → IsListUnwritten relied at to old refusal ⊎ AreTooMany old refusal → ⊥) → IsPutEntered who entries entries' at body result
-    → IsCausedBy long to (IsListUnwritten mended at to) mid new result → IsCausedBy visible to (IsWriteLacked window relied at to) old new result
+    → (to ≤ visible) × ((refusal : Refusal) → IsListUnwritten (open_in window) relied at to old refusal ⊎ AreTooMany old refusal → ⊥) → IsPutEntered who entries entries' at body result
+    → IsCausedBy long to (IsListUnwritten (open_in window) mended at to) mid new result → IsCausedBy visible to (IsWriteLacked window relied at to) old new result
 behind-caused window visible long relied mended at to old mid new (Ok x) who entries entries' body same relies before told caused =
     (before.0, λ refusal which. elim which [ inl asked ↦ before.1 refusal (inl asked) | inr many ↦ before.1 refusal (inr many.1) ])
 behind-caused window visible long relied mended at to old mid new (Err (IsRefusedWith refusal)) who entries entries' body same relies before told caused = by refusal caused
   where
-    by : (refusal : Refusal) → IsRefusedFor long to (IsListUnwritten mended at to) mid new refusal → IsRefusedFor visible to (IsWriteLacked window relied at to) old new refusal
+    by : (refusal : Refusal) → IsRefusedFor long to (IsListUnwritten (open_in window) mended at to) mid new refusal → IsRefusedFor visible to (IsWriteLacked window relied at to) old new refusal
     by (PastEnd told) is = absurd (let past = is.1 in let within = before.0 in omega (arith, past, within, same))
-    by refusal is = (before.0, inl (subst (λ (n : ℕ). IsListUnwritten n at to new refusal) relies is.1))
+    by refusal is = (before.0, inl (subst (λ (n : ℕ). IsListUnwritten (open_in window) n at to new refusal) relies is.1))
 behind-caused window visible long relied mended at to old mid new (Err NoMemory) who entries entries' body same relies before told caused = absurd told
 
 -- its entries, where it doesn't touch the window

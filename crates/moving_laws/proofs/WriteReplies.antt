@@ -31,6 +31,7 @@ use Rattle.array_kept.proofs.NowLaws.{length-more}
 use Rattle.array_kept.proofs.ReplyLaws.{IsOfMissing, none_before, too-many-of}
 use Rattle.grow_asked.specs.declared.window.Window.{Window}
 use Rattle.kept_history.specs.Recorded.{entry_of}
+use Rattle.moving_state.specs.Due.{open_in}
 use Rattle.moving_laws.specs.Writing.{IsWriteLacked, IsFinishedFirst, IsWriteEntered, IsRepliedBehind, IsWriteAnswered}
 use Rattle.moving_state.specs.Left.{visible_by}
 use Rattle.running_words.proofs.Visible.{visible-is, limit-kept}
@@ -144,7 +145,7 @@ finished-before window at to body who old mid left (inr (none, is)) = nothing-be
 -- ---- the write
 
 pub lacked-missing : (window : Window) (relied from to : ℕ) (m : Members) (refusal : Refusal) → IsWriteLacked window relied from to m refusal → IsOfMissing refusal
-lacked-missing window relied from to m refusal (inl unwritten) = torn-missing relied from to m refusal unwritten
+lacked-missing window relied from to m refusal (inl unwritten) = torn-missing (open_in window) relied from to m refusal unwritten
 lacked-missing window relied from to m refusal (inr (touches, many)) = too-many-of m refusal many
 
 module _ (window : Window) (size : ℕ) (limit : Option ℕ) (relied at to : ℕ) (body : List Sector) (who : Who) (old new : List Entry) (m m' : Members) (left : ℕ) (end-is : to ≡ at + length body)

@@ -48,9 +48,10 @@ steps_in newest (Unsure span) = 0
 abbrev pub TouchesWindow : Window → ℕ → ℕ → Type 0
 TouchesWindow window from to = (x : ℕ) × (from ≤ x) × (x < to) × (covers (open_in window) x ≡ true)
 
--- Why a write isn't done: as one beside the window; or it touches the entered window, and more roles of a shape in force are missing than it tolerates.
+-- Why a write isn't done: too many roles are missing, or one of its sectors outside the entered window can't be written; or it touches that window, and more roles of
+-- a shape in force are missing than it tolerates.
 abbrev pub IsWriteLacked : Window → ℕ → ℕ → ℕ → Members → Refusal → Type 0
-IsWriteLacked window relied from to m refusal = IsListUnwritten relied from to m refusal ⊎ (TouchesWindow window from to × AreTooMany m refusal)
+IsWriteLacked window relied from to m refusal = IsListUnwritten (open_in window) relied from to m refusal ⊎ (TouchesWindow window from to × AreTooMany m refusal)
 
 -- one of them lies in a window that is unsure
 abbrev pub TouchesUnsure : Window → ℕ → ℕ → Type 0

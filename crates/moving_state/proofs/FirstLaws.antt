@@ -152,11 +152,11 @@ module _ (visible relied first count : ℕ) (m : Members) (fit : AreShapesFit m.
       refused-for visible (first + count) (IsUnreadAround hidden relied first (first + count)) m m refusal (unread-of (shape_for m.newest torn.0) 0 0 0 m refusal (inl torn.3)) within
       (torn.0, torn.1, torn.2, inl torn.3)
 
-  pub torn-write : (A : Type 0) (found : Option Refusal) → is_some found ≡ true → MatchOption found A (IsListTorn first (first + count) m)
-      → IsRefusalOf visible (first + count) (IsListUnwritten relied first (first + count)) m found
-  torn-write A None some torn = absurd (cc)
-  torn-write A (Some refusal) some torn =
-      refused-for visible (first + count) (IsListUnwritten relied first (first + count)) m m refusal (unread-of (shape_for m.newest torn.0) 0 0 0 m refusal (inl torn.3)) within (inl torn)
+  pub torn-write : (A : Type 0) (window : Option Span) (found : Option Refusal) → is_some found ≡ true → MatchOption found A (IsListTorn first (first + count) m)
+      → IsRefusalOf visible (first + count) (IsListUnwritten window relied first (first + count)) m found
+  torn-write A window None some torn = absurd (cc)
+  torn-write A window (Some refusal) some torn =
+      refused-for visible (first + count) (IsListUnwritten window relied first (first + count)) m m refusal (unread-of (shape_for m.newest torn.0) 0 0 0 m refusal (inl torn.3)) within (inl torn)
 
   -- none of its shapes misses too many
   pub fine-all : (found : Option Refusal) → is_some found ≡ false → MatchOption found (AreFineTo m first count (first + count)) (IsListTorn first (first + count) m) → AreFineTo m first count (first + count)
@@ -182,23 +182,23 @@ module _ (visible relied first count : ℕ) (m : Members) (fit : AreShapesFit m.
   read-judged hidden fine (Some refusal) told =
       refused-for visible (first + count) (IsUnreadAround hidden relied first (first + count)) m m refusal (around-missing hidden refusal told) within told
 
-  module _ (low high : Run) (are : AreRuns m.newest relied first (first + count) low high) where
+  module _ (window : Option Span) (low high : Run) (are : AreRuns m.newest window relied first (first + count) low high) where
     -- a run that isn't refused misses no role with data behind the rows that are relied on
-    run-had : (run : Run) → IsRun m.newest run → IsRelied m.newest relied run → write_refusal run.shape run.synced m ≡ None → (x : ℕ) → run.first ≤ x → x < run.end
+    run-had : (run : Run) → IsRun m.newest run → IsRelied m.newest window relied run → write_refusal run.shape run.synced m ≡ None → (x : ℕ) → run.first ≤ x → x < run.end → covers window x ≡ false
         → relied_rows m.newest relied (shape_for m.newest x) ≤ (place_by m.newest x).row → (refusal : Refusal) → IsNotResynced (shape_for m.newest x) false m refusal → ⊥
-    run-had run is trusted none x from under beyond refusal cause =
+    run-had run is trusted none x from under out beyond refusal cause =
         let both = subst (λ (s : Shape). (relied_rows m.newest relied s ≤ (place s x).row) × IsNotResynced s false m refusal) (is.one x from under) (beyond, cause) in
         by run.synced refl both.0 both.1
       where
         by : (b : Bool) → run.synced ≡ b → relied_rows m.newest relied run.shape ≤ (place run.shape x).row → IsNotResynced run.shape false m refusal → ⊥
-        by true synced past un = absurd (let row = trusted.rows synced x from under in omega (arith, row, past))
+        by true synced past un = absurd (let row = trusted.rows synced x from under out in omega (arith, row, past))
         by false unsynced past un =
             let whole = (write-none run.shape run.synced m none).1 unsynced in
             absurd (let both : true ≡ false = sym (whole un.0 un.4.0 un.3) ∙ un.4.1 in cc)
 
     pub write-judged : AreFineTo m first count (first + count) → (found : Option Refusal)
         → MatchOption found ((write_refusal low.shape low.synced m ≡ None) × (write_refusal high.shape high.synced m ≡ None)) (AreRunsUnwritten low high m)
-        → IsRefusalOf visible (first + count) (IsListUnwritten relied first (first + count)) m found
+        → IsRefusalOf visible (first + count) (IsListUnwritten window relied first (first + count)) m found
     write-judged fine None none = (
       within,
       λ refusal why. elim why [
@@ -208,15 +208,15 @@ module _ (visible relied first count : ℕ) (m : Members) (fit : AreShapesFit m.
             let from = there.1 in
             let under = there.2 in
             elim (cases_lt there.0 low.end) [
-              | inl near ↦ run-had low are.low are.low_relied none.0 there.0 (let begins = are.begins in omega (arith, begins, from)) near there.3 refusal there.4
-              | inr far ↦ run-had high are.high are.high_relied none.1 there.0 (let meet = are.meet in omega (arith, meet, far)) (let ends = are.ends in omega (arith, ends, under)) there.3 refusal there.4
+              | inl near ↦ run-had low are.low are.low_relied none.0 there.0 (let begins = are.begins in omega (arith, begins, from)) near there.3 there.4 refusal there.5
+              | inr far ↦ run-had high are.high are.high_relied none.1 there.0 (let meet = are.meet in omega (arith, meet, far)) (let ends = are.ends in omega (arith, ends, under)) there.3 there.4 refusal there.5
             ]
       ],
     )
     write-judged fine (Some refusal) told =
-        let why = runs-unwritten m relied first (first + count) low high are refusal told in
-        refused-for visible (first + count) (IsListUnwritten relied first (first + count)) m m refusal (unwritten-missing refusal why) within why
+        let why = runs-unwritten m window relied first (first + count) low high are refusal told in
+        refused-for visible (first + count) (IsListUnwritten window relied first (first + count)) m m refusal (unwritten-missing refusal why) within why
       where
-        unwritten-missing : (refusal : Refusal) → IsListUnwritten relied first (first + count) m refusal → IsOfMissing refusal
+        unwritten-missing : (refusal : Refusal) → IsListUnwritten window relied first (first + count) m refusal → IsOfMissing refusal
         unwritten-missing refusal (inl torn) = unwritten-of (shape_for m.newest torn.0) false m refusal (inl torn.3)
-        unwritten-missing refusal (inr (each, there)) = unwritten-of (shape_for m.newest there.0) false m refusal (inr there.4)
+        unwritten-missing refusal (inr (each, there)) = unwritten-of (shape_for m.newest there.0) false m refusal (inr there.5)

@@ -93,9 +93,10 @@ pub fn unread_from(
 
 /// Why so many sectors from one on aren't written, before any row is read: `PastEnd`, or else `TooManyMissing` of the first of them of whose
 /// shape too many roles are missing, be it in the open window or not, or else `NotResynced` of the lowest missing role that has data in the
-/// shape of one of them behind sector `relied`, up to which parity is to be relied on.
+/// shape of one of them outside the open window, if there is one, and behind sector `relied`, up to which parity is to be relied on.
 pub fn unwritten_from(
     members: &Members,
+    window: Option<Span>,
     visible: u64,
     relied: u64,
     at: u64,
@@ -107,7 +108,7 @@ pub fn unwritten_from(
     requires some { 0 < count }
     requires short { at + count < 2 ^ 63 }
     ensures first { MatchOption (call_refusal visible (at + count) (list_refusal at count members.now)) ⊤ (λ refusal. result ≡ Some refusal) }
-    ensures why { IsRefusalOf visible (at + count) (IsListUnwritten relied at (at + count)) members.now result }
+    ensures why { IsRefusalOf visible (at + count) (IsListUnwritten window relied at (at + count)) members.now result }
 {
     if visible < at + count {
         return Some(Refusal::PastEnd(visible));
@@ -116,6 +117,6 @@ pub fn unwritten_from(
     if refusal.is_some() {
         return refusal;
     }
-    let cut = runs_of(members, at, at + count, relied);
+    let cut = runs_of(members, window, at, at + count, relied);
     unwritten_runs(members, &cut.low, &cut.high)
 }

@@ -166,7 +166,7 @@ fn refused_requests(rt: HostRuntime) -> Result<(), Fail> {
         let relied = list_sectors(&members);
         assert!(rt; unread_from(&members, None, visible, relied, at, count) == *wanted);
         if count > 0 {
-            assert!(rt; unwritten_from(&members, visible, relied, at, count) == *wanted);
+            assert!(rt; unwritten_from(&members, None, visible, relied, at, count) == *wanted);
         }
     }
     Ok(())
@@ -213,13 +213,22 @@ fn refused_in_a_resync(rt: HostRuntime) -> Result<(), Fail> {
         let (at, count) = (u64::from(*at), u64::from(*count));
         let relied = u64::from(*relied);
         assert!(rt; unread_from(&members, None, visible, relied, at, count) == *read);
-        assert!(rt; unwritten_from(&members, visible, relied, at, count) == *write);
+        assert!(rt; unwritten_from(&members, None, visible, relied, at, count) == *write);
         let hidden = Some(Span { lo: 0, hi: 1 });
         let beside = unread_from(&members, hidden, visible, relied, at, count);
         match read {
             Some(Refusal::NotResynced(_)) => assert!(rt; beside == None),
             _ => assert!(rt; beside == *read),
         }
+        let to = at + count;
+        let inside = Some(Span { lo: at, hi: to });
+        let inside = unwritten_from(&members, inside, visible, relied, at, count);
+        match write {
+            Some(Refusal::NotResynced(_)) => assert!(rt; inside == None),
+            _ => assert!(rt; inside == *write),
+        }
+        let short = Some(Span { lo: at, hi: to - 1 });
+        assert!(rt; unwritten_from(&members, short, visible, relied, at, count) == *write);
     }
     Ok(())
 }

@@ -1,13 +1,17 @@
 -- What an array of one shape keeps of its history, in the words that also serve a reshape.
-use Rattle.std.proofs.Common.{◌≡◌, inl, inr, ℕ, ◌||◌, Bool, false, Option, List, ◌++◌, length, sym, ◌∙◌, ap, ap₂, subst}
+use Rattle.std.proofs.Common.{◌≡◌, inl, inr, ℕ, ◌||◌, Bool, true, false, Option, List, [], ◌∷◌, ◌++◌, length, refl, sym, ◌∙◌, ap, ap₂, subst}
 use Rattle.std.specs.Prelude.{⊤}
-use Rattle.std.specs.List.{list_any}
+use Rattle.std.specs.List.{list_any, list_all}
+use Rattle.std.proofs.lemmas.Bool.{and_parts}
 use Rattle.bank.specs.Given.{Given}
 use Rattle.superblocks.specs.declared.members.Members.{Members}
 use Rattle.flat_history.specs.declared.events.Entry.{Entry}
+use Rattle.flat_history.specs.declared.events.Event.{Event}
+use Rattle.flat_history.specs.declared.events.Event.TheVariants.{Step}
+use Rattle.flat_history.specs.declared.events.StepKind.TheVariants.{TakenOver}
 use Rattle.flat_history.specs.Flat.{length_of, values_of}
 use Rattle.flat_history.specs.Losses.{loses, is_gone_after, is_unsynced, unsettles}
-use Rattle.flat_history.specs.OneShape.{opening_in, is_gone_now, is_unsettled, KeepShape}
+use Rattle.flat_history.specs.OneShape.{opening_in, is_gone_now, is_unsettled, keeps_shape_event, KeepShape}
 use Rattle.flat_history.specs.Sound.{FillsRight}
 use Rattle.flat_history.specs.World.{World, opening_list}
 use Rattle.flat_history.proofs.OneShapeGone.{after-gone, gone-or_lost}
@@ -20,7 +24,7 @@ use Rattle.call_entries.proofs.CallLaws.{GivesNone}
 use Rattle.array_kept.specs.Kept.{ledger_now, AreTold, AreFillsRight, IsRecorded, IsCounted, IsSafe}
 use Rattle.array_kept.proofs.LedgerLaws.{told_by}
 use Rattle.kept_history.specs.Recorded.{IsHistoryKept}
-use Rattle.kept_history.specs.Safe.{OpensOnCourse, IsFilledRight, IsSafeHistory}
+use Rattle.kept_history.specs.Safe.{is_taken_over, KeepsLevel, OpensOnCourse, IsFilledRight, IsSafeHistory}
 use Rattle.kept_history.specs.Safe as history
 use Rattle.kept_history.specs.Told.{told_now}
 use Rattle.kept_history.specs.Told as history_told
@@ -63,8 +67,19 @@ gone-told world carried reshaping members entries keep told role lt missing = af
 
 -- ---- what is filled in
 
+-- no level is taken over
+one-level : (event : Event) → keeps_shape_event event ≡ true → is_taken_over event ≡ false
+one-level (Step TakenOver left) keeps = absurd (cc)
+one-level event keeps = refl
+
+keeps-level : (entries : List Entry) → KeepShape entries → KeepsLevel entries
+keeps-level [] keep = refl
+keeps-level (e ∷ entries) keep =
+    let parts = and_parts (keeps_shape_event e.event) (list_all (λ e. keeps_shape_event e.event) entries) keep in
+    ap (λ (b : Bool). b || list_any (λ e. is_taken_over e.event) entries) (one-level e.event parts.0) ∙ keeps-level entries parts.1
+
 pub filled-alike : (world : World) (entries : List Entry) → KeepShape entries → OpensOnCourse world → FillsRight world entries → IsFilledRight world entries
-filled-alike world entries keep on (inl none) = inl (λ role. takes-lost world role entries keep ∙ none role, on)
+filled-alike world entries keep on (inl none) = inl (λ role. takes-lost world role entries keep ∙ none role, on, keeps-level entries keep)
 filled-alike world entries keep on (inr fit) = inr fit
 
 pub fills-alike : (world : World) (entries : List Entry) → KeepShape entries → IsFilledRight world entries → FillsRight world entries

@@ -4,6 +4,7 @@ use Rattle.std.specs.Prelude.{MatchOption, ⊤}
 use Rattle.std.specs.Result.{is_ok, is_err}
 use Rattle.std.proofs.lemmas.Bool.{cases_lt}
 use Rattle.md_base.specs.declared.places.Shape.{Shape}
+use Rattle.md_base.specs.declared.places.Span.{Span}
 use Rattle.md_base.specs.declared.answers.Refusal.{Refusal}
 use Rattle.md_base.specs.Search.{count_below}
 use Rattle.md_base.specs.Shapes.{data_disks, tolerance, tolerance_of}
@@ -14,7 +15,7 @@ use Rattle.superblocks.specs.declared.members.Members.{Members}
 use Rattle.superblocks.specs.Reading.{shape_of, list_length}
 use Rattle.row_io.specs.Rows.{reading_of, is_missing}
 use Rattle.list_io.specs.Buffers.{IsTouched}
-use Rattle.flat_history.specs.Stands.{shape_for}
+use Rattle.flat_history.specs.Stands.{covers, shape_for}
 use Rattle.shape_views.specs.Regions.{AreShapesFit, place_by}
 use Rattle.views.specs.Placed.{IsInForce}
 use Rattle.views.specs.Lacking.{DoesWithout, LacksTooMany, IsNotResynced}
@@ -67,7 +68,7 @@ module _ (newest : Sb) (fit : AreShapesFit newest) (run : Run) (is : IsRun newes
       let x-in : t.0 < list_length newest = (let high = t.2 in let within = is.within in omega (arith, high, within)) in
       together-shape newest t.0 y (mates-together newest fit t.0 y x-in y-in (run-mate row y touch y-in at)) ∙ is.one t.0 t.1 t.2
 
-module _ (newest : Sb) (fit : AreShapesFit newest) (relied first to : ℕ) (low high : Run) (are : AreRuns newest relied first to low high) where
+module _ (newest : Sb) (fit : AreShapesFit newest) (window : Option Span) (relied first to : ℕ) (low high : Run) (are : AreRuns newest window relied first to low high) where
   -- no row is touched by both
   pub runs-apart : (row : ℕ) → IsRunRow low row → IsRunRow high row → ⊥
   runs-apart row one two =
@@ -132,7 +133,7 @@ level-in newest fit shape (inr same) = ap (λ (s : Shape). s.level) same ∙ fit
 pub never-does : (shape : Shape) (m : Members) (refusal : Refusal) → LacksTooMany shape m refusal → DoesWithout shape m → ⊥
 never-does shape m refusal many few = let above = many.above in absurd (omega (arith, above, few))
 
-module _ (newest : Sb) (fit : AreShapesFit newest) (relied first to : ℕ) (low high : Run) (are : AreRuns newest relied first to low high) (m : Members) where
+module _ (newest : Sb) (fit : AreShapesFit newest) (window : Option Span) (relied first to : ℕ) (low high : Run) (are : AreRuns newest window relied first to low high) (m : Members) where
   -- the first run's shape has as many disks or more, and tolerates as many
   same-tolerance : tolerance low.shape ≡ tolerance high.shape
   same-tolerance = ap tolerance_of (level-in newest fit low.shape are.low.force ∙ sym (level-in newest fit high.shape are.high.force))
@@ -238,7 +239,7 @@ module _ (low high : Run) (m : Members) (few : DoesWithout low.shape m) (far : D
   unsynced-then None None none one two = (sym one, sym two)
   unsynced-then None (Some refusal) none one two = inr (few, far, inr (unsynced-of high.shape high.synced m refusal far (sym two)))
 
-module _ (m : Members) (relied first to : ℕ) (low high : Run) (are : AreRuns m.newest relied first to low high) where
+module _ (m : Members) (window : Option Span) (relied first to : ℕ) (low high : Run) (are : AreRuns m.newest window relied first to low high) where
   -- a sector that the high run's shape places
   pub high-sector : (x : ℕ) × (first ≤ x) × (x < to) × (shape_for m.newest x ≡ high.shape)
   high-sector = elim (cases_lt low.end to) [
@@ -276,17 +277,17 @@ module _ (m : Members) (relied first to : ℕ) (low high : Run) (are : AreRuns m
   ]
 
   -- a run in which parity isn't relied on
-  run-unsynced : (run : Run) → IsRun m.newest run → IsRelied m.newest relied run → first ≤ run.first → run.end ≤ to → (refusal : Refusal) → IsNotResynced run.shape run.synced m refusal
-      → (x : ℕ) × (first ≤ x) × (x < to) × (relied_rows m.newest relied (shape_for m.newest x) ≤ (place_by m.newest x).row) × IsNotResynced (shape_for m.newest x) false m refusal
+  run-unsynced : (run : Run) → IsRun m.newest run → IsRelied m.newest window relied run → first ≤ run.first → run.end ≤ to → (refusal : Refusal) → IsNotResynced run.shape run.synced m refusal
+      → (x : ℕ) × (first ≤ x) × (x < to) × (covers window x ≡ false) × (relied_rows m.newest relied (shape_for m.newest x) ≤ (place_by m.newest x).row) × IsNotResynced (shape_for m.newest x) false m refusal
   run-unsynced run is trusted early late refusal cause =
       let t = trusted.some cause.2 in
       let here : shape_for m.newest t.0 ≡ run.shape = is.one t.0 t.1 t.2 in
       let from = t.1 in
       let end = t.2 in
-      let both = subst (λ (s : Shape). (relied_rows m.newest relied s ≤ (place s t.0).row) × IsNotResynced s false m refusal) (sym here) (t.3, (cause.0, cause.1, refl, cause.3, cause.4)) in
-      (t.0, omega (arith, early, from), omega (arith, end, late), both.0, both.1)
+      let both = subst (λ (s : Shape). (relied_rows m.newest relied s ≤ (place s t.0).row) × IsNotResynced s false m refusal) (sym here) (t.4, (cause.0, cause.1, refl, cause.3, cause.4)) in
+      (t.0, omega (arith, early, from), omega (arith, end, late), t.3, both.0, both.1)
 
-  pub runs-unwritten : (refusal : Refusal) → AreRunsUnwritten low high m refusal → IsListUnwritten relied first to m refusal
+  pub runs-unwritten : (refusal : Refusal) → AreRunsUnwritten low high m refusal → IsListUnwritten window relied first to m refusal
   runs-unwritten refusal (inl many) = inl (runs-torn refusal many)
   runs-unwritten refusal (inr (few, far, inl cause)) =
       inr (each-does few far, run-unsynced low are.low are.low_relied (let begins = are.begins in omega (arith, begins)) (let order = are.high.order in let meet = are.meet in let ends = are.ends in omega (arith, order, meet, ends)) refusal cause)

@@ -21,7 +21,7 @@ use Rattle.row_io.proofs.Losses.{holder-of}
 use Rattle.list_io.specs.Full.{full_sector, AreWholeIn, RowStands}
 use Rattle.list_io.specs.Writing.{IsWritten, AreDataFrom, HasFull}
 use Rattle.list_io.proofs.FullLaws.{full-data, full-same}
-use Rattle.flat_history.specs.Stands.{shape_for}
+use Rattle.flat_history.specs.Stands.{covers, shape_for}
 use Rattle.shape_views.specs.Regions.{place_by}
 use Rattle.shape_views.specs.Views.{IsTail}
 use Rattle.shape_views.specs.Windows.{IsShown, AreTailsStanding}
@@ -41,7 +41,7 @@ use Rattle.views.proofs.LackingWrites.{list-in, list-in-is, list-with, list-with
 use Rattle.region_rows.proofs.StretchLaws.{relied-below}
 use Rattle.region_writes.specs.declared.runs.Run.{Run}
 use Rattle.region_rows.specs.Stretches.{ListStandsIn, RowsStandIn}
-use Rattle.region_writes.specs.Runs.{IsRun, IsRelied, AreRuns, AreRowsOf, AreFull, StayRebuilt, MayBeHidden}
+use Rattle.region_writes.specs.Runs.{IsRun, IsRelied, AreRuns, AreRowsOf, AreFull, StayRebuilt, MayBeHidden, WindowRowsStand}
 use Rattle.region_writes.proofs.Together.{mates-together, together-shape, shown-mate}
 use Rattle.region_writes.proofs.RunLaws.{run-sector, run-region, run-mate, mate-shape}
 use Rattle.region_writes.specs.Ends.{low_shape, low_stripes, AreEndsStanding}
@@ -175,27 +175,32 @@ module _ (given : Given) (old mid new : Members) (one : IsMoved given old mid) (
 
   -- ---- where the rows stood
 
-  module _ (relied : ℕ) (trusted : IsRelied old.newest relied run) (hidden : Option Span) (list : ℕ → Sector) (shown : (x : ℕ) → run.first ≤ x → x < run.end → IsShown hidden old.newest x) where
+  module _ (copied : Option Span) (relied : ℕ) (trusted : IsRelied old.newest copied relied run) (hidden : Option Span) (list : ℕ → Sector) (shown : (x : ℕ) → run.first ≤ x → x < run.end → IsShown hidden old.newest x) where
     -- where parity is relied on, each row stands
-    rows-stood : RowsStandIn (λ s. s ≡ run.shape) hidden relied old before list → run.synced ≡ true → (row : ℕ) → Contains rows row → RowStands (reading_of old) before run.shape list row
-    rows-stood stood synced row has =
+    rows-stood : RowsStandIn (λ s. s ≡ run.shape) hidden relied old before list → WindowRowsStand copied old before list → run.synced ≡ true → (row : ℕ) → Contains rows row
+        → RowStands (reading_of old) before run.shape list row
+    rows-stood stood fresh synced row has =
         let touch = these.touched.only row has in
         let x = touch.0 in
         let low : run.first ≤ x = touch.1 in
         let high : x < run.end = (let under = touch.2 in let order = is.order in omega (arith, under, order)) in
-        let below : x < relied = relied-below old.newest was.fit run.shape is.force relied x (shown x low high).within (trusted.rows synced x low high) in
         subst (λ (r : ℕ). RowStands (reading_of old) before run.shape list r) touch.3
-        (subst (λ (s : Shape). RowStands (reading_of old) before s list (place s x).row) (is.one x low high) (stood x below (is.one x low high) (shown x low high)))
+        (subst (λ (s : Shape). RowStands (reading_of old) before s list (place s x).row) (is.one x low high) (at x low high (covers copied x) refl))
+      where
+        at : (x : ℕ) → run.first ≤ x → x < run.end → (b : Bool) → covers copied x ≡ b → RowStands (reading_of old) before (shape_for old.newest x) list (place_by old.newest x).row
+        at x low high true inside = fresh x inside (shown x low high).within
+        at x low high false out =
+            stood x (relied-below old.newest was.fit run.shape is.force relied x (shown x low high).within (trusted.rows synced x low high out)) (is.one x low high) (shown x low high)
 
     -- what was read of a row that stood is the list's
-    pub row-read : RowsStandIn (λ s. s ≡ run.shape) hidden relied old before list → (row : ℕ) → RowStands (reading_of old) before run.shape list row
+    pub row-read : RowsStandIn (λ s. s ≡ run.shape) hidden relied old before list → WindowRowsStand copied old before list → (row : ℕ) → RowStands (reading_of old) before run.shape list row
         → (list0 : ℕ → Sector) × AreDataFrom 0 run.shape list0 rows buffer × ((y : ℕ) → (place run.shape y).row ≡ row → list0 y ≡ list y)
-    row-read stood row stands = of run.synced refl
+    row-read stood fresh row stands = of run.synced refl
       where
         of : (b : Bool) → run.synced ≡ b → (list0 : ℕ → Sector) × AreDataFrom 0 run.shape list0 rows buffer × ((y : ℕ) → (place run.shape y).row ≡ row → list0 y ≡ list y)
         of true synced = (
           list,
-          read.listed list (λ r has below. (rows-stood stood synced r has).sectors) (λ yes r has below. rows-stood stood synced r has),
+          read.listed list (λ r has below. (rows-stood stood fresh synced r has).sectors) (λ yes r has below. rows-stood stood fresh synced r has),
           λ y at. refl,
         )
         of false unsynced = (
@@ -227,7 +232,7 @@ module _ (given : Given) (old mid new : Members) (one : IsMoved given old mid) (
 
     -- so there is a list by which they may be written
     pub choose : MayBeHidden old.newest hidden → ListStandsIn (λ s. s ≡ run.shape) hidden old before list → (final_shape old.newest ≡ run.shape → AreTailsStanding old before list)
-        → AreWhole new ⊎ RowsStandIn (λ s. s ≡ run.shape) hidden relied old before list
+        → AreWhole new ⊎ (RowsStandIn (λ s. s ≡ run.shape) hidden relied old before list × WindowRowsStand copied old before list)
         → (list' : ℕ → Sector) → IsWritten list list' first from → IsChosen old.newest run.shape first from rows buffer list list'
     choose window stands tails which list' w = of which run.synced refl
       where
@@ -247,15 +252,15 @@ module _ (given : Given) (old mid new : Members) (one : IsMoved given old mid) (
           tail = λ y tail. becomes y (mixed-is (λ y. is_listed old.newest y) list y (tailed-is old.newest y tail));
         }
 
-        of : AreWhole new ⊎ RowsStandIn (λ s. s ≡ run.shape) hidden relied old before list → (b : Bool) → run.synced ≡ b → IsChosen old.newest run.shape first from rows buffer list list'
+        of : AreWhole new ⊎ (RowsStandIn (λ s. s ≡ run.shape) hidden relied old before list × WindowRowsStand copied old before list) → (b : Bool) → run.synced ≡ b → IsChosen old.newest run.shape first from rows buffer list list'
         of (inl whole) b synced = by-ended (data-held given old mid run.shape is.force one was (two.whole whole) before rows buffer (mixed (λ y. is_listed old.newest y) list)
             (λ row has. subst (λ (n : ℕ). row < n) (sym one.size) (these.below row has)) read.held (behind-end window stands tails))
         of (inr rows-stand) false unsynced = by-ended (read.listed (mixed (λ y. is_listed old.newest y) list) (behind-end window stands tails) (λ yes. absurd (let both = sym unsynced ∙ yes in cc)))
-        of (inr rows-stand) true synced = record {
+        of (inr (rows-stand, fresh)) true synced = record {
           chosen = list;
           chosen' = list';
           written = w;
-          read = read.listed list (λ r has below. (rows-stood rows-stand synced r has).sectors) (λ yes r has below. rows-stood rows-stand synced r has);
+          read = read.listed list (λ r has below. (rows-stood rows-stand fresh synced r has).sectors) (λ yes r has below. rows-stood rows-stand fresh synced r has);
           first_same = λ y lt. refl;
           same = λ y lt. refl;
           tail = λ y tail. refl;
@@ -264,7 +269,7 @@ module _ (given : Given) (old mid new : Members) (one : IsMoved given old mid) (
 -- ---- two runs
 
 module _ (given : Given) (old mid new : Members) (one : IsMoved given old mid) (two : IsMoved given mid new) (was : IsPlaced given old) (before between after : Contents) (others : AreOthersPresent before between)
-    (relied first : ℕ) (from : List ℕ) (low high : Run) (are : AreRuns old.newest relied first (first + length from / 512) low high)
+    (copied : Option Span) (relied first : ℕ) (from : List ℕ) (low high : Run) (are : AreRuns old.newest copied relied first (first + length from / 512) low high)
     (rows buffer far_rows far_buffer : List ℕ) (low-rows : AreRowsOf low old.newest.size rows) (high-rows : AreRowsOf high old.newest.size far_rows)
     (low-read : AreRowsRead low.shape low.synced old mid before rows buffer) (high-read : AreRowsRead high.shape high.synced old mid before far_rows far_buffer)
     (kept : AreOtherRowsKept (λ row. Contains rows row ⊎ Contains far_rows row) (reading_of new) between after) where
@@ -429,7 +434,7 @@ module _ (given : Given) (old mid new : Members) (one : IsMoved given old mid) (
             ∙ stood ∙ full-same (shape_for old.newest x) list list' (place_by old.newest x).row (valid-for old.newest was.fit x) same role lt
 
     module _ (hidden : Option Span) (list list' : ℕ → Sector) (w : IsWritten list list' first from) (small : (x : ℕ) → first ≤ x → x < first + length from / 512 → IsSector (sector_of from (x - first)))
-        (shown : (x : ℕ) → first ≤ x → x < first + length from / 512 → IsShown hidden old.newest x) (among : Shape → Type 0) (bound : ℕ) (trusted : relied ≤ bound)
+        (shown : (x : ℕ) → first ≤ x → x < first + length from / 512 → IsShown hidden old.newest x) (among : Shape → Type 0) (fresh : WindowRowsStand copied old before list) (bound : ℕ) (trusted : relied ≤ bound)
         (stands : RowsStandIn among hidden bound old before list) where
       relied-stand : (shape : Shape) → among shape → RowsStandIn (λ s. s ≡ shape) hidden relied old before list
       relied-stand shape own = rows-in-one among shape own old before hidden list relied (λ x lt own out. stands x (omega (arith, lt, trusted)) own out)
@@ -442,12 +447,12 @@ module _ (given : Given) (old mid new : Members) (one : IsMoved given old mid) (
 
       row-low : among low.shape → (row : ℕ) → Contains rows row → RowStands (reading_of old) before low.shape list row → RowStands (reading_of new) after low.shape list' row
       row-low own row has stood =
-          let found = row-read given old mid new one two was low are.low before first from rows buffer low-rows low-read relied are.low_relied hidden list low-shown (relied-stand low.shape own) row stood in
+          let found = row-read given old mid new one two was low are.low before first from rows buffer low-rows low-read copied relied are.low_relied hidden list low-shown (relied-stand low.shape own) fresh row stood in
           row-written given old mid new one two was low are.low before first from rows buffer low-rows low-read after low-full list list' found.0 w found.1 small row has stood.whole found.2
 
       row-high : among high.shape → (row : ℕ) → Contains far_rows row → RowStands (reading_of old) before high.shape list row → RowStands (reading_of new) after high.shape list' row
       row-high own row has stood =
-          let found = row-read given old mid new one two was high are.high before first from far_rows far_buffer high-rows high-read relied are.high_relied hidden list high-shown (relied-stand high.shape own) row stood in
+          let found = row-read given old mid new one two was high are.high before first from far_rows far_buffer high-rows high-read copied relied are.high_relied hidden list high-shown (relied-stand high.shape own) fresh row stood in
           row-written given old mid new one two was high are.high before first from far_rows far_buffer high-rows high-read after high-full list list' found.0 w found.1 small row has stood.whole found.2
 
       -- and so do its rows, with their parity

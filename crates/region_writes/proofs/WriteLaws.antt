@@ -3,6 +3,7 @@ use Rattle.std.proofs.Common.{◌≡◌, ℕ, ◌+◌, ◌*◌, ◌/◌, ◌<◌
 use Rattle.std.proofs.lemmas.List.{get_or_default}
 use Rattle.md_base.specs.Sectors.{Sector}
 use Rattle.md_base.specs.declared.places.Shape.{Shape}
+use Rattle.md_base.specs.declared.places.Span.{Span}
 use Rattle.md_base.specs.Shapes.{stripe_sectors}
 use Rattle.layout.specs.Layout.{place}
 use Rattle.bank.specs.Given.{Given}
@@ -97,18 +98,18 @@ module _ (old new : Sb) (reshape : HaveSameReshape old new) (shape : shape_of ne
     within = subst (λ (n : ℕ). run.end ≤ n) (sym (list-alike old new reshape shape size)) is.within;
   }
 
-  trust-alike : (relied : ℕ) (run : Run) → IsRelied old relied run → IsRelied new relied run
-  trust-alike relied run is = record {
-    rows = λ synced x low high. subst (λ (n : ℕ). (place run.shape x).row < n) (sym (relied-alike relied run.shape)) (is.rows synced x low high);
-    some = λ unsynced. (let t = is.some unsynced in (t.0, t.1, t.2, subst (λ (n : ℕ). n ≤ (place run.shape t.0).row) (sym (relied-alike relied run.shape)) t.3));
+  trust-alike : (window : Option Span) (relied : ℕ) (run : Run) → IsRelied old window relied run → IsRelied new window relied run
+  trust-alike window relied run is = record {
+    rows = λ synced x low high out. subst (λ (n : ℕ). (place run.shape x).row < n) (sym (relied-alike relied run.shape)) (is.rows synced x low high out);
+    some = λ unsynced. (let t = is.some unsynced in (t.0, t.1, t.2, t.3, subst (λ (n : ℕ). n ≤ (place run.shape t.0).row) (sym (relied-alike relied run.shape)) t.4));
   }
 
-  pub runs-alike : (relied first to : ℕ) (low high : Run) → AreRuns old relied first to low high → AreRuns new relied first to low high
-  runs-alike relied first to low high are = record {
+  pub runs-alike : (window : Option Span) (relied first to : ℕ) (low high : Run) → AreRuns old window relied first to low high → AreRuns new window relied first to low high
+  runs-alike window relied first to low high are = record {
     low = run-alike low are.low;
     high = run-alike high are.high;
-    low_relied = trust-alike relied low are.low_relied;
-    high_relied = trust-alike relied high are.high_relied;
+    low_relied = trust-alike window relied low are.low_relied;
+    high_relied = trust-alike window relied high are.high_relied;
     begins = are.begins;
     some = are.some;
     meet = are.meet;

@@ -12,8 +12,9 @@ use Rattle.superblocks.specs.declared.members.Members.{Members}
 use Rattle.superblocks.specs.Reading.{is_reshaping, list_length, next_window}
 use Rattle.row_io.specs.Rows.{reading_of}
 use Rattle.list_io.specs.Buffers.{AreTouched}
+use Rattle.list_io.specs.Full.{RowStands}
 use Rattle.list_io.specs.Writing.{IsWritten, AreDataFrom, IsFull, StaysRebuilt}
-use Rattle.flat_history.specs.Stands.{shape_for}
+use Rattle.flat_history.specs.Stands.{covers, shape_for}
 use Rattle.shape_views.specs.Regions.{place_by}
 use Rattle.views.specs.Placed.{IsInForce}
 use Rattle.views.specs.Lacking.{DoesWithout, LacksTooMany, IsNotResynced}
@@ -27,17 +28,17 @@ pub record IsRun (newest : Sb) (run : Run) : Type 0 where
   pub order : run.first ≤ run.end
   pub within : run.end ≤ list_length newest
 
--- The run tells whether parity is relied on in each row that it touches, where that is so up to this sector of the list.
-pub record IsRelied (newest : Sb) (relied : ℕ) (run : Run) : Type 0 where
-  pub rows : run.synced ≡ true → (x : ℕ) → run.first ≤ x → x < run.end → (place run.shape x).row < relied_rows newest relied run.shape
-  pub some : run.synced ≡ false → (x : ℕ) × (run.first ≤ x) × (x < run.end) × (relied_rows newest relied run.shape ≤ (place run.shape x).row)
+-- The run tells whether parity is relied on in each row that it touches, where that is so up to this sector of the list, and in the window, if there is one.
+pub record IsRelied (newest : Sb) (window : Option Span) (relied : ℕ) (run : Run) : Type 0 where
+  pub rows : run.synced ≡ true → (x : ℕ) → run.first ≤ x → x < run.end → covers window x ≡ false → (place run.shape x).row < relied_rows newest relied run.shape
+  pub some : run.synced ≡ false → (x : ℕ) × (run.first ≤ x) × (x < run.end) × (covers window x ≡ false) × (relied_rows newest relied run.shape ≤ (place run.shape x).row)
 
 -- Two runs, of which the second may be empty; where it isn't, it begins at the position, and the first one's shape has as many data disks or more.
-pub record AreRuns (newest : Sb) (relied first to : ℕ) (one two : Run) : Type 0 where
+pub record AreRuns (newest : Sb) (window : Option Span) (relied first to : ℕ) (one two : Run) : Type 0 where
   pub low : IsRun newest one
   pub high : IsRun newest two
-  pub low_relied : IsRelied newest relied one
-  pub high_relied : IsRelied newest relied two
+  pub low_relied : IsRelied newest window relied one
+  pub high_relied : IsRelied newest window relied two
   pub begins : one.first ≡ first
   pub some : one.first < one.end
   pub meet : two.first ≡ one.end
@@ -74,18 +75,23 @@ IsTornTouched newest from to m row = (x : ℕ) × (from ≤ x) × (x < to) × (D
 abbrev pub MayBeHidden : Sb → Option Span → Type 0
 MayBeHidden newest hidden = (span : Span) → hidden ≡ Some span → next_window newest ≡ Some span
 
+-- each sector of the list in the window stands in a row that stands as the list
+abbrev pub WindowRowsStand : Option Span → Members → Contents → (ℕ → Sector) → Type 0
+WindowRowsStand window m c list = (x : ℕ) → covers window x ≡ true → x < list_length m.newest → RowStands (reading_of m) c (shape_for m.newest x) list (place_by m.newest x).row
+
 -- ---- why a write isn't done
 
 -- of the shape of one of these sectors more roles are missing than it tolerates
 abbrev pub IsListTorn : ℕ → ℕ → Members → Refusal → Type 0
 IsListTorn from to m refusal = (x : ℕ) × (from ≤ x) × (x < to) × LacksTooMany (shape_for m.newest x) m refusal
 
--- Why a write isn't done: too many roles are missing; or where each shape does without them, a sector stands in a row whose parity isn't relied on,
--- and a role of its shape is missing that has data.
-abbrev pub IsListUnwritten : ℕ → ℕ → ℕ → Members → Refusal → Type 0
-IsListUnwritten relied from to m refusal = IsListTorn from to m refusal
+-- Why a write isn't done: too many roles are missing; or where each shape does without them, a sector outside the open window, if there is one, stands in a row
+-- whose parity isn't relied on, and a role of its shape is missing that has data.
+abbrev pub IsListUnwritten : Option Span → ℕ → ℕ → ℕ → Members → Refusal → Type 0
+IsListUnwritten window relied from to m refusal = IsListTorn from to m refusal
     ⊎ (((y : ℕ) → from ≤ y → y < to → DoesWithout (shape_for m.newest y) m)
-    × ((x : ℕ) × (from ≤ x) × (x < to) × (relied_rows m.newest relied (shape_for m.newest x) ≤ (place_by m.newest x).row) × IsNotResynced (shape_for m.newest x) false m refusal))
+    × ((x : ℕ) × (from ≤ x) × (x < to) × (covers window x ≡ false) × (relied_rows m.newest relied (shape_for m.newest x) ≤ (place_by m.newest x).row)
+    × IsNotResynced (shape_for m.newest x) false m refusal))
 
 -- the same of two runs
 abbrev pub AreRunsTorn : Run → Run → Members → Refusal → Type 0

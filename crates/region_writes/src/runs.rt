@@ -1,14 +1,15 @@
 //! The runs that a write of the list is cut in, each placed by one shape.
 
-ghost use Rattle.std.specs.Prelude.{◌≡◌, ◌⊎◌, ◌<◌, ◌≤◌, length, None, MatchOption, true};
+ghost use Rattle.std.specs.Prelude.{◌≡◌, ◌⊎◌, ◌-◌, ◌<◌, ◌≤◌, ℕ, length, None, MatchOption, true, false};
 ghost use Rattle.superblocks.specs.Reading.{is_reshaping, list_length, role_count};
+ghost use Rattle.flat_history.specs.Stands.{covers};
 ghost use Rattle.shape_views.specs.Regions.{AreShapesFit};
 ghost use Rattle.views.specs.Placed.{IsInForce};
 ghost use Rattle.views.specs.Lacking.{DoesWithout};
 ghost use Rattle.safe_updates.specs.First.{write_refusal};
 ghost use Rattle.region_writes.specs.Runs.{IsRun, IsRelied, AreRuns, AreRunsTorn, AreRunsUnwritten};
 
-use md_base::{Refusal, Shape};
+use md_base::{Refusal, Shape, Span};
 use region_rows::stretches::{relied_rows, stretch_at};
 use safe_updates::refusing::{too_many_of, unwritten};
 use safe_updates::roles::list_length;
@@ -30,13 +31,25 @@ pub struct Cut {
     pub high: Run,
 }
 
+// The end of what lies before this sector, without what lies in the window right before it.
+fn end_beside(window: Option<Span>, end: u64) -> u64
+    ensures within { result ≤ end }
+    ensures inside { (x : ℕ) → result ≤ x → x < end → covers window x ≡ true }
+    ensures last { 0 < result → covers window (result - 1) ≡ false }
+{
+    match window {
+        None => end,
+        Some(span) => { if span.lo < end && end <= span.hi { span.lo } else { end } }
+    }
+}
+
 // The longest run from a sector of the list on, up to `to`.
-fn run_at(members: &Members, from: u64, to: u64, relied: u64) -> Run
+fn run_at(members: &Members, window: Option<Span>, from: u64, to: u64, relied: u64) -> Run
     requires fit { AreShapesFit members.now.newest }
     requires some { from < to }
     requires within { to ≤ list_length members.now.newest }
     ensures run { IsRun members.now.newest result }
-    ensures relied { IsRelied members.now.newest relied result }
+    ensures relied { IsRelied members.now.newest window relied result }
     ensures first { result.first ≡ from }
     ensures some { from < result.end }
     ensures within { result.end ≤ to }
@@ -44,7 +57,8 @@ fn run_at(members: &Members, from: u64, to: u64, relied: u64) -> Run
 {
     let stretch = stretch_at(members, from, to);
     let rows = relied_rows(members, relied, &stretch.shape);
-    let synced = stretch.end <= list_length(&stretch.shape, rows);
+    let end = end_beside(window, stretch.end);
+    let synced = end <= from.max(list_length(&stretch.shape, rows));
     Run {
         shape: stretch.shape,
         first: from,
@@ -53,14 +67,21 @@ fn run_at(members: &Members, from: u64, to: u64, relied: u64) -> Run
     }
 }
 
-/// Cuts the sectors of the list from `first` up to `to` at the position, where parity is relied on up to sector `relied`.
-pub fn runs_of(members: &Members, first: u64, to: u64, relied: u64) -> Cut
+/// Cuts the sectors of the list from `first` up to `to` at the position, where parity is relied on up to sector `relied`, and in the
+/// window, if there is one.
+pub fn runs_of(
+    members: &Members,
+    window: Option<Span>,
+    first: u64,
+    to: u64,
+    relied: u64,
+) -> Cut
     requires fit { AreShapesFit members.now.newest }
     requires some { first < to }
     requires within { to ≤ list_length members.now.newest }
-    ensures { AreRuns members.now.newest relied first to result.low result.high }
+    ensures { AreRuns members.now.newest window relied first to result.low result.high }
 {
-    let low = run_at(members, first, to, relied);
+    let low = run_at(members, window, first, to, relied);
     if low.end == to {
         return Cut {
             low,
@@ -74,7 +95,7 @@ pub fn runs_of(members: &Members, first: u64, to: u64, relied: u64) -> Cut
     }
     Cut {
         low,
-        high: run_at(members, low.end, to, relied),
+        high: run_at(members, window, low.end, to, relied),
     }
 }
 

@@ -26,13 +26,13 @@ ghost use Rattle.views.specs.Lacking.{HaveFailedSince, DoesWithout, LacksTooMany
 ghost use Rattle.safe_updates.specs.First.{write_refusal};
 ghost use Rattle.safe_updates.specs.Unused.{IsUnusedKept};
 ghost use Rattle.region_rows.specs.Stretches.{RowsStandTo, IsShapeOf, ListStandsIn, RowsStandIn};
-ghost use Rattle.region_writes.specs.Runs.{IsRun, AreRowsOf, AreFull, StayRebuilt, IsListTouched, IsTornTouched, MayBeHidden, IsListTorn, IsListUnwritten, AreRunsTorn, AreRunsUnwritten};
+ghost use Rattle.region_writes.specs.Runs.{IsRun, AreRowsOf, AreFull, StayRebuilt, IsListTouched, IsTornTouched, MayBeHidden, WindowRowsStand, IsListTorn, IsListUnwritten, AreRunsTorn, AreRunsUnwritten};
 ghost use Rattle.region_writes.specs.Ends.{AreEndsStanding};
 
 use crate::runs::{Run, runs_of, too_many_runs, unwritten_runs};
 use bank::Bank;
 use list_io::read_touched;
-use md_base::Refusal;
+use md_base::{Refusal, Span};
 use safe_rows::putting::{Outcome, put_rows};
 use safe_updates::naming::raise;
 use superblocks::Members;
@@ -252,7 +252,7 @@ fn write_runs<B: Bank>(
 /// clean, those that are missing are named, and the rows are written with their parity, those below the position first, whose shape has
 /// at least as many data disks: where that is cut off, the shape of each row that was written misses more roles than it tolerates. It ends
 /// where more roles of one of the shapes are missing than it tolerates, or, in rows whose parity isn't to be relied on, one that has data;
-/// parity is to be relied on up to sector `relied` of the list.
+/// parity is to be relied on up to sector `relied` of the list, and in `window`, if there is one, whose rows were just written.
 pub fn put_list<B: Bank>(
     members: &mut Members,
     bank: &mut B,
@@ -262,6 +262,7 @@ pub fn put_list<B: Bank>(
     buffer: &mut Vec<u8>,
     far_rows: &mut Vec<u64>,
     far_buffer: &mut Vec<u8>,
+    window: Option<Span>,
     relied: u64,
 ) -> Outcome
     requires slots { (B.given bank.old).slots ≤ 32 }
@@ -278,7 +279,7 @@ pub fn put_list<B: Bank>(
     requires far_buffer { 1048576 ≤ length far_buffer.old.items }
     ensures moved { IsMoved (B.given bank.old) members.old members.new }
     ensures failed { HaveFailedSince members.old members.new result.spares (B.faults_of bank.old) (B.faults_of bank.new) }
-    ensures refused { MatchOption result.refusal ⊤ (IsListUnwritten relied first (first + length from.now / 512) members.new) }
+    ensures refused { MatchOption result.refusal ⊤ (IsListUnwritten window relied first (first + length from.now / 512) members.new) }
     ensures begun { result.begun ≡ true → (x : ℕ) → first ≤ x → x < first + length from.now / 512 → DoesWithout (shape_for members.old.newest x) members.old }
     ensures torn { result.begun ≡ true → MatchOption result.refusal ⊤ (IsListTorn first (first + length from.now / 512) members.new) }
     ensures torn_rows { MatchOption result.refusal ⊤ (λ refusal. B.tells → AreOtherRowsKept (IsTornTouched members.old.newest first (first + length from.now / 512) members.new) (reading_of members.new)
@@ -294,11 +295,13 @@ pub fn put_list<B: Bank>(
     ensures others { B.tells → AreOtherRowsKept (IsListTouched members.old.newest first (first + length from.now / 512)) (reading_of members.new) (present (B.given bank.old) (B.tape bank.old)) (present (B.given bank.old) (B.tape bank.new)) }
     ensures unused { B.tells → IsUnusedKept members.old (disk (B.given bank.old).start (B.tape bank.old)) (disk (B.given bank.old).start (B.tape bank.new)) }
     ensures good { result.refusal ≡ None → B.tells → (among : Shape → Bool) → (hidden : Option Span) → (list list' : ℕ → Sector) → IsWritten list list' first from.now → AreBytes from.now
-        → ((x : ℕ) → first ≤ x → x < first + length from.now / 512 → IsShown hidden members.old.newest x) → (bound : ℕ) → relied ≤ bound
+        → ((x : ℕ) → first ≤ x → x < first + length from.now / 512 → IsShown hidden members.old.newest x)
+        → WindowRowsStand window members.old (present (B.given bank.old) (B.tape bank.old)) list → (bound : ℕ) → relied ≤ bound
         → RowsStandIn (λ s. among s ≡ true) hidden bound members.old (present (B.given bank.old) (B.tape bank.old)) list
         → RowsStandIn (λ s. among s ≡ true) hidden bound members.new (present (B.given bank.old) (B.tape bank.new)) list' }
     ensures rebuilt { result.refusal ≡ None → B.tells → is_reshaping members.old.newest ≡ false → (list list' : ℕ → Sector) → IsWritten list list' first from.now
-        → ListStands None members.old (present (B.given bank.old) (B.tape bank.old)) list → AreWhole members.new ⊎ RowsStandTo None relied members.old (present (B.given bank.old) (B.tape bank.old)) list
+        → ListStands None members.old (present (B.given bank.old) (B.tape bank.old)) list
+        → AreWhole members.new ⊎ (RowsStandTo None relied members.old (present (B.given bank.old) (B.tape bank.old)) list × WindowRowsStand window members.old (present (B.given bank.old) (B.tape bank.old)) list)
         → (role slot row : ℕ) → role < (shape_of members.old.newest).disks → role_state (reading_of members.new) role ≡ IsRecovering slot → row < members.old.newest.size
         → HasFull (reading_of members.old) (present (B.given bank.old) (B.tape bank.old)) (shape_of members.old.newest) list row role slot
         → HasFull (reading_of members.new) (present (B.given bank.old) (B.tape bank.new)) (shape_of members.old.newest) list' row role slot }
@@ -310,7 +313,8 @@ pub fn put_list<B: Bank>(
         → AreGoneTold told members.new → told.unclean ≡ true → (hidden : Option Span) → MayBeHidden members.old.newest hidden → (list list' : ℕ → Sector) → IsWritten list list' first from.now
         → ((x : ℕ) → first ≤ x → x < first + length from.now / 512 → IsShown hidden members.old.newest x)
         → ListStandsIn (IsShapeOf members.old.newest first (first + length from.now / 512)) hidden members.old (present (B.given bank.old) (B.tape bank.old)) list
-        → AreWhole members.new ⊎ RowsStandIn (IsShapeOf members.old.newest first (first + length from.now / 512)) hidden relied members.old (present (B.given bank.old) (B.tape bank.old)) list
+        → AreWhole members.new ⊎ (RowsStandIn (IsShapeOf members.old.newest first (first + length from.now / 512)) hidden relied members.old (present (B.given bank.old) (B.tape bank.old)) list
+        × WindowRowsStand window members.old (present (B.given bank.old) (B.tape bank.old)) list)
         → (IsShapeOf members.old.newest first (first + length from.now / 512) (final_shape members.old.newest) → AreTailsStanding members.old (present (B.given bank.old) (B.tape bank.old)) list)
         → (result.begun ≡ true → AreWritesAllowed members.old told.values list') → (OpensFit world → IsTailZero members.old.newest list)
         → IsSafeOver world (B.given bank.old) told members.old (B.tape bank.old)
@@ -323,7 +327,7 @@ pub fn put_list<B: Bank>(
     ensures far_buffer { length far_buffer.new.items ≡ length far_buffer.old.items }
 {
     let to = first + (from.len() / 512) as u64;
-    let cut = runs_of(members, first, to, relied);
+    let cut = runs_of(members, window, first, to, relied);
     let begun = prepare_runs(
         members, bank, &cut.low, &cut.high, rows, buffer, far_rows, far_buffer,
     );

@@ -12,7 +12,7 @@ use Rattle.flat_history.specs.OneShape.{is_lost}
 use Rattle.flat_history.specs.Plain.{loses_role}
 use Rattle.flat_history.specs.Sound.{FillsRight}
 use Rattle.flat_history.specs.World.{World, contents_at, reading_at}
-use Rattle.kept_history.specs.Safe.{IsReshapeFit, IsFilledRight}
+use Rattle.kept_history.specs.Safe.{is_taken_over, KeepsLevel, IsReshapeFit, IsFilledRight}
 use Rattle.openings.specs.running_words_Plans.{turns_shape, KeepsShape}
 use Rattle.run_laws.proofs.PlainReplies.{neither}
 
@@ -32,7 +32,18 @@ on-course : (world : World) (o : Option Reading) → MatchOption o ⊤ (λ r. is
 on-course world None found = tt
 on-course world (Some r) found = λ moving. absurd (true≢false (sym moving ∙ found))
 
+-- no level is taken over
+one-level : (event : Event) → turns_shape event ≡ false → is_taken_over event ≡ false
+one-level (Step TakenOver left) keeps = absurd (true≢false keeps)
+one-level event keeps = refl
+
+keeps-level : (entries : List Entry) → list_any (λ e. turns_shape e.event) entries ≡ false → KeepsLevel entries
+keeps-level [] keeps = refl
+keeps-level (e ∷ entries) keeps =
+    let kept = neither (turns_shape e.event) (list_any (λ e. turns_shape e.event) entries) keeps in
+    ap (λ (b : Bool). b || list_any (λ e. is_taken_over e.event) entries) (one-level e.event kept.0) ∙ keeps-level entries kept.1
+
 -- what is filled in is right
 pub kept-fills : (world : World) (entries : List Entry) → KeepsShape world entries → FillsRight world entries → IsFilledRight world entries
-kept-fills world entries keeps (inl none) = inl (λ role. takes-none world role entries keeps.none (none role), on-course world (reading_at world world.first) keeps.found)
+kept-fills world entries keeps (inl none) = inl (λ role. takes-none world role entries keeps.none (none role), on-course world (reading_at world world.first) keeps.found, keeps-level entries keeps.none)
 kept-fills world entries keeps (inr fit) = inr fit

@@ -62,9 +62,9 @@ neither-first false b is = refl
 neither-first true b is = absurd (cc)
 
 still-some : (b none : Bool) → none ≡ false → (b && not none) ≡ false → b ≡ false
-still-some false none is no = refl
-still-some true false is no = absurd (cc)
-still-some true true is no = absurd (cc)
+still-some false none is some = refl
+still-some true false is some = absurd (cc)
+still-some true true is some = absurd (cc)
 
 kept : (event : Event) → none_left event ≡ false → IsKept event
 kept (Shown status) some = record { active = λ b none. neither-first b (is_some status.target) none; ahead = λ b none. none }
@@ -284,46 +284,46 @@ unbarred visible to is = by (nat_lt visible to) is
     by false is = is.0
 
 unstepped : (size : ℕ) (before call : List Entry) (request : Request) (event : Event) → is_steps request ≡ false → RunningAnswers size before call request event → none_left event ≡ false
-unstepped size before call (AsksSteps most) event no is = absurd (cc)
-unstepped size before call (AsksRead at count) (Stepped done left ended) no is = absurd is
-unstepped size before call (AsksWrite at body) (Stepped done left ended) no is = absurd is
-unstepped size before call AsksFlush (Stepped done left ended) no is = absurd is
-unstepped size before call (AsksFail role) (Stepped done left ended) no is = absurd is
-unstepped size before call (AsksAdd slot) (Stepped done left ended) no is = absurd is
-unstepped size before call (AsksVisible limit) (Stepped done left ended) no is = absurd is
-unstepped size before call (AsksGrow wish) (Stepped done left ended) no is = absurd is
-unstepped size before call AsksShow (Stepped done left ended) no is = absurd is
-unstepped size before call request event no is = refl
+unstepped size before call (AsksSteps most) event unasked is = absurd (cc)
+unstepped size before call (AsksRead at count) (Stepped done left ended) unasked is = absurd is
+unstepped size before call (AsksWrite at body) (Stepped done left ended) unasked is = absurd is
+unstepped size before call AsksFlush (Stepped done left ended) unasked is = absurd is
+unstepped size before call (AsksFail role) (Stepped done left ended) unasked is = absurd is
+unstepped size before call (AsksAdd slot) (Stepped done left ended) unasked is = absurd is
+unstepped size before call (AsksVisible limit) (Stepped done left ended) unasked is = absurd is
+unstepped size before call (AsksGrow wish) (Stepped done left ended) unasked is = absurd is
+unstepped size before call AsksShow (Stepped done left ended) unasked is = absurd is
+unstepped size before call request event unasked is = refl
 
 told-by : (size : ℕ) (before call : List Entry) (request : Request) (event : Event) → is_steps request ≡ false → is_write request ≡ false → RunningAnswers size before call request event → (Active Ahead : Type 0) → MayTellBy Active Ahead event
-told-by size before call (AsksSteps most) event no other is Active Ahead = absurd (cc)
-told-by size before call (AsksWrite at body) event no other is Active Ahead = absurd (cc)
-told-by size before call (AsksRead at count) (Refused BackupFault) no other is Active Ahead = absurd (unbarred (visible_of size before) (at + count) is)
-told-by size before call AsksFlush (Refused BackupFault) no other is Active Ahead = absurd is
-told-by size before call (AsksFail role) (Refused BackupFault) no other is Active Ahead = absurd is
-told-by size before call (AsksAdd slot) (Refused BackupFault) no other is Active Ahead = absurd is
-told-by size before call (AsksVisible limit) (Refused BackupFault) no other is Active Ahead = absurd is
-told-by size before call (AsksGrow wish) (Refused BackupFault) no other is Active Ahead = absurd is
-told-by size before call AsksShow (Refused BackupFault) no other is Active Ahead = absurd is
-told-by size before call (AsksRead at count) (Stepped done left ended) no other is Active Ahead = absurd is
-told-by size before call AsksFlush (Stepped done left ended) no other is Active Ahead = absurd is
-told-by size before call (AsksFail role) (Stepped done left ended) no other is Active Ahead = absurd is
-told-by size before call (AsksAdd slot) (Stepped done left ended) no other is Active Ahead = absurd is
-told-by size before call (AsksVisible limit) (Stepped done left ended) no other is Active Ahead = absurd is
-told-by size before call (AsksGrow wish) (Stepped done left ended) no other is Active Ahead = absurd is
-told-by size before call AsksShow (Stepped done left ended) no other is Active Ahead = absurd is
-told-by size before call request event no other is Active Ahead = tt
+told-by size before call (AsksSteps most) event unasked other is Active Ahead = absurd (cc)
+told-by size before call (AsksWrite at body) event unasked other is Active Ahead = absurd (cc)
+told-by size before call (AsksRead at count) (Refused BackupFault) unasked other is Active Ahead = absurd (unbarred (visible_of size before) (at + count) is)
+told-by size before call AsksFlush (Refused BackupFault) unasked other is Active Ahead = absurd is
+told-by size before call (AsksFail role) (Refused BackupFault) unasked other is Active Ahead = absurd is
+told-by size before call (AsksAdd slot) (Refused BackupFault) unasked other is Active Ahead = absurd is
+told-by size before call (AsksVisible limit) (Refused BackupFault) unasked other is Active Ahead = absurd is
+told-by size before call (AsksGrow wish) (Refused BackupFault) unasked other is Active Ahead = absurd is
+told-by size before call AsksShow (Refused BackupFault) unasked other is Active Ahead = absurd is
+told-by size before call (AsksRead at count) (Stepped done left ended) unasked other is Active Ahead = absurd is
+told-by size before call AsksFlush (Stepped done left ended) unasked other is Active Ahead = absurd is
+told-by size before call (AsksFail role) (Stepped done left ended) unasked other is Active Ahead = absurd is
+told-by size before call (AsksAdd slot) (Stepped done left ended) unasked other is Active Ahead = absurd is
+told-by size before call (AsksVisible limit) (Stepped done left ended) unasked other is Active Ahead = absurd is
+told-by size before call (AsksGrow wish) (Stepped done left ended) unasked other is Active Ahead = absurd is
+told-by size before call AsksShow (Stepped done left ended) unasked other is Active Ahead = absurd is
+told-by size before call request event unasked other is Active Ahead = tt
 
 -- by the lines
 pub asked-unstepped : {size place : ℕ} {old new : List Entry} (request : Request) (line : Line) (asked : IsAskedAt size line old new place) → is_steps request ≡ false
     → (FitsLine size (old ++ asked.inner) (one (script_who old) asked.end asked.event) line → RunningFits size (old ++ asked.inner) (one (script_who old) asked.end asked.event) request) → none_left asked.event ≡ false
-asked-unstepped {size = size} {old = old} request line asked no as =
-    unstepped size (old ++ asked.inner) (call_before (old ++ asked.inner) (one (script_who old) asked.end asked.event)) request asked.event no (as asked.fits).answers
+asked-unstepped {size = size} {old = old} request line asked unasked fitting =
+    unstepped size (old ++ asked.inner) (call_before (old ++ asked.inner) (one (script_who old) asked.end asked.event)) request asked.event unasked (fitting asked.fits).answers
 
 pub asked-told : {size place : ℕ} {old new : List Entry} (request : Request) (line : Line) (asked : IsAskedAt size line old new place) → is_steps request ≡ false → is_write request ≡ false
     → (FitsLine size (old ++ asked.inner) (one (script_who old) asked.end asked.event) line → RunningFits size (old ++ asked.inner) (one (script_who old) asked.end asked.event) request) → IsTellable new place
-asked-told {size = size} {old = old} request line asked no other as =
-    asked-tellable asked (told-by size (old ++ asked.inner) (call_before (old ++ asked.inner) (one (script_who old) asked.end asked.event)) request asked.event no other (as asked.fits).answers)
+asked-told {size = size} {old = old} request line asked unasked other fitting =
+    asked-tellable asked (told-by size (old ++ asked.inner) (call_before (old ++ asked.inner) (one (script_who old) asked.end asked.event)) request asked.event unasked other (fitting asked.fits).answers)
 
 -- a status, and an end
 pub shown-unstepped : (size : ℕ) (before : List Entry) (event : Event) → IsShown size before event → none_left event ≡ false

@@ -26,7 +26,7 @@ use Rattle.views.specs.Numbers.{is_carried}
 use Rattle.views.specs.Rebuilding.{AreSparesFree}
 use Rattle.views.specs.Status.{stripes_of}
 use Rattle.views.proofs.Fit.{valid}
-use Rattle.kept_history.specs.Safe.{TakesNone}
+use Rattle.kept_history.specs.Safe.{TakesNone, KeepsLevel}
 use Rattle.still_kept.specs.Still.{AreNoneMissing}
 use Rattle.kept_history.specs.Safe.{world_in, IsFilledRight, IsSafeHistory}
 use Rattle.moving_kept.specs.Moving.{HasListStill, IsStillKept}
@@ -91,7 +91,7 @@ module _ (tells : Type 0) (given : Given) (tape : List Operation) (scope : Scope
 pub kept-again : (tells : Type 0) (given : Given) (tape : List Operation) (scope : Scope) (first : ℕ) (entries : List Entry) (m : Members) (carried : ℕ → Bool) (work : Work) (left : ℕ)
     → IsStillKept tells given tape scope first entries m carried → AreUnlost m → AreSparesFree given m → length m.spares ≤ 32 → HasNoneRecovering m → work.resync ≡ None → is_carried work ≡ carried
     → IfSome (told_left entries) (λ n. n ≡ left) → (tells → is_unsynced (world_in given tape scope first) entries ≡ false)
-    → (tells → TakesNone (world_in given tape scope first) entries → AreNoneMissing m)
+    → (tells → TakesNone (world_in given tape scope first) entries → KeepsLevel entries → AreNoneMissing m)
     → IsStill tells given tape scope first entries m work left
 kept-again tells given tape scope first entries m carried work left was unlost free spares whole none carries told synced full = record {
   slots = was.slots;

@@ -87,7 +87,7 @@ use Rattle.std.specs.Prelude.{fold, slice_index_or, is_some}
 use Rattle.superblocks.specs.Reading.{holder}
 use Rattle.flat_history.specs.Flat.{values_of, values_after}
 use Rattle.flat_history.specs.Losses.{loses}
-use Rattle.kept_history.specs.Safe.{TakesNone}
+use Rattle.kept_history.specs.Safe.{TakesNone, is_taken_over}
 use Rattle.kept_history.proofs.Entered.{values-more}
 use Rattle.kept_history.proofs.Growing.{takes-grown}
 use Rattle.kept_history.proofs.Tests.{none-before}
@@ -161,7 +161,7 @@ module _ (tells : Type 0) (given : Given) (tape tape' : List Operation) (scope :
 
   -- so the epoch opened fit
   fit : tells → IsFilledRight (world_in given tape scope first) entries → OpensFit (world_in given tape scope first)
-  fit t (inl none) = absurd (let clash : true ≡ false = sym gone-before ∙ was.full t none.0 role counted in cc)
+  fit t (inl none) = absurd (let clash : true ≡ false = sym gone-before ∙ was.full t none.0 none.2 role counted in cc)
   fit t (inr is) = is
 
   -- all rows stand, and the slot has each of the role
@@ -281,7 +281,7 @@ module _ (tells : Type 0) (given : Given) (tape tape' : List Operation) (scope :
         (λ t. unsynced-still (world_in given tape scope first) entries added ends ∙ was.pending t)
         (λ can pending. did.clean ∙ was.dirty does pending)
         (λ t can fills. subst (λ (l : ℕ → Sector). HasListStood (OpensFit (world_in given tape scope first)) work new (present given tape') l) (λ i x. sym (same x) i) (listed t can fills))
-        (λ t none. absurd (let clash : true ≡ false = sym gone-before ∙ was.full t (earlier t none) role counted in cc))
+        (λ t none level. absurd (let clash : true ≡ false = sym gone-before ∙ was.full t (earlier t none) (none-before (λ e. is_taken_over e.event) entries added level) role counted in cc))
         leaves)
       where
         earlier : (t : tells) → TakesNone (world_in given tape' scope first) (entries ++ entries_of who end ((losses_of roles spares ++ Step RebuildEnded left' ∷ []) ++ Rebuilt role ∷ [])) → TakesNone (world_in given tape scope first) entries

@@ -33,7 +33,7 @@ use Rattle.kept_history.proofs.Lists.{past-none}
 use Rattle.std.proofs.Common.{◌<◌, append-nil, subst, []}
 use Rattle.row_io.specs.Rows.{reading_of, is_missing}
 use Rattle.calls_kept.proofs.RebuildEnded.{role-lost}
-use Rattle.kept_history.specs.Safe.{TakesNone}
+use Rattle.kept_history.specs.Safe.{TakesNone, KeepsLevel}
 use Rattle.still_kept.specs.Still.{AreNoneMissing}
 use Rattle.kept_history.specs.Safe.{world_in, IsFilledRight}
 use Rattle.one_shape_history.proofs.Kept.{safe-alike, recorded-alike}
@@ -112,8 +112,8 @@ module _ {tells : Type 0} {given : Given} {tape : List Operation} {scope : Scope
     rebuilt = was.rebuilt t does;
   }
 
-  full : tells → TakesNone world entries → AreNoneMissing members
-  full t none role lt = by (is_missing (reading_of members) role) refl
+  full : tells → TakesNone world entries → KeepsLevel entries → AreNoneMissing members
+  full t none level role lt = by (is_missing (reading_of members) role) refl
     where
       by : (b : Bool) → is_missing (reading_of members) role ≡ b → is_missing (reading_of members) role ≡ false
       by false is = is

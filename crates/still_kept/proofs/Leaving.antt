@@ -39,7 +39,7 @@ use Rattle.kept_history.proofs.Entered.{lost-taken}
 use Rattle.kept_history.proofs.Growing.{takes-grown}
 use Rattle.history_calls.proofs.Behind.{AreLostOrMissing}
 use Rattle.std.proofs.Common.{inl, inr, ◌<◌, ◌++◌, Bool, true, false, arith, refl}
-use Rattle.kept_history.specs.Safe.{TakesNone, IsSafeHistory}
+use Rattle.kept_history.specs.Safe.{TakesNone, KeepsLevel, is_taken_over, IsSafeHistory}
 use Rattle.still_kept.specs.Still.{AreNoneMissing}
 use Rattle.kept_history.specs.Safe.{world_in, IsFilledRight}
 use Rattle.kept_history.specs.Told.{told_now}
@@ -100,9 +100,9 @@ rest-moved given old new moved was = record {
 -- where no role is told lost by a call, nor was before, none is missing behind it
 pub none-taken : (tells : Type 0) (given : Given) (tape tape' : List Operation) (scope : Scope) (first : ℕ) (entries : List Entry) (old new : Members) (who : Who) (end : ℕ) (events : List Event) (IsTaken : ℕ → Type 0)
     → Grows tells tape tape' → (tells → EndBy (length tape) entries) → role_count new.newest ≤ 16 → AreLostOrMissing old new IsTaken
-    → ((role : ℕ) → role < 16 → IsTaken role → is_lost (entries_of who end events) role ≡ true) → (tells → TakesNone (world_in given tape scope first) entries → AreNoneMissing old)
-    → tells → TakesNone (world_in given tape' scope first) (entries ++ entries_of who end events) → AreNoneMissing new
-none-taken tells given tape tape' scope first entries old new who end events IsTaken grows ends few missing lost full t none role lt = by (is_missing (reading_of new) role) refl
+    → ((role : ℕ) → role < 16 → IsTaken role → is_lost (entries_of who end events) role ≡ true) → (tells → TakesNone (world_in given tape scope first) entries → KeepsLevel entries → AreNoneMissing old)
+    → tells → TakesNone (world_in given tape' scope first) (entries ++ entries_of who end events) → KeepsLevel (entries ++ entries_of who end events) → AreNoneMissing new
+none-taken tells given tape tape' scope first entries old new who end events IsTaken grows ends few missing lost full t none level role lt = by (is_missing (reading_of new) role) refl
   where
     later : World
     later = world_in given tape' scope first
@@ -119,7 +119,7 @@ none-taken tells given tape tape' scope first entries old new who end events IsT
     by : (b : Bool) → is_missing (reading_of new) role ≡ b → is_missing (reading_of new) role ≡ false
     by false is = is
     by true is = elim (missing role lt is) [
-      | inl before ↦ absurd (let clash : true ≡ false = sym before.1 ∙ full t earlier role before.0 in cc)
+      | inl before ↦ absurd (let clash : true ≡ false = sym before.1 ∙ full t earlier (none-before (λ e. is_taken_over e.event) entries (entries_of who end events) level) role before.0 in cc)
       | inr taken ↦ absurd (let clash : true ≡ false = sym (lost-taken later role (entries_of who end events) (lost role (omega (arith, lt, few)) taken)) ∙ none-here in cc)
     ]
 
@@ -131,7 +131,7 @@ pub leaves-stands : (tells : Type 0) (given : Given) (tape tape' : List Operatio
     → (tells → is_unsynced (world_in given tape scope first) all ≡ is_some work'.resync) → (DoWithout new → IsSome work'.resync → is_clean new.newest ≡ false)
     → (tells → DoWithout new → IsFilledRight (world_in given tape scope first) entries
     → HasListStood (OpensFit (world_in given tape scope first)) work' new (present given tape') (now (opening_list (world_in given tape scope first)) all))
-    → (tells → TakesNone (world_in given tape' scope first) all → AreNoneMissing new)
+    → (tells → TakesNone (world_in given tape' scope first) all → KeepsLevel all → AreNoneMissing new)
     → (tells → IsLeftBehind given tape scope first entries all new (is_carried work') false tape')
     → IsStill tells given tape' scope first all new work' left'
 leaves-stands tells given tape tape' scope first entries all old new work work' left left' was grows members level sized told progress pending dirty listed full leaves = record {

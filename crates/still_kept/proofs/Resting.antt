@@ -25,7 +25,7 @@ use Rattle.call_entries.proofs.CallLaws.{last_end-behind}
 use Rattle.kept_history.specs.Recorded.{IsHistoryKept, IsCallGoing, entry_of, gives_some}
 use Rattle.kept_history.proofs.Tests.{none-before}
 use Rattle.flat_history.specs.Losses.{loses}
-use Rattle.kept_history.specs.Safe.{world_in, IsFilledRight, IsSafeHistory}
+use Rattle.kept_history.specs.Safe.{world_in, is_taken_over, IsFilledRight, IsSafeHistory}
 use Rattle.kept_history.specs.Told.{told_now}
 use Rattle.kept_history.proofs.Entered.{adds_only, AreAdding, values-more, length-adding, settle-none}
 use Rattle.kept_history.proofs.Idle.{now-adding, idle-call}
@@ -105,7 +105,8 @@ module _ (tells : Type 0) (given : Given) (tape : List Operation) (scope : Scope
 
   -- what is filled in was right before it, too
   before : (n : ℕ) → IsFilledRight (world_in given tape scope first) (entries ++ entries_of who n (event ∷ [])) → IsFilledRight (world_in given tape scope first) entries
-  before n (inl none) = inl (λ role. none-before (loses (world_in given tape scope first) role) entries (entries_of who n (event ∷ [])) (none.0 role), none.1)
+  before n (inl none) = inl (λ role. none-before (loses (world_in given tape scope first) role) entries (entries_of who n (event ∷ [])) (none.0 role), none.1,
+      none-before (λ e. is_taken_over e.event) entries (entries_of who n (event ∷ [])) none.2)
   before n (inr fit) = inr fit
 
   safe : tells → IsFilledRight world (entries ++ added) → HasRoomForEvents world → OpensAlike world → IsSafeHistory ⊤ world given m (is_carried work) was.reshaping (entries ++ added)
@@ -145,7 +146,7 @@ module _ (tells : Type 0) (given : Given) (tape : List Operation) (scope : Scope
     dirty = was.dirty;
     levelled = λ t right. ap tolerance_of (rested t).levelled ∙ was.levelled t ((rested t).right right);
     gone = λ t. (rested t).gone;
-    full = λ t none. was.full t (λ role. none-before (loses (world_in given tape scope first) role) entries added (none role));
+    full = λ t none level. was.full t (λ role. none-before (loses (world_in given tape scope first) role) entries added (none role)) (none-before (λ e. is_taken_over e.event) entries added level);
     unclean = λ t dirty. unclean t (was.unclean t dirty);
     recorded = λ t. (rested t).recorded;
     past = λ t fills x high. values-more (opening_list (world_in given tape scope first)) entries (entries_of who end (event ∷ [])) x

@@ -1,6 +1,6 @@
 -- A write of the list, from what it leaves: it was done, or refused before its first row was written, or behind it.
-use Rattle.std.proofs.Common.{◌≡◌, ◌⊎◌, inl, inr, ℕ, ◌+◌, ◌-◌, ◌*◌, ◌/◌, ◌<◌, ◌≤◌, ◌==◌, ◌||◌, Bool, true, false, Option, List, [], ◌∷◌, ◌++◌, length, fold, refl, sym, ◌∙◌, ap, subst, arith, append_assoc}
-use Rattle.std.specs.Prelude.{IsFalse, IfSome, IsSome, is_some, slice_index_or, ⊤}
+use Rattle.std.proofs.Common.{◌≡◌, ◌⊎◌, inl, inr, ℕ, ◌+◌, ◌-◌, ◌*◌, ◌/◌, ◌<◌, ◌≤◌, ◌==◌, ◌||◌, Bool, true, false, List, [], ◌∷◌, ◌++◌, length, fold, refl, sym, ◌∙◌, ap, subst, arith, append_assoc}
+use Rattle.std.specs.Prelude.{IsFalse, IfSome, is_some, slice_index_or, ⊤}
 use Rattle.std.specs.List.{list_any}
 use Rattle.std.proofs.lemmas.List.Folds.{list_any-append}
 use Rattle.md_base.specs.Sectors.{Sector, IsWhole, sectors_of}
@@ -31,12 +31,11 @@ use Rattle.flat_history.specs.Transfers.{IsTooMany}
 use Rattle.flat_history.specs.World.{World, opening_list}
 use Rattle.shape_views.specs.Regions.{DoWithout}
 use Rattle.shape_views.specs.Views.{Ledger}
-use Rattle.shape_views.proofs.Stands.{for-still}
 use Rattle.shape_changes.specs.Marking.{AreOthersPresent}
 use Rattle.shape_changes.specs.Safety.{HasRoomLeft, IsRisen}
 use Rattle.shape_changes.specs.Steady.{IsSafeOver, KeepsSafe, AreGoneTold, AreWritesAllowed}
 use Rattle.views.specs.declared.work.Work.{Work}
-use Rattle.views.specs.Lacking.{AreLostSince, AreTooMany, LacksTooMany, DoesWithout, IsNotResynced, AreBytes, ListStands, RowsStandBelow, mended_rows}
+use Rattle.views.specs.Lacking.{AreLostSince, AreTooMany, AreBytes, ListStands, RowsStandBelow, mended_rows}
 use Rattle.views.specs.Moving.{Grows, IsMoved}
 use Rattle.views.specs.Placed.{AreWhole}
 use Rattle.views.specs.Status.{rebuilt_of}
@@ -46,7 +45,6 @@ use Rattle.views.proofs.LackingLaws.{never-both}
 use Rattle.views.proofs.LackingLists.{sectors-whole, row-sector}
 use Rattle.views.proofs.LackingWrites.{list-with, list-with-is, recovering-before}
 use Rattle.views.proofs.LiveLeft.{without-left}
-use Rattle.views.proofs.Still.{without-still}
 use Rattle.call_entries.specs.Losing.{losses_of}
 use Rattle.call_entries.proofs.CallLaws.{losses-are, values-losses, ends-losses}
 use Rattle.call_entries.proofs.LosingLaws.{entries-both}
@@ -54,8 +52,6 @@ use Rattle.array_kept.proofs.DegradedLaws.{written-whole, rows-same}
 use Rattle.array_kept.proofs.KeptLaws.{left-lost}
 use Rattle.array_kept.proofs.LedgerLaws.{torn-adds, written-allowed, torn-in}
 use Rattle.array_kept.proofs.NowLaws.{wrote-is}
-use Rattle.moving_kept.specs.region_rows_Stretches.{relied_rows}
-use Rattle.moving_kept.specs.region_writes_Runs.{IsListUnwritten}
 use Rattle.kept_history.specs.Recorded.{IsCallGoing, IsLegalCall, entry_of, ends_reshape, gives_some}
 use Rattle.kept_history.specs.Safe.{world_in, IsFilledRight}
 use Rattle.kept_history.proofs.Entered.{AreAdding, values-more, length-adding}
@@ -65,13 +61,13 @@ use Rattle.history_calls.specs.Reliable.{IsReliable, AreToldGone}
 use Rattle.history_calls.proofs.LastStep.{AreWithin, losses-within}
 use Rattle.history_calls.proofs.Behind.{AreFirst, IsAmong, first-of, early-losses, legal-losses, inner-of}
 use Rattle.history_calls.proofs.Adding.{unsettled-last}
-use Rattle.still_kept.specs.Still.{AreAtRest, relied_list, HasListStood, IsStill}
+use Rattle.still_kept.specs.Still.{HasListStood, IsStill}
 use Rattle.still_kept.proofs.Adding.{changing-stands}
 use Rattle.still_kept.proofs.Leaving.{list-later, unsynced-later, fit-earlier}
-use Rattle.still_kept.proofs.Reading.{visible-behind, pending-of}
+use Rattle.still_kept.proofs.Reading.{visible-behind}
 use Rattle.still_kept.proofs.Refusals.{IsRefusedStill, too-many-refused, refused-right, unsynced-behind}
 use Rattle.still_kept.proofs.Staying.{missing-since}
-use Rattle.still_kept.proofs.Stood.{mended-moved, stood-moved, within-count}
+use Rattle.still_kept.proofs.Stood.{mended-moved, stood-moved}
 use Rattle.still_kept.proofs.Whole.{whole-told}
 
 -- ---- what the call leaves
@@ -96,24 +92,6 @@ pub record IsWrittenStill (tells : Type 0) (given : Given) (tape tape' : List Op
   pub rebuilt : tells → (list list' : ℕ → Sector) → IsWritten list list' at from → ListStands old (present given tape) list
       → RowsStandBelow mended old (present given tape) list → (role slot row : ℕ) → role < (shape_of old.newest).disks → role_state (reading_of new) role ≡ IsRecovering slot → row < old.newest.size
       → HasFull (reading_of old) (present given tape) (shape_of old.newest) list row role slot → HasFull (reading_of new) (present given tape') (shape_of old.newest) list' row role slot
-
--- ---- why it wasn't done
-
--- one of its sectors can't be written, by the members that it leaves: and a resync is pending, or the refusal leaves the array unsettled
-pub unwritten-refused : (given : Given) (m : Members) (rest : AreAtRest given m) (resync : Option ℕ) (from to : ℕ) (refusal : Refusal) → to ≤ list_length m.newest
-    → IsListUnwritten (relied_list resync m) from to m refusal → IsRefusedStill resync m refusal × ((IsSome resync × DoWithout m) ⊎ (unsettles (Refused refusal) ≡ true))
-unwritten-refused given m rest resync from to refusal within (inl (x, low, high, many)) =
-    let here = subst (λ (s : Shape). LacksTooMany s m refusal) (for-still m.newest rest.still x) many in
-    (too-many-refused resync m refusal (inl here), inr (subst (λ (r : Refusal). unsettles (Refused r) ≡ true) (sym here.told) refl))
-unwritten-refused given m rest resync from to refusal within (inr (few, (x, low, high, beyond, cause))) =
-    let inside : x < list_length m.newest = omega (arith, high, within) in
-    let shape = shape_of m.newest in
-    let row : relied_rows m.newest (relied_list resync m) shape ≤ (place shape x).row =
-    subst (λ (s : Shape). relied_rows m.newest (relied_list resync m) s ≤ (place s x).row) (for-still m.newest rest.still x) beyond in
-    let not = subst (λ (s : Shape). IsNotResynced s false m refusal) (for-still m.newest rest.still x) cause in
-    let pending = pending-of given m rest resync x inside row in
-    let can = without-still m rest.still (subst (λ (s : Shape). DoesWithout s m) (for-still m.newest rest.still x) (few x low high)) in
-    (subst (IsRefusedStill resync m) (sym not.1) (pending, within-count given m rest.placed not.0 not.4.0, not.3), inl (pending, can))
 
 -- ---- a torn write stands before its refusal
 

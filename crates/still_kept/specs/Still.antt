@@ -28,7 +28,7 @@ use Rattle.views.specs.Status.{stripes_of}
 use Rattle.safe_updates.specs.Named.{AreNamedMissing}
 use Rattle.array_kept.specs.Kept.{AreSectorsWhole}
 use Rattle.kept_history.specs.Recorded.{IsHistoryKept}
-use Rattle.kept_history.specs.Safe.{world_in, TakesNone, IsFilledRight, IsSafeHistory}
+use Rattle.kept_history.specs.Safe.{world_in, TakesNone, KeepsLevel, IsFilledRight, IsSafeHistory}
 use Rattle.history_calls.specs.Reliable.{IsReliable, AreToldGone, IsNonePast}
 
 -- The members of an array without an active reshape: each has its place, no slot that holds a role was lost, and each spare is free.
@@ -60,7 +60,7 @@ abbrev pub IsNamedOrClean : Members → Type 0
 IsNamedOrClean members = (HasLiveSlot members → AreNamedMissing members) ⊎ (is_clean members.newest ≡ true)
 
 -- No reshape is active in the array, whether some were before or not; this is under way in it, and so many steps are left. What is missing was told so, and a
--- dirty mark, and a pending resync; where no role was told lost, each is whole; over a bank that tells its contents the history is legal, reaches to the tape's end and tells nothing past the list's, the list stands where what is filled
+-- dirty mark, and a pending resync; where no role was told lost and no level taken over, each is whole; over a bank that tells its contents the history is legal, reaches to the tape's end and tells nothing past the list's, the list stands where what is filled
 -- in is right, as long as the members suffice, and each mark so far is safe. Superblocks may tell a reshape still only where no live slot is left.
 pub record IsStill (tells : Type 0) (given : Given) (tape : List Operation) (scope : Scope) (first : ℕ) (entries : List Entry) (members : Members) (work : Work) (left : ℕ) : Type 0 where
   pub slots : given.slots ≤ 32
@@ -74,7 +74,7 @@ pub record IsStill (tells : Type 0) (given : Given) (tape : List Operation) (sco
   pub dirty : DoWithout members → IsSome work.resync → is_clean members.newest ≡ false
   pub levelled : tells → IsReliable (world_in given tape scope first) entries → tolerance_of (level_at (world_in given tape scope first) entries) ≡ tolerance (shape_of members.newest)
   pub gone : tells → IsReliable (world_in given tape scope first) entries → AreToldGone (world_in given tape scope first) entries members
-  pub full : tells → TakesNone (world_in given tape scope first) entries → AreNoneMissing members
+  pub full : tells → TakesNone (world_in given tape scope first) entries → KeepsLevel entries → AreNoneMissing members
   pub unclean : tells → is_clean members.newest ≡ false → (is_unsynced (world_in given tape scope first) entries || is_unsettled entries) ≡ true
   pub recorded : tells → IsHistoryKept (IsReliable (world_in given tape scope first) entries) (world_in given tape scope first) (list_length members.newest) entries
   pub past : tells → IsNonePast (world_in given tape scope first) entries (list_length members.newest)

@@ -1,7 +1,8 @@
 -- An array that keeps its record keeps it behind the takeover of its level, from what `take_over` says of its call.
-use Rattle.std.proofs.Common.{◌≡◌, ◌⊎◌, ℕ, ◌+◌, ◌-◌, ◌*◌, ◌<◌, ◌≤◌, ◌==◌, Bool, true, false, Option, Some, None, List, [], ◌∷◌, ◌++◌, length, refl, sym, ◌∙◌, ap, subst, arith, append-nil}
+use Rattle.std.proofs.Common.{◌≡◌, ◌⊎◌, ℕ, ◌+◌, ◌-◌, ◌*◌, ◌<◌, ◌≤◌, ◌==◌, ◌||◌, Bool, true, false, Option, Some, None, List, [], ◌∷◌, ◌++◌, length, refl, sym, ◌∙◌, ap, subst, arith, append-nil}
 use Rattle.std.specs.Prelude.{IsFalse, IfSome, is_some, fold, ⊤}
 use Rattle.std.specs.List.{list_any}
+use Rattle.std.proofs.lemmas.List.Folds.{list_any-append}
 use Rattle.md_base.specs.declared.answers.Who.{Who}
 use Rattle.md_base.specs.declared.status.Role.TheVariants.{Recovering}
 use Rattle.bank.specs.declared.bank.Operation.{Operation}
@@ -40,7 +41,7 @@ use Rattle.call_entries.specs.Losing.{losses_of}
 use Rattle.call_entries.proofs.CallLaws.{losses-are}
 use Rattle.call_entries.proofs.LeftLaws.{left-behind, fold-left}
 use Rattle.kept_history.specs.Recorded.{IsCallGoing}
-use Rattle.kept_history.specs.Safe.{world_in, TakesNone, IsFilledRight, IsSafeHistory}
+use Rattle.kept_history.specs.Safe.{world_in, is_taken_over, IsFilledRight, IsSafeHistory}
 use Rattle.history_calls.specs.Reliable.{IsReliable}
 use Rattle.history_calls.proofs.Behind.{IsAmong}
 use Rattle.history_calls.proofs.Plans.{ArePlannedTo}
@@ -74,8 +75,7 @@ module _ (tells : Type 0) (given : Given) (tape tape' : List Operation) (scope :
     (goes : IsCallGoing entries who) (caller : IsFalse (who.caller == 254)) (at_end : tells → end ≡ length tape') (did : IsTakenBy tells given tape tape' old plan new roles)
     (stepped : (steps ≡ left + 1) ⊎ (list_any disturbs (losses_of roles spares) ≡ true))
     (planned : tells → IsReliable (world_in given tape scope first) entries → left ≡ 0 → ArePlannedTo (world_in given tape scope first) (shape_of new.newest) (open_plans entries))
-    (unbuilt : (role slot : ℕ) → role_state (reading_of new) role ≡ Recovering slot → rebuilt_of work' role ≡ 0)
-    (full : tells → TakesNone (world_in given tape' scope first) (entries ++ entries_of who end (Step TakenOver left ∷ losses_of roles spares)) → AreNoneMissing new) where
+    (unbuilt : (role slot : ℕ) → role_state (reading_of new) role ≡ Recovering slot → rebuilt_of work' role ≡ 0) where
   abbrev all : List Entry
   all = entries ++ entries_of who end (Step TakenOver left ∷ losses_of roles spares)
 
@@ -133,6 +133,14 @@ module _ (tells : Type 0) (given : Given) (tape tape' : List Operation) (scope :
       → is_unsynced (world_in given (tape ++ g.0) scope first) (entries ++ entries_of who e (Step TakenOver left ∷ losses_of roles spares)) ≡ is_unsynced (world_in given tape scope first) entries)
       (sym (at_end t ∙ ap (λ (l : List Operation). length l) g.1))
       (λ by. taken-unsynced given tape scope first entries old plan new (is_carried work) who steps left roles spares g.0 tells former t was.left_told stepped (planned t) by)) (call t)
+
+  -- the history tells the takeover
+  any-behind : (before : List Entry) → list_any (λ e. is_taken_over e.event) (before ++ entries_of who end (Step TakenOver left ∷ losses_of roles spares)) ≡ true
+  any-behind before = list_any-append (λ e. is_taken_over e.event) before (entries_of who end (Step TakenOver left ∷ losses_of roles spares)) ∙ or-so (list_any (λ e. is_taken_over e.event) before)
+    where
+      or-so : (b : Bool) → (b || true) ≡ true
+      or-so true = refl
+      or-so false = refl
 
   rest : AreAtRest given new
   rest = record {
@@ -192,7 +200,7 @@ module _ (tells : Type 0) (given : Given) (tape tape' : List Operation) (scope :
     dirty = λ does pending. absurd (let no = sym (ap (λ (o : Option ℕ). is_some o) synced') ∙ pending in cc);
     levelled = λ t. (kept t).levelled t;
     gone = λ t. (kept t).gone t;
-    full = full;
+    full = λ t none level. absurd (let some = any-behind entries in let clash : true ≡ false = sym some ∙ level in cc);
     unclean = λ t. (kept t).unclean t;
     recorded = λ t. (kept t).recorded t;
     past = λ t. (kept t).past t;

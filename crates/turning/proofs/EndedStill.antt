@@ -51,7 +51,7 @@ use Rattle.call_entries.proofs.CallLaws.{AreLossEvents, losses-are, ends-losses,
 use Rattle.grow_asked.specs.declared.window.PhasesLeft.{PhasesLeft}
 use Rattle.grow_asked.specs.Left.{zeroed_by}
 use Rattle.kept_history.specs.Recorded.{IsCallGoing}
-use Rattle.kept_history.specs.Safe.{world_in, TakesNone}
+use Rattle.kept_history.specs.Safe.{world_in, TakesNone, KeepsLevel}
 use Rattle.kept_history.proofs.Entered.{lost-taken}
 use Rattle.kept_history.proofs.Ledgers.{unsynced-still}
 use Rattle.kept_history.proofs.Tests.{neither}
@@ -194,8 +194,8 @@ module _ {tells : Type 0} {given : Given} {tape tape' : List Operation} {scope :
   whole role slot is = was.members_are.whole role slot (sym (did.states role slot (ap holder is)) ∙ is)
 
   -- where no entry takes a role's holder, none is missing
-  full : (tells → TakesNone (world_in given tape' scope first) (entries ++ added) → AreWhole old) → tells → TakesNone (world_in given tape' scope first) (entries ++ added) → AreNoneMissing new
-  full was_whole t none role lt = by (is_missing (reading_of new) role) refl
+  full : (tells → TakesNone (world_in given tape' scope first) (entries ++ added) → AreWhole old) → tells → TakesNone (world_in given tape' scope first) (entries ++ added) → KeepsLevel (entries ++ added) → AreNoneMissing new
+  full was_whole t none level role lt = by (is_missing (reading_of new) role) refl
     where
       later : World
       later = world_in given tape' scope first

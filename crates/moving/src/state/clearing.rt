@@ -25,6 +25,7 @@ use bank::Bank;
 use call_entries::calls::enter;
 use flat_history::Event;
 use md_base::{Fault, Refusal, Who};
+use moving_laws::moving_state::windows::open_span;
 use moving_laws::region_mends::stripes::relied_sector;
 use moving_laws::window_entering::clear_window;
 
@@ -74,8 +75,9 @@ impl<B: Bank> Moving<B> {
         ensures course { self.new.course ≡ self.old.course }
         ensures given { B.given self.new.parts.bank ≡ B.given self.old.parts.bank }
     {
+        let window = open_span(&self.course);
         let relied = relied_sector(&self.members, self.work.resync);
-        if let Some(refusal) = unwritten_here(&self.members, self.limit, relied, at, count) {
+        if let Some(refusal) = unwritten_here(&self.members, window, self.limit, relied, at, count) {
             self.steps -= 1;
             check_going(&self.epoch.entries, who);
             let end = self.bank.ops();

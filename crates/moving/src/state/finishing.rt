@@ -27,7 +27,9 @@ ghost use Rattle.kept_history.specs.Recorded.{IsCallGoing};
 ghost use Rattle.moving_laws.specs.region_mends_Mends.{relied_sector};
 ghost use Rattle.moving_laws.specs.course_kept_Laws.{closed};
 ghost use Rattle.moving_laws.specs.running_words_Parts.{left_in};
-ghost use Rattle.moving_laws.specs.running_words_Calls.{IsCalled, IsStepTaken};
+ghost use Rattle.moving_laws.specs.moving_kept_Moving.{IsWindowStanding};
+ghost use Rattle.moving_laws.specs.moving_state_Due.{open_in};
+ghost use Rattle.moving_laws.specs.running_words_Calls.{moving_world, IsCalled, IsStepTaken};
 ghost use Rattle.moving_laws.specs.Writing.{IsWindowOpen, steps_in};
 
 use crate::state::moves::check_going;
@@ -126,6 +128,7 @@ impl<B: Bank> Moving<B> {
         ensures left { OnOk result (left_in self.new.parts.work self.new.parts.members self.new.course self.new.ahead + steps_in self.old.parts.members.newest self.old.course.window ≡ left_in self.old.parts.work self.old.parts.members self.old.course self.old.ahead) }
         ensures closed { OnOk result (self.new.course ≡ closed 0) }
         ensures relied { OnOk result (relied_sector self.new.parts.members.newest self.new.parts.work.resync ≡ relied_sector self.old.parts.members.newest self.old.parts.work.resync) }
+        ensures stood { OnOk result (B.tells → IsWindowStanding (open_in self.old.course.window) (moving_world (B.given self.new.parts.bank) (B.tape self.new.parts.bank) self.new) self.new.parts.entries self.new.parts.members (present (B.given self.new.parts.bank) (B.tape self.new.parts.bank))) }
         ensures course { OnErr result (self.new.course ≡ self.old.course) }
         ensures room { self.new.parts.steps + 1 ≡ self.old.parts.steps }
         ensures given { B.given self.new.parts.bank ≡ B.given self.old.parts.bank }

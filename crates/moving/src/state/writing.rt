@@ -6,6 +6,7 @@ ghost use Rattle.md_base.specs.declared.answers.Fault.TheVariants.{Refused as Is
 ghost use Rattle.md_base.specs.declared.answers.Refusal.TheVariants.{BackupFault};
 ghost use Rattle.bank.specs.Given.{IsFaulted};
 ghost use Rattle.superblocks.specs.Reading.{is_clean, list_length, role_count};
+ghost use Rattle.row_io.specs.Rows.{present};
 ghost use Rattle.flat_history.specs.Flat.{next_number};
 ghost use Rattle.flat_history.specs.Stands.{covers};
 ghost use Rattle.flat_history.specs.declared.events.StepKind.TheVariants.{WindowFinished as FinishesWindow};
@@ -17,9 +18,10 @@ ghost use Rattle.moving_laws.specs.region_mends_Mends.{relied_sector};
 ghost use Rattle.kept_history.specs.Recorded.{IsCallGoing};
 ghost use Rattle.moving_laws.specs.course_kept_Course.{span_in};
 ghost use Rattle.moving_laws.specs.course_kept_Laws.{closed};
-ghost use Rattle.moving_laws.specs.moving_state_Due.{unsure_in};
+ghost use Rattle.moving_laws.specs.moving_kept_Moving.{IsWindowStanding};
+ghost use Rattle.moving_laws.specs.moving_state_Due.{open_in, unsure_in};
 ghost use Rattle.moving_laws.specs.running_words_Parts.{visible_size, visible_in, left_in};
-ghost use Rattle.moving_laws.specs.running_words_Calls.{IsCalled, IsStepTaken};
+ghost use Rattle.moving_laws.specs.running_words_Calls.{moving_world, IsCalled, IsStepTaken};
 ghost use Rattle.safe_updates.specs.First.{call_refusal};
 ghost use Rattle.moving_laws.specs.moving_state_First.{list_refusal};
 ghost use Rattle.moving_laws.specs.Refusing.{first_refusal, IsFirstFor};
@@ -30,7 +32,7 @@ use crate::state::moves::check_going;
 use bank::Bank;
 use call_entries::calls::{enter, enter_behind, enter_failure};
 use flat_history::Event;
-use md_base::{Fault, Refusal, Sectors, Who};
+use md_base::{Fault, Refusal, Sectors, Span, Who};
 use moving_laws::moving_state::asking::visible;
 use moving_laws::moving_state::refusing::unwritten_from;
 use moving_laws::moving_state::windows::{meets, open_span, unsure_span};
@@ -41,9 +43,10 @@ use safe_updates::roles::vacant_roles;
 use superblocks::Members;
 
 // Why so many sectors from one on aren't written, before any row is read, where those below the limit are visible and parity is to be relied
-// on up to sector `relied`.
+// on up to sector `relied`, and in the window, if there is one.
 pub(crate) fn unwritten_here(
     members: &Members,
+    window: Option<Span>,
     limit: Option<u64>,
     relied: u64,
     at: u64,
@@ -54,15 +57,23 @@ pub(crate) fn unwritten_here(
     requires some { 0 < count }
     requires short { at + count < 2 ^ 63 }
     ensures first { MatchOption (call_refusal (visible_size members.now limit) (at + count) (list_refusal at count members.now)) ⊤ (λ refusal. result ≡ Some refusal) }
-    ensures why { IsRefusalOf (visible_size members.now limit) (at + count) (IsListUnwritten relied at (at + count)) members.now result }
+    ensures why { IsRefusalOf (visible_size members.now limit) (at + count) (IsListUnwritten window relied at (at + count)) members.now result }
 {
     let sectors = visible(members, limit);
-    unwritten_from(members, sectors, relied, at, count)
+    unwritten_from(members, window, sectors, relied, at, count)
 }
 
 impl<B: Bank> Moving<B> {
-    // Puts the sectors of `from`, 1 to 128, into the list from `at` on, none of them in the window under way; `body` has the same.
-    fn write_beside(&mut self, who: Who, at: u64, from: &[u8], body: Sectors) -> Result<(), Fault>
+    // Puts the sectors of `from`, 1 to 128, into the list from `at` on, none of them in the window under way; `body` has the same. They
+    // may lie in `past`, a window that was just recorded.
+    fn write_beside(
+        &mut self,
+        who: Who,
+        at: u64,
+        from: &[u8],
+        body: Sectors,
+        past: Option<Span>,
+    ) -> Result<(), Fault>
         requires open { IsCallGoing self.old.parts.entries who }
         requires caller { who.caller ≢ 254 }
         requires room { 1 ≤ self.old.parts.steps }
@@ -72,9 +83,10 @@ impl<B: Bank> Moving<B> {
         requires short { at + length from.now / 512 < 2 ^ 63 }
         requires body { body ≡ sectors_of from.now }
         requires beside { (x : ℕ) → at ≤ x → x < at + length from.now / 512 → covers (span_in self.old.course.window) x ≡ false }
+        requires stood { B.tells → IsWindowStanding past (moving_world (B.given self.old.parts.bank) (B.tape self.old.parts.bank) self.old) self.old.parts.entries self.old.parts.members (present (B.given self.old.parts.bank) (B.tape self.old.parts.bank)) }
         ensures entered { IsPutEntered who self.old.parts.entries self.new.parts.entries at (sectors_of from.now) result }
         ensures called { IsCalled B.tells (B.given self.old.parts.bank) (B.tape self.old.parts.bank) (B.tape self.new.parts.bank) (B.faults_of self.old.parts.bank) (B.faults_of self.new.parts.bank) self.old self.new }
-        ensures caused { IsCausedBy (visible_in self.old) (at + length from.now / 512) (IsListUnwritten (relied_sector self.old.parts.members.newest self.old.parts.work.resync) at (at + length from.now / 512))
+        ensures caused { IsCausedBy (visible_in self.old) (at + length from.now / 512) (IsListUnwritten past (relied_sector self.old.parts.members.newest self.old.parts.work.resync) at (at + length from.now / 512))
             self.old.parts.members self.new.parts.members result }
         ensures first { IsFirstFor (first_refusal self.old at (length from.now / 512)) result }
         ensures failed { HaveRolesFailed self.old.parts.members self.new.parts.members (B.faults_of self.old.parts.bank) (B.faults_of self.new.parts.bank) }
@@ -87,7 +99,7 @@ impl<B: Bank> Moving<B> {
         check_going(&self.epoch.entries, who);
         let asked = (from.len() / 512) as u64;
         let relied = relied_sector(&self.members, self.work.resync);
-        if let Some(refusal) = unwritten_here(&self.members, self.limit, relied, at, asked) {
+        if let Some(refusal) = unwritten_here(&self.members, past, self.limit, relied, at, asked) {
             let end = self.bank.ops();
             enter(&mut self.epoch, who, end, Event::Refused { refusal });
             return Err(Fault::Refused(refusal));
@@ -103,6 +115,7 @@ impl<B: Bank> Moving<B> {
             &mut self.buffer,
             &mut self.far_rows,
             &mut self.far_buffer,
+            past,
             relied,
         );
         let roles = newly_vacant(&self.members, count, before);
@@ -138,16 +151,18 @@ impl<B: Bank> Moving<B> {
         ensures goes { OnOk result (IsCallGoing self.new.parts.entries who) }
         ensures called { IsCalled B.tells (B.given self.old.parts.bank) (B.tape self.old.parts.bank) (B.tape self.new.parts.bank) (B.faults_of self.old.parts.bank) (B.faults_of self.new.parts.bank) self.old self.new }
         ensures caused { IsCausedBy (visible_in self.old) (at + count)
-            (λ m refusal. IsListUnwritten (relied_sector self.old.parts.members.newest self.old.parts.work.resync) at (at + count) m refusal ⊎ AreTooMany m refusal) self.old.parts.members self.new.parts.members result }
+            (λ m refusal. IsListUnwritten (open_in self.old.course.window) (relied_sector self.old.parts.members.newest self.old.parts.work.resync) at (at + count) m refusal ⊎ AreTooMany m refusal) self.old.parts.members self.new.parts.members result }
         ensures first { IsFirstFor (first_refusal self.old at count) result }
         ensures failed { HaveRolesFailed self.old.parts.members self.new.parts.members (B.faults_of self.old.parts.bank) (B.faults_of self.new.parts.bank) }
         ensures closed { OnOk result (self.new.course ≡ closed 0) }
         ensures relied { OnOk result (relied_sector self.new.parts.members.newest self.new.parts.work.resync ≡ relied_sector self.old.parts.members.newest self.old.parts.work.resync) }
+        ensures stood { OnOk result (B.tells → IsWindowStanding (open_in self.old.course.window) (moving_world (B.given self.new.parts.bank) (B.tape self.new.parts.bank) self.new) self.new.parts.entries self.new.parts.members (present (B.given self.new.parts.bank) (B.tape self.new.parts.bank))) }
         ensures room { self.new.parts.steps + 1 ≡ self.old.parts.steps }
         ensures given { B.given self.new.parts.bank ≡ B.given self.old.parts.bank }
     {
+        let window = open_span(&self.course);
         let relied = relied_sector(&self.members, self.work.resync);
-        if let Some(refusal) = unwritten_here(&self.members, self.limit, relied, at, count) {
+        if let Some(refusal) = unwritten_here(&self.members, window, self.limit, relied, at, count) {
             self.steps -= 1;
             check_going(&self.epoch.entries, who);
             let end = self.bank.ops();
@@ -189,19 +204,20 @@ impl<B: Bank> Moving<B> {
         }
         self.steps = 2;
         let count = (from.len() / 512) as u64;
-        if !meets(open_span(&self.course), at, at + count) {
-            return self.write_beside(who, at, from, body);
+        let window = open_span(&self.course);
+        if !meets(window, at, at + count) {
+            return self.write_beside(who, at, from, body, None);
         }
         match self.finish_for(who, at, count) {
             Ok(()) => {}
             Err(fault) => return Err(fault),
         }
-        self.write_beside(who, at, from, body)
+        self.write_beside(who, at, from, body, window)
     }
     /// Makes the list hold `from`, of 1 to 128 whole sectors, from `at` on. Where some lie in the open window, that is finished first.
     /// Refusals: `PastEnd`, `TooManyMissing` where more roles of the shape of one of them are missing than it tolerates, or, where
     /// the window has to be finished, of either shape, `BackupFault` where some lie in an unsure window, and `NotResynced` where a resync is pending, of a missing role that has data in the
-    /// shape of one of them that lies in a stripe that isn't mended.
+    /// shape of one of them that lies outside the open window, in a stripe that isn't mended.
     pub fn write(&mut self, who: Who, at: u64, from: &[u8]) -> Result<(), Fault>
         requires next { who.number ≡ next_number who.caller self.old.parts.entries }
         requires caller { who.caller ≢ 254 }

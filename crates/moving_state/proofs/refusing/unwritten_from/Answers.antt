@@ -21,7 +21,7 @@ returns-then-is_some-clause-first c =
 
 pub returns-then-is_some-clause-why : goal.returns-then-is_some-clause-why
 returns-then-is_some-clause-why c =
-    torn-write c.args.visible c.args.relied c.args.at c.args.count c.args.members.now c.requires.fit (let within = c.if-visible-at.false in omega (arith, within)) _ c.lacking_from-refusal.result
+    torn-write c.args.visible c.args.relied c.args.at c.args.count c.args.members.now c.requires.fit (let within = c.if-visible-at.false in omega (arith, within)) _ c.args.window c.lacking_from-refusal.result
     (sym c.is_some.ensures ∙ c.if-is_some.true) c.lacking_from-refusal.ensures.why
 
 pub returns-clause-first : goal.returns-clause-first
@@ -32,6 +32,6 @@ returns-clause-first c =
 pub returns-clause-why : goal.returns-clause-why
 returns-clause-why c =
     let within : c.args.at + c.args.count ≤ c.args.visible = (let past = c.if-visible-at.false in omega (arith, past)) in
-    write-judged c.args.visible c.args.relied c.args.at c.args.count c.args.members.now c.requires.fit within c.runs_of-cut.result.low c.runs_of-cut.result.high c.runs_of-cut.ensures
+    write-judged c.args.visible c.args.relied c.args.at c.args.count c.args.members.now c.requires.fit within c.args.window c.runs_of-cut.result.low c.runs_of-cut.result.high c.runs_of-cut.ensures
     (fine-all c.args.visible c.args.relied c.args.at c.args.count c.args.members.now c.requires.fit within c.lacking_from-refusal.result (sym c.is_some.ensures ∙ c.if-is_some.false) c.lacking_from-refusal.ensures.why)
     c.unwritten_runs.result c.unwritten_runs.ensures

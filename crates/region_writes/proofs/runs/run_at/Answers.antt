@@ -1,4 +1,4 @@
-use Rattle.std.proofs.Common.{◌≡◌, inl, inr, ℕ, ◌-◌, ◌<◌, ◌≤◌, nat_le, true, false, subst, arith}
+use Rattle.std.proofs.Common.{◌≡◌, inl, inr, ℕ, ◌-◌, ◌<◌, ◌≤◌, nat_le, true, false, sym, ◌∙◌, subst, arith}
 use Rattle.std.proofs.lemmas.Bool.{cases_lt}
 use Rattle.std.proofs.lemmas.Bool.Decides.{nat_tests}
 use Rattle.layout.proofs.Places.{place-row_below, place-sector_below}
@@ -30,22 +30,28 @@ returns-clause-relied c =
     let newest = c.args.members.now.newest in
     let did = c.stretch_at-stretch.ensures in
     let shape = c.stretch_at-stretch.result.shape in
-    let end = c.stretch_at-stretch.result.end in
+    let end = c.end_beside-end.result in
+    let beside = c.end_beside-end.ensures in
     let rows = c.relied_rows-rows.result in
     let valid = force-valid newest c.requires.fit shape did.force in
     let long = c.list_length.ensures in
+    let most = c.max.ensures in
     record {
-      rows = λ synced x low high. subst (λ (n : ℕ). (place shape x).row < n) c.relied_rows-rows.ensures.rows
-          (place-row_below shape valid x rows c.relied_rows-rows.ensures.stripes (let all = le-of end c.list_length.result synced in omega (arith, all, high, long)));
+      rows = λ synced x low high out. subst (λ (n : ℕ). (place shape x).row < n) c.relied_rows-rows.ensures.rows
+          (place-row_below shape valid x rows c.relied_rows-rows.ensures.stripes (elim (cases_lt x end) [
+            | inl under ↦ (let all = le-of end c.max.result synced in omega (arith, all, most, low, under, long))
+            | inr past ↦ absurd (let both = sym out ∙ beside.inside x past high in cc)
+          ]));
       some = λ unsynced.
-          let short = above end c.list_length.result unsynced in
-          let some = did.some in (
+          let far = above end c.max.result unsynced in
+          let within = beside.within in (
             end - 1,
-            omega (arith, some),
-            omega (arith, some),
+            omega (arith, far, most),
+            omega (arith, far, within),
+            beside.last (omega (arith, far)),
             subst (λ (n : ℕ). n ≤ (place shape (end - 1)).row) c.relied_rows-rows.ensures.rows
                 (elim (cases_lt (place shape (end - 1)).row rows) [
-                  | inl low ↦ absurd (let near = place-sector_below shape valid (end - 1) rows c.relied_rows-rows.ensures.stripes low in omega (arith, near, long, short, some))
+                  | inl low ↦ absurd (let near = place-sector_below shape valid (end - 1) rows c.relied_rows-rows.ensures.stripes low in omega (arith, near, long, far, most))
                   | inr high ↦ high
                 ]),
           );

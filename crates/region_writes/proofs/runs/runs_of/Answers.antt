@@ -19,7 +19,7 @@ returns-then-low-to c =
       };
       low_relied = did.relied;
       high_relied = record {
-        rows = λ synced x low high. absurd (omega (arith, low, high));
+        rows = λ synced x low high out. absurd (omega (arith, low, high));
         some = λ unsynced. absurd (cc);
       };
       begins = did.first;

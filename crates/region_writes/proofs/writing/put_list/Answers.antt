@@ -69,8 +69,8 @@ returns-then-is_some-clause-refused g c =
     let cut = c.runs_of-cut.result in
     let are = c.runs_of-cut.ensures in
     let to = c.args.first + length c.args.from.now / 512 in
-    told-as _ _ _ c.prepare_runs-begun.result.refusal (runs-unwritten n c.args.relied c.args.first to cut.low cut.high
-    (runs-alike m.newest n.newest did.moved.reshape did.moved.shape did.moved.size c.args.relied c.args.first to cut.low cut.high are)) did.refused
+    told-as _ _ _ c.prepare_runs-begun.result.refusal (runs-unwritten n c.args.window c.args.relied c.args.first to cut.low cut.high
+    (runs-alike m.newest n.newest did.moved.reshape did.moved.shape did.moved.size c.args.window c.args.relied c.args.first to cut.low cut.high are)) did.refused
 
 pub returns-then-is_some-clause-put : goal.returns-then-is_some-clause-put
 returns-then-is_some-clause-put g c =
@@ -230,7 +230,7 @@ write_runs-done-requires-clause-apart g c =
     let far_rows = c.prepare_runs-begun.new.far_rows.items in
     let buffer = c.prepare_runs-begun.new.buffer.items in
     let far_buffer = c.prepare_runs-begun.new.far_buffer.items in
-    λ row near far. runs-apart m.newest c.requires.placed.fit c.args.relied c.args.first to cut.low cut.high are row
+    λ row near far. runs-apart m.newest c.requires.placed.fit c.args.window c.args.relied c.args.first to cut.low cut.high are row
     ((did.low_rows none).touched.only row (subst (λ (l : List ℕ). Contains l row) c.as_slice.ensures.value near))
     ((did.high_rows none).touched.only row (subst (λ (l : List ℕ). Contains l row) c.as_slice-2.ensures.value far))
 
@@ -349,8 +349,8 @@ returns-clause-refused g c =
     let tape2 = g.B.Bank.tape c.write_runs-done.new.bank in
     let two : IsMoved given n p = moved-from given given1 n n p did.given refl did2.moved in
     let all : IsMoved given m p = moved-then given m n p did.moved two in
-    let still = runs-alike m.newest p.newest all.reshape all.shape all.size c.args.relied c.args.first to cut.low cut.high are in
-    told-as _ _ _ c.write_runs-done.result.refusal (λ refusal torn. inl (runs-torn p c.args.relied c.args.first to cut.low cut.high still refusal torn)) did2.refused
+    let still = runs-alike m.newest p.newest all.reshape all.shape all.size c.args.window c.args.relied c.args.first to cut.low cut.high are in
+    told-as _ _ _ c.write_runs-done.result.refusal (λ refusal torn. inl (runs-torn p c.args.window c.args.relied c.args.first to cut.low cut.high still refusal torn)) did2.refused
 
 pub returns-clause-torn : goal.returns-clause-torn
 returns-clause-torn g c =
@@ -375,8 +375,8 @@ returns-clause-torn g c =
     let two : IsMoved given n p = moved-from given given1 n n p did.given refl did2.moved in
     λ begun.
     let all : IsMoved given m p = moved-then given m n p did.moved two in
-    let still = runs-alike m.newest p.newest all.reshape all.shape all.size c.args.relied c.args.first to cut.low cut.high are in
-    told-as _ _ _ c.write_runs-done.result.refusal (runs-torn p c.args.relied c.args.first to cut.low cut.high still) did2.refused
+    let still = runs-alike m.newest p.newest all.reshape all.shape all.size c.args.window c.args.relied c.args.first to cut.low cut.high are in
+    told-as _ _ _ c.write_runs-done.result.refusal (runs-torn p c.args.window c.args.relied c.args.first to cut.low cut.high still) did2.refused
 
 pub returns-clause-torn_rows : goal.returns-clause-torn_rows
 returns-clause-torn_rows g c =
@@ -399,9 +399,9 @@ returns-clause-torn_rows g c =
     let two : IsMoved given n p = moved-from given given1 n n p did.given refl did2.moved in
     let among : ℕ → Type 0 = λ row. IsTornTouched m.newest c.args.first to p row in
     let from_low : (DoesWithout cut.low.shape p → ⊥) → (row : ℕ) → Contains rows row → IsTornTouched m.newest c.args.first to p row =
-    λ never row has. torn-low m.newest c.requires.placed.fit c.args.relied c.args.first to cut.low cut.high are p row ((did.low_rows none).touched.only row has) never in
+    λ never row has. torn-low m.newest c.requires.placed.fit c.args.window c.args.relied c.args.first to cut.low cut.high are p row ((did.low_rows none).touched.only row has) never in
     let from_high : (DoesWithout cut.high.shape p → ⊥) → (row : ℕ) → Contains far_rows row → IsTornTouched m.newest c.args.first to p row =
-    λ never row has. torn-high m.newest c.requires.placed.fit c.args.relied c.args.first to cut.low cut.high are p row ((did.high_rows none).touched.only row has) never in
+    λ never row has. torn-high m.newest c.requires.placed.fit c.args.window c.args.relied c.args.first to cut.low cut.high are p row ((did.high_rows none).touched.only row has) never in
     let each : (refusal : Refusal) → LacksTooMany cut.high.shape p refusal
     ⊎ (LacksTooMany cut.low.shape p refusal × (g.B.Bank.tells → AreOtherRowsKept (Contains c.as_slice.result.now) (reading_of p) (present given1 tape1) (present given1 tape2)))
     → g.B.Bank.tells → AreOtherRowsKept (IsTornTouched m.newest c.args.first to p) (reading_of p) (present given tape0) (present given tape2) =
@@ -412,7 +412,7 @@ returns-clause-torn_rows g c =
     (elim why [
       | inl many ↦ rows-in (reading_of p) (present given1 tape1) (present given1 tape2) (λ row. Contains c.as_slice.result.now row ⊎ Contains c.as_slice-2.result.now row) among
           (λ row which. elim which [
-            | inl has ↦ from_low (low-torn m.newest c.requires.placed.fit c.args.relied c.args.first to cut.low cut.high are p refusal many) row (subst (λ (l : List ℕ). Contains l row) c.as_slice.ensures.value has)
+            | inl has ↦ from_low (low-torn m.newest c.requires.placed.fit c.args.window c.args.relied c.args.first to cut.low cut.high are p refusal many) row (subst (λ (l : List ℕ). Contains l row) c.as_slice.ensures.value has)
             | inr has ↦ from_high (never-does cut.high.shape p refusal many) row (subst (λ (l : List ℕ). Contains l row) c.as_slice-2.ensures.value has)
           ]) (did2.others told)
       | inr near ↦ rows-in (reading_of p) (present given1 tape1) (present given1 tape2) (Contains c.as_slice.result.now) among
@@ -456,7 +456,7 @@ returns-clause-put g c =
     let high_full : AreFull p (present given tape2) cut.high.shape c.args.first c.args.from.now far_rows far_buffer =
     subst (λ (b : Given). AreFull p (present b tape2) cut.high.shape c.args.first c.args.from.now far_rows far_buffer) did.given
     (subst (λ (l : List ℕ). AreFull p (present given1 tape2) cut.high.shape c.args.first c.args.from.now l far_buffer) c.as_slice-2.ensures.value (did2.high ok told)) in
-    list-written given m n p did.moved two c.requires.placed (present given tape0) (present given tape1) (present given tape2) (did.others told) c.args.relied c.args.first c.args.from.now cut.low cut.high are
+    list-written given m n p did.moved two c.requires.placed (present given tape0) (present given tape1) (present given tape2) (did.others told) c.args.window c.args.relied c.args.first c.args.from.now cut.low cut.high are
     rows buffer far_rows far_buffer (did.low_rows none) (did.high_rows none) (did.low none told) (did.high none told) kept low_full high_full (λ s. among s ≡ true) hidden list list' w stands
 
 pub returns-clause-tail : goal.returns-clause-tail
@@ -491,7 +491,7 @@ returns-clause-tail g c =
     let high_full : AreFull p (present given tape2) cut.high.shape c.args.first c.args.from.now far_rows far_buffer =
     subst (λ (b : Given). AreFull p (present b tape2) cut.high.shape c.args.first c.args.from.now far_rows far_buffer) did.given
     (subst (λ (l : List ℕ). AreFull p (present given1 tape2) cut.high.shape c.args.first c.args.from.now l far_buffer) c.as_slice-2.ensures.value (did2.high ok told)) in
-    tails-written given m n p did.moved two c.requires.placed (present given tape0) (present given tape1) (present given tape2) (did.others told) c.args.relied c.args.first c.args.from.now cut.low cut.high are
+    tails-written given m n p did.moved two c.requires.placed (present given tape0) (present given tape1) (present given tape2) (did.others told) c.args.window c.args.relied c.args.first c.args.from.now cut.low cut.high are
     rows buffer far_rows far_buffer (did.low_rows none) (did.high_rows none) (did.low none told) (did.high none told) kept low_full high_full list list' w stands
 
 pub returns-clause-ends : goal.returns-clause-ends
@@ -526,7 +526,7 @@ returns-clause-ends g c =
     let high_full : AreFull p (present given tape2) cut.high.shape c.args.first c.args.from.now far_rows far_buffer =
     subst (λ (b : Given). AreFull p (present b tape2) cut.high.shape c.args.first c.args.from.now far_rows far_buffer) did.given
     (subst (λ (l : List ℕ). AreFull p (present given1 tape2) cut.high.shape c.args.first c.args.from.now l far_buffer) c.as_slice-2.ensures.value (did2.high ok told)) in
-    ends-written given m n p did.moved two c.requires.placed (present given tape0) (present given tape1) (present given tape2) (did.others told) c.args.relied c.args.first c.args.from.now cut.low cut.high are
+    ends-written given m n p did.moved two c.requires.placed (present given tape0) (present given tape1) (present given tape2) (did.others told) c.args.window c.args.relied c.args.first c.args.from.now cut.low cut.high are
     rows buffer far_rows far_buffer (did.low_rows none) (did.high_rows none) (did.low none told) (did.high none told) kept low_full high_full list list' w stands
 
 pub returns-clause-rebuilt : goal.returns-clause-rebuilt
@@ -561,9 +561,9 @@ returns-clause-rebuilt g c =
     let low_shown : (x : ℕ) → cut.low.first ≤ x → x < cut.low.end → IsShown None m.newest x =
     λ x from end. record { within = let within = are.low.within in omega (arith, end, within); outside = refl } in
     let chosen = choose given m n p did.moved two c.requires.placed cut.low are.low (present given tape0) c.args.first c.args.from.now rows buffer (did.low_rows none) (did.low none told)
-    c.args.relied are.low_relied None list low_shown (λ span is. absurd (cc)) (λ x slot own out held. stands x slot out held) (λ own x slot tail held. absurd (let both = sym still ∙ tail.active in cc))
-    (elim which [ inl whole ↦ inl whole | inr rows ↦ inr (λ x lt own out. rows x lt out) ]) list' w in
-    rebuilt-written given m n p did.moved two c.requires.placed (present given tape0) (present given tape1) (present given tape2) (did.others told) c.args.relied c.args.first c.args.from.now cut.low cut.high are
+    c.args.window c.args.relied are.low_relied None list low_shown (λ span is. absurd (cc)) (λ x slot own out held. stands x slot out held) (λ own x slot tail held. absurd (let both = sym still ∙ tail.active in cc))
+    (elim which [ inl whole ↦ inl whole | inr rows ↦ inr ((λ x lt own out. rows.0 x lt out), rows.1) ]) list' w in
+    rebuilt-written given m n p did.moved two c.requires.placed (present given tape0) (present given tape1) (present given tape2) (did.others told) c.args.window c.args.relied c.args.first c.args.from.now cut.low cut.high are
     rows buffer far_rows far_buffer (did.low_rows none) (did.high_rows none) (did.low none told) (did.high none told) kept still list list' w rebuilt chosen
 
 pub returns-clause-unused : goal.returns-clause-unused
@@ -602,11 +602,11 @@ returns-clause-others g c =
     subst (λ (b : Given). AreOtherRowsKept (λ row. Contains rows row ⊎ Contains far_rows row) (reading_of p) (present b tape1) (present b tape2)) did.given
     (subst (λ (l : List ℕ). AreOtherRowsKept (λ row. Contains rows row ⊎ Contains l row) (reading_of p) (present given1 tape1) (present given1 tape2)) c.as_slice-2.ensures.value
     (subst (λ (l : List ℕ). AreOtherRowsKept (λ row. Contains l row ⊎ Contains c.as_slice-2.result.now row) (reading_of p) (present given1 tape1) (present given1 tape2)) c.as_slice.ensures.value (did2.others told))) in
-    others-kept given m n p did.moved two c.requires.placed (present given tape0) (present given tape1) (present given tape2) (did.others told) c.args.relied c.args.first c.args.from.now cut.low cut.high are
+    others-kept given m n p did.moved two c.requires.placed (present given tape0) (present given tape1) (present given tape2) (did.others told) c.args.window c.args.relied c.args.first c.args.from.now cut.low cut.high are
     rows buffer far_rows far_buffer (did.low_rows none) (did.high_rows none) (did.low none told) (did.high none told) kept
     (IsListTouched m.newest c.args.first to)
-    (λ row has. touched-low m.newest c.requires.placed.fit c.args.relied c.args.first to cut.low cut.high are row ((did.low_rows none).touched.only row has))
-    (λ row has. touched-high m.newest c.requires.placed.fit c.args.relied c.args.first to cut.low cut.high are row ((did.high_rows none).touched.only row has))
+    (λ row has. touched-low m.newest c.requires.placed.fit c.args.window c.args.relied c.args.first to cut.low cut.high are row ((did.low_rows none).touched.only row has))
+    (λ row has. touched-high m.newest c.requires.placed.fit c.args.window c.args.relied c.args.first to cut.low cut.high are row ((did.high_rows none).touched.only row has))
 
 pub returns-clause-good : goal.returns-clause-good
 returns-clause-good g c =
@@ -629,7 +629,7 @@ returns-clause-good g c =
     let did2 = c.write_runs-done.ensures in
     let tape2 = g.B.Bank.tape c.write_runs-done.new.bank in
     let two : IsMoved given n p = moved-from given given1 n n p did.given refl did2.moved in
-    λ ok told among hidden list list' w small shown bound trusted stands.
+    λ ok told among hidden list list' w small shown fresh bound trusted stands.
     let kept : AreOtherRowsKept (λ row. Contains rows row ⊎ Contains far_rows row) (reading_of p) (present given tape1) (present given tape2) =
     subst (λ (b : Given). AreOtherRowsKept (λ row. Contains rows row ⊎ Contains far_rows row) (reading_of p) (present b tape1) (present b tape2)) did.given
     (subst (λ (l : List ℕ). AreOtherRowsKept (λ row. Contains rows row ⊎ Contains l row) (reading_of p) (present given1 tape1) (present given1 tape2)) c.as_slice-2.ensures.value
@@ -640,9 +640,9 @@ returns-clause-good g c =
     let high_full : AreFull p (present given tape2) cut.high.shape c.args.first c.args.from.now far_rows far_buffer =
     subst (λ (b : Given). AreFull p (present b tape2) cut.high.shape c.args.first c.args.from.now far_rows far_buffer) did.given
     (subst (λ (l : List ℕ). AreFull p (present given1 tape2) cut.high.shape c.args.first c.args.from.now l far_buffer) c.as_slice-2.ensures.value (did2.high ok told)) in
-    rows-written given m n p did.moved two c.requires.placed (present given tape0) (present given tape1) (present given tape2) (did.others told) c.args.relied c.args.first c.args.from.now cut.low cut.high are
+    rows-written given m n p did.moved two c.requires.placed (present given tape0) (present given tape1) (present given tape2) (did.others told) c.args.window c.args.relied c.args.first c.args.from.now cut.low cut.high are
     rows buffer far_rows far_buffer (did.low_rows none) (did.high_rows none) (did.low none told) (did.high none told) kept low_full high_full hidden list list' w
-    (λ x low high. sectors-whole c.args.from.now c.requires.from small (x - c.args.first) (omega (arith, low, high))) shown (λ s. among s ≡ true) bound trusted stands
+    (λ x low high. sectors-whole c.args.from.now c.requires.from small (x - c.args.first) (omega (arith, low, high))) shown (λ s. among s ≡ true) fresh bound trusted stands
 
 pub returns-clause-begun : goal.returns-clause-begun
 returns-clause-begun g c =
@@ -662,7 +662,7 @@ returns-clause-begun g c =
     let buffer = c.prepare_runs-begun.new.buffer.items in
     let far_buffer = c.prepare_runs-begun.new.far_buffer.items in
     let does = did.does none in
-    λ begun. each-does m c.args.relied c.args.first to cut.low cut.high are (shape-without-before given m n did.moved cut.low.shape does.0) (shape-without-before given m n did.moved cut.high.shape does.1)
+    λ begun. each-does m c.args.window c.args.relied c.args.first to cut.low cut.high are (shape-without-before given m n did.moved cut.low.shape does.0) (shape-without-before given m n did.moved cut.high.shape does.1)
 
 pub returns-clause-dirty : goal.returns-clause-dirty
 returns-clause-dirty g c =
@@ -745,13 +745,13 @@ returns-clause-safe g c =
     let own : Shape → Type 0 = λ s. IsShapeOf m.newest c.args.first to s in
     let low_own : IsShapeOf m.newest c.args.first to cut.low.shape =
     (c.args.first, omega arith, omega (arith, c.requires.some), are.low.one c.args.first (let begins = are.begins in omega (arith, begins)) (let begins = are.begins in let some = are.some in omega (arith, begins, some))) in
-    let high_own : IsShapeOf m.newest c.args.first to cut.high.shape = high-sector m c.args.relied c.args.first to cut.low cut.high are in
+    let high_own : IsShapeOf m.newest c.args.first to cut.high.shape = high-sector m c.args.window c.args.relied c.args.first to cut.low cut.high are in
     let near = choose given m n p did.moved two c.requires.placed cut.low are.low (present given tape0) c.args.first c.args.from.now rows buffer low_rows (did.low none told)
-    c.args.relied are.low_relied hidden list low_shown window (list-in-one own cut.low.shape low_own m (present given tape0) hidden list stands) (tails-in-one own cut.low.shape low_own m (present given tape0) hidden list tails)
-    (elim which [ inl whole ↦ inl whole | inr rows ↦ inr (rows-in-one own cut.low.shape low_own m (present given tape0) hidden list c.args.relied rows) ]) list' w in
+    c.args.window c.args.relied are.low_relied hidden list low_shown window (list-in-one own cut.low.shape low_own m (present given tape0) hidden list stands) (tails-in-one own cut.low.shape low_own m (present given tape0) hidden list tails)
+    (elim which [ inl whole ↦ inl whole | inr rows ↦ inr (rows-in-one own cut.low.shape low_own m (present given tape0) hidden list c.args.relied rows.0, rows.1) ]) list' w in
     let far = choose given m n p did.moved two c.requires.placed cut.high are.high (present given tape0) c.args.first c.args.from.now far_rows far_buffer high_rows (did.high none told)
-    c.args.relied are.high_relied hidden list high_shown window (list-in-one own cut.high.shape high_own m (present given tape0) hidden list stands) (tails-in-one own cut.high.shape high_own m (present given tape0) hidden list tails)
-    (elim which [ inl whole ↦ inl whole | inr rows ↦ inr (rows-in-one own cut.high.shape high_own m (present given tape0) hidden list c.args.relied rows) ]) list' w in
+    c.args.window c.args.relied are.high_relied hidden list high_shown window (list-in-one own cut.high.shape high_own m (present given tape0) hidden list stands) (tails-in-one own cut.high.shape high_own m (present given tape0) hidden list tails)
+    (elim which [ inl whole ↦ inl whole | inr rows ↦ inr (rows-in-one own cut.high.shape high_own m (present given tape0) hidden list c.args.relied rows.0, rows.1) ]) list' w in
     let low_region : IsOfRegion n cut.low.shape (Contains c.as_slice.result.now) = region-later given m n cut.low.shape (Contains c.as_slice.result.now) did.moved
     (λ x lt at. run-region m.newest c.requires.placed.fit cut.low are.low _ x (low_rows.touched.only _ (subst (λ (l : List ℕ). Contains l (place_by m.newest x).row) c.as_slice.ensures.value at)) lt refl) in
     let high_region : IsOfRegion n cut.high.shape (Contains c.as_slice-2.result.now) = region-later given m n cut.high.shape (Contains c.as_slice-2.result.now) did.moved

@@ -1,7 +1,8 @@
 use Rattle.std.proofs.Common.{◌≡◌, ◌⊎◌, ℕ, min, inl, inr, refl, ap, subst, arith}
 use Rattle.std.proofs.lemmas.Bool.{cases_lt}
 use Rattle.std.specs.Prelude.{IfSome}
-use Rattle.flat_history.specs.declared.events.Event.TheVariants.{Stepped}
+use Rattle.md_base.specs.declared.answers.Refusal.TheVariants.{Nothing}
+use Rattle.flat_history.specs.declared.events.Event.TheVariants.{Stepped, Refused}
 use Rattle.superblocks.specs.Reading.{list_length}
 use Rattle.running.specs.running_replies_Replies.{IsRefusalBy}
 use Rattle.running.proofs.running_replies_GoneOn.{gone-none}
@@ -9,7 +10,7 @@ use Rattle.running.specs.Calls.{running_left}
 use Rattle.running_steps.proofs.Went.{epoch-of}
 use Rattle.running_steps.proofs.Plain.{open-begins}
 use Rattle.running_steps.proofs.Refusals.{steps-may}
-use Rattle.running_steps.proofs.Replies.{rest-answered, answered-nothing, answered-stepped, gone-behind, gone-answered, may-answer}
+use Rattle.running_steps.proofs.Replies.{rest-answered, answered-nothing, answered-stepped, gone-room, gone-behind, gone-answered, may-answer}
 use Rattle.running_steps.proofs.batch.steps.Goals as goal
 
 least-is : (count most start : ℕ) → count ≡ min most start → (count ≡ most) ⊎ (count ≡ start)
@@ -65,6 +66,15 @@ pub returns-then-count-eq0-clause-rest : goal.returns-then-count-eq0-clause-rest
 returns-then-count-eq0-clause-rest g c =
     let a = c.answer.ensures in
     rest-answered c.make_room.new.self c.answer.new.self a.members a.called.work a.course a.called.same.ahead a.rest
+
+pub returns-then-count-eq0-clause-went : goal.returns-then-count-eq0-clause-went
+returns-then-count-eq0-clause-went g c =
+    let old = c.args.array.now in
+    let mid = c.make_room.new.self in
+    let new = c.answer.new.self in
+    let a = c.answer.ensures in
+    gone-answered g.B.Bank.tells g.B.Bank.given g.B.Bank.tape g.B.Bank.faults_of old mid new c.args.who (Refused Nothing) a.entered.end (gone-room g.B.Bank.tells g.B.Bank.given g.B.Bank.tape g.B.Bank.faults_of old mid c.in-Some.room c.in-Ok.ensures.room)
+    a.entered.is a.bank a.members a.called.same.ahead (epoch-of mid new a.called.same) (λ n. refl) (λ Had before now. tt) tt
 
 pub returns-clause-went : goal.returns-clause-went
 returns-clause-went g c =

@@ -2,8 +2,9 @@ use Rattle.md_base.specs.declared.answers.Refusal.TheVariants.{Nothing}
 use Rattle.flat_history.specs.declared.events.Event.TheVariants.{Refused}
 use Rattle.array_kept.proofs.LossLaws.{behind-alone}
 use Rattle.running.proofs.running_replies_GoneOn.{gone-none}
-use Rattle.std.proofs.Common.{ap}
-use Rattle.running_steps.proofs.Replies.{done-behind, answered-refused}
+use Rattle.std.proofs.Common.{refl, ap}
+use Rattle.running_steps.proofs.Went.{epoch-of}
+use Rattle.running_steps.proofs.Replies.{gone-room, gone-answered, gone-behind, done-behind, answered-refused}
 use Rattle.running_steps.proofs.stepping.step.Goals as goal
 
 pub returns-in-Err-clause-went : goal.returns-in-Err-clause-went
@@ -21,3 +22,20 @@ returns-in-Ok-take_step-clause-answered g c = (
 pub returns-in-Err-take_step-clause-answered : goal.returns-in-Err-take_step-clause-answered
 returns-in-Err-take_step-clause-answered g c =
     answered-refused g.B.Bank.tells g.B.Bank.given g.B.Bank.tape g.B.Bank.faults_of c.args.array.now c.make_room.new.self c.take_step.new.array 2 c.in-Ok.ensures.room c.args.who c.in-Err-take_step.refusal c.in-Err-take_step.ensures.taken
+
+pub returns-then-left-eq0-clause-went : goal.returns-then-left-eq0-clause-went
+returns-then-left-eq0-clause-went g c =
+    let old = c.args.array.now in
+    let mid = c.make_room.new.self in
+    let new = c.answer.new.self in
+    let a = c.answer.ensures in
+    gone-answered g.B.Bank.tells g.B.Bank.given g.B.Bank.tape g.B.Bank.faults_of old mid new c.args.who (Refused Nothing) a.entered.end (gone-room g.B.Bank.tells g.B.Bank.given g.B.Bank.tape g.B.Bank.faults_of old mid 2 c.in-Ok.ensures.room)
+    a.entered.is a.bank a.members a.called.same.ahead (epoch-of mid new a.called.same) (λ n. refl) (λ Had before now. tt) tt
+
+pub returns-in-Ok-take_step-clause-went : goal.returns-in-Ok-take_step-clause-went
+returns-in-Ok-take_step-clause-went g c =
+    gone-behind g.B.Bank.tells g.B.Bank.given g.B.Bank.tape g.B.Bank.faults_of c.args.array.now c.make_room.new.self c.take_step.new.array 2 c.in-Ok.ensures.room c.in-Ok-take_step.ensures.taken.went
+
+pub returns-in-Err-take_step-clause-went : goal.returns-in-Err-take_step-clause-went
+returns-in-Err-take_step-clause-went g c =
+    gone-behind g.B.Bank.tells g.B.Bank.given g.B.Bank.tape g.B.Bank.faults_of c.args.array.now c.make_room.new.self c.take_step.new.array 2 c.in-Ok.ensures.room c.in-Err-take_step.ensures.taken.went

@@ -1,5 +1,6 @@
-use Rattle.std.proofs.Common.{inl, ◌≤◌, ◌+◌, ℕ, [], ◌∷◌, Some, refl, sym, subst, arith}
+use Rattle.std.proofs.Common.{inl, ◌≤◌, ◌+◌, ℕ, Option, [], ◌∷◌, Some, refl, sym, subst, arith}
 use Rattle.md_base.specs.declared.answers.Refusal.{Refusal}
+use Rattle.md_base.specs.declared.places.Span.{Span}
 use Rattle.superblocks.specs.Reading.{list_length}
 use Rattle.flat_history.specs.declared.events.Event.TheVariants.{Refused}
 use Rattle.flat_history.specs.Plain.{entries_of}
@@ -10,6 +11,7 @@ use Rattle.array_kept.specs.Calls.{IsRefusedFor}
 use Rattle.array_kept.proofs.LossLaws.{ended-behind, behind-alone}
 use Rattle.array_kept.proofs.ReadyLaws.{scope-same}
 use Rattle.region_writes.specs.Runs.{IsListUnwritten}
+use Rattle.moving_laws.specs.moving_state_Due.{open_in}
 use Rattle.moving_laws.specs.region_mends_Mends.{relied_sector}
 use Rattle.kept_history.specs.Recorded.{IsCallGoing}
 use Rattle.moving_laws.proofs.moving_kept_Refusals.{quiet-refusal}
@@ -38,7 +40,7 @@ invariant_of-self g c =
     let refusal = c.in-Some.refusal in
     let kept = resting-moves g.B.Bank.tells given tape scope a.epoch.first a.epoch.entries.items a.members (is_carried a.work) a.work.resync a.course (bytes_in a.course.window a.window.items) (left_in a.work a.members a.course a.ahead)
     c.args.who end (Refused refusal) was.kept goes (not_254 c.args.who.caller c.requires.caller) c.ops-end.ensures.count (quiet-refusal refusal) (λ told is. is)
-    (λ t right. first-right was.kept was.limited c.relied_sector-relied.result c.args.at to refusal c.relied_sector-relied.ensures.value c.in-Some.ensures.why t right) in
+    (λ t right. first-right was.kept was.limited c.open_span-window.result c.relied_sector-relied.result c.args.at to refusal c.relied_sector-relied.ensures.value c.in-Some.ensures.why t right) in
     ready (entries_of c.args.who end (Refused refusal ∷ [])) was (grows-none (λ t. refl)) (shapes-same a.members.newest) kept
     refl (λ slot. omega arith) (alone-keeps c.args.who end (Refused refusal) (λ n. refl) (λ limit. refl)) (λ none whole. whole) refl (scope-same given (Some a.backup) refl c.enter.ensures.uuid c.enter.ensures.given) c.enter.ensures.first refl c.enter.ensures.items
     (let had = was.room_left in let room = c.enter.ensures.room in omega (arith, room, had, steps))
@@ -67,8 +69,9 @@ returns-in-Some-clause-caused g c =
     let a = c.self.inside in
     let to = c.args.at + c.args.count in
     let relied = relied_sector a.members.newest a.work.resync in
-    rw (← c.self.view_is) (wider-refused (visible_size a.members a.limit) to (IsListUnwritten relied c.args.at to) a.members c.in-Some.refusal
-    (subst (λ (n : ℕ). IsRefusedFor (visible_size a.members a.limit) to (IsListUnwritten n c.args.at to) a.members a.members c.in-Some.refusal) c.relied_sector-relied.ensures.value c.in-Some.ensures.why))
+    rw (← c.self.view_is) (wider-refused (visible_size a.members a.limit) to (IsListUnwritten (open_in a.course.window) relied c.args.at to) a.members c.in-Some.refusal
+    (subst (λ (o : Option Span). IsRefusedFor (visible_size a.members a.limit) to (IsListUnwritten o relied c.args.at to) a.members a.members c.in-Some.refusal) c.open_span-window.ensures
+    (subst (λ (n : ℕ). IsRefusedFor (visible_size a.members a.limit) to (IsListUnwritten c.open_span-window.result n c.args.at to) a.members a.members c.in-Some.refusal) c.relied_sector-relied.ensures.value c.in-Some.ensures.why)))
 
 -- ---- behind it
 
@@ -77,9 +80,10 @@ returns-clause-caused g c =
     let old = c.args.self.now.parts in
     let m = old.members in
     let to = c.args.at + c.args.count in
-    let fine = subst (λ p. (to ≤ visible_in p) × ((refusal : Refusal) → IsListUnwritten (relied_sector p.parts.members.newest p.parts.work.resync) c.args.at to p.parts.members refusal → ⊥)) c.self.view_is
-    (c.in_default.ensures.why.0, λ refusal why. c.in_default.ensures.why.1 refusal (subst (λ (n : ℕ). IsListUnwritten n c.args.at to c.self.inside.members refusal) (sym c.relied_sector-relied.ensures.value) why)) in
-    finish-caused (list_length m.newest) (visible_in c.args.self.now) to (IsListUnwritten (relied_sector m.newest old.work.resync) c.args.at to) m c.finish_window.new.self.parts.members c.finish_window.result fine.0 fine.1 c.finish_window.ensures.caused
+    let fine = subst (λ p. (to ≤ visible_in p) × ((refusal : Refusal) → IsListUnwritten (open_in p.course.window) (relied_sector p.parts.members.newest p.parts.work.resync) c.args.at to p.parts.members refusal → ⊥)) c.self.view_is
+    (c.in_default.ensures.why.0, λ refusal why. c.in_default.ensures.why.1 refusal (subst (λ (o : Option Span). IsListUnwritten o c.relied_sector-relied.result c.args.at to c.self.inside.members refusal) (sym c.open_span-window.ensures)
+    (subst (λ (n : ℕ). IsListUnwritten (open_in c.self.inside.course.window) n c.args.at to c.self.inside.members refusal) (sym c.relied_sector-relied.ensures.value) why))) in
+    finish-caused (list_length m.newest) (visible_in c.args.self.now) to (IsListUnwritten (open_in c.args.self.now.course.window) (relied_sector m.newest old.work.resync) c.args.at to) m c.finish_window.new.self.parts.members c.finish_window.result fine.0 fine.1 c.finish_window.ensures.caused
 
 pub returns-in-Some-clause-failed : goal.returns-in-Some-clause-failed
 returns-in-Some-clause-failed g c = rw (← c.self.view_is) (λ role slot held. inl held)

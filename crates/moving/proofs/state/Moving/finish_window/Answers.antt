@@ -1,6 +1,7 @@
 use Rattle.std.proofs.Common.{◌⊎◌, inl, ◌≤◌, ℕ, ◌-◌, ◌*◌, List, [], ◌∷◌, ◌++◌, take, Some, refl, sym, subst, arith}
 use Rattle.std.specs.Vec.{with_items}
 use Rattle.superblocks.specs.Reading.{final_shape, list_length}
+use Rattle.row_io.specs.Rows.{present}
 use Rattle.flat_history.specs.declared.events.Event.TheVariants.{Refused, Step}
 use Rattle.flat_history.specs.declared.events.StepKind.TheVariants.{WindowFinished as FinishesWindow}
 use Rattle.flat_history.specs.Plain.{entries_of}
@@ -26,6 +27,8 @@ use Rattle.moving_laws.proofs.moving_kept_Going.{going-on}
 use Rattle.moving_laws.proofs.moving_kept_Refusals.{quiet-refusal, refused-right}
 use Rattle.moving_laws.proofs.moving_kept_Resting.{resting-moves}
 use Rattle.moving_laws.proofs.moving_kept_Steps.{missing-since}
+use Rattle.moving_laws.specs.moving_kept_Moving.{IsWindowStanding}
+use Rattle.moving_laws.specs.moving_state_Due.{open_in}
 use Rattle.moving_laws.specs.running_words_Parts.{left_in}
 use Rattle.moving_laws.specs.Ready.{bytes_in}
 use Rattle.moving_laws.specs.Writing.{IsWindowOpen}
@@ -33,7 +36,7 @@ use Rattle.moving_laws.proofs.running_words_Called.{not_254, called, alone-lossl
 use Rattle.moving_laws.proofs.Kept.{ready, ready-moved, shapes-same, shapes-moved, alone-keeps, behind-keeps, behind-whole, with-buffer}
 use Rattle.moving_laws.proofs.RecordLaws.{moved-if, moved-none, shapes-past}
 use Rattle.moving_laws.proofs.Settled.{many-of}
-use Rattle.moving_laws.proofs.WriteLaws.{finish-relied, finished-missing, open-is, finish-left, finish-done, finish-refused}
+use Rattle.moving_laws.proofs.WriteLaws.{finish-relied, finished-missing, open-is, finish-left, finish-done, finish-stands, finish-refused, recorded-as}
 use Rattle.moving.proofs.state.Moving.finish_window.Goals as goal
 
 -- ---- the members lack too many
@@ -219,6 +222,49 @@ invariant_of-self-2 g c =
     refl did.counts (behind-keeps c.args.who end roles spares (Step FinishesWindow left) (λ n. refl) (λ limit. refl))
     (behind-whole {old = moved_past span a.members} tape' scope a.epoch.first a.epoch.entries.items c.args.who end roles spares (Step FinishesWindow left) moved (missing-since {old = moved_past span a.members} roles moved did.since.vacant)) did.given (scope-same given (Some a.backup) did.given c.enter_behind-2.ensures.uuid c.enter_behind-2.ensures.given) c.enter_behind-2.ensures.first refl c.enter_behind-2.ensures.items
     (let had = was.room_left in let room = c.enter_behind-2.ensures.room in omega (arith, room, had, steps)))
+
+pub returns-clause-stood : goal.returns-clause-stood
+returns-clause-stood g c =
+    let was = c.self.invariant in
+    let a = c.self.inside in
+    let given = g.B.Bank.given a.bank in
+    let scope = scope_in given a.epoch.uuid a.epoch.given (Some a.backup) in
+    let goes : IsCallGoing a.epoch.entries.items c.args.who = subst (λ p. IsCallGoing p.parts.entries c.args.who) (sym c.self.view_is) c.requires.open in
+    let m = c.finish_rest-rest.new.members in
+    let did = c.finish_rest-rest.ensures in
+    let tape = g.B.Bank.tape a.bank in
+    let tape' = g.B.Bank.tape c.finish_rest-rest.new.bank in
+    let given' = g.B.Bank.given c.finish_rest-rest.new.bank in
+    let roles = c.finish_rest-rest.result.roles in
+    let spares = c.finish_rest-rest.result.spares in
+    let end = c.ops-end-2.result in
+    let left = c.steps_left-left.result in
+    let none = c.in_default-refusal.is in
+    let span = c.in-Entered.span in
+    let epoch = c.enter_behind-2.new.epoch in
+    let due = open-is _ span c.in-Entered.copied c.in-Entered.sectioned (subst (λ p. IsWindowOpen p) (sym c.self.view_is) c.requires.due) c.in-Entered.is in
+    let by : IsFinishedBy g.B.Bank.tells given tape tape' a.members m (final_shape a.members.newest) span c.in-Entered.copied c.finish_rest-rest.result.copied (take (512 * (span.hi - span.lo)) c.as_slice.result.now) roles c.finish_rest-rest.result.refusal =
+    record {
+      final = refl;
+      moved = did.moved;
+      refused = did.refused;
+      clean = did.clean;
+      all = did.all;
+      stands = did.stands;
+      others = did.others;
+      plain = did.plain;
+      rise = did.rise;
+      unused = did.unused;
+      since = finished-missing given a.members m span c.finish_rest-rest.result.refusal did.moved did.since;
+      safe = did.safe;
+    } in
+    let stands = finish-stands a.course a.ahead a.window.items span c.in-Entered.copied c.finish_rest-rest.result.copied c.in-Entered.sectioned c.args.who end roles spares was.kept due goes c.requires.caller c.ops-end-2.ensures.count
+    did.grows c.in_default.ensures c.finish_rest-rest.result.refusal
+    (subst (λ (l : List ℕ). IsFinishedBy g.B.Bank.tells given tape tape' a.members m (final_shape a.members.newest) span c.in-Entered.copied c.finish_rest-rest.result.copied (take (512 * (span.hi - span.lo)) l) roles c.finish_rest-rest.result.refusal) c.as_slice.ensures.value by)
+    left none c.steps_left-left.ensures in
+    rw (← c.self.view_is) (λ t.
+    subst (λ (w : Window). IsWindowStanding (open_in w) (world_in given' tape' (scope_in given' epoch.uuid epoch.given (Some a.backup)) epoch.first) epoch.entries.items m (present given' tape')) (sym c.in-Entered.is)
+    (recorded-as (Some span) tape' m did.given (scope-same given (Some a.backup) did.given c.enter_behind-2.ensures.uuid c.enter_behind-2.ensures.given) c.enter_behind-2.ensures.first c.enter_behind-2.ensures.items (stands t)))
 
 pub returns-clause-goes : goal.returns-clause-goes
 returns-clause-goes g c =

@@ -1,4 +1,4 @@
-use Rattle.std.proofs.Common.{inr, ◌≡◌, ◌≤◌, ◌+◌, ℕ, [], ◌∷◌, Some, refl, sym, subst, arith}
+use Rattle.std.proofs.Common.{inr, ◌≡◌, ◌≤◌, ◌+◌, ℕ, Option, [], ◌∷◌, Some, refl, sym, subst, arith}
 use Rattle.std.specs.Prelude.{Result, Err}
 use Rattle.md_base.specs.declared.answers.Fault.{Fault as AnyFault}
 use Rattle.md_base.specs.declared.answers.Fault.TheVariants.{Refused as IsRefusedWith}
@@ -46,7 +46,7 @@ invariant_of-self g c =
     let refusal = c.in-Some.refusal in
     let kept = resting-moves g.B.Bank.tells given tape scope a.epoch.first a.epoch.entries.items a.members (is_carried a.work) a.work.resync a.course (bytes_in a.course.window a.window.items) (left_in a.work a.members a.course a.ahead)
     c.args.who end (Refused refusal) was.kept goes (not_254 c.args.who.caller c.requires.caller) c.ops-end.ensures.count (quiet-refusal refusal) (λ told is. is)
-    (λ t right. first-right was.kept was.limited c.relied_sector-relied.result c.args.at (c.args.at + c.args.count) refusal c.relied_sector-relied.ensures.value c.in-Some.ensures.why t right) in
+    (λ t right. first-right was.kept was.limited c.open_span-window.result c.relied_sector-relied.result c.args.at (c.args.at + c.args.count) refusal c.relied_sector-relied.ensures.value c.in-Some.ensures.why t right) in
     ready (entries_of c.args.who end (Refused refusal ∷ [])) was (grows-none (λ t. refl)) (shapes-same a.members.newest) kept
     refl (λ slot. omega arith) (alone-keeps c.args.who end (Refused refusal) (λ n. refl) (λ limit. refl)) (λ none whole. whole) refl (scope-same given (Some a.backup) refl c.enter.ensures.uuid c.enter.ensures.given) c.enter.ensures.first refl c.enter.ensures.items
     (let had = was.room_left in let room = c.enter.ensures.room in omega (arith, room, had, steps))
@@ -73,10 +73,10 @@ unsure-touched (Entered span copied sectioned) from to touched = absurd (let cov
 unsure-touched (Unsure span) from to touched = (span, refl)
 
 -- no write beside it is refused for the backup
-unwritten-never : {P : Type 0} (visible relied at to : ℕ) (m : Members) (refusal : Refusal) → IsRefusedFor visible to (IsListUnwritten relied at to) m m refusal → refusal ≡ BackupFault → P
-unwritten-never visible relied at to m refusal why is =
-    let told = subst (λ (r : Refusal). IsRefusedFor visible to (IsListUnwritten relied at to) m m r) is why in
-    absurd ((torn-missing relied at to m BackupFault told.1).0)
+unwritten-never : {P : Type 0} (window : Option Span) (visible relied at to : ℕ) (m : Members) (refusal : Refusal) → IsRefusedFor visible to (IsListUnwritten window relied at to) m m refusal → refusal ≡ BackupFault → P
+unwritten-never window visible relied at to m refusal why is =
+    let told = subst (λ (r : Refusal). IsRefusedFor visible to (IsListUnwritten window relied at to) m m r) is why in
+    absurd ((torn-missing window relied at to m BackupFault told.1).0)
 
 backup-caused : {T : Type 0} (window : Window) (visible relied at to : ℕ) (old new : Members) (result : Result T AnyFault) → result ≡ Err (IsRefusedWith BackupFault) → to ≤ visible → TouchesUnsure window at to
     → IsCausedBy visible to (IsWriteBarred window relied at to) old new result
@@ -89,11 +89,12 @@ returns-in-Some-clause-caused g c =
     let to = c.args.at + c.args.count in
     let relied = relied_sector a.members.newest a.work.resync in
     rw (← c.self.view_is) (unwritten-barred a.course.window (visible_size a.members a.limit) relied c.args.at to a.members c.in-Some.refusal
-    (subst (λ (n : ℕ). IsRefusedFor (visible_size a.members a.limit) to (IsListUnwritten n c.args.at to) a.members a.members c.in-Some.refusal) c.relied_sector-relied.ensures.value c.in-Some.ensures.why))
+    (subst (λ (o : Option Span). IsRefusedFor (visible_size a.members a.limit) to (IsListUnwritten o relied c.args.at to) a.members a.members c.in-Some.refusal) c.open_span-window.ensures
+    (subst (λ (n : ℕ). IsRefusedFor (visible_size a.members a.limit) to (IsListUnwritten c.open_span-window.result n c.args.at to) a.members a.members c.in-Some.refusal) c.relied_sector-relied.ensures.value c.in-Some.ensures.why)))
 
 pub returns-in-Some-clause-backup : goal.returns-in-Some-clause-backup
 returns-in-Some-clause-backup g c = λ is.
-    unwritten-never (visible_size c.self.inside.members c.self.inside.limit) c.relied_sector-relied.result c.args.at (c.args.at + c.args.count) c.self.inside.members c.in-Some.refusal c.in-Some.ensures.why (let same = is in cc)
+    unwritten-never c.open_span-window.result (visible_size c.self.inside.members c.self.inside.limit) c.relied_sector-relied.result c.args.at (c.args.at + c.args.count) c.self.inside.members c.in-Some.refusal c.in-Some.ensures.why (let same = is in cc)
 
 -- ---- the backup fails
 

@@ -24,6 +24,8 @@ use Rattle.moving_laws.specs.region_mends_Mends.{relied_sector}
 use Rattle.region_writes.specs.Runs.{IsTornTouched, IsListTorn, IsListUnwritten}
 use Rattle.kept_history.specs.Recorded.{IsCallGoing}
 use Rattle.moving_laws.specs.course_kept_Course.{span_in}
+use Rattle.moving_laws.specs.moving_kept_Moving.{IsWindowStanding}
+use Rattle.moving_laws.specs.running_words_Calls.{moving_world}
 use Rattle.moving_laws.proofs.moving_kept_Refusals.{quiet-refusal}
 use Rattle.moving_laws.proofs.moving_kept_Resting.{resting-moves}
 use Rattle.moving_laws.proofs.moving_kept_Steps.{missing-since}
@@ -54,7 +56,7 @@ invariant_of-self g c =
     let refusal = c.in-Some.refusal in
     let kept = resting-moves g.B.Bank.tells given tape scope a.epoch.first a.epoch.entries.items a.members (is_carried a.work) a.work.resync a.course (bytes_in a.course.window a.window.items) (left_in a.work a.members a.course a.ahead)
     c.args.who end (Refused refusal) was.kept goes (not_254 c.args.who.caller c.requires.caller) c.ops-end.ensures.count (quiet-refusal refusal) (λ told is. is)
-    (λ t right. first-right was.kept was.limited c.relied_sector-relied.result c.args.at to refusal c.relied_sector-relied.ensures.value c.in-Some.ensures.why t right) in
+    (λ t right. first-right was.kept was.limited c.args.past c.relied_sector-relied.result c.args.at to refusal c.relied_sector-relied.ensures.value c.in-Some.ensures.why t right) in
     ready (entries_of c.args.who end (Refused refusal ∷ [])) was (grows-none (λ t. refl)) (shapes-same a.members.newest) kept
     refl (λ slot. omega arith) (alone-keeps c.args.who end (Refused refusal) (λ n. refl) (λ limit. refl)) (λ none whole. whole) refl (scope-same given (Some a.backup) refl c.enter.ensures.uuid c.enter.ensures.given) c.enter.ensures.first refl c.enter.ensures.items
     (let had = was.room_left in let room = c.enter.ensures.room in omega (arith, room, had, steps))
@@ -84,7 +86,7 @@ pub returns-in-Some-clause-caused : goal.returns-in-Some-clause-caused
 returns-in-Some-clause-caused g c =
     let a = c.self.inside in
     let to = c.args.at + length c.args.from.now / 512 in
-    rw (← c.self.view_is) (subst (λ (n : ℕ). IsRefusedFor (visible_size a.members a.limit) to (IsListUnwritten n c.args.at to) a.members a.members c.in-Some.refusal) c.relied_sector-relied.ensures.value c.in-Some.ensures.why)
+    rw (← c.self.view_is) (subst (λ (n : ℕ). IsRefusedFor (visible_size a.members a.limit) to (IsListUnwritten c.args.past n c.args.at to) a.members a.members c.in-Some.refusal) c.relied_sector-relied.ensures.value c.in-Some.ensures.why)
 
 -- ---- the roles, and the sectors
 
@@ -147,9 +149,11 @@ invariant_of-self-in-Some-refusal g c =
     let is = c.in-Some-refusal.is in
     let since : AreLostSince a.members m roles spares before after = lost-since given a.members m c.len-count.result c.vacant_roles-before.result roles spares before after here.placed did.moved did.failed
     (c.len-count.ensures ∙ here.backed.roles) c.vacant_roles-before.ensures c.newly_vacant-roles.ensures in
-    let fine : (refusal : Refusal) → IsListUnwritten relied at to a.members refusal → ⊥ =
+    let fine : (refusal : Refusal) → IsListUnwritten c.args.past relied at to a.members refusal → ⊥ =
     c.in_default.ensures.why.1 in
-    let put : ArePut g.B.Bank.tells given tape tape' a.members m a.course at from relied roles begun =
+    let stood = subst (λ p. g.B.Bank.tells → IsWindowStanding c.args.past (moving_world (g.B.Bank.given p.parts.bank) (g.B.Bank.tape p.parts.bank) p) p.parts.entries p.parts.members (present (g.B.Bank.given p.parts.bank) (g.B.Bank.tape p.parts.bank))) (sym c.self.view_is)
+    c.requires.stood in
+    let put : ArePut g.B.Bank.tells given tape tape' a.members m a.course at from c.args.past relied roles begun =
     record {
       within = let within = c.in_default.ensures.why.0 in let below = visible-within (list_length a.members.newest) a.limit in omega (arith, within, below);
       beside = subst (λ p. (x : ℕ) → at ≤ x → x < to → covers (span_in p.course.window) x ≡ false) (sym c.self.view_is) c.requires.beside;
@@ -161,9 +165,9 @@ invariant_of-self-in-Some-refusal g c =
       stays = did.stays;
       safe = did.safe;
     } in
-    let kept = unwritten-kept a.course a.ahead (bytes_in a.course.window a.window.items) c.args.who end roles spares at from relied begun was.kept goes c.requires.caller c.ops-end-2.ensures.count did.grows was.limited c.in_default.ensures.why.0 c.requires.some fine c.relied_sector-relied.ensures.value put refusal
+    let kept = unwritten-kept a.course a.ahead (bytes_in a.course.window a.window.items) c.args.who end roles spares at from c.args.past relied begun was.kept goes c.requires.caller c.ops-end-2.ensures.count did.grows was.limited c.in_default.ensures.why.0 c.requires.some fine c.relied_sector-relied.ensures.value stood put refusal
     (record {
-      refused = some-of (IsListUnwritten relied at to m) c.put_list-done.result.refusal refusal is did.refused;
+      refused = some-of (IsListUnwritten c.args.past relied at to m) c.put_list-done.result.refusal refusal is did.refused;
       torn = λ begun. some-of (IsListTorn at to m) c.put_list-done.result.refusal refusal is (did.torn begun);
       torn_rows = some-of (λ refusal. g.B.Bank.tells → AreOtherRowsKept (IsTornTouched a.members.newest at to m) (reading_of m) (present given tape) (present given tape')) c.put_list-done.result.refusal refusal is did.torn_rows;
     }) in
@@ -221,9 +225,9 @@ returns-in-Some-refusal-clause-caused g c =
     let to = at + length c.args.from.now / 512 in
     let relied = relied_sector a.members.newest a.work.resync in
     let refusal = c.in-Some-refusal.refusal in
-    let why = subst (λ (n : ℕ). IsListUnwritten n at to m refusal) c.relied_sector-relied.ensures.value
-    (some-of (IsListUnwritten c.relied_sector-relied.result at to m) c.put_list-done.result.refusal refusal c.in-Some-refusal.is c.put_list-done.ensures.refused) in
-    rw (← c.self.view_is) (refused-for (visible_size a.members a.limit) to (IsListUnwritten relied at to) a.members m refusal (torn-missing relied at to m refusal why) c.in_default.ensures.why.0 why)
+    let why = subst (λ (n : ℕ). IsListUnwritten c.args.past n at to m refusal) c.relied_sector-relied.ensures.value
+    (some-of (IsListUnwritten c.args.past c.relied_sector-relied.result at to m) c.put_list-done.result.refusal refusal c.in-Some-refusal.is c.put_list-done.ensures.refused) in
+    rw (← c.self.view_is) (refused-for (visible_size a.members a.limit) to (IsListUnwritten c.args.past relied at to) a.members m refusal (torn-missing c.args.past relied at to m refusal why) c.in_default.ensures.why.0 why)
 
 pub returns-in-Some-refusal-clause-left : goal.returns-in-Some-refusal-clause-left
 returns-in-Some-refusal-clause-left g c =
@@ -258,9 +262,11 @@ invariant_of-self-2 g c =
     let none = c.in_default-refusal.is in
     let since : AreLostSince a.members m roles spares before after = lost-since given a.members m c.len-count.result c.vacant_roles-before.result roles spares before after here.placed did.moved did.failed
     (c.len-count.ensures ∙ here.backed.roles) c.vacant_roles-before.ensures c.newly_vacant-roles.ensures in
-    let fine : (refusal : Refusal) → IsListUnwritten relied at to a.members refusal → ⊥ =
+    let fine : (refusal : Refusal) → IsListUnwritten c.args.past relied at to a.members refusal → ⊥ =
     c.in_default.ensures.why.1 in
-    let put : ArePut g.B.Bank.tells given tape tape' a.members m a.course at from relied roles begun =
+    let stood = subst (λ p. g.B.Bank.tells → IsWindowStanding c.args.past (moving_world (g.B.Bank.given p.parts.bank) (g.B.Bank.tape p.parts.bank) p) p.parts.entries p.parts.members (present (g.B.Bank.given p.parts.bank) (g.B.Bank.tape p.parts.bank))) (sym c.self.view_is)
+    c.requires.stood in
+    let put : ArePut g.B.Bank.tells given tape tape' a.members m a.course at from c.args.past relied roles begun =
     record {
       within = let within = c.in_default.ensures.why.0 in let below = visible-within (list_length a.members.newest) a.limit in omega (arith, within, below);
       beside = subst (λ p. (x : ℕ) → at ≤ x → x < to → covers (span_in p.course.window) x ≡ false) (sym c.self.view_is) c.requires.beside;
@@ -272,7 +278,7 @@ invariant_of-self-2 g c =
       stays = did.stays;
       safe = did.safe;
     } in
-    let kept = wrote-kept a.course a.ahead (bytes_in a.course.window a.window.items) c.args.who end roles spares at from relied begun was.kept goes c.requires.caller c.ops-end-2.ensures.count did.grows was.limited c.in_default.ensures.why.0 c.requires.some fine c.relied_sector-relied.ensures.value put
+    let kept = wrote-kept a.course a.ahead (bytes_in a.course.window a.window.items) c.args.who end roles spares at from c.args.past relied begun was.kept goes c.requires.caller c.ops-end-2.ensures.count did.grows was.limited c.in_default.ensures.why.0 c.requires.some fine c.relied_sector-relied.ensures.value stood put
     (record { bytes = λ i. (c.type_inv.from i).fits; whole = c.requires.whole; put = did.put none; tail = did.tail none; ends = did.ends none; others = did.others; good = did.good none }) in
     with-rooms did.rows did.buffer did.far_rows did.far_buffer
     (ready (entries_of c.args.who end (losses_of roles spares ++ Wrote at (sectors_of from) ∷ [])) was did.grows (shapes-moved given a.members m did.moved) kept
@@ -323,7 +329,7 @@ returns-clause-caused g c =
     let to = c.args.at + length c.args.from.now / 512 in
     rw (← c.self.view_is) (
       c.in_default.ensures.why.0,
-      λ refusal why. c.in_default.ensures.why.1 refusal (subst (λ (n : ℕ). IsListUnwritten n c.args.at to a.members refusal) (sym c.relied_sector-relied.ensures.value) why),
+      λ refusal why. c.in_default.ensures.why.1 refusal (subst (λ (n : ℕ). IsListUnwritten c.args.past n c.args.at to a.members refusal) (sym c.relied_sector-relied.ensures.value) why),
     )
 
 pub returns-clause-dirty : goal.returns-clause-dirty

@@ -4,6 +4,7 @@ use Rattle.md_base.specs.Sectors.{sectors_of}
 use Rattle.md_base.proofs.SectorLaws.{length-sectors_of}
 use Rattle.md_base.specs.declared.places.Span.{Span}
 use Rattle.superblocks.specs.Reading.{list_length}
+use Rattle.row_io.specs.Rows.{present}
 use Rattle.flat_history.specs.declared.events.Entry.{Entry}
 use Rattle.flat_history.specs.declared.events.Event.TheVariants.{Step}
 use Rattle.flat_history.specs.declared.events.StepKind.TheVariants.{WindowFinished as FinishesWindow}
@@ -13,15 +14,18 @@ use Rattle.flat_history.specs.Transfers.{last_end_from}
 use Rattle.views.specs.Rebuilding.{Held}
 use Rattle.views.proofs.MovedLaws.{grows-none, moved-same}
 use Rattle.array_kept.specs.Calls.{IsLossBy, IsBehind, IsCausedBy}
+use Rattle.region_writes.specs.Runs.{IsListUnwritten}
 use Rattle.moving_laws.specs.course_kept_Laws.{closed}
+use Rattle.moving_laws.specs.moving_kept_Moving.{IsWindowStanding}
 use Rattle.moving_laws.specs.moving_state_Due.{open_in, unsure_in}
 use Rattle.moving_laws.specs.region_mends_Mends.{relied_sector}
+use Rattle.moving_laws.specs.running_words_Calls.{moving_world}
 use Rattle.moving_laws.specs.running_words_Parts.{visible_size, visible_in, left_in}
 use Rattle.moving_laws.specs.moving_state_Left.{visible_by}
 use Rattle.moving_laws.specs.Writing.{TouchesWindow, IsWriteLacked, IsWriteEntered}
 use Rattle.moving_laws.proofs.running_words_Called.{called}
 use Rattle.moving_laws.proofs.Kept.{roomier, long-same}
-use Rattle.moving_laws.proofs.WriteLaws.{failed-then, beside-of, touched-open, roomed, called-then, called-roomed, alone-caused, refused-caused, behind-caused, alone-entered, refused-entered, behind-entered, untouched, never-ok}
+use Rattle.moving_laws.proofs.WriteLaws.{failed-then, beside-of, touched-open, roomed, called-then, called-roomed, alone-caused, refused-caused, behind-caused, alone-entered, refused-entered, behind-entered, untouched, never-ok, none-recorded}
 use Rattle.moving_laws.proofs.WriteReplies.{write-answered}
 use Rattle.md_base.specs.declared.answers.Fault.TheVariants.{NoMemory}
 use Rattle.moving_laws.proofs.FirstLaws.{first-short, first-done}
@@ -55,14 +59,17 @@ write_beside-requires-clause-beside g c = λ x low high.
     let a = c.self.inside in
     let to = c.args.at + length c.args.from.now / 512 in
     let sure = subst (λ p. (x : ℕ) → c.args.at ≤ x → x < to → covers (unsure_in p.course.window) x ≡ false) (sym c.self.view_is) c.requires.sure in
-    beside-of a.course.window x (subst (λ (s : Option Span). covers s x ≡ false) c.open_span.ensures (c.meets.ensures.no c.if-not-meets.true x low high)) (sure x low high)
+    beside-of a.course.window x (subst (λ (s : Option Span). covers s x ≡ false) c.open_span-window.ensures (c.meets.ensures.no c.if-not-meets.true x low high)) (sure x low high)
+
+pub write_beside-requires-clause-stood : goal.write_beside-requires-clause-stood
+write_beside-requires-clause-stood g c = λ t. none-recorded _ _ _ _
 
 pub returns-then-not-meets-clause-entered : goal.returns-then-not-meets-clause-entered
 returns-then-not-meets-clause-entered g c =
     let a = c.self.inside in
     let to = c.args.at + length c.args.from.now / 512 in
     let out : (x : ℕ) → c.args.at ≤ x → x < to → covers (open_in a.course.window) x ≡ false =
-    λ x low high. subst (λ (s : Option Span). covers s x ≡ false) c.open_span.ensures (c.meets.ensures.no c.if-not-meets.true x low high) in
+    λ x low high. subst (λ (s : Option Span). covers s x ≡ false) c.open_span-window.ensures (c.meets.ensures.no c.if-not-meets.true x low high) in
     let new = c.write_beside.new.self in
     rw (← c.self.view_is) (alone-entered a.course.window c.args.at to (sectors_of c.args.from.now) c.args.who a.epoch.entries.items c.make_room.new.self.items new.parts.entries (left_in new.parts.work new.parts.members new.course new.ahead) c.write_beside.result
     c.make_room.ensures.items (untouched a.course.window c.args.at to out) c.write_beside.ensures.entered)
@@ -75,7 +82,7 @@ returns-then-not-meets-clause-caused g c =
     let a = c.self.inside in
     let to = c.args.at + length c.args.from.now / 512 in
     let out : (x : ℕ) → c.args.at ≤ x → x < to → covers (open_in a.course.window) x ≡ false =
-    λ x low high. subst (λ (s : Option Span). covers s x ≡ false) c.open_span.ensures (c.meets.ensures.no c.if-not-meets.true x low high) in
+    λ x low high. subst (λ (s : Option Span). covers s x ≡ false) c.open_span-window.ensures (c.meets.ensures.no c.if-not-meets.true x low high) in
     rw (← c.self.view_is) (alone-caused a.course.window (visible_size a.members a.limit) (relied_sector a.members.newest a.work.resync) c.args.at to a.members c.write_beside.new.self.parts.members c.write_beside.result (untouched a.course.window c.args.at to out) c.write_beside.ensures.caused)
 
 pub returns-then-not-meets-clause-closed : goal.returns-then-not-meets-clause-closed
@@ -83,7 +90,7 @@ returns-then-not-meets-clause-closed g c =
     let a = c.self.inside in
     let to = c.args.at + length c.args.from.now / 512 in
     let out : (x : ℕ) → c.args.at ≤ x → x < to → covers (open_in a.course.window) x ≡ false =
-    λ x low high. subst (λ (s : Option Span). covers s x ≡ false) c.open_span.ensures (c.meets.ensures.no c.if-not-meets.true x low high) in
+    λ x low high. subst (λ (s : Option Span). covers s x ≡ false) c.open_span-window.ensures (c.meets.ensures.no c.if-not-meets.true x low high) in
     rw (← c.self.view_is) (never-ok c.write_beside.result (TouchesWindow a.course.window c.args.at to) (c.write_beside.new.self.course ≡ closed 0) (untouched a.course.window c.args.at to out))
 
 -- ---- the window is to be finished
@@ -94,7 +101,14 @@ invariant_of-self-else-not-meets g c = roomed c.make_room.ensures.items (let roo
 pub finish_for-requires-clause-due : goal.finish_for-requires-clause-due
 finish_for-requires-clause-due g c =
     let met = c.meets.ensures.yes c.if-not-meets.false in
-    touched-open _ c.self.invariant.kept.course_is met.0 (subst (λ (s : Option Span). covers s met.0 ≡ true) c.open_span.ensures met.3)
+    touched-open _ c.self.invariant.kept.course_is met.0 (subst (λ (s : Option Span). covers s met.0 ≡ true) c.open_span-window.ensures met.3)
+
+pub write_beside-2-requires-clause-stood : goal.write_beside-2-requires-clause-stood
+write_beside-2-requires-clause-stood g c =
+    let mid = c.finish_for.new.self in
+    let given = g.B.Bank.given mid.parts.bank in
+    let tape = g.B.Bank.tape mid.parts.bank in
+    λ t. subst (λ (o : Option Span). IsWindowStanding o (moving_world given tape mid) mid.parts.entries mid.parts.members (present given tape)) (sym c.open_span-window.ensures) (c.in-Ok-finish_for.ensures.stood t)
 
 pub returns-in-Err-finish_for-clause-entered : goal.returns-in-Err-finish_for-clause-entered
 returns-in-Err-finish_for-clause-entered g c =
@@ -113,7 +127,7 @@ returns-in-Err-finish_for-clause-caused g c =
     let a = c.self.inside in
     let to = c.args.at + length c.args.from.now / 512 in
     let met = c.meets.ensures.yes c.if-not-meets.false in
-    let touches : TouchesWindow a.course.window c.args.at to = (met.0, met.1, met.2, subst (λ (s : Option Span). covers s met.0 ≡ true) c.open_span.ensures met.3) in
+    let touches : TouchesWindow a.course.window c.args.at to = (met.0, met.1, met.2, subst (λ (s : Option Span). covers s met.0 ≡ true) c.open_span-window.ensures met.3) in
     subst (λ p. IsCausedBy {T = ℕ} (visible_in p) to (IsWriteLacked p.course.window (relied_sector p.parts.members.newest p.parts.work.resync) c.args.at to) p.parts.members c.finish_for.new.self.parts.members (Err c.in-Err-finish_for.fault)) c.self.view_is
     (refused-caused ℕ a.course.window (visible_size a.members a.limit) (relied_sector a.members.newest a.work.resync) c.args.at to a.members c.finish_for.new.self.parts.members c.in-Err-finish_for.fault touches c.in-Err-finish_for.ensures.caused)
 
@@ -127,7 +141,7 @@ returns-clause-entered g c =
     let new = c.write_beside-2.new.self in
     let before = left_in mid.parts.work mid.parts.members mid.course mid.ahead in
     let met = c.meets.ensures.yes c.if-not-meets.false in
-    let touches : TouchesWindow a.course.window c.args.at to = (met.0, met.1, met.2, subst (λ (s : Option Span). covers s met.0 ≡ true) c.open_span.ensures met.3) in
+    let touches : TouchesWindow a.course.window c.args.at to = (met.0, met.1, met.2, subst (λ (s : Option Span). covers s met.0 ≡ true) c.open_span-window.ensures met.3) in
     rw (← c.self.view_is) (behind-entered a.course.window c.args.at to (sectors_of c.args.from.now) c.args.who a.epoch.entries.items mid.parts.entries new.parts.entries (left_in new.parts.work new.parts.members new.course new.ahead) before c.write_beside-2.result
     touches c.write_beside-2.ensures.left (subst (λ (l : List Entry). IsBehind c.args.who l mid.parts.entries (Step FinishesWindow before)) c.make_room.ensures.items c.in-Ok-finish_for.ensures.entered) c.write_beside-2.ensures.entered)
 
@@ -144,7 +158,9 @@ returns-clause-caused g c =
     let same = c.in-Ok-finish_for.ensures.called.same in
     let long : list_length mid.parts.members.newest ≡ list_length a.members.newest = long-same a.members.newest mid.parts.members.newest (record { shape = same.array.shape; final = same.final; size = same.array.size }) in
     rw (← c.self.view_is) (behind-caused a.course.window (visible_size a.members a.limit) (visible_in mid) (relied_sector a.members.newest a.work.resync) (relied_sector mid.parts.members.newest mid.parts.work.resync) c.args.at to a.members mid.parts.members new.parts.members c.write_beside-2.result c.args.who
-    mid.parts.entries new.parts.entries (sectors_of c.args.from.now) (ap₂ visible_by long same.limit) c.in-Ok-finish_for.ensures.relied c.in-Ok-finish_for.ensures.caused c.write_beside-2.ensures.entered c.write_beside-2.ensures.caused)
+    mid.parts.entries new.parts.entries (sectors_of c.args.from.now) (ap₂ visible_by long same.limit) c.in-Ok-finish_for.ensures.relied c.in-Ok-finish_for.ensures.caused c.write_beside-2.ensures.entered
+    (subst (λ (o : Option Span). IsCausedBy (visible_in mid) to (IsListUnwritten o (relied_sector mid.parts.members.newest mid.parts.work.resync) c.args.at to) mid.parts.members new.parts.members c.write_beside-2.result) c.open_span-window.ensures
+    c.write_beside-2.ensures.caused))
 
 -- ---- what failed
 
