@@ -7,7 +7,7 @@ use Rattle.md_base.specs.Shapes.{is_valid_shape, is_level, is_layout, is_chunk, 
 use Rattle.md_base.specs.declared.answers.ShapeField.TheVariants.{Level, Layout, Chunk, Disks, Size, Offset}
 use Rattle.md_base.proofs.Least.{least_below-none}
 use Rattle.bank.specs.Given.{Given}
-use Rattle.array.specs.declared.spec.CreateSpec.{CreateSpec}
+use Rattle.assemble.specs.declared.spec.CreateSpec.{CreateSpec}
 use Rattle.assemble.specs.Creating.{member_slots, is_row_count, is_offset, bad_field, rows_end, short_member, HasRoom, IsLastSlot}
 use Rattle.superblocks.specs.Reading.{is_backup}
 

@@ -16,7 +16,7 @@ use Rattle.bank.specs.Given.{Given}
 use Rattle.bank.specs.Tape.{Contents, contents, disk, value_after, Did, AreSectors}
 use Rattle.bank.proofs.Laws.{value_after-append, choices-present, disk-written, disk-unwritten, disk-flushed, disk-unflushed}
 use Rattle.row_io.specs.Rows.{present}
-use Rattle.array.specs.declared.spec.CreateSpec.{CreateSpec}
+use Rattle.assemble.specs.declared.spec.CreateSpec.{CreateSpec}
 use Rattle.assemble.specs.Making.{created_sb}
 use Rattle.assemble.specs.Filling.{AreBelow, OnlyBelow, IsSlotDone, IsMade}
 

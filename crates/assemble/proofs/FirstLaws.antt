@@ -8,7 +8,7 @@ use Rattle.bank.specs.declared.bank.Operation.{Operation}
 use Rattle.bank.specs.Given.{Given, IsFaulted}
 use Rattle.bank.specs.Tape.{Contents, contents, disk}
 use Rattle.bank.proofs.Causes.{faulted_longer}
-use Rattle.array.specs.declared.spec.CreateSpec.{CreateSpec}
+use Rattle.assemble.specs.declared.spec.CreateSpec.{CreateSpec}
 use Rattle.assemble.specs.Filling.{IsSlotDone, IsMade, AreFirst, AreSlotsDone, OnlyFirstFail, AreZeros, IsStored, AreStored}
 use Rattle.assemble.proofs.FillLaws.{present-same, flushed-same}
 

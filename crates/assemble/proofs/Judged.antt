@@ -9,7 +9,7 @@ use Rattle.std.proofs.lemmas.Slice.Eq.{bytes_eq-Decides}
 use Rattle.md_base.specs.declared.answers.Fault.{Fault}
 use Rattle.md_base.specs.declared.answers.Fault.TheVariants.{Refused, NoMemory}
 use Rattle.md_base.specs.declared.answers.Refusal.{Refusal}
-use Rattle.md_base.specs.declared.answers.Refusal.TheVariants.{NoSuperblock, Unsupported, BackupAbsent, MembersMissing}
+use Rattle.md_base.specs.declared.answers.Refusal.TheVariants.{NoSuperblock, BackupAbsent, MembersMissing}
 use Rattle.md_base.specs.declared.places.Shape.{Shape}
 use Rattle.md_base.specs.Shapes.{has_slot, tolerance}
 use Rattle.sb1.specs.declared.sb.Sb.{Sb}
@@ -26,7 +26,7 @@ use Rattle.election.proofs.Elected.{map-tabulate}
 use Rattle.shape_views.specs.Regions.{DoWithout}
 use Rattle.flat_history.specs.Stands.{verdict, refusal_of, backup_absent, has_room, reach_of}
 use Rattle.assemble.specs.declared.opening.Opened.{Opened}
-use Rattle.assemble.specs.Opening.{scope_of, array_of, AreGiven, AreOfGiven, AreCounted, IsFound, IsAside, IsUnfound, HasFoundNone, IsReshapeRefused, IsOpened, HasCause}
+use Rattle.assemble.specs.Opening.{scope_of, array_of, AreGiven, AreOfGiven, AreCounted, IsFound, IsAside, IsUnfound, HasFoundNone}
 use Rattle.assemble.specs.Looking.{lengths_scope, IsMade, IsLacking, IsJudged}
 
 -- ---- the shapes of what is refused for nothing are valid
@@ -409,37 +409,3 @@ counted-by bank lengths are small s h =
   where
     below : (a b : ℕ) → a < b → nat_lt a b ≡ true
     below a b h = grind (arith, nat_tests, h)
-
--- ---- without a reshape
-
--- what is found is opened where no reshape is active
-pub found-opened : (tells : Type 0) (bank : Given) (c : Contents) (backup : Option ℕ) (asked : Option (List ℕ)) (opened : Opened) → IsFound tells bank c backup asked opened
-    → is_reshaping opened.members.newest ≡ false → IsOpened tells bank c backup asked opened
-found-opened tells bank c backup asked opened found still = record {
-  elected = found.elected;
-  lost = found.lost;
-  still = still;
-  array = found.array;
-  says = found.says;
-  accepted = found.accepted;
-}
-
--- and refused where one is
-pub found-refused : (tells : Type 0) (bank : Given) (c : Contents) (backup : Option ℕ) (asked : Option (List ℕ)) (before after : ℕ → ℕ) (opened : Opened) → IsFound tells bank c backup asked opened
-    → AreGiven bank opened.given before after → is_reshaping opened.members.newest ≡ true → HasCause tells bank c backup asked before after (Refused (Unsupported 4))
-found-refused tells bank c backup asked before after opened found slots active = record {
-  given = opened.given;
-  slots = slots;
-  why = λ told. inr (subst (λ (u : List ℕ). IsReshapeRefused (scope_of bank backup opened.given u) c (Unsupported 4)) (found.array told) (record {
-    accepted = found.accepted told;
-    found = reading_in bank.slots opened.members;
-    says = found.says told;
-    active = active;
-    bits = refl;
-  }));
-}
-
-pub unfound-refused : (tells : Type 0) (bank : Given) (c : Contents) (backup : Option ℕ) (asked : Option (List ℕ)) (before after : ℕ → ℕ) (fault : Fault)
-    → HasFoundNone tells bank c backup asked before after fault → HasCause tells bank c backup asked before after fault
-unfound-refused tells bank c backup asked before after (Refused refusal) none = record { given = none.given; slots = none.slots; why = λ told. inl (none.why told) }
-unfound-refused tells bank c backup asked before after NoMemory none = tt

@@ -26,7 +26,7 @@ use Rattle.superblocks.specs.Election.{IsElected}
 use Rattle.superblocks.proofs.ReadLists.{holder-step, none-fresh, none-unsupported, none-shared}
 use Rattle.superblocks.proofs.Searches.{any_below-none}
 use Rattle.flat_history.specs.Created.{first_entries}
-use Rattle.array.specs.declared.spec.CreateSpec.{CreateSpec}
+use Rattle.assemble.specs.declared.spec.CreateSpec.{CreateSpec}
 use Rattle.assemble.specs.Making.{created_sb}
 use Rattle.assemble.specs.Creating.{HasRoom, rows_end}
 use Rattle.assemble.specs.Filling.{IsMade, AreFirst}

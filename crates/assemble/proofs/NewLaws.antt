@@ -28,7 +28,7 @@ use Rattle.superblocks.specs.Writing.{IsMember, AreWritable}
 use Rattle.superblocks.specs.Found.{AreInSectors}
 use Rattle.row_io.specs.Rows.{reading_of as members_reading}
 use Rattle.flat_history.specs.Stands.{verdict}
-use Rattle.array.specs.declared.spec.CreateSpec.{CreateSpec}
+use Rattle.assemble.specs.declared.spec.CreateSpec.{CreateSpec}
 use Rattle.views.specs.Placed.{IsPlaced}
 use Rattle.assemble.specs.Opening.{scope_of, IsOpened, AreGiven}
 use Rattle.assemble.specs.Creating.{HasRoom, IsLastSlot, rows_end}

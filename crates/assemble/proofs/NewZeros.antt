@@ -28,7 +28,7 @@ use Rattle.superblocks.specs.Reading.{Scope, Reading, role_state, holder, data_o
 use Rattle.superblocks.specs.Election.{reading_in}
 use Rattle.row_io.specs.Rows.{reading_of}
 use Rattle.flat_history.specs.Stands.{verdict, refusal_of}
-use Rattle.array.specs.declared.spec.CreateSpec.{CreateSpec}
+use Rattle.assemble.specs.declared.spec.CreateSpec.{CreateSpec}
 use Rattle.views.specs.Whole.{Places, AreFit, in_row, IsReadWhole}
 use Rattle.views.specs.Placed.{places_of}
 use Rattle.views.proofs.Fit.{valid, multiple, short}

@@ -1,9 +1,7 @@
 -- What runs was made, or found, as it is answered.
-use Rattle.std.proofs.Common.{◌≡◌, ◌⊎◌, inl, inr, ℕ, zero, suc, ◌*◌, ◌<◌, ◌≤◌, Bool, true, false, cond, not, ◌&&◌, nat_lt, max, List, [], ◌++◌, length, take, get_or, Option, Some, None, IfSome, Result, Ok, Err, IfOk, refl, sym, ◌∙◌, ap, ap₂, subst, arith}
+use Rattle.std.proofs.Common.{◌≡◌, inl, inr, ℕ, zero, suc, ◌*◌, ◌<◌, ◌≤◌, Bool, true, false, cond, not, ◌&&◌, nat_lt, max, List, [], ◌++◌, length, take, get_or, Option, Some, None, IfSome, Result, Ok, Err, IfOk, refl, sym, ◌∙◌, ap, ap₂, subst, arith}
 use Rattle.std.proofs.lemmas.Bool.{cases_lt}
 use Rattle.std.proofs.lemmas.Bool.Decides.{nat_tests}
-use Rattle.md_base.specs.declared.answers.Fault.{Fault}
-use Rattle.md_base.specs.declared.answers.Fault.TheVariants.{Refused, NoMemory}
 use Rattle.md_base.specs.declared.status.Role.{Role}
 use Rattle.md_base.specs.declared.status.Role.TheVariants.{Whole, Recovering, Missing}
 use Rattle.md_base.specs.declared.places.Shape.{Shape}
@@ -22,12 +20,11 @@ use Rattle.superblocks.specs.Found.{AreLikeNewest, AreInSectors}
 use Rattle.superblocks.proofs.SlotSets.{none_there}
 use Rattle.row_io.specs.Rows.{reading_of, is_missing}
 use Rattle.flat_history.specs.declared.events.Event.{Event}
-use Rattle.flat_history.specs.Stands.{verdict}
 use Rattle.flat_history.specs.Plain.{entries_of}
 use Rattle.flat_history.specs.World.{World, opening_list, reading_at}
 use Rattle.flat_history.specs.Epochs.{OpensAlike}
 use Rattle.flat_history.specs.Opened.{IsSound, OpensSound}
-use Rattle.array.specs.declared.spec.CreateSpec.{CreateSpec}
+use Rattle.assemble.specs.declared.spec.CreateSpec.{CreateSpec}
 use Rattle.views.specs.Parts.{Parts}
 use Rattle.views.specs.Placed.{places_of, AreWhole}
 use Rattle.shape_changes.specs.Steady.{AreUnlost}
@@ -39,7 +36,7 @@ use Rattle.array_kept.specs.Kept.{world_in, scope_in}
 use Rattle.array_kept.specs.Calls.{world_for}
 use Rattle.array_kept.specs.Adopting.{opener, found_loss, absent_losses, found_losses, found_work, IsAdoptable, IsAdopted}
 use Rattle.assemble.specs.declared.opening.Opened.{Opened}
-use Rattle.assemble.specs.Opening.{scope_of, array_of, AreGiven, AreFlushed, IsOpened, IsReshapeRefused, HasCause}
+use Rattle.assemble.specs.Opening.{scope_of, AreGiven, AreFlushed, IsOpened}
 use Rattle.assemble.specs.Making.{created_sb}
 use Rattle.assemble.specs.Filling.{IsMade, AreZeros}
 use Rattle.assemble.specs.Made.{IsNew}
@@ -245,18 +242,6 @@ module _ {B tells : Type 0} (device : B) (bank : Given) (tape : List Operation) 
     given = subst (λ (n : ℕ). AreGiven bank n before after) (sym adopted.given) given;
     named = subst (λ (u : List ℕ). IfSome asked (λ uuid. u ≡ uuid)) (sym adopted.uuid) named;
   }
-
--- ---- what is refused
-
-pub caused : (tells : Type 0) (bank : Given) (c c' : Contents) (backup : Option ℕ) (asked : Option (List ℕ)) (before after : ℕ → ℕ) (fault : Fault)
-    → (tells → c' ≡ c) → HasCause tells bank c' backup asked before after fault → HasCause tells bank c backup asked before after fault
-caused tells bank c c' backup asked before after (Refused refusal) same cause = record {
-  given = cause.given;
-  slots = cause.slots;
-  why = λ told. subst (λ (k : Contents). (verdict (scope_of bank backup cause.given (array_of bank backup cause.given asked k)) k ≡ Some refusal)
-      ⊎ IsReshapeRefused (scope_of bank backup cause.given (array_of bank backup cause.given asked k)) k refusal) (same told) (cause.why told);
-}
-caused tells bank c c' backup asked before after NoMemory same cause = tt
 
 pub ok-then : {T E : Type 0} (result : Result T E) (P Q : T → Type 0) → ((x : T) → P x → Q x) → IfOk result P → IfOk result Q
 ok-then (Ok x) P Q step p = step x p

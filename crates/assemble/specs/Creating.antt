@@ -8,7 +8,7 @@ use Rattle.md_base.specs.declared.answers.ShapeField.TheVariants.{Level, Layout,
 use Rattle.md_base.specs.Search.{least_below}
 use Rattle.md_base.specs.Shapes.{is_level, is_layout, is_chunk, is_disk_count, is_multiple, is_valid_shape}
 use Rattle.bank.specs.Given.{Given}
-use Rattle.array.specs.declared.spec.CreateSpec.{CreateSpec}
+use Rattle.assemble.specs.declared.spec.CreateSpec.{CreateSpec}
 
 -- the backup, if there is one, is the last slot
 abbrev pub IsLastSlot : ℕ → Option ℕ → Type 0

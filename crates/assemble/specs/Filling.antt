@@ -3,7 +3,7 @@ use Rattle.std.specs.Prelude.{◌≡◌, ◌≢◌, ℕ, ◌+◌, ◌^◌, ◌<�
 use Rattle.md_base.specs.Sectors.{Sector, zero_sector}
 use Rattle.sb1.specs.Superblock.{superblock_in}
 use Rattle.sb1.specs.declared.sb.Sb.{Sb}
-use Rattle.array.specs.declared.spec.CreateSpec.{CreateSpec}
+use Rattle.assemble.specs.declared.spec.CreateSpec.{CreateSpec}
 use Rattle.bank.specs.declared.bank.Operation.{Operation}
 use Rattle.bank.specs.declared.bank.Operation.TheVariants.{Write, Flush}
 use Rattle.bank.specs.Given.{Given}

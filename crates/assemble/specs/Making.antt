@@ -1,7 +1,7 @@
 -- What an array is made of: the superblocks of its members.
 use Rattle.std.specs.Prelude.{ℕ, ◌-◌, List}
 use Rattle.sb1.specs.declared.sb.Sb.{Sb}
-use Rattle.array.specs.declared.spec.CreateSpec.{CreateSpec}
+use Rattle.assemble.specs.declared.spec.CreateSpec.{CreateSpec}
 use Rattle.views.specs.Numbers.{device_uuid}
 use Rattle.flat_history.specs.Created.{Device, created}
 

@@ -7,7 +7,7 @@ use Rattle.bank.specs.Tape.{Contents}
 use Rattle.superblocks.specs.Reading.{Scope}
 use Rattle.superblocks.specs.Election.{reading_in}
 use Rattle.flat_history.specs.Stands.{stands}
-use Rattle.array.specs.declared.spec.CreateSpec.{CreateSpec}
+use Rattle.assemble.specs.declared.spec.CreateSpec.{CreateSpec}
 use Rattle.views.specs.Whole.{Places, list_size, IsReadWhole}
 use Rattle.views.specs.Rows.{AreGoodRows}
 use Rattle.views.specs.Placed.{places_of}

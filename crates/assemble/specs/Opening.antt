@@ -1,15 +1,14 @@
 -- What an opening finds in the slots of a bank, and what it answers.
-use Rattle.std.specs.Prelude.{◌≡◌, ◌⊎◌, ℕ, ◌^◌, ◌<◌, not, ◌&&◌, nat_lt, IsTrue, IsFalse, List, [], ◌∷◌, length, take, Option, Some, None}
+use Rattle.std.specs.Prelude.{◌≡◌, ℕ, ◌^◌, ◌<◌, not, ◌&&◌, nat_lt, IsTrue, IsFalse, List, [], ◌∷◌, length, take, Option, Some, None}
 use Rattle.md_base.specs.declared.answers.Fault.{Fault}
 use Rattle.md_base.specs.declared.answers.Fault.TheVariants.{Refused, NoMemory}
 use Rattle.md_base.specs.declared.answers.Refusal.{Refusal}
-use Rattle.md_base.specs.declared.answers.Refusal.TheVariants.{Unsupported}
 use Rattle.md_base.specs.Shapes.{has_slot}
 use Rattle.sb1.specs.declared.sb.Sb.{Sb}
 use Rattle.bank.specs.declared.bank.Operation.{Operation}
 use Rattle.bank.specs.Given.{Given, sizes, IsFaulted}
 use Rattle.bank.specs.Tape.{Contents, contents, disk}
-use Rattle.superblocks.specs.Reading.{Scope, Reading, reading, is_reshaping, is_backup}
+use Rattle.superblocks.specs.Reading.{Scope, reading, is_reshaping, is_backup}
 use Rattle.superblocks.specs.Update.{own_in}
 use Rattle.superblocks.specs.Election.{seen_superblocks, uuid_for, reading_in, IsElected}
 use Rattle.flat_history.specs.Stands.{verdict, backup_absent}
@@ -75,24 +74,3 @@ pub record IsOpened (tells : Type 0) (bank : Given) (c : Contents) (backup : Opt
   pub array : tells → opened.members.newest.set_uuid ≡ array_of bank backup opened.given asked c
   pub says : tells → reading (scope_of bank backup opened.given opened.members.newest.set_uuid) c ≡ Some (reading_in bank.slots opened.members)
   pub accepted : tells → verdict (scope_of bank backup opened.given opened.members.newest.set_uuid) c ≡ None
-
--- nothing is refused, but a reshape is active, with which nobody goes on yet
-pub record IsReshapeRefused (scope : Scope) (c : Contents) (refusal : Refusal) : Type 0 where
-  pub accepted : verdict scope c ≡ None
-  pub found : Reading
-  pub says : reading scope c ≡ Some found
-  pub active : IsTrue (is_reshaping found.newest)
-  pub bits : refusal ≡ Unsupported 4
-
--- the first refusal of what the given slots hold, or that of a reshape
-pub record IsRefused (tells : Type 0) (bank : Given) (c : Contents) (backup : Option ℕ) (asked : Option (List ℕ)) (before after : ℕ → ℕ)
-    (refusal : Refusal) : Type 0 where
-  pub given : ℕ
-  pub slots : AreGiven bank given before after
-  pub why : tells → (verdict (scope_of bank backup given (array_of bank backup given asked c)) c ≡ Some refusal)
-      ⊎ IsReshapeRefused (scope_of bank backup given (array_of bank backup given asked c)) c refusal
-
--- a refusal has its cause; want of memory may come at any time
-abbrev pub HasCause : Type 0 → Given → Contents → Option ℕ → Option (List ℕ) → (ℕ → ℕ) → (ℕ → ℕ) → Fault → Type 0
-HasCause tells bank c backup asked before after (Refused refusal) = IsRefused tells bank c backup asked before after refusal
-HasCause tells bank c backup asked before after NoMemory = Unit {0}

@@ -15,7 +15,7 @@ use Rattle.shape_views.specs.Regions.{DoWithout}
 use Rattle.array_kept.specs.Calls.{world_for}
 use Rattle.array_kept.specs.Adopting.{opener, found_losses, found_work}
 use Rattle.flat_history.specs.Plain.{entries_of}
-use Rattle.array.specs.declared.spec.CreateSpec.{CreateSpec}
+use Rattle.assemble.specs.declared.spec.CreateSpec.{CreateSpec}
 use Rattle.assemble.specs.declared.opening.Opened.{Opened}
 use Rattle.assemble.specs.Opening.{AreGiven, IsOpened}
 use Rattle.assemble.specs.Made.{IsNew}

@@ -4,7 +4,7 @@ ghost use Rattle.std.specs.Prelude.{◌≡◌, ◌+◌, ◌-◌, ◌<◌, ◌≤
 ghost use Rattle.md_base.specs.Shapes.{is_valid_shape};
 ghost use Rattle.assemble.specs.Creating.{IsLastSlot, member_slots, is_row_count, is_offset, bad_field, rows_end, short_member, create_refusal, HasRoom};
 
-use array::CreateSpec;
+use crate::spec::CreateSpec;
 use bank::Bank;
 use geometry::limits::{MOST_ROWS, is_chunk, is_disk_count, is_layout, is_level, is_multiple};
 use md_base::{Refusal, ShapeField};

@@ -4,7 +4,7 @@ ghost use Rattle.std.specs.Prelude.{◌≡◌, ◌≤◌, ◌++◌, length};
 ghost use Rattle.flat_history.specs.Created.{first_entries};
 ghost use Rattle.assemble.specs.Making.{created_sb};
 
-use array::CreateSpec;
+use crate::spec::CreateSpec;
 use safe_additions::device_uuid;
 use sb1::Sb;
 

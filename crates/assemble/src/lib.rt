@@ -8,13 +8,13 @@ mod lists;
 mod making;
 mod opening;
 mod reshape;
-mod running;
 mod slots;
+mod spec;
 mod storing;
 mod used;
 mod zeros;
 
 pub use creating::refusal_of_create;
 pub use making::make;
-pub use opening::{Opened, find, open};
-pub use running::{assemble, create};
+pub use opening::{Opened, find};
+pub use spec::CreateSpec;

@@ -25,7 +25,7 @@ use crate::slots::look;
 use crate::storing::store_members;
 use crate::used::{first_slot, used_slot};
 use crate::zeros::zero_members;
-use array::CreateSpec;
+use crate::spec::CreateSpec;
 use bank::Bank;
 use md_base::{Fault, Refusal};
 use std::alloc::Global;

@@ -7,7 +7,7 @@ ghost use Rattle.superblocks.specs.Election.{uuid_for};
 ghost use Rattle.superblocks.specs.Writing.{AreWritable};
 ghost use Rattle.superblocks.specs.Found.{AreInSectors};
 ghost use Rattle.assemble.specs.Looking.{lengths_scope, IsJudged};
-ghost use Rattle.assemble.specs.Opening.{IsFound, IsAside, HasFoundNone, IsOpened, AreGiven, AreOfGiven, AreCounted, AreFlushed, HasCause};
+ghost use Rattle.assemble.specs.Opening.{IsFound, IsAside, HasFoundNone, AreGiven, AreOfGiven, AreCounted, AreFlushed};
 ghost use Rattle.views.specs.Flushing.{OnlyFlushesAdded, OnlyItsSlotsFail};
 
 use crate::reshape::backup_refusal;
@@ -15,11 +15,9 @@ use crate::slots::{Found, look};
 use bank::Bank;
 use election::elect_seen;
 use election::reads::lengths;
-use md_base::{Fault, Refusal};
-use sb1::Features;
+use md_base::Fault;
 use std::alloc::Global;
 use superblocks::Members;
-use superblocks::says::is_reshaping;
 
 /// What an array's superblocks say, and a bit for each slot of the bank that hasn't failed in the opening.
 #[derive(Drop)]
@@ -70,47 +68,6 @@ pub fn find<B: Bank>(
         uuid,
         &lengths[..bank.slots() as usize],
     )
-}
-
-/// Opens the array with this uuid, or without one that of the first superblock in a member slot, which are all slots but
-/// the backup. The superblocks are read, and all slots are flushed, so that a stop leaves what they hold. A slot that
-/// fails counts as absent. It writes nothing. It is refused for the first cause that what the slots hold gives, and
-/// `Unsupported(4)` where that is none and a reshape is active.
-pub fn open<B: Bank>(
-    alloc: Global,
-    bank: &mut B,
-    backup: Option<u32>,
-    uuid: Option<[u8; 16]>,
-) -> Result<Opened, Fault>
-    requires slots { (B.given bank.old).slots ≤ 32 }
-    requires backup { IfSome backup (λ slot. slot < (B.given bank.old).slots) }
-    ensures opened { let slots = B.given bank.old in let tape = B.tape bank.new in
-        IfOk result (λ opened. IsOpened B.tells slots (contents slots.start tape (length tape)) backup uuid opened) }
-    ensures given { IfOk result (λ opened. AreGiven (B.given bank.old) opened.given (B.faults_of bank.old) (B.faults_of bank.new)) }
-    ensures writable { IfOk result (λ opened. AreWritable (B.given bank.old) opened.members.own) }
-    ensures own { IfOk result (λ opened. AreOfGiven opened.given opened.members.own) }
-    ensures counted { IfOk result (λ opened. AreCounted (B.given bank.old)) }
-    ensures named { IfOk result (λ opened. IfSome uuid (λ asked. opened.members.newest.set_uuid ≡ asked)) }
-    ensures sectors { let slots = B.given bank.old in let tape = B.tape bank.new in
-        IfOk result (λ opened. B.tells → AreInSectors (contents slots.start tape (length tape)) opened.members.own) }
-    ensures flushed { IfOk result (λ opened. B.tells → AreFlushed (B.given bank.old).start (B.tape bank.new) opened.given) }
-    ensures refused { let slots = B.given bank.old in let tape = B.tape bank.new in IfErr result (λ fault.
-        HasCause B.tells slots (contents slots.start tape (length tape)) backup uuid (B.faults_of bank.old) (B.faults_of bank.new) fault) }
-    ensures tape { B.tells → OnlyFlushesAdded (B.tape bank.old) (B.tape bank.new) }
-    ensures contents { B.tells → let start = (B.given bank.old).start in
-        contents start (B.tape bank.new) (length (B.tape bank.new)) ≡ contents start (B.tape bank.old) (length (B.tape bank.old)) }
-    ensures slots { B.given bank.new ≡ B.given bank.old }
-    ensures counts { OnlyItsSlotsFail (B.given bank.old) (B.faults_of bank.old) (B.faults_of bank.new) }
-{
-    let found = match find(alloc, bank, backup, uuid) {
-        Err(fault) => return Err(fault),
-        Ok(found) => found,
-    };
-    if is_reshaping(&found.members.newest) {
-        let bits = u64::from(Features::RESHAPE_ACTIVE.0);
-        return Err(Fault::Refused(Refusal::Unsupported(bits)));
-    }
-    Ok(found)
 }
 
 // Judges the superblocks that were found. Each slot of the bank has a length in sectors.

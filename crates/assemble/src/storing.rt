@@ -10,7 +10,7 @@ ghost use Rattle.assemble.specs.Creating.{rows_end};
 ghost use Rattle.assemble.specs.Filling.{OnlyBelow, IsSlotDone, IsMade, IsStored, AreFirst, AreStored, AreSlotsDone, OnlyFirstFail};
 
 use crate::device::created_sb;
-use array::CreateSpec;
+use crate::spec::CreateSpec;
 use bank::{Bank, BankFault, write_sector};
 use sb1::{Sb, encode, fields_of};
 use superblocks::SbList;

@@ -7,7 +7,7 @@ ghost use Rattle.row_io.specs.Rows.{present};
 ghost use Rattle.assemble.specs.Creating.{rows_end};
 ghost use Rattle.assemble.specs.Filling.{OnlyBelow, IsSlotDone, AreSlotsDone, OnlyFirstFail, AreZeros};
 
-use array::CreateSpec;
+use crate::spec::CreateSpec;
 use bank::{Bank, BankFault, write_sector};
 
 // A sector of zeros.

@@ -26,7 +26,7 @@ use Rattle.array_kept.specs.Adopting.{opener, found_loss, absent_loss, absent_lo
 use Rattle.views.specs.declared.work.Work.{Work}
 use Rattle.views.specs.Parts.{Parts}
 use Rattle.views.proofs.Still.{count-still}
-use Rattle.run_laws.specs.array_the_CreateSpec.{CreateSpec}
+use Rattle.run_laws.specs.assemble_the_CreateSpec.{CreateSpec}
 use Rattle.run_laws.specs.assemble_Opening.{scope_of, array_of, AreGiven, IsOpened}
 use Rattle.run_laws.specs.assemble_Running.{opened_of, IsBegun, IsCreated, IsAssembled}
 use Rattle.views.specs.Status.{stripes_of, rebuilt_of, vacant_count, spare_count, resync_left, role_left, recovery_left, left_of}

@@ -23,7 +23,7 @@ use crate::shows::ask_show;
 use bank::Bank;
 use flat_history::{Entry, Epoch};
 use md_base::{Fault, NoMemory, Refusal};
-use run_laws::array::CreateSpec;
+use run_laws::assemble::CreateSpec;
 use run_laws::openings::open_running;
 use run_laws::running::Running;
 use run_laws::{Answered, Outside, State, openings};

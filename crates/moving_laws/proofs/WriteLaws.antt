@@ -291,10 +291,10 @@ pub none-recorded : (world : World) (entries : List Entry) (m : Members) (c : Co
 none-recorded world entries m c fills list is zeros x inside = absurd (let none : ◌≡◌ {A = Bool} false true = inside in cc)
 
 -- its rows stand by the array's own world
-pub recorded-as : {window : Option Span} {given given' : Given} {tape : List Operation} {scope scope' : Scope} {first first' : ℕ} {entries entries' : List Entry} {m : Members}
+pub recorded-as : (window : Option Span) (tape : List Operation) (m : Members) {given given' : Given} {scope scope' : Scope} {first first' : ℕ} {entries entries' : List Entry}
     → given' ≡ given → scope' ≡ scope → first' ≡ first → entries' ≡ entries
     → IsWindowStanding window (world_in given tape scope first) entries m (present given tape) → IsWindowStanding window (world_in given' tape scope' first') entries' m (present given' tape)
-recorded-as {window = window} {given = given} {given' = given'} {tape = tape} {scope = scope} {scope' = scope'} {first = first} {first' = first'} {entries = entries} {entries' = entries'} {m = m} one two three four was =
+recorded-as window tape m {given = given} {given' = given'} {scope = scope} {scope' = scope'} {first = first} {first' = first'} {entries = entries} {entries' = entries'} one two three four was =
     subst (λ (b : Given). IsWindowStanding window (world_in b tape scope' first') entries' m (present b tape)) (sym one)
     (subst (λ (s : Scope). IsWindowStanding window (world_in given tape s first') entries' m (present given tape)) (sym two)
     (subst (λ (n : ℕ). IsWindowStanding window (world_in given tape scope n) entries' m (present given tape)) (sym three)

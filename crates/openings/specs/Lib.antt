@@ -1,6 +1,6 @@
 pub mod Adopted
 pub mod Found
-pub use Rattle.array.specs.declared.spec.CreateSpec as array_the_CreateSpec
+pub use Rattle.assemble.specs.declared.spec.CreateSpec as assemble_the_CreateSpec
 pub use Rattle.assemble.specs.Creating as assemble_Creating
 pub use Rattle.assemble.specs.Filling as assemble_Filling
 pub use Rattle.assemble.specs.Made as assemble_Made

@@ -6,7 +6,7 @@ mod creating;
 mod finding;
 
 pub use adopting::adopt_moving;
-pub use array;
+pub use assemble;
 pub use creating::create_array;
 pub use finding::open_running;
 pub use running_steps;

@@ -21,7 +21,7 @@ use Rattle.views.proofs.Flushed.{contents-added}
 use Rattle.openings.specs.assemble_Filling.{AreBelow, OnlyBelow}
 use Rattle.superblocks.specs.Reading.{Scope, of_array, is_seen}
 use Rattle.flat_history.specs.Stands.{verdict}
-use Rattle.openings.specs.array_the_CreateSpec.{CreateSpec}
+use Rattle.openings.specs.assemble_the_CreateSpec.{CreateSpec}
 use Rattle.openings.specs.assemble_Opening.{scope_of, array_of, AreGiven, HasFoundNone}
 use Rattle.openings.specs.assemble_Made.{is_used, used_slot, IsUse, IsLateRefusal, HasCreateCause}
 

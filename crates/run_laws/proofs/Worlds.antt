@@ -39,7 +39,7 @@ use Rattle.flat_history.specs.Growing.{grown, EndBy}
 use Rattle.history_laws.proofs.GrowingLaws.{marks-stay-safe}
 use Rattle.flat_history.proofs.SoundLaws.{fit-before, leaves-later, leaves-flushed}
 use Rattle.flat_history.proofs.StretchLaws.{bounds-serve}
-use Rattle.openings.specs.array_the_CreateSpec.{CreateSpec}
+use Rattle.openings.specs.assemble_the_CreateSpec.{CreateSpec}
 use Rattle.openings.specs.running_words_Plans.{KeepsShape}
 use Rattle.run_laws.specs.Making.{IsStored, IsStoredNew, IsStoredAs, HeldAtFirst, MissingAtFirst, SpareAtFirst, found_members, found_left}
 

@@ -10,7 +10,7 @@ pub mod States
 pub mod Turning
 pub mod Written
 pub use Rattle.openings.specs.Found as openings_Found
-pub use Rattle.openings.specs.array_the_CreateSpec
+pub use Rattle.openings.specs.assemble_the_CreateSpec
 pub use Rattle.openings.specs.assemble_Creating
 pub use Rattle.openings.specs.assemble_Made
 pub use Rattle.openings.specs.assemble_Opening

@@ -23,7 +23,7 @@ use Rattle.flat_history.specs.Reopened.{OpensAccepted}
 use Rattle.flat_history.specs.Fits.{IsStatusOf}
 use Rattle.flat_history.specs.Legal.{IsAbsentAtFirst}
 use Rattle.flat_history.specs.Plain.{entries_of}
-use Rattle.openings.specs.array_the_CreateSpec.{CreateSpec}
+use Rattle.openings.specs.assemble_the_CreateSpec.{CreateSpec}
 use Rattle.views.specs.Status.{left_of}
 use Rattle.array_kept.specs.Adopting.{opener, absent_losses, found_losses, found_work}
 use Rattle.openings.specs.assemble_Made.{HasCreateCause}

@@ -5,7 +5,7 @@ use Rattle.md_base.specs.declared.answers.Refusal.{Refusal}
 use Rattle.md_base.specs.declared.answers.Refusal.TheVariants.{Running, NotRunning}
 use Rattle.md_base.specs.declared.status.Status.{Status}
 use Rattle.md_base.specs.Shapes.{data_disks, has_slot}
-use Rattle.openings.specs.array_the_CreateSpec.{CreateSpec}
+use Rattle.openings.specs.assemble_the_CreateSpec.{CreateSpec}
 use Rattle.script.specs.declared.lines.CreateLine.{CreateLine}
 use Rattle.flat_history.specs.declared.events.Entry.{Entry}
 use Rattle.flat_history.specs.declared.events.Event.{Event}

@@ -13,7 +13,7 @@ use Rattle.md_base.specs.declared.status.Status.{Status}
 use Rattle.bank.specs.declared.bank.Operation.{Operation}
 use Rattle.bank.specs.Given.{Given, NeverFalls}
 use Rattle.superblocks.specs.declared.members.Members.{Members}
-use Rattle.superblocks.specs.Reading.{list_length}
+use Rattle.superblocks.specs.Reading.{is_reshaping, list_length}
 use Rattle.superblocks.specs.Reads.{has_spare}
 use Rattle.flat_history.specs.declared.events.Entry.{Entry}
 use Rattle.flat_history.specs.declared.events.Event.{Event}
@@ -22,22 +22,25 @@ use Rattle.flat_history.specs.declared.events.Request.{Request}
 use Rattle.flat_history.specs.declared.events.Request.TheVariants.{Add as AsksAdd}
 use Rattle.flat_history.specs.Flat.{length_of, length_after}
 use Rattle.flat_history.specs.Legal.{call_before}
+use Rattle.flat_history.specs.Reshaped.{is_planned}
 use Rattle.flat_history.specs.World.{World}
 use Rattle.call_entries.proofs.PlainLaws.{one}
 use Rattle.views.specs.Moving.{Grows}
 use Rattle.views.specs.Placed.{AreStillHeld}
 use Rattle.views.specs.Rebuilding.{Held}
 use Rattle.array_kept.specs.Calls.{AreSparesFewer, AreLossesBy, IsAddedFor, IsEntered}
+use Rattle.grow_asked.specs.declared.window.PhasesLeft.{PhasesLeft}
+use Rattle.grow_asked.specs.Left.{phases_of}
 use Rattle.running_steps.specs.running_words_Parts.{RunningParts}
 use Rattle.running_steps.specs.running_words_Calls.{IsSameReshape, IsCalled}
 use Rattle.running_steps.specs.running_words_Adding.{IsAddCalled}
 use Rattle.running_steps.specs.running_replies_Replies.{HasToldBy}
-use Rattle.running_steps.specs.running_replies_Going.{IsSameEpoch, HasRunOn}
+use Rattle.running_steps.specs.running_replies_Going.{is_begin, IsSameEpoch, HasRunOn}
 use Rattle.running_steps.proofs.running_replies_GoneOn.{has-told-wider, told-then}
 use Rattle.running_calls.specs.Going.{is_added, AreLossesSince, HasGoneOn}
 use Rattle.running_calls.proofs.Leaving.{call-leaves}
 use Rattle.running_calls.proofs.Plain.{IsCallEntered, IsCallAnswered, inside-of}
-use Rattle.running_calls.proofs.Held.{any-right, may-then, spares-then, losses-later, since-append, since-wider, held-behind, losses-behind, held-kept, losses-of}
+use Rattle.running_calls.proofs.Held.{any-right, none-left, none-right, may-then, spares-then, losses-later, since-append, since-wider, held-behind, losses-behind, held-kept, losses-of}
 use Rattle.running_calls.proofs.Told.{told-none, told-entered}
 
 module _ {B : Type 0} (tells : Type 0) (given : B → Given) (tape : B → List Operation) (faults : B → ℕ → ℕ) where
@@ -54,6 +57,8 @@ module _ {B : Type 0} (tells : Type 0) (given : B → Given) (tape : B → List 
     never_falls = λ s. omega arith;
     given_is = refl;
     same = record { uuid = refl; given = refl; first = refl; backup = refl };
+    active = λ still none. still;
+    ahead = λ empty none. empty;
   }
 
   pub gone-same : (old new : RunningParts B) → new ≡ old → HasGoneOn tells given tape faults old new
@@ -85,6 +90,8 @@ module _ {B : Type 0} (tells : Type 0) (given : B → Given) (tape : B → List 
     never_falls = λ s. let low = one.never_falls s in let high = two.never_falls s in omega (arith, low, high);
     given_is = two.given_is ∙ one.given_is;
     same = record { uuid = two.same.uuid ∙ one.same.uuid; given = two.same.given ∙ one.same.given; first = two.same.first ∙ one.same.first; backup = two.same.backup ∙ one.same.backup };
+    active = λ still none. two.active (one.active still (none-left is_begin one.more two.more none)) (none-right is_begin one.more two.more none);
+    ahead = λ empty none. two.ahead (one.ahead empty (none-left is_planned one.more two.more none)) (none-right is_planned one.more two.more none);
   }
 
   -- steps
@@ -100,6 +107,8 @@ module _ {B : Type 0} (tells : Type 0) (given : B → Given) (tape : B → List 
     never_falls = was.never_falls;
     given_is = was.given_is;
     same = was.same;
+    active = was.active;
+    ahead = was.ahead;
   }
 
 -- ---- one call
@@ -121,9 +130,12 @@ module _ {B : Type 0} (tells : Type 0) (given : B → Given) (tape : B → List 
     pub never_falls : NeverFalls (faults old.parts.bank) (faults new.parts.bank)
     pub given_is : given new.parts.bank ≡ given old.parts.bank
     pub epoch : IsSameEpoch old new
+    pub active : is_reshaping new.parts.members.newest ≡ is_reshaping old.parts.members.newest
+    pub ahead : new.ahead ≡ old.ahead
 
-  pub plain-called : IsCalled tells (given old.parts.bank) (tape old.parts.bank) (tape new.parts.bank) (faults old.parts.bank) (faults new.parts.bank) old new → given new.parts.bank ≡ given old.parts.bank → IsPlainCall
-  plain-called was given_is = record {
+  pub plain-called : IsCalled tells (given old.parts.bank) (tape old.parts.bank) (tape new.parts.bank) (faults old.parts.bank) (faults new.parts.bank) old new → given new.parts.bank ≡ given old.parts.bank
+      → is_reshaping new.parts.members.newest ≡ is_reshaping old.parts.members.newest → IsPlainCall
+  plain-called was given_is active = record {
     long = long-same old new was.same;
     held = was.held;
     losses = was.losses;
@@ -131,10 +143,13 @@ module _ {B : Type 0} (tells : Type 0) (given : B → Given) (tape : B → List 
     never_falls = was.never_falls;
     given_is = given_is;
     epoch = epoch-of old new was.same;
+    active = active;
+    ahead = was.same.ahead;
   }
 
-  pub plain-added : {slot : ℕ} → IsAddCalled tells (given old.parts.bank) (tape old.parts.bank) (tape new.parts.bank) (faults old.parts.bank) (faults new.parts.bank) slot old new → given new.parts.bank ≡ given old.parts.bank → IsPlainCall
-  plain-added was given_is = record {
+  pub plain-added : {slot : ℕ} → IsAddCalled tells (given old.parts.bank) (tape old.parts.bank) (tape new.parts.bank) (faults old.parts.bank) (faults new.parts.bank) slot old new → given new.parts.bank ≡ given old.parts.bank
+      → is_reshaping new.parts.members.newest ≡ is_reshaping old.parts.members.newest → IsPlainCall
+  plain-added was given_is active = record {
     long = long-same old new was.same;
     held = was.held;
     losses = was.losses;
@@ -142,6 +157,8 @@ module _ {B : Type 0} (tells : Type 0) (given : B → Given) (tape : B → List 
     never_falls = was.never_falls;
     given_is = given_is;
     epoch = epoch-of old new was.same;
+    active = active;
+    ahead = was.same.ahead;
   }
 
   -- each spare was one, or these entries tell it added
@@ -161,6 +178,8 @@ module _ {B : Type 0} (tells : Type 0) (given : B → Given) (tape : B → List 
     never_falls = did.never_falls;
     given_is = did.given_is;
     same = did.epoch;
+    active = λ still none. did.active ∙ still;
+    ahead = λ empty none. ap (λ (p : PhasesLeft). phases_of p) did.ahead ∙ empty;
   }
 
   gone-entered : {size : ℕ} {request : Request} {who : Who} {event : Event} → (was : IsCallEntered size request who old.parts.entries new.parts.entries event) → IsPlainCall
@@ -210,8 +229,8 @@ module _ {B : Type 0} (tells : Type 0) (given : B → Given) (tape : B → List 
   -- ---- a status
 
   pub gone-shown : {tape' : List Operation} {who : Who} {status : Status} → IsEntered tells tape' who old.parts.entries new.parts.entries (Shown status ∷ []) → new.parts.bank ≡ old.parts.bank → new.parts.members ≡ old.parts.members
-      → IsSameEpoch old new → HasGoneOn tells given tape faults old new
-  gone-shown {who = who} {status = status} was bank members epoch = record {
+      → IsSameEpoch old new → new.ahead ≡ old.ahead → HasGoneOn tells given tape faults old new
+  gone-shown {who = who} {status = status} was bank members epoch ahead = record {
     more = one who was.end (Shown status) ∷ [];
     grown = was.is;
     sized = ap (λ (m : Members). list_length m.newest) members;
@@ -225,4 +244,6 @@ module _ {B : Type 0} (tells : Type 0) (given : B → Given) (tape : B → List 
     never_falls = λ s. let is : faults new.parts.bank s ≡ faults old.parts.bank s = ap (λ (b : B). faults b s) bank in omega (arith, is);
     given_is = ap given bank;
     same = epoch;
+    active = λ still none. ap (λ (m : Members). is_reshaping m.newest) members ∙ still;
+    ahead = λ empty none. ap (λ (p : PhasesLeft). phases_of p) ahead ∙ empty;
   }

@@ -35,6 +35,20 @@ any-left p xs ys is = list_any-append (λ e. p e.event) xs ys ∙ or-left (list_
 pub any-right : (p : Event → Bool) (xs ys : List Entry) → IsTrue (list_any (λ e. p e.event) ys) → IsTrue (list_any (λ e. p e.event) (xs ++ ys))
 any-right p xs ys is = list_any-append (λ e. p e.event) xs ys ∙ or-right (list_any (λ e. p e.event) xs) (list_any (λ e. p e.event) ys) is
 
+pub none-left : (p : Event → Bool) (xs ys : List Entry) → list_any (λ e. p e.event) (xs ++ ys) ≡ false → list_any (λ e. p e.event) xs ≡ false
+none-left p xs ys none = by (list_any (λ e. p e.event) xs) (sym (list_any-append (λ e. p e.event) xs ys) ∙ none)
+  where
+    by : (a : Bool) → (a || list_any (λ e. p e.event) ys) ≡ false → a ≡ false
+    by false is = refl
+    by true is = absurd (cc)
+
+pub none-right : (p : Event → Bool) (xs ys : List Entry) → list_any (λ e. p e.event) (xs ++ ys) ≡ false → list_any (λ e. p e.event) ys ≡ false
+none-right p xs ys none = by (list_any (λ e. p e.event) xs) (sym (list_any-append (λ e. p e.event) xs ys) ∙ none)
+  where
+    by : (a : Bool) → (a || list_any (λ e. p e.event) ys) ≡ false → list_any (λ e. p e.event) ys ≡ false
+    by false is = is
+    by true is = absurd (cc)
+
 -- ---- one call after another
 
 module _ (old mid : Members) (one : List Entry) (held : AreHeldSince old mid one) (two : List Entry) where

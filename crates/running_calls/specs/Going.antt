@@ -5,17 +5,19 @@ use Rattle.bank.specs.declared.bank.Operation.{Operation}
 use Rattle.bank.specs.Given.{Given, NeverFalls}
 use Rattle.superblocks.specs.declared.members.Members.{Members}
 use Rattle.superblocks.specs.Reads.{has_spare}
-use Rattle.superblocks.specs.Reading.{list_length}
+use Rattle.superblocks.specs.Reading.{is_reshaping, list_length}
 use Rattle.flat_history.specs.declared.events.Entry.{Entry}
 use Rattle.flat_history.specs.declared.events.Event.{Event}
 use Rattle.flat_history.specs.declared.events.Event.TheVariants.{Added}
 use Rattle.flat_history.specs.Flat.{length_of}
+use Rattle.flat_history.specs.Reshaped.{is_planned}
 use Rattle.views.specs.Moving.{Grows}
 use Rattle.views.specs.Rebuilding.{Held, MayHold}
 use Rattle.array_kept.specs.Calls.{IsLossBy}
+use Rattle.grow_asked.specs.Left.{phases_of}
 use Rattle.running_steps.specs.running_words_Parts.{RunningParts}
 use Rattle.running_steps.specs.running_replies_Replies.{HasToldBy}
-use Rattle.running_steps.specs.running_replies_Going.{MayBeDropped, IsSameEpoch}
+use Rattle.running_steps.specs.running_replies_Going.{is_begin, MayBeDropped, IsSameEpoch}
 
 -- the event tells that the slot was made a spare
 abbrev pub is_added : ℕ → Event → Bool
@@ -41,7 +43,7 @@ AreLossesSince members before now done [] = ⊤
 AreLossesSince members before now done (e ∷ entries) = IsLossBy (MayHoldSince members done) before now e.event × AreLossesSince members before now (done ++ e ∷ []) entries
 
 -- What callers' calls leave of an array over its bank: more is entered, which tells what the list's length is then; roles are lost, or given to spares, each loss and refusal has its cause, and
--- it is the array of the same epoch.
+-- it is the array of the same epoch. A reshape is active then only if one was, or is told to have begun; and one is ahead only if one was, or is told to be planned.
 pub record HasGoneOn {B : Type 0} (tells : Type 0) (given : B → Given) (tape : B → List Operation) (faults : B → ℕ → ℕ) (old new : RunningParts B) : Type 0 where
   pub more : List Entry
   pub grown : new.parts.entries ≡ old.parts.entries ++ more
@@ -53,3 +55,5 @@ pub record HasGoneOn {B : Type 0} (tells : Type 0) (given : B → Given) (tape :
   pub never_falls : NeverFalls (faults old.parts.bank) (faults new.parts.bank)
   pub given_is : given new.parts.bank ≡ given old.parts.bank
   pub same : IsSameEpoch old new
+  pub active : is_reshaping old.parts.members.newest ≡ false → list_any (λ e. is_begin e.event) more ≡ false → is_reshaping new.parts.members.newest ≡ false
+  pub ahead : phases_of old.ahead ≡ [] → list_any (λ e. is_planned e.event) more ≡ false → phases_of new.ahead ≡ []

@@ -12,7 +12,7 @@ pub returns-clause-first : goal.returns-clause-first
 returns-clause-first g c =
     let p = c.take_apart-pieces.result in
     let same = c.take_apart-pieces.ensures.same in
-    let seen : c.visible.result ≡ visible_size p.members p.limit = c.visible.ensures.visible ∙ ap (λ s. visible_in s) same in
+    let seen : c.visible-visible.result ≡ visible_size p.members p.limit = c.visible-visible.ensures.visible ∙ ap (λ s. visible_in s) same in
     rw same
     (subst (λ (n : ℕ). c.unplanned-refusal.result ≡ grow_refusal (asked_of p.members p.work.resync (length (phases_of p.ahead)) n (option_map (sizes (g.B.Bank.given p.bank)).sectors p.backup)) c.args.wish.now) seen
     c.unplanned-refusal.ensures)

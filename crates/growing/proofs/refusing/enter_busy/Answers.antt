@@ -59,3 +59,9 @@ returns-clause-visible g c =
     let was = c.take_apart-pieces.ensures.ready in
     let p = c.take_apart-pieces.result.0 in
     rw (c.take_apart-pieces.ensures.same) (visible-is (list_length p.members.newest) (list_length p.members.newest) p.limit p.epoch.entries.items was.sized was.limited)
+
+pub returns-in-Err-clause-visible : goal.returns-in-Err-clause-visible
+returns-in-Err-clause-visible g c =
+    let was = c.take_apart-pieces.ensures.ready in
+    let p = c.take_apart-pieces.result.0 in
+    rw (c.take_apart-pieces.ensures.same) (visible-is (list_length p.members.newest) (list_length p.members.newest) p.limit p.epoch.entries.items was.sized was.limited)

@@ -26,6 +26,6 @@ returns-clause-went g c =
     let did = c.add-answer.ensures in
     let bank = g.B.Bank.given old.parts.bank in
     gone-added g.B.Bank.tells g.B.Bank.given g.B.Bank.tape g.B.Bank.faults_of old new size c.args.slot c.args.who bank old.parts.backup c.add-answer.result (entered g c)
-    (plain-added g.B.Bank.tells g.B.Bank.given g.B.Bank.tape g.B.Bank.faults_of old new did.called did.given) did.called.spares did.caused
+    (plain-added g.B.Bank.tells g.B.Bank.given g.B.Bank.tape g.B.Bank.faults_of old new did.called did.given did.active) did.called.spares did.caused
     (told-answered old.parts.backup (g.B.Bank.faults_of old.parts.bank) (g.B.Bank.faults_of new.parts.bank) size (AsksAdd c.args.slot) c.args.who old.parts.entries new.parts.entries (Added c.args.slot) c.add-answer.result
     (add-told old.parts.backup (g.B.Bank.faults_of old.parts.bank) (g.B.Bank.faults_of new.parts.bank) size c.args.slot bank old.parts.backup old.parts.members new.parts.members c.add-answer.result did.caused) (entered g c))

@@ -25,6 +25,6 @@ returns-clause-went g c =
     let size = list_length old.parts.members.newest in
     let did = c.fail-answer.ensures in
     gone-answered g.B.Bank.tells g.B.Bank.given g.B.Bank.tape g.B.Bank.faults_of old new size (AsksFail c.args.role) c.args.who (Failed c.args.role) c.fail-answer.result (entered g c)
-    (plain-called g.B.Bank.tells g.B.Bank.given g.B.Bank.tape g.B.Bank.faults_of old new did.called did.given) did.called.spares
+    (plain-called g.B.Bank.tells g.B.Bank.given g.B.Bank.tape g.B.Bank.faults_of old new did.called did.given did.active) did.called.spares
     (told-answered old.parts.backup (g.B.Bank.faults_of old.parts.bank) (g.B.Bank.faults_of new.parts.bank) size (AsksFail c.args.role) c.args.who old.parts.entries new.parts.entries (Failed c.args.role) c.fail-answer.result
     (fail-told old.parts.backup (g.B.Bank.faults_of old.parts.bank) (g.B.Bank.faults_of new.parts.bank) size c.args.role (Failed c.args.role) c.fail-answer.result) (entered g c))

@@ -40,7 +40,7 @@ returns-clause-went g c =
     let did = c.read-answer.ensures in
     let event = Read c.args.at c.from_bytes-body.result in
     gone-answered g.B.Bank.tells g.B.Bank.given g.B.Bank.tape g.B.Bank.faults_of old new size (AsksRead c.args.at c.args.count) c.args.who event c.read-answer.result (entered g c)
-    (plain-called g.B.Bank.tells g.B.Bank.given g.B.Bank.tape g.B.Bank.faults_of old new did.called did.given) did.called.spares
+    (plain-called g.B.Bank.tells g.B.Bank.given g.B.Bank.tape g.B.Bank.faults_of old new did.called did.given did.active) did.called.spares
     (told-answered old.parts.backup (g.B.Bank.faults_of old.parts.bank) (g.B.Bank.faults_of new.parts.bank) size (AsksRead c.args.at c.args.count) c.args.who old.parts.entries new.parts.entries event c.read-answer.result
     (read-told old.parts.backup (g.B.Bank.faults_of old.parts.bank) (g.B.Bank.faults_of new.parts.bank) size c.args.at c.args.count event c.read-answer.result) (entered g c))
 

@@ -264,7 +264,7 @@ returns-clause-stood g c =
     left none c.steps_left-left.ensures in
     rw (← c.self.view_is) (λ t.
     subst (λ (w : Window). IsWindowStanding (open_in w) (world_in given' tape' (scope_in given' epoch.uuid epoch.given (Some a.backup)) epoch.first) epoch.entries.items m (present given' tape')) (sym c.in-Entered.is)
-    (recorded-as did.given (scope-same given (Some a.backup) did.given c.enter_behind-2.ensures.uuid c.enter_behind-2.ensures.given) c.enter_behind-2.ensures.first c.enter_behind-2.ensures.items (stands t)))
+    (recorded-as (Some span) tape' m did.given (scope-same given (Some a.backup) did.given c.enter_behind-2.ensures.uuid c.enter_behind-2.ensures.given) c.enter_behind-2.ensures.first c.enter_behind-2.ensures.items (stands t)))
 
 pub returns-clause-goes : goal.returns-clause-goes
 returns-clause-goes g c =

@@ -1,0 +1,5 @@
+use Rattle.flat_history.specs.declared.events.Request.TheVariants.{Grow as AsksGrow}
+use Rattle.growing.proofs.refusing.refuse_grow.Goals as goal
+
+pub returns-in-Ok-clause-answered : goal.returns-in-Ok-clause-answered
+returns-in-Ok-clause-answered g c = let reply = rw c.in-Ok.is at c.enter_busy-moving.ensures.reply in reply (AsksGrow c.args.wish.now) tt
