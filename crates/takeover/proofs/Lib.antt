@@ -1,0 +1,4 @@
+pub mod Chosen
+pub mod Behind
+pub mod LeftThen
+pub mod TakenReady
