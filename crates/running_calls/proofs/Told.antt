@@ -167,23 +167,7 @@ module _ (backup : Option ℕ) (before now : ℕ → ℕ) where
   add-told size slot given backup_is members after (Err (IsRefusedWith refusal)) added = add-answers size slot (Refused refusal) (λ failed is. absurd (cc))
   add-told size slot given backup_is members after (Err WantsMemory) added = add-answers size slot (Added slot) (λ failed is. absurd (cc))
 
--- ---- a write that is refused for the backup
-
--- an array without a reshape doesn't refuse it so
-none-barred : (visible to : ℕ) → IsRefusedAt visible to IsReadRefused BackupFault → ⊥
-none-barred visible to is = by (nat_lt visible to) is
-  where
-    by : (b : Bool) → MatchBool b (IsPastEnd BackupFault) (IsReadRefused BackupFault × (IsPastEnd BackupFault → ⊥)) → ⊥
-    by true is = is
-    by false is = is.0
-
-pub barred-still : {T : Type 0} (size at : ℕ) (body : List (List ℕ)) (who : Who) (old new : List Entry) (moving : Bool) (result : Result T Fault) → (moving ≡ false → IsAnswered size (AsksWrite at body) who old new (Wrote at body) result)
-    → result ≡ Err (IsRefusedWith BackupFault) → moving ≡ false → ⊥
-barred-still {T = T} size at body who old new moving result answered is still =
-    none-barred _ _ (subst (λ (x : Result T Fault). IsAnswered size (AsksWrite at body) who old new (Wrote at body) x) is (answered still)).fits.answers
-
--- one in a reshape has a backup
-pub barred-backup : (moving : Bool) (backup : Option ℕ) (Failed : ℕ → Type 0) → ((moving ≡ false) → ⊥) → (moving ≡ true → IsSome backup) → IfSome backup Failed → MatchOption backup ⊥ Failed
-barred-backup true None Failed here backed failed = absurd (let some = backed refl in cc)
-barred-backup true (Some slot) Failed here backed failed = failed
-barred-backup false backup Failed here backed failed = absurd (here refl)
+-- an array that has a backup, which failed
+pub backup-failed : (backup : Option ℕ) (Failed : ℕ → Type 0) → IsSome backup → IfSome backup Failed → MatchOption backup ⊥ Failed
+backup-failed None Failed some failed = absurd (cc)
+backup-failed (Some slot) Failed some failed = failed

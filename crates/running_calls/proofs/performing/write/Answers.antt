@@ -8,7 +8,7 @@ use Rattle.md_base.specs.declared.answers.Refusal.{Refusal}
 use Rattle.md_base.specs.declared.answers.Refusal.TheVariants.{BackupFault}
 use Rattle.bank.specs.Given.{IsFaulted}
 use Rattle.superblocks.specs.declared.members.Members.{Members}
-use Rattle.superblocks.specs.Reading.{is_reshaping, list_length}
+use Rattle.superblocks.specs.Reading.{list_length}
 use Rattle.flat_history.specs.declared.events.Entry.{Entry}
 use Rattle.flat_history.specs.declared.events.Event.TheVariants.{Wrote}
 use Rattle.flat_history.specs.declared.events.Request.TheVariants.{Write as AsksWrite}
@@ -18,7 +18,7 @@ use Rattle.running_steps.specs.running_words_Parts.{visible_in}
 use Rattle.running_steps.specs.running_Calls.{IsWriteLackedIn}
 use Rattle.running_steps.specs.moving_laws_Writing.{IsWriteReplied}
 use Rattle.running_calls.proofs.Plain.{IsCallAnswered, answered-written, told-answer}
-use Rattle.running_calls.proofs.Told.{told-answered, write-told, barred-still, barred-backup}
+use Rattle.running_calls.proofs.Told.{told-answered, write-told, backup-failed}
 use Rattle.running_calls.proofs.GoneOn.{plain-called, gone-answered}
 use Rattle.running_calls.proofs.performing.write.Given.{Over}
 use Rattle.running_calls.proofs.performing.write.Goals as goal
@@ -72,7 +72,5 @@ returns-clause-went g c =
     (plain-called g.B.Bank.tells g.B.Bank.given g.B.Bank.tape g.B.Bank.faults_of old new did.called did.given did.active) did.called.spares
     (told-answered old.parts.backup before now size (AsksWrite c.args.at c.args.body) c.args.who old.parts.entries new.parts.entries (Wrote c.args.at c.args.body) c.write-answer.result
     (write-told old.parts.backup before now size c.args.at c.args.body c.write-answer.result
-    (λ barred. barred-backup (is_reshaping old.parts.members.newest) old.parts.backup (λ slot. IsFaulted slot before now)
-    (barred-still size c.args.at (sectors_of c.as_bytes.result.now) c.args.who old.parts.entries new.parts.entries (is_reshaping old.parts.members.newest) c.write-answer.result did.answered_still barred)
-    did.backed (did.backup barred)))
+    (λ barred. backup-failed old.parts.backup (λ slot. IsFaulted slot before now) (did.backed (did.barred barred)) (did.backup barred)))
     (entered g c))
