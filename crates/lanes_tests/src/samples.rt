@@ -5,7 +5,7 @@ ghost use Rattle.flat_history.specs.Flat.{next_number};
 use bank::{Bank, MemoryBank};
 use lane_blocks::running::Running;
 use md_base::{Fault, Shape, Who, Wish};
-use openings::array::CreateSpec;
+use openings::assemble::CreateSpec;
 use openings::{create_array, open_running};
 use std::alloc::Global;
 use std::test::Fail;
