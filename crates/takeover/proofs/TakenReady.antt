@@ -100,6 +100,10 @@ resync-then to work = of (to.level == 6)
     of true = refl
     of false = refl
 
+-- no resync is pending then, either
+pub synced-then : (to : Shape) (m : Members) (work : Work) → left_of work m ≡ 0 → (work_then to work).resync ≡ None
+synced-then to m work idle = resync-then to work ∙ none-pending m work.resync _ _ idle
+
 carried-then : (to : Shape) (work : Work) → is_carried (work_then to work) ≡ is_carried work
 carried-then to work = of (to.level == 6)
   where
