@@ -66,7 +66,13 @@ struct TakenTold {
     spares: u32,
 }
 
-fn told_of(members: &Members, work: &Work, to: &Shape, behind: &PhasesLeft, spares: u32) -> TakenTold
+fn told_of(
+    members: &Members,
+    work: &Work,
+    to: &Shape,
+    behind: &PhasesLeft,
+    spares: u32,
+) -> TakenTold
     requires fit { AreShapesFit members.now.newest }
     requires shape { shape_of members.now.newest ≡ to.now }
     requires size { members.now.newest.size ≤ 2 ^ 48 }
