@@ -37,6 +37,9 @@ give_back-requires-clause-told g c =
     let next = subst (λ s. IsTakeoverNext (phases_of s.ahead) c.args.to (phases_of c.args.behind)) c.take_apart-pieces.ensures.same c.requires.next in
     told-ahead (phases_of p.ahead) (phases_of c.args.behind) c.args.to c.take_apart-pieces.ensures.ready.ahead_told next
 
+pub give_back-requires-clause-why : goal.give_back-requires-clause-why
+give_back-requires-clause-why g c = (c.args.to, c.in-Err.ensures.refused)
+
 pub returns-in-Err-clause-caused : goal.returns-in-Err-clause-caused
 returns-in-Err-clause-caused g c = rw (c.take_apart-pieces.ensures.same) c.in-Err.ensures.refused
 
