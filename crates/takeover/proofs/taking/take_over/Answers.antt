@@ -1,4 +1,4 @@
-use Rattle.std.proofs.Common.{◌≡◌, ℕ, ◌≤◌, ◌-◌, Option, List, [], ◌∷◌, ◌++◌, length, vec_capacity, refl, sym, ◌∙◌, ap, subst, arith}
+use Rattle.std.proofs.Common.{◌≡◌, ℕ, ◌≤◌, ◌-◌, Option, List, ◌∷◌, ◌++◌, length, vec_capacity, refl, sym, ◌∙◌, ap, subst, arith}
 use Rattle.std.specs.Prelude.{IfSome}
 use Rattle.layout.proofs.Limits.{limited}
 use Rattle.grow_plan.specs.Plans.{AreSound}
@@ -36,6 +36,9 @@ give_back-requires-clause-told g c =
     let p = c.take_apart-pieces.result in
     let next = subst (λ s. IsTakeoverNext (phases_of s.ahead) c.args.to (phases_of c.args.behind)) c.take_apart-pieces.ensures.same c.requires.next in
     told-ahead (phases_of p.ahead) (phases_of c.args.behind) c.args.to c.take_apart-pieces.ensures.ready.ahead_told next
+
+pub give_back-requires-clause-why : goal.give_back-requires-clause-why
+give_back-requires-clause-why g c = (c.args.to, c.in-Err.ensures.refused)
 
 pub returns-in-Err-clause-caused : goal.returns-in-Err-clause-caused
 returns-in-Err-clause-caused g c = rw (c.take_apart-pieces.ensures.same) c.in-Err.ensures.refused
