@@ -109,7 +109,7 @@ performed-called size request who old new event number sized told performed = (
     last = (refl, refl);
     is = performed.is;
     answers = fits-since (sectors_of old) size old.parts.entries performed.inner (record { caller = who.caller; number = who.number; end = performed.end; event = event }) request
-      (told.sized ∙ sym sized) performed.fits;
+        (told.sized ∙ sym sized) performed.fits;
   },
   refl,
 )
