@@ -1,13 +1,9 @@
-//! Banks, and the calls of arrays in them, for tests.
+//! Banks, and what is made and found in them, for tests.
 #![tactic(auto)]
 
-ghost use Rattle.std.specs.Prelude.{◌≡◌};
-ghost use Rattle.flat_history.specs.Flat.{next_number};
-
-use array::{Array, CreateSpec};
-use assemble::{Opened, assemble, create, make, open};
+use assemble::{CreateSpec, Opened, find, make};
 use bank::{Bank, MemoryBank};
-use md_base::{Fault, Shape, Who};
+use md_base::{Fault, Shape};
 use sb1::{Sb, sectors_of};
 use std::alloc::Global;
 use std::test::Fail;
@@ -82,7 +78,7 @@ pub fn opened(
             return Err(Fail::from("no backup"));
         }
     }
-    Ok(open(alloc, bank, backup, None))
+    Ok(find(alloc, bank, backup, None))
 }
 
 /// What it answers to make an array. The last of five slots is the backup.
@@ -95,80 +91,4 @@ pub fn made(
         return Err(Fail::from("not five slots"));
     }
     Ok(make(alloc, bank, Some(4), spec))
-}
-
-/// The last slot is the backup, or none is.
-pub fn created(
-    alloc: Global,
-    bank: MemoryBank,
-    backup: Option<u32>,
-) -> Result<Array<MemoryBank>, Fail> {
-    if bank.slots() > 32 {
-        return Err(Fail::from("too many slots"));
-    }
-    if let Some(slot) = backup {
-        if slot >= 32 || slot + 1 != bank.slots() {
-            return Err(Fail::from("no backup"));
-        }
-    }
-    match create(alloc, bank, backup, SPEC) {
-        Ok(array) => Ok(array),
-        Err(_) => Err(Fail::from("not made")),
-    }
-}
-
-/// What an assembly answers.
-pub fn found(
-    alloc: Global,
-    bank: MemoryBank,
-    backup: Option<u32>,
-    uuid: Option<[u8; 16]>,
-) -> Result<Result<Array<MemoryBank>, (MemoryBank, Fault)>, Fail> {
-    if bank.slots() > 32 {
-        return Err(Fail::from("too many slots"));
-    }
-    if let Some(slot) = backup {
-        if slot >= bank.slots() {
-            return Err(Fail::from("no backup"));
-        }
-    }
-    Ok(assemble(alloc, bank, backup, uuid))
-}
-
-/// The next call of caller 3.
-pub fn next_call(array: &Array<MemoryBank>) -> Who
-    ensures caller { result.caller ≡ 3 }
-    ensures number { result.number ≡ next_number result.caller array.now.entries }
-{
-    Who {
-        caller: 3,
-        number: array.next_number(3),
-    }
-}
-
-/// Writes two sectors that are filled with a byte.
-pub fn write(array: &mut Array<MemoryBank>, at: u32, byte: u8) -> Result<(), Fault> {
-    let who = next_call(array);
-    array.write(who, at as u64, &[byte; 1024])
-}
-
-/// The byte that fills two sectors, if they can be read and have one.
-pub fn read(array: &mut Array<MemoryBank>, at: u32) -> Option<u8> {
-    let who = next_call(array);
-    let mut bytes = [9; 1024];
-    if array.read(who, at as u64, &mut bytes).is_err() {
-        return None;
-    }
-    let first = bytes[0];
-    for byte in bytes {
-        if byte != first {
-            return None;
-        }
-    }
-    Some(first)
-}
-
-pub fn fail(array: &mut Array<MemoryBank>, role: u32) -> Result<(), Fault> {
-    let who = next_call(array);
-    array.fail(who, role)
 }

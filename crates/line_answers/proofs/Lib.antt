@@ -12,5 +12,6 @@ pub use Rattle.run_laws.proofs.Growth as run_laws_Growth
 pub use Rattle.run_laws.proofs.Legal as run_laws_Legal
 pub use Rattle.run_laws.proofs.Losses as run_laws_Losses
 pub use Rattle.run_laws.proofs.Plain as run_laws_Plain
+pub use Rattle.run_laws.proofs.Turned as run_laws_Turned
 pub use Rattle.run_laws.proofs.Worlds as run_laws_Worlds
 pub use Rattle.run_laws.proofs.Writing as run_laws_Writing

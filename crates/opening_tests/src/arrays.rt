@@ -1,9 +1,8 @@
 //! Openings of arrays that real md wrote, of a reshape and of arrays that are made, against values that were worked out by
 //! hand. The device's uuid was computed by Python.
 
-use array::CreateSpec;
 use array_samples::{SHAPE, SPEC, bank_of, made, opened, put_all};
-use assemble::{Opened, refusal_of_create};
+use assemble::{CreateSpec, Opened, refusal_of_create};
 use bank::{Bank, MemoryBank, Op};
 use md_base::{Fault, Refusal, Role, Shape};
 use mdadm_images::{
@@ -131,7 +130,7 @@ const OF_RESHAPE: [Opening; 4] = [
         &[144, 144, 24],
         &[],
         Some(2),
-        Err(Refusal::Unsupported(4)),
+        Ok((&[A, B, NONE], &[], 7, 0)),
         7,
     ),
     (&[144, 144, 24], &[], None, Err(Refusal::BackupAbsent), 7),

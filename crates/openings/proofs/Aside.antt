@@ -25,7 +25,7 @@ use Rattle.shape_views.specs.Regions.{AreShapesFit}
 use Rattle.views.specs.Parts.{Parts}
 use Rattle.views.specs.Rebuilding.{Held}
 use Rattle.array_kept.specs.Adopting.{IsAdopted}
-use Rattle.array.specs.declared.spec.CreateSpec.{CreateSpec}
+use Rattle.assemble.specs.declared.spec.CreateSpec.{CreateSpec}
 use Rattle.kept_history.proofs.Tests.{or-right}
 use Rattle.assemble.specs.declared.opening.Opened.{Opened}
 use Rattle.assemble.specs.Opening.{AreOfGiven, AreCounted, IsFound, IsAside}

@@ -36,8 +36,8 @@ pub(crate) fn first_vacant(members: &Members, disks: u32) -> Option<u32>
     None
 }
 
-// The lowest spare.
-pub(crate) fn first_spare(members: &Members) -> Option<u32>
+/// The lowest spare.
+pub fn first_spare(members: &Members) -> Option<u32>
     ensures { result ≡ first_spare members.now }
 {
     for slot in 0..32u32 {

@@ -6,5 +6,6 @@ mod rebuilding;
 mod resyncing;
 mod stepping;
 
+pub use choosing::first_spare;
 pub use stepping::still_step;
 pub use still;

@@ -1,6 +1,8 @@
 -- A level is taken over: when, and what it leaves.
-use Rattle.std.specs.Prelude.{◌≡◌, ◌⊎◌, ℕ, ◌+◌, ◌-◌, ◌<◌, ◌++◌, ◌==◌, true, List, ◌∷◌, Some, if◌then◌else◌}
+use Rattle.std.specs.Prelude.{◌≡◌, ◌⊎◌, ℕ, ◌+◌, ◌-◌, ◌<◌, ◌++◌, ◌==◌, true, List, [], ◌∷◌, Some, None, if◌then◌else◌}
 use Rattle.md_base.specs.Shapes.{has_slot}
+use Rattle.md_base.specs.declared.answers.Refusal.{Refusal}
+use Rattle.md_base.specs.declared.answers.Refusal.TheVariants.{Degraded, NeedSpares}
 use Rattle.md_base.specs.declared.answers.Who.{Who}
 use Rattle.md_base.specs.declared.places.Shape.{Shape}
 use Rattle.md_base.specs.declared.status.Role.TheVariants.{Whole}
@@ -13,7 +15,7 @@ use Rattle.superblocks.specs.Reading.{list_length, role_count, role_state}
 use Rattle.superblocks.specs.Reads.{has_spare}
 use Rattle.row_io.specs.Rows.{reading_of, present}
 use Rattle.flat_history.specs.declared.events.Entry.{Entry}
-use Rattle.flat_history.specs.declared.events.Event.TheVariants.{Step}
+use Rattle.flat_history.specs.declared.events.Event.TheVariants.{Step, Refused}
 use Rattle.flat_history.specs.declared.events.StepKind.TheVariants.{TakenOver}
 use Rattle.flat_history.specs.Plain.{entries_of}
 use Rattle.shape_changes.specs.Marking.{AreOthersPresent}
@@ -23,12 +25,15 @@ use Rattle.views.specs.Lacking.{HaveRolesFailed}
 use Rattle.views.specs.Moving.{Grows}
 use Rattle.views.specs.Placed.{is_vacant, AreStillHeld}
 use Rattle.call_entries.specs.Losing.{losses_of}
-use Rattle.array_kept.specs.Calls.{AreLossesOf, AreSparesFewer, IsEndOf, TellNoLoss, with_rebuilt}
+use Rattle.array_kept.specs.Calls.{AreLossesOf, AreSparesFewer, IsEndOf, with_rebuilt}
 use Rattle.grow_asked.specs.declared.window.PhasesLeft.{PhasesLeft}
-use Rattle.turning.specs.course_kept_Laws.{closed}
-use Rattle.turning.specs.running_words_Parts.{RunningParts, still_left}
-use Rattle.turning.specs.still_steps_Rebuilding.{first_spare}
-use Rattle.turning.specs.Begun.{CanBegin, AreSparesKeptOrFailed}
+use Rattle.grow_asked.specs.Asked.{lowest_missing}
+use Rattle.running_words.specs.Parts.{RunningParts, still_left}
+use Rattle.still_kept.specs.Still.{AreNoneMissing}
+use Rattle.still_kept.specs.course_kept_Laws.{closed}
+use Rattle.still_steps.specs.Rebuilding.{first_spare}
+
+-- ---- when
 
 -- the next phase is a takeover to this shape, and these stand behind it
 abbrev pub IsTakeoverNext : List Phase → Shape → List Phase → Type 0
@@ -38,9 +43,23 @@ IsTakeoverNext phases to behind = (phases ≡ UpTo6 to ∷ behind) ⊎ (phases �
 abbrev pub IsTakenSlot : Members → Shape → ℕ → Type 0
 IsTakenSlot m to slot = ((to.level ≡ 6) × (first_spare m ≡ Some slot)) ⊎ ((to.level ≡ 5) × (role_state (reading_of m) to.disks ≡ Whole slot))
 
+-- a role is missing, of which the lowest is told, or there is no spare for the last role of level 6
+abbrev pub IsUntaken : Members → Shape → Refusal → Type 0
+IsUntaken m to refusal = ((role : ℕ) × (lowest_missing m ≡ Some role) × (refusal ≡ Degraded role)) ⊎ (AreNoneMissing m × (to.level ≡ 6) × (first_spare m ≡ None) × (refusal ≡ NeedSpares 0 1))
+
+-- ---- what it leaves
+
 -- what is under way then: nothing is rebuilt yet of the last role of level 6
 abbrev pub work_then : Shape → Work → Work
 work_then to work = if to.level == 6 then with_rebuilt (to.disks - 1) 0 work else work
+
+-- the same array, from the same mark on, with the same limit of its visible size
+pub record StaysItself {B : Type 0} (old new : RunningParts B) : Type 0 where
+  pub uuid : new.parts.uuid ≡ old.parts.uuid
+  pub given : new.parts.given ≡ old.parts.given
+  pub first : new.parts.first ≡ old.parts.first
+  pub backup : new.parts.backup ≡ old.parts.backup
+  pub limit : new.limit ≡ old.limit
 
 -- A call entered that the level was taken over, with so many steps left, and behind it what its update lost: each role that no slot holds then, and each spare of the plan that is none then.
 pub record IsTakenWith (who : Who) (plan later : Members) (old new : List Entry) (left : ℕ) : Type 0 where
@@ -52,29 +71,37 @@ pub record IsTakenWith (who : Who) (plan later : Members) (old new : List Entry)
   pub is : new ≡ old ++ entries_of who end (Step TakenOver left ∷ losses_of roles spares)
 
 -- The level is taken over to this shape: no role was missing. To level 6 the lowest spare has the last role, of which it recovers the first row on; to level 5 the slot of the last role is a
--- spare; but those slots that failed in it. The list stays, and these phases are ahead. Nothing is changed on the slots but superblocks.
+-- spare; but those slots that failed in it. The list is as long, and these phases are ahead. Nothing is changed on the slots but superblocks.
 pub record IsLevelTaken {B : Type 0} (tells : Type 0) (given : Given) (tape tape' : List Operation) (before after : ℕ → ℕ) (who : Who) (to : Shape) (behind : PhasesLeft) (old new : RunningParts B) : Type 0 where
-  pub could : CanBegin old.parts.members to
+  pub whole : AreNoneMissing old.parts.members
   pub slot : ℕ
   pub chosen : IsTakenSlot old.parts.members to slot
   pub entered : IsTakenWith who (taken_plan old.parts.members to slot) new.parts.members old.parts.entries new.parts.entries (still_left new.parts.work new.parts.members new.ahead)
   pub ended : IsEndOf tells new.parts.first new.parts.entries tape'
   pub grows : Grows tells tape tape'
-  pub left : TellNoLoss old.parts.entries new.parts.entries → still_left new.parts.work new.parts.members new.ahead + 1 ≡ still_left old.parts.work old.parts.members old.ahead
   pub newest : IsTakenTo old.parts.members.newest to new.parts.members.newest
   pub long : list_length new.parts.members.newest ≡ list_length old.parts.members.newest
   pub held : AreStillHeld (taken_plan old.parts.members to slot) new.parts.members
   pub spares : AreSparesFewer (taken_plan old.parts.members to slot) new.parts.members
   pub kept : HaveRolesFailed (taken_plan old.parts.members to slot) new.parts.members before after
-  pub spares_kept : AreSparesKeptOrFailed (taken_plan old.parts.members to slot) new.parts.members before after
   pub losses : AreLossesOf (taken_plan old.parts.members to slot) before after old.parts.entries new.parts.entries
   pub never_falls : NeverFalls before after
   pub others : tells → AreOthersPresent (present given tape) (present given tape')
   pub course : new.course ≡ closed 0
   pub ahead : new.ahead ≡ behind
   pub steps : new.parts.steps + 1 ≡ old.parts.steps
-  pub uuid : new.parts.uuid ≡ old.parts.uuid
-  pub given_same : new.parts.given ≡ old.parts.given
-  pub first : new.parts.first ≡ old.parts.first
-  pub backup : new.parts.backup ≡ old.parts.backup
   pub work : new.parts.work ≡ work_then to old.parts.work
+  pub same : StaysItself old new
+
+-- The array is as it was, and this refusal is entered.
+pub record IsUntouched {B : Type 0} (tells : Type 0) (tape : List Operation) (who : Who) (refusal : Refusal) (old new : RunningParts B) : Type 0 where
+  pub end : ℕ
+  pub entered : new.parts.entries ≡ old.parts.entries ++ entries_of who end (Refused refusal ∷ [])
+  pub ended : IsEndOf tells new.parts.first new.parts.entries tape
+  pub bank : new.parts.bank ≡ old.parts.bank
+  pub members : new.parts.members ≡ old.parts.members
+  pub work : new.parts.work ≡ old.parts.work
+  pub course : new.course ≡ closed 0
+  pub ahead : new.ahead ≡ old.ahead
+  pub steps : new.parts.steps + 1 ≡ old.parts.steps
+  pub same : StaysItself old new

@@ -1,7 +1,8 @@
-//! A level is taken over, in an array without an active reshape.
+//! The level of an array without an active reshape is taken over.
 #![tactic(auto)]
 
+mod choosing;
 mod taking;
 
+pub use still_steps;
 pub use taking::take_over;
-pub use turning;

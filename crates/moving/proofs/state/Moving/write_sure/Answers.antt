@@ -1,4 +1,4 @@
-use Rattle.std.proofs.Common.{inl, ◌≡◌, ◌≤◌, ◌<◌, ◌+◌, ◌/◌, ℕ, true, false, Option, Err, List, [], length, refl, sym, ◌∙◌, ap, ap₂, subst, arith, append-nil}
+use Rattle.std.proofs.Common.{inl, ◌≡◌, ◌≤◌, ◌<◌, ◌+◌, ◌/◌, ℕ, Bool, true, false, Option, Err, List, [], length, refl, sym, ◌∙◌, ap, ap₂, subst, arith, append-nil}
 use Rattle.std.proofs.lemmas.List.Elements.{All-nil}
 use Rattle.md_base.specs.Sectors.{sectors_of}
 use Rattle.md_base.proofs.SectorLaws.{length-sectors_of}
@@ -25,7 +25,7 @@ use Rattle.moving_laws.specs.moving_state_Left.{visible_by}
 use Rattle.moving_laws.specs.Writing.{TouchesWindow, IsWriteLacked, IsWriteEntered}
 use Rattle.moving_laws.proofs.running_words_Called.{called}
 use Rattle.moving_laws.proofs.Kept.{roomier, long-same}
-use Rattle.moving_laws.proofs.WriteLaws.{failed-then, beside-of, touched-open, roomed, called-then, called-roomed, alone-caused, refused-caused, behind-caused, alone-entered, refused-entered, behind-entered, untouched, never-ok, none-recorded}
+use Rattle.moving_laws.proofs.WriteLaws.{failed-then, beside-of, touched-open, roomed, called-then, called-roomed, alone-caused, refused-caused, behind-caused, alone-entered, refused-entered, behind-entered, untouched, never-ok}
 use Rattle.moving_laws.proofs.WriteReplies.{write-answered}
 use Rattle.md_base.specs.declared.answers.Fault.TheVariants.{NoMemory}
 use Rattle.moving_laws.proofs.FirstLaws.{first-short, first-done}
@@ -62,7 +62,7 @@ write_beside-requires-clause-beside g c = λ x low high.
     beside-of a.course.window x (subst (λ (s : Option Span). covers s x ≡ false) c.open_span-window.ensures (c.meets.ensures.no c.if-not-meets.true x low high)) (sure x low high)
 
 pub write_beside-requires-clause-stood : goal.write_beside-requires-clause-stood
-write_beside-requires-clause-stood g c = λ t. none-recorded _ _ _ _
+write_beside-requires-clause-stood g c = λ t fills list is zeros x inside. absurd (let none : ◌≡◌ {A = Bool} false true = inside in cc)
 
 pub returns-then-not-meets-clause-entered : goal.returns-then-not-meets-clause-entered
 returns-then-not-meets-clause-entered g c =
@@ -103,8 +103,8 @@ finish_for-requires-clause-due g c =
     let met = c.meets.ensures.yes c.if-not-meets.false in
     touched-open _ c.self.invariant.kept.course_is met.0 (subst (λ (s : Option Span). covers s met.0 ≡ true) c.open_span-window.ensures met.3)
 
-pub write_beside-2-requires-clause-stood : goal.write_beside-2-requires-clause-stood
-write_beside-2-requires-clause-stood g c =
+pub write_beside-requires-2-clause-stood : goal.write_beside-requires-2-clause-stood
+write_beside-requires-2-clause-stood g c =
     let mid = c.finish_for.new.self in
     let given = g.B.Bank.given mid.parts.bank in
     let tape = g.B.Bank.tape mid.parts.bank in

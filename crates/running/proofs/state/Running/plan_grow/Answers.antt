@@ -38,7 +38,7 @@ returns-in-Ok-clause-went g c =
     let new = c.replace_with-made.new.dest in
     rw (← c.self.view_is, c.in-Still.is, c.check_still.ensures.same) (grow-went g.B.Bank.tells g.B.Bank.given g.B.Bank.tape g.B.Bank.faults_of old new did.1.1.1.1.0
     (moving_world (g.B.Bank.given old.parts.bank) (g.B.Bank.tape old.parts.bank) old) (asked_in (g.B.Bank.given old.parts.bank) old) c.args.wish c.args.who (still_left new.parts.work new.parts.members new.ahead) c.replace_with-made.result
-    c.replace_with-made.ensures.0 c.replace_with-made.ensures.1.1.0 c.replace_with-made.ensures.1.1.1.1.1.1.0)
+    c.replace_with-made.ensures.0 c.replace_with-made.ensures.1.1.0 c.replace_with-made.ensures.1.1.1.1.1.1.1.0)
 
 -- ---- refused
 
@@ -65,7 +65,7 @@ returns-in-Err-clause-went g c =
     let did = c.in-Err.ensures in
     let number = subst (λ p. c.args.who.number ≡ next_number c.args.who.caller p.parts.entries) (sym c.self.view_is ∙ ap (λ s. parts_in s) c.in-Still.is) c.requires.next in
     rw (← c.self.view_is, c.in-Still.is, c.check_still.ensures.same) (went-refused ⊤ g.B.Bank.tells g.B.Bank.given g.B.Bank.tape g.B.Bank.faults_of c.in-Still.still c.replace_with-made.new.dest c.args.wish c.args.who number did.1.0
-    ⊤ (Planned (still_left c.replace_with-made.new.dest.parts.work c.replace_with-made.new.dest.parts.members c.replace_with-made.new.dest.ahead) c.args.wish) 0 c.in-Err.fault did.0 did.1.1.0 did.1.1.1.1.0 did.1.1.1.1.1.1.0)
+    ⊤ (Planned (still_left c.replace_with-made.new.dest.parts.work c.replace_with-made.new.dest.parts.members c.replace_with-made.new.dest.ahead) c.args.wish) 0 c.in-Err.fault did.0 did.1.1.0 did.1.1.1.1.0 did.1.1.1.1.1.1.1.0)
 
 -- ---- in a reshape
 
@@ -91,4 +91,4 @@ returns-in-Err-made-clause-went g c =
     let did = c.in-Err-made.ensures in
     let number = subst (λ p. c.args.who.number ≡ next_number c.args.who.caller p.parts.entries) (sym c.self.view_is ∙ ap (λ s. parts_in s) c.in-Moving.is) c.requires.next in
     rw (← c.self.view_is, c.in-Moving.is, c.check_moving.ensures.same) (went-refused ⊤ g.B.Bank.tells g.B.Bank.given g.B.Bank.tape g.B.Bank.faults_of c.in-Moving.moving c.replace_with-made-in-Moving.new.dest c.args.wish c.args.who number did.1.0
-    ⊤ (Refused (Busy Reshape)) 0 c.in-Err-made.fault did.0 did.1.1.1.0 did.1.1.1.1.1.0 did.1.1.1.1.1.1.1)
+    ⊤ (Refused (Busy Reshape)) 0 c.in-Err-made.fault did.0 did.1.1.1.0 did.1.1.1.1.1.0 did.1.1.1.1.1.1.1.1)

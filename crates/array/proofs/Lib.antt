@@ -1,2 +1,0 @@
-mod StillKept
-mod StillUnder

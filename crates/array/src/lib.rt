@@ -1,6 +1,0 @@
-//! An array over a bank: its flat list of sectors, its parity and its history.
-#![tactic(auto)]
-
-mod array;
-
-pub use array::{Array, Opened};

@@ -1,9 +1,0 @@
-use Rattle.std.proofs.Common.{◌≡◌, ◌<◌, ℕ, false}
-use Rattle.superblocks.specs.Reading.{role_state}
-use Rattle.row_io.specs.Rows.{reading_of}
-use Rattle.rebuild.specs.Steps.{recovers}
-use Rattle.rebuild.proofs.steps.first_recovering.Given as goal
-
--- no lower one passes
-abbrev pub invariant-loop-role : goal.invariant-loop-role
-invariant-loop-role l = (role : ℕ) → role < l.role → recovers (role_state (reading_of l.members) role) ≡ false

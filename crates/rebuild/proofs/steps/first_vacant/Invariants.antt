@@ -1,8 +1,0 @@
-use Rattle.std.proofs.Common.{◌≡◌, ◌<◌, ℕ, false}
-use Rattle.row_io.specs.Rows.{reading_of}
-use Rattle.views.specs.Placed.{is_vacant}
-use Rattle.rebuild.proofs.steps.first_vacant.Given as goal
-
--- no lower one passes
-abbrev pub invariant-loop-role : goal.invariant-loop-role
-invariant-loop-role l = (role : ℕ) → role < l.role → is_vacant (reading_of l.members) role ≡ false

@@ -1,4 +1,0 @@
-pub mod EntryLaws
-pub mod GoneOn
-pub mod NextLaws
-pub mod Replies
