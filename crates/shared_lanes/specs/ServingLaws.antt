@@ -22,7 +22,7 @@ use Rattle.running_calls.specs.running_words_Calls.{IsStatusFor}
 use Rattle.running_calls.specs.running_words_Still.{IsStillStatus}
 use Rattle.running_calls.specs.running_Calls.{IsShownAs as IsShownOf}
 use Rattle.running_calls.specs.Going.{HasGoneOn}
-use Rattle.running_calls.specs.Replies.{TellsSizes, IsShownBy, IsPerformed}
+use Rattle.running_calls.specs.Replies.{TellsSizes, IsPerformed}
 use Rattle.running_calls.proofs.Sizes.{length-since, fits-since}
 use Rattle.running_calls.proofs.GoneOn.{gone-none, gone-then}
 use Rattle.lanes.specs.running_calls_the_Reply.{Reply}
