@@ -8,6 +8,6 @@ mod worker;
 
 pub use lane::run_lane;
 pub use pace::Pace;
-pub use service::Service;
 pub use running_calls;
+pub use service::Service;
 pub use worker::{Worked, run_worker};

@@ -3,8 +3,10 @@ ghost use Rattle.std.specs.Prelude.{◌≡◌, IfOk};
 ghost use Rattle.std.specs.List.{All};
 ghost use Rattle.lane_blocks.specs.running_calls_Replies.{IsAskable};
 
-use crate::{Doors, Full, Ticket, together, wait_for, work_alone};
-use crate::{SPEC, bank_of, created, fail, found, next_call, planned, write};
+use crate::{
+    Doors, Full, SPEC, Ticket, bank_of, created, fail, found, next_call, planned, together,
+    wait_for, work_alone, write,
+};
 use bank::{Bank, MemoryBank};
 use flat_history::{Event, Request};
 use lane_blocks::Joined;

@@ -83,8 +83,8 @@ module _ {B : Type 0} (tells : Type 0) (given : B → Given) (tape : B → List 
         (has-told-wider one.never_falls two.never_falls (λ s. omega arith) mid.parts.backup two.refusals));
     grows = record {
       more = λ t. let first = one.grows.more t in let next = two.grows.more t in (
-          first.0 ++ next.0,
-          next.1 ∙ ap (λ (l : List Operation). l ++ next.0) (first.1) ∙ append_assoc (tape old.parts.bank) (first.0) (next.0),
+        first.0 ++ next.0,
+        next.1 ∙ ap (λ (l : List Operation). l ++ next.0) (first.1) ∙ append_assoc (tape old.parts.bank) (first.0) (next.0),
       );
     };
     never_falls = λ s. let low = one.never_falls s in let high = two.never_falls s in omega (arith, low, high);

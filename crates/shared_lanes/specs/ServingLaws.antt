@@ -22,7 +22,7 @@ use Rattle.running_calls.specs.running_words_Calls.{IsStatusFor}
 use Rattle.running_calls.specs.running_words_Still.{IsStillStatus}
 use Rattle.running_calls.specs.running_Calls.{IsShownAs as IsShownOf}
 use Rattle.running_calls.specs.Going.{HasGoneOn}
-use Rattle.running_calls.specs.Replies.{TellsSizes, IsShownBy, IsPerformed}
+use Rattle.running_calls.specs.Replies.{TellsSizes, IsPerformed}
 use Rattle.running_calls.proofs.Sizes.{length-since, fits-since}
 use Rattle.running_calls.proofs.GoneOn.{gone-none, gone-then}
 use Rattle.lanes.specs.running_calls_the_Reply.{Reply}
@@ -109,7 +109,7 @@ performed-called size request who old new event number sized told performed = (
     last = (refl, refl);
     is = performed.is;
     answers = fits-since (sectors_of old) size old.parts.entries performed.inner (record { caller = who.caller; number = who.number; end = performed.end; event = event }) request
-      (told.sized ∙ sym sized) performed.fits;
+        (told.sized ∙ sym sized) performed.fits;
   },
   refl,
 )

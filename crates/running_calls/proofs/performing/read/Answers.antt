@@ -1,4 +1,4 @@
-use Rattle.std.proofs.Common.{◌≡◌, ◌*◌, ◌/◌, ℕ, List, length, drop, sym, ◌∙◌, ap, subst, subst₂, arith}
+use Rattle.std.proofs.Common.{◌≡◌, ◌*◌, ◌/◌, ℕ, List, length, drop, sym, ◌∙◌, ap, subst₂, arith}
 use Rattle.std.proofs.lemmas.List.{take_at}
 use Rattle.md_base.specs.Sectors.{Sector, sectors_of}
 use Rattle.superblocks.specs.Reading.{list_length}

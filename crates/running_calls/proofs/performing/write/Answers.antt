@@ -52,8 +52,8 @@ entered g c =
     let count = count_in c.as_bytes.result.now c.args.body c.as_bytes.ensures.sectors in
     answered-written size c.args.at c.args.body c.args.who old.parts.entries c.write-answer.new.self.parts.entries c.write-answer.result c.requires.next
     (λ is. let upto = within (visible_in old) (c.args.at + length c.as_bytes.result.now / 512) (IsWriteLackedIn old c.args.at (length c.as_bytes.result.now / 512)) old.parts.members c.write-answer.new.self.parts.members c.write-answer.result c.write-answer.ensures.caused is in
-      let all = all-visible size old.limit old.parts.entries tells.sized tells.limited in
-      omega (arith, upto, count, all))
+    let all = all-visible size old.limit old.parts.entries tells.sized tells.limited in
+    omega (arith, upto, count, all))
     (subst (λ (b : List Sector). IsWriteReplied size c.args.at b c.args.who old.parts.entries c.write-answer.new.self.parts.entries c.write-answer.result) c.as_bytes.ensures.sectors c.write-answer.ensures.answered)
 
 pub returns-clause-replied : goal.returns-clause-replied
