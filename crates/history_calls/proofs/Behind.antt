@@ -210,8 +210,11 @@ module _ (given : Given) (tape : List Operation) (scope : Scope) (first : ℕ) (
 
   fills-before : IsFilledRight later (entries ++ added) → IsFilledRight world entries
   fills-before (inl none) =
-      inl (λ role. sym (takes-grown world ops entries role recorded.ends) ∙ none-before (loses later role) entries added (none.0 role), course-before world ops recorded.begun none.1,
-      none-before (λ e. is_taken_over e.event) entries added none.2)
+      inl (
+        λ role. sym (takes-grown world ops entries role recorded.ends) ∙ none-before (loses later role) entries added (none.0 role),
+        course-before world ops recorded.begun none.1,
+        none-before (λ e. is_taken_over e.event) entries added none.2,
+      )
   fills-before (inr fit) = inr (subst (λ (p : Type 0). p) (fit-grown world ops recorded.begun) fit)
 
   right-before : IsReliable later (entries ++ added) → IsReliable world entries

@@ -312,8 +312,11 @@ resting-leaves given tape scope first entries m carried reshaping who event goes
 
     -- what is filled in was right before it, too
     before : IsFilledRight (world_in given tape scope first) (entries ++ entries_of who (length tape) (event ∷ [])) → IsFilledRight (world_in given tape scope first) entries
-    before (inl none) = inl (λ role. none-before (loses (world_in given tape scope first) role) entries (entries_of who (length tape) (event ∷ [])) (none.0 role), none.1,
-        none-before (λ e. is_taken_over e.event) entries (entries_of who (length tape) (event ∷ [])) none.2)
+    before (inl none) = inl (
+      λ role. none-before (loses (world_in given tape scope first) role) entries (entries_of who (length tape) (event ∷ [])) (none.0 role),
+      none.1,
+      none-before (λ e. is_taken_over e.event) entries (entries_of who (length tape) (event ∷ [])) none.2,
+    )
     before (inr fit) = inr fit
 
     idle : Safe tape

@@ -105,8 +105,11 @@ module _ (tells : Type 0) (given : Given) (tape : List Operation) (scope : Scope
 
   -- what is filled in was right before it, too
   before : (n : ℕ) → IsFilledRight (world_in given tape scope first) (entries ++ entries_of who n (event ∷ [])) → IsFilledRight (world_in given tape scope first) entries
-  before n (inl none) = inl (λ role. none-before (loses (world_in given tape scope first) role) entries (entries_of who n (event ∷ [])) (none.0 role), none.1,
-      none-before (λ e. is_taken_over e.event) entries (entries_of who n (event ∷ [])) none.2)
+  before n (inl none) = inl (
+    λ role. none-before (loses (world_in given tape scope first) role) entries (entries_of who n (event ∷ [])) (none.0 role),
+    none.1,
+    none-before (λ e. is_taken_over e.event) entries (entries_of who n (event ∷ [])) none.2,
+  )
   before n (inr fit) = inr fit
 
   safe : tells → IsFilledRight world (entries ++ added) → HasRoomForEvents world → OpensAlike world → IsSafeHistory ⊤ world given m (is_carried work) was.reshaping (entries ++ added)

@@ -106,8 +106,11 @@ module _ {tells : Type 0} {given : Given} {tape : List Operation} {scope : Scope
   pub read-holds : tells → IsFilledRight (world_in given tape scope first) (entries ++ entries_of who end (losses_of roles spares ++ event ∷ []))
       → (i : ℕ) → i < length bytes / 512 → sector_of bytes i ≡ now (opening_list (world_in given tape scope first)) entries (at + i)
   read-holds t (inl none) =
-      let l = was.listed t does (inl (λ role. none-before (loses (world_in given tape scope first) role) entries (entries_of who end (losses_of roles spares ++ event ∷ [])) (none.0 role), none.1,
-          none-before (λ e. is_taken_over e.event) entries (entries_of who end (losses_of roles spares ++ event ∷ [])) none.2)) in
+      let l = was.listed t does (inl (
+        λ role. none-before (loses (world_in given tape scope first) role) entries (entries_of who end (losses_of roles spares ++ event ∷ [])) (none.0 role),
+        none.1,
+        none-before (λ e. is_taken_over e.event) entries (entries_of who end (losses_of roles spares ++ event ∷ [])) none.2,
+      )) in
       holds t (now (opening_list (world_in given tape scope first)) entries) l.stands
       (inl (none-taken tells given tape tape scope first entries old new who end (losses_of roles spares ++ event ∷ []) (IsAmong roles) (grows-none (λ u. refl)) (λ u. (was.recorded u).ends)
       (few-roles new.newest moved.placed.fit.valid) (missing-since moved since) (λ role lt has. (early-losses roles spares).lost who end (event ∷ []) role lt has) was.full t none.0 none.2))

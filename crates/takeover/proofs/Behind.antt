@@ -1,11 +1,11 @@
 -- In the plan of a takeover each role has a holder, where none was missing: all are whole, but for the last one of level 6, which its slot recovers. So what is missing behind its update was lost in it, or is Q.
-use Rattle.std.proofs.Common.{◌≡◌, ◌⊎◌, inl, inr, ℕ, ◌+◌, ◌-◌, ◌<◌, ◌≤◌, ◌==◌, ◌&&◌, nat_lt, Bool, true, false, not, Option, Some, None, List, get_or, length, refl, sym, ◌∙◌, ap, subst, arith}
+use Rattle.std.proofs.Common.{◌≡◌, ◌⊎◌, inl, inr, ℕ, ◌+◌, ◌-◌, ◌<◌, ◌≤◌, ◌==◌, ◌&&◌, nat_lt, true, false, not, Option, Some, None, get_or, length, refl, sym, ◌∙◌, ap, subst, arith}
 use Rattle.std.specs.Prelude.{IsTrue, is_some}
 use Rattle.std.specs.Option.{option_map_or}
 use Rattle.std.proofs.lemmas.Bool.{cases_lt, and_parts}
 use Rattle.std.proofs.lemmas.Bool.Decides.{nat_tests}
 use Rattle.std.proofs.lemmas.List.{get_or_past}
-use Rattle.md_base.specs.Search.{tabulate, least_below}
+use Rattle.md_base.specs.Search.{least_below}
 use Rattle.md_base.specs.Shapes.{has_slot, is_valid_shape}
 use Rattle.md_base.specs.declared.places.Shape.{Shape}
 use Rattle.md_base.specs.declared.status.Role.{Role}
@@ -15,12 +15,10 @@ use Rattle.bank.specs.Given.{Given, IsFaulted}
 use Rattle.layout.proofs.Limits.{limited}
 use Rattle.superblocks.specs.declared.change.Change.{Change}
 use Rattle.superblocks.specs.declared.change.Give.{Give}
-use Rattle.superblocks.specs.declared.change.Give.TheVariants.{Same, Spare}
 use Rattle.superblocks.specs.declared.change.Give.TheVariants as give
 use Rattle.superblocks.specs.declared.members.Members.{Members}
 use Rattle.superblocks.specs.Outcome.{is_planned_holder, held_state, planned_state}
 use Rattle.superblocks.specs.Reading.{is_reshaping, is_whole, shape_of, role_count, role_state, holder}
-use Rattle.superblocks.specs.Reads.{has_spare}
 use Rattle.superblocks.specs.Update.{give_of, is_held_by, planned_role}
 use Rattle.superblock_reads.proofs.SaidLists.{held-holder}
 use Rattle.superblock_reads.proofs.SaidSlots.{below-length}
@@ -28,17 +26,17 @@ use Rattle.superblocks.proofs.ValidFields.{few-roles}
 use Rattle.row_io.specs.Rows.{reading_of, is_missing}
 use Rattle.shape_changes.specs.Safety.{HasLiveSlot}
 use Rattle.shape_changes.specs.Steady.{AreUnlost}
-use Rattle.shape_changes.proofs.PlannedRoles.{count-planned, planned-held, held-planned}
+use Rattle.shape_changes.proofs.PlannedRoles.{planned-held, held-planned}
 use Rattle.views.specs.Lacking.{AreLostSince, HaveFailedSince}
 use Rattle.views.specs.Moving.{IsMoved}
 use Rattle.views.specs.Placed.{is_vacant, IsPlaced}
 use Rattle.views.specs.Rebuilding.{AreSparesFree}
-use Rattle.views.proofs.Fit.{count-alike, roles-still}
+use Rattle.views.proofs.Fit.{roles-still}
 use Rattle.views.proofs.LiveLeft.{holder-left}
 use Rattle.views.proofs.MarkLaws.{role_from-found}
 use Rattle.views.proofs.Still.{count-still}
 use Rattle.history_calls.proofs.Behind.{IsAmong}
-use Rattle.takeover_updates.specs.TakingOver.{CanTakeUp, CanTakeDown, CanTakeOver, taking_over, taken_plan}
+use Rattle.takeover_updates.specs.TakingOver.{CanTakeUp, CanTakeOver, taking_over, taken_plan}
 use Rattle.takeover_updates.proofs.TakenPlan.{count, gives-or, live, one-holder}
 use Rattle.still_kept.specs.Still.{AreNoneMissing}
 use Rattle.takeover.proofs.Chosen.{whole-slot}

@@ -1,5 +1,5 @@
 -- The next phase of a plan is a takeover: which way it goes, and that the array's level can be taken over so.
-use Rattle.std.proofs.Common.{◌≡◌, ◌⊎◌, inl, inr, ℕ, ◌+◌, ◌<◌, not, true, false, Some, None, Option, List, [], ◌∷◌, refl, sym, ◌∙◌, ap, subst, arith}
+use Rattle.std.proofs.Common.{◌≡◌, ◌⊎◌, inl, inr, ℕ, not, false, List, [], ◌∷◌, refl, sym, ◌∙◌, ap, subst, arith}
 use Rattle.std.specs.Prelude.{IsTrue}
 use Rattle.md_base.specs.Shapes.{is_valid_shape}
 use Rattle.md_base.specs.declared.places.Shape.{Shape}
@@ -7,9 +7,9 @@ use Rattle.md_base.specs.declared.status.Role.{Role}
 use Rattle.md_base.specs.declared.status.Role.TheVariants.{Whole, Recovering, Missing}
 use Rattle.md_base.specs.declared.wishes.Phase.{Phase}
 use Rattle.md_base.specs.declared.wishes.Phase.TheVariants.{UpTo6, DownTo5}
-use Rattle.grow_plan.specs.Plans.{AreSound, taken_up, phases_steps}
+use Rattle.grow_plan.specs.Plans.{AreSound, taken_up}
 use Rattle.superblocks.specs.declared.members.Members.{Members}
-use Rattle.superblocks.specs.Reading.{is_whole, shape_of, holder}
+use Rattle.superblocks.specs.Reading.{is_whole, shape_of}
 use Rattle.superblocks.specs.Reads.{has_spare}
 use Rattle.takeover_updates.specs.TakingOver.{CanTakeOver}
 use Rattle.still_steps.proofs.Lowest.{lowest-found}

@@ -1,23 +1,17 @@
 -- The steps that are left behind a takeover: those of Q at level 6, and none at level 5, unless a loss is told.
-use Rattle.std.proofs.Common.{◌≡◌, ◌⊎◌, inl, inr, ℕ, zero, suc, ◌+◌, ◌-◌, ◌*◌, ◌/◌, ◌<◌, ◌≤◌, ◌==◌, ◌||◌, min, cond, slice_set, get_or, Bool, true, false, not, Option, Some, None, List, [], ◌∷◌, ◌++◌, length, refl, sym, ◌∙◌, ap, ap₂, subst, arith}
-use Rattle.std.specs.Prelude.{IsTrue, is_some}
+use Rattle.std.proofs.Common.{◌≡◌, inl, inr, ℕ, zero, suc, ◌+◌, ◌-◌, ◌*◌, ◌<◌, ◌||◌, min, cond, Bool, true, false, not, Option, None, List, [], ◌∷◌, ◌++◌, refl, sym, ◌∙◌, ap, ap₂, arith}
+use Rattle.std.specs.Prelude.{is_some}
 use Rattle.std.specs.List.{list_any}
 use Rattle.std.proofs.lemmas.Bool.{cases_lt}
-use Rattle.std.proofs.lemmas.List.{get_or-set_same}
 use Rattle.std.proofs.lemmas.List.Folds.{list_any-append}
 use Rattle.md_base.specs.Search.{count_below}
-use Rattle.md_base.specs.Shapes.{has_slot, is_valid_shape, tolerance}
+use Rattle.md_base.specs.Shapes.{has_slot}
 use Rattle.md_base.specs.declared.places.Shape.{Shape}
 use Rattle.md_base.specs.declared.status.Role.{Role}
 use Rattle.md_base.specs.declared.status.Role.TheVariants.{Whole, Recovering, Missing}
-use Rattle.md_base.specs.declared.wishes.Phase.{Phase}
-use Rattle.md_base.specs.declared.wishes.Phase.TheVariants.{UpTo6, DownTo5}
 use Rattle.md_base.proofs.Least.{least_below-none}
-use Rattle.layout.proofs.Limits.{limited}
-use Rattle.bank.specs.Given.{Given}
-use Rattle.grow_plan.specs.Plans.{phases_steps}
 use Rattle.superblocks.specs.declared.members.Members.{Members}
-use Rattle.superblocks.specs.Reading.{is_reshaping, is_whole, shape_of, final_shape, role_count, role_state, holder}
+use Rattle.superblocks.specs.Reading.{is_reshaping, is_whole, shape_of, final_shape, role_state, holder}
 use Rattle.row_io.specs.Rows.{reading_of, is_missing, IsTolerated}
 use Rattle.flat_history.specs.Legal.{disturbs}
 use Rattle.flat_history.specs.declared.events.Event.{Event}
@@ -30,13 +24,9 @@ use Rattle.views.specs.Placed.{is_vacant}
 use Rattle.views.specs.Status.{stripes_of, rebuilt_of, vacant_count, spare_count, resync_left, role_left, recovery_left, left_of}
 use Rattle.views.proofs.Still.{count-still}
 use Rattle.call_entries.specs.Losing.{role_loss, role_losses, spare_losses, losses_of}
-use Rattle.array_kept.proofs.StepsLeft.{recovery-none, recovery-more}
-use Rattle.grow_asked.specs.declared.window.PhasesLeft.{PhasesLeft}
-use Rattle.grow_asked.specs.Left.{phases_of}
-use Rattle.running_words.specs.Parts.{still_left}
+use Rattle.array_kept.proofs.StepsLeft.{recovery-more}
 use Rattle.still_kept.specs.Still.{AreNoneMissing}
 use Rattle.still_steps.proofs.Lowest.{none-counted}
-use Rattle.takeover.specs.TakenOver.{IsTakeoverNext, work_then}
 
 -- no role is missing, so none too many are
 pub whole-does : (m : Members) → is_reshaping m.newest ≡ false → AreNoneMissing m → DoWithout m

@@ -1,4 +1,5 @@
 pub mod Chosen
 pub mod Behind
 pub mod LeftThen
+pub mod Untaken
 pub mod TakenReady

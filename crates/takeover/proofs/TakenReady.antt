@@ -1,6 +1,6 @@
 -- What a takeover leaves, from what `take_over` of `takeover_updates` says of it: the array is ready.
-use Rattle.std.proofs.Common.{◌≡◌, ◌≢◌, ◌⊎◌, inl, inr, ℕ, ◌+◌, ◌-◌, ◌*◌, ◌/◌, ◌<◌, ◌≤◌, ◌==◌, ◌&&◌, nat_lt, Bool, true, false, not, Option, Some, None, List, [], ◌∷◌, ◌++◌, length, refl, sym, ◌∙◌, ap, subst, arith, append-nil}
-use Rattle.std.specs.Prelude.{if◌then◌else◌, is_some, fold}
+use Rattle.std.proofs.Common.{◌≡◌, ◌≢◌, ◌⊎◌, inl, inr, ℕ, ◌+◌, ◌-◌, ◌*◌, ◌/◌, ◌<◌, ◌≤◌, ◌==◌, ◌&&◌, nat_lt, Bool, true, false, Option, Some, None, List, [], ◌∷◌, ◌++◌, length, refl, sym, ◌∙◌, ap, subst, arith, append-nil}
+use Rattle.std.specs.Prelude.{if◌then◌else◌}
 use Rattle.std.specs.List.{list_any, All}
 use Rattle.std.proofs.lemmas.List.{get_or-set_same}
 use Rattle.std.proofs.lemmas.List.Elements.{All-nil, All-cons}
@@ -8,7 +8,6 @@ use Rattle.md_base.specs.Shapes.{has_slot}
 use Rattle.md_base.specs.declared.answers.Who.{Who}
 use Rattle.md_base.specs.declared.places.Shape.{Shape}
 use Rattle.md_base.specs.declared.status.Role.TheVariants.{Recovering}
-use Rattle.md_base.specs.declared.status.Role.{Role}
 use Rattle.md_base.specs.declared.wishes.Phase.{Phase}
 use Rattle.md_base.specs.declared.wishes.Phase.TheVariants.{UpTo6, DownTo5}
 use Rattle.bank.specs.declared.bank.Operation.{Operation}
@@ -22,7 +21,7 @@ use Rattle.flat_history.specs.declared.events.Entry.{Entry}
 use Rattle.flat_history.specs.declared.events.Event.{Event}
 use Rattle.flat_history.specs.declared.events.Event.TheVariants.{Step}
 use Rattle.flat_history.specs.declared.events.StepKind.TheVariants.{TakenOver}
-use Rattle.flat_history.specs.Flat.{length_of, length_after, limit_after}
+use Rattle.flat_history.specs.Flat.{length_of}
 use Rattle.flat_history.specs.Legal.{disturbs}
 use Rattle.flat_history.specs.Plain.{entries_of}
 use Rattle.flat_history.specs.Reshaped.{open_plans}
@@ -99,6 +98,10 @@ resync-then to work = of (to.level == 6)
     of : (b : Bool) → (if b then with_rebuilt (to.disks - 1) 0 work else work).resync ≡ work.resync
     of true = refl
     of false = refl
+
+-- no resync is pending then, either
+pub synced-then : (to : Shape) (m : Members) (work : Work) → left_of work m ≡ 0 → (work_then to work).resync ≡ None
+synced-then to m work idle = resync-then to work ∙ none-pending m work.resync _ _ idle
 
 carried-then : (to : Shape) (work : Work) → is_carried (work_then to work) ≡ is_carried work
 carried-then to work = of (to.level == 6)

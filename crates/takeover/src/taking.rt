@@ -3,6 +3,7 @@
 ghost use Rattle.std.specs.Prelude.{◌≡◌, ◌≢◌, ◌+◌, ◌⊎◌, ◌≤◌, ◌<◌, ◌^◌, ◌++◌, ◌∷◌, ◌&&◌, [], ℕ, nat_lt, true, length, vec_capacity, IfOk, IfErr, IsTrue, IfSome};
 ghost use Rattle.std.specs.List.{list_any};
 ghost use Rattle.md_base.specs.Shapes.{has_slot, is_valid_shape};
+ghost use Rattle.md_base.specs.declared.places.Shape.{Shape as AShape};
 ghost use Rattle.grow_plan.specs.Plans.{AreSound};
 ghost use Rattle.superblocks.specs.Reading.{shape_of, role_count};
 ghost use Rattle.row_io.specs.Rows.{reading_of};
@@ -66,7 +67,13 @@ struct TakenTold {
     spares: u32,
 }
 
-fn told_of(members: &Members, work: &Work, to: &Shape, behind: &PhasesLeft, spares: u32) -> TakenTold
+fn told_of(
+    members: &Members,
+    work: &Work,
+    to: &Shape,
+    behind: &PhasesLeft,
+    spares: u32,
+) -> TakenTold
     requires fit { AreShapesFit members.now.newest }
     requires shape { shape_of members.now.newest ≡ to.now }
     requires size { members.now.newest.size ≤ 2 ^ 48 }
@@ -105,7 +112,7 @@ fn enter_taken(epoch: &mut Epoch, who: Who, end: u64, told: &TakenTold)
 }
 
 // The array, in whose history a plan was told, goes on as it was, and the step is refused.
-fn give_back<B: Bank>(pieces: Pieces<B>, who: Who, refusal: Refusal, to: Shape) -> Still<B>
+fn give_back<B: Bank>(pieces: Pieces<B>, who: Who, refusal: Refusal) -> Still<B>
     requires ready { IsReady B.tells (B.given pieces.bank) (B.tape pieces.bank) (scope_in (B.given pieces.bank) pieces.epoch.uuid pieces.epoch.given pieces.backup)
         pieces.epoch.first pieces.epoch.entries.items pieces.members pieces.work pieces.ahead pieces.limit (B.faults_of pieces.bank) pieces.steps pieces.epoch.entries.room
         (vec_capacity pieces.rows) (length pieces.buffer.items) (vec_capacity pieces.far_rows) (length pieces.far_buffer.items) }
@@ -113,7 +120,7 @@ fn give_back<B: Bank>(pieces: Pieces<B>, who: Who, refusal: Refusal, to: Shape) 
     requires caller { who.caller ≢ 254 }
     requires room { 1 ≤ pieces.steps }
     requires told { list_any (λ e. turns_shape e.event) pieces.epoch.entries.items ≡ true }
-    requires why { IsUntaken pieces.members to refusal }
+    requires why { (to : AShape) × IsUntaken pieces.members to refusal }
     ensures back { let old : RunningParts B = record {
       parts = record {
         bank = pieces.bank;
@@ -165,7 +172,7 @@ pub fn take_over<B: Bank>(
     let mut pieces = still.take_apart();
     let slot = match taken_slot(&pieces.members, &to) {
         Ok(slot) => slot,
-        Err(refusal) => return Err((give_back(pieces, who, refusal, to), refusal)),
+        Err(refusal) => return Err((give_back(pieces, who, refusal), refusal)),
     };
     pieces.steps -= 1;
     check_going(&pieces.epoch.entries, who);

@@ -1,12 +1,13 @@
 use Rattle.std.proofs.Common.{ap, arith}
 use Rattle.layout.proofs.Limits.{limited}
 use Rattle.md_base.specs.declared.places.Shape.{Shape}
+use Rattle.superblocks.specs.Reading.{shape_of}
 use Rattle.still_laws.proofs.Left.{left-few}
 use Rattle.takeover.proofs.taking.told_of.Goals as goal
 
 pub overflow_cast-count : goal.overflow_cast-count
 overflow_cast-count c =
-    let few = (limited _ c.requires.fit.valid.old).most in
+    let few = (limited (shape_of c.args.members.now.newest) c.requires.fit.valid.old).most in
     let same = ap (λ (s : Shape). s.disks) c.requires.shape in
     let count = c.requires.roles in
     let long = c.len-count.ensures in
@@ -17,7 +18,7 @@ overflow_add-result c = let few = left-few c.args.work.now c.args.members.now c.
 
 pub vacant_roles-requires-clause-few : goal.vacant_roles-requires-clause-few
 vacant_roles-requires-clause-few c =
-    let few = (limited _ c.requires.fit.valid.old).most in
+    let few = (limited (shape_of c.args.members.now.newest) c.requires.fit.valid.old).most in
     let same = ap (λ (s : Shape). s.disks) c.requires.shape in
     let count = c.requires.roles in
     let long = c.len-count.ensures in

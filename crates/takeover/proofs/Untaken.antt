@@ -1,0 +1,35 @@
+-- A takeover that is refused leaves the array as it was.
+use Rattle.std.proofs.Common.{◌≡◌, ◌≢◌, inl, inr, ℕ, Option, List, [], ◌∷◌, ◌++◌, length, refl, sym, subst}
+use Rattle.md_base.specs.declared.answers.Refusal.{Refusal}
+use Rattle.md_base.specs.declared.answers.Who.{Who}
+use Rattle.md_base.specs.declared.places.Shape.{Shape}
+use Rattle.bank.specs.declared.bank.Operation.{Operation}
+use Rattle.bank.specs.Given.{Given}
+use Rattle.superblocks.specs.declared.members.Members.{Members}
+use Rattle.superblocks.specs.Reading.{Scope}
+use Rattle.flat_history.specs.declared.events.Entry.{Entry}
+use Rattle.flat_history.specs.declared.events.Event.TheVariants.{Refused}
+use Rattle.flat_history.specs.Plain.{entries_of}
+use Rattle.views.specs.declared.work.Work.{Work}
+use Rattle.array_kept.proofs.KeptLaws.{left-lost}
+use Rattle.kept_history.specs.Recorded.{IsCallGoing}
+use Rattle.kept_history.specs.Safe.{world_in}
+use Rattle.running_words.proofs.Called.{not_254}
+use Rattle.still_kept.specs.Still.{IsStill}
+use Rattle.still_kept.proofs.Refusals.{IsRefusedStill, refused-right}
+use Rattle.still_kept.proofs.Resting.{resting-stands}
+use Rattle.takeover.specs.TakenOver.{IsUntaken}
+
+-- the refusal is right by any history
+untaken-right : (resync : Option ℕ) (m : Members) (to : Shape) (refusal : Refusal) → IsUntaken m to refusal → IsRefusedStill resync m refusal
+untaken-right resync m to refusal (inl (role, first, is)) = subst (IsRefusedStill resync m) (sym is) tt
+untaken-right resync m to refusal (inr (whole, six, none, is)) = subst (IsRefusedStill resync m) (sym is) tt
+
+pub untaken-stands : {tells : Type 0} {given : Given} {tape : List Operation} {scope : Scope} {first : ℕ} {entries : List Entry} {m : Members} {work : Work} {left : ℕ} (who : Who) (end : ℕ) (to : Shape) (refusal : Refusal)
+    → IsStill tells given tape scope first entries m work left → IsCallGoing entries who → who.caller ≢ 254 → (tells → end ≡ length tape) → IsUntaken m to refusal
+    → IsStill tells given tape scope first (entries ++ entries_of who end (Refused refusal ∷ [])) m work left
+untaken-stands {tells = tells} {given = given} {tape = tape} {scope = scope} {first = first} {entries = entries} {m = m} {work = work} {left = left} who end to refusal was goes caller at_end why =
+    resting-stands tells given tape scope first entries m work left left who end (Refused refusal) was goes (not_254 who.caller caller) at_end
+    (record { adds = refl; gives = refl; still = λ x values. refl; level = λ n. refl }) (inl refl)
+    (left-lost left left entries who end [] (Refused refusal ∷ []) tt (λ none. refl) was.left_told (λ told is. is))
+    (λ t right. refused-right (world_in given tape scope first) entries given m was.members_are.placed work.resync (was.gone t right) (was.levelled t right) (was.pending t) refusal (untaken-right work.resync m to refusal why))

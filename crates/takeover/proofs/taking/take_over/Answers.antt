@@ -1,0 +1,210 @@
+use Rattle.std.proofs.Common.{◌≡◌, ℕ, ◌≤◌, ◌-◌, Option, List, ◌∷◌, ◌++◌, length, vec_capacity, refl, sym, ◌∙◌, ap, subst, arith}
+use Rattle.std.specs.Prelude.{IfSome}
+use Rattle.layout.proofs.Limits.{limited}
+use Rattle.grow_plan.specs.Plans.{AreSound}
+use Rattle.superblocks.specs.Reading.{shape_of}
+use Rattle.flat_history.specs.declared.events.Entry.{Entry}
+use Rattle.flat_history.specs.declared.events.Event.TheVariants.{Step}
+use Rattle.flat_history.specs.declared.events.StepKind.TheVariants.{TakenOver}
+use Rattle.flat_history.specs.Plain.{entries_of}
+use Rattle.flat_history.specs.Transfers.{last_end_from}
+use Rattle.views.specs.declared.work.Work.{Work}
+use Rattle.views.specs.Status.{left_of, stripes_of}
+use Rattle.views.proofs.Fit.{fit-short}
+use Rattle.call_entries.specs.Losing.{losses_of}
+use Rattle.call_entries.proofs.PlainLaws.{last_end-call}
+use Rattle.array_kept.specs.Kept.{scope_in}
+use Rattle.array_kept.proofs.ReadyLaws.{scope-same}
+use Rattle.grow_asked.specs.Left.{phases_of}
+use Rattle.kept_history.specs.Recorded.{IsCallGoing}
+use Rattle.kept_history.specs.Safe.{world_in}
+use Rattle.running_words.specs.Calls.{moving_world}
+use Rattle.running_words.specs.Parts.{still_left}
+use Rattle.running_words.specs.Plans.{ArePlansKept}
+use Rattle.still_laws.specs.Ready.{IsReady}
+use Rattle.still_laws.proofs.Closing.{LeadTo}
+use Rattle.takeover.specs.TakenOver.{IsTakeoverNext, work_then}
+use Rattle.takeover.proofs.Chosen.{sound-next, can-take, told-ahead}
+use Rattle.takeover.proofs.TakenReady.{IsUpdated, synced-then, taken-ready, taken-longer, taken-losses, taken-told}
+use Rattle.takeover.proofs.taking.take_over.Goals as goal
+
+-- ---- why it isn't done
+
+-- a plan was told
+pub give_back-requires-clause-told : goal.give_back-requires-clause-told
+give_back-requires-clause-told g c =
+    let p = c.take_apart-pieces.result in
+    let next = subst (λ s. IsTakeoverNext (phases_of s.ahead) c.args.to (phases_of c.args.behind)) c.take_apart-pieces.ensures.same c.requires.next in
+    told-ahead (phases_of p.ahead) (phases_of c.args.behind) c.args.to c.take_apart-pieces.ensures.ready.ahead_told next
+
+pub give_back-requires-clause-why : goal.give_back-requires-clause-why
+give_back-requires-clause-why g c = (c.args.to, c.in-Err.ensures.refused)
+
+pub returns-in-Err-clause-caused : goal.returns-in-Err-clause-caused
+returns-in-Err-clause-caused g c = rw (c.take_apart-pieces.ensures.same) c.in-Err.ensures.refused
+
+-- ---- what is asked of the update
+
+pub take_over-spares-requires-clause-valid : goal.take_over-spares-requires-clause-valid
+take_over-spares-requires-clause-valid g c =
+    let p = c.take_apart-pieces.result in
+    let next = subst (λ s. IsTakeoverNext (phases_of s.ahead) c.args.to (phases_of c.args.behind)) c.take_apart-pieces.ensures.same c.requires.next in
+    (sound-next (shape_of p.members.newest) c.args.to p.members.newest.size (phases_of p.ahead) (phases_of c.args.behind) c.take_apart-pieces.ensures.ready.planned next).valid
+
+pub take_over-spares-requires-clause-can : goal.take_over-spares-requires-clause-can
+take_over-spares-requires-clause-can g c =
+    let p = c.take_apart-pieces.result in
+    let next = subst (λ s. IsTakeoverNext (phases_of s.ahead) c.args.to (phases_of c.args.behind)) c.take_apart-pieces.ensures.same c.requires.next in
+    can-take p.members c.args.to c.in-Ok.slot (sound-next (shape_of p.members.newest) c.args.to p.members.newest.size (phases_of p.ahead) (phases_of c.args.behind) c.take_apart-pieces.ensures.ready.planned next).way c.in-Ok.ensures.chosen
+
+-- ---- the steps that are left
+
+pub mark_unbuilt-requires-clause-least : goal.mark_unbuilt-requires-clause-least
+mark_unbuilt-requires-clause-least g c =
+    let p = c.take_apart-pieces.result in
+    let next = subst (λ s. IsTakeoverNext (phases_of s.ahead) c.args.to (phases_of c.args.behind)) c.take_apart-pieces.ensures.same c.requires.next in
+    let least = (limited c.args.to (sound-next (shape_of p.members.newest) c.args.to p.members.newest.size (phases_of p.ahead) (phases_of c.args.behind) c.take_apart-pieces.ensures.ready.planned next).valid).least in
+    omega (arith, least)
+
+pub mark_unbuilt-requires-clause-most : goal.mark_unbuilt-requires-clause-most
+mark_unbuilt-requires-clause-most g c =
+    let p = c.take_apart-pieces.result in
+    let next = subst (λ s. IsTakeoverNext (phases_of s.ahead) c.args.to (phases_of c.args.behind)) c.take_apart-pieces.ensures.same c.requires.next in
+    (limited c.args.to (sound-next (shape_of p.members.newest) c.args.to p.members.newest.size (phases_of p.ahead) (phases_of c.args.behind) c.take_apart-pieces.ensures.ready.planned next).valid).most
+
+pub told_of-told-requires-clause-size : goal.told_of-told-requires-clause-size
+told_of-told-requires-clause-size g c = fit-short c.take_over-spares.new.members.newest c.take_over-spares.ensures.moved.placed.fit
+
+pub told_of-told-requires-clause-progress : goal.told_of-told-requires-clause-progress
+told_of-told-requires-clause-progress g c =
+    let p = c.take_apart-pieces.result in
+    let idle = subst (λ s. left_of s.parts.work s.parts.members ≡ 0) c.take_apart-pieces.ensures.same c.requires.done in
+    let none = ap (λ (w : Work). w.resync) c.mark_unbuilt.ensures.work ∙ synced-then c.args.to p.members p.work idle in
+    subst (λ (o : Option ℕ). IfSome o (λ mended. mended ≤ stripes_of c.take_over-spares.new.members)) (sym none) tt
+
+pub told_of-told-requires-clause-sound : goal.told_of-told-requires-clause-sound
+told_of-told-requires-clause-sound g c =
+    let p = c.take_apart-pieces.result in
+    let next = subst (λ s. IsTakeoverNext (phases_of s.ahead) c.args.to (phases_of c.args.behind)) c.take_apart-pieces.ensures.same c.requires.next in
+    subst (λ (n : ℕ). AreSound c.args.to n (phases_of c.args.behind)) (sym c.take_over-spares.ensures.newest.size)
+    (sound-next (shape_of p.members.newest) c.args.to p.members.newest.size (phases_of p.ahead) (phases_of c.args.behind) c.take_apart-pieces.ensures.ready.planned next).rest
+
+-- ---- it is taken over
+
+pub of_pieces-requires : goal.of_pieces-requires
+of_pieces-requires g c =
+    let p = c.take_apart-pieces.result in
+    let same = c.take_apart-pieces.ensures.same in
+    let was = c.take_apart-pieces.ensures.ready in
+    let given = g.B.Bank.given p.bank in
+    let tape = g.B.Bank.tape p.bank in
+    let bank = c.take_over-spares.new.bank in
+    let new = c.take_over-spares.new.members in
+    let did = c.take_over-spares.ensures in
+    let epoch = c.enter_taken.new.epoch in
+    let who = c.args.who in
+    let to = c.args.to in
+    let behind = c.args.behind in
+    let end = c.ops-end.result in
+    let roles = c.told_of-told.result.roles in
+    let spares = c.take_over-spares.result in
+    let goes = subst (λ s. IsCallGoing s.parts.entries who) same c.requires.open in
+    let some : 1 ≤ p.steps = subst (λ s. 1 ≤ s.parts.steps) same c.requires.room in
+    let idle = subst (λ s. left_of s.parts.work s.parts.members ≡ 0) same c.requires.done in
+    let next = subst (λ s. IsTakeoverNext (phases_of s.ahead) to (phases_of behind)) same c.requires.next in
+    let lead : LeadTo g.B.Bank.tells (world_in given tape (scope_in given p.epoch.uuid p.epoch.given p.backup) p.epoch.first) p.epoch.entries.items p.members p.ahead =
+    subst (λ s. ArePlansKept g.B.Bank.tells (moving_world (g.B.Bank.given s.parts.bank) (g.B.Bank.tape s.parts.bank) s) s) same c.requires.plans in
+    let update : IsUpdated g.B.Bank.tells given tape (g.B.Bank.tape bank) to c.in-Ok.slot p.members new spares (g.B.Bank.faults_of p.bank) (g.B.Bank.faults_of bank) = record {
+      newest = did.newest;
+      plan = did.plan;
+      moved = did.moved;
+      failed = did.failed;
+      free = did.free;
+      others = did.others;
+      grows = did.grows;
+      rise = did.rise;
+      safe = did.safe;
+      counts = did.counts;
+    } in
+    let left_is : c.told_of-told.result.left ≡ still_left (work_then to p.work) new behind = c.told_of-told.ensures.left ∙ ap (λ (w : Work). still_left w new behind) c.mark_unbuilt.ensures.work in
+    let spares_is : c.told_of-told.result.spares ≡ spares = c.told_of-told.ensures.spares in
+    record {
+      ready = subst
+          (λ (w : Work). IsReady g.B.Bank.tells (g.B.Bank.given bank) (g.B.Bank.tape bank) (scope_in (g.B.Bank.given bank) epoch.uuid epoch.given p.backup) epoch.first epoch.entries.items new w behind p.limit
+          (g.B.Bank.faults_of bank) (p.steps - 1) epoch.entries.room (vec_capacity p.rows) (length p.buffer.items) (vec_capacity p.far_rows) (length p.far_buffer.items)) (sym c.mark_unbuilt.ensures.work)
+          (taken-ready p.ahead behind to c.in-Ok.slot who end roles spares was goes c.requires.caller idle next lead c.in-Ok.ensures.whole c.in-Ok.ensures.chosen update c.ops-end.ensures.count c.mark_unbuilt.ensures.long c.told_of-told.ensures.roles
+          did.given (scope-same given p.backup did.given c.enter_taken.ensures.uuid c.enter_taken.ensures.given) c.enter_taken.ensures.first refl
+          (c.enter_taken.ensures.items ∙ (λ i. p.epoch.entries.items ++ entries_of who end (Step TakenOver (left_is i) ∷ losses_of roles (spares_is i))))
+          (let had = was.room_left in let room = c.enter_taken.ensures.room in omega (arith, had, room, some)));
+    }
+
+pub returns-clause-taken : goal.returns-clause-taken
+returns-clause-taken g c =
+    let p = c.take_apart-pieces.result in
+    let same = c.take_apart-pieces.ensures.same in
+    let was = c.take_apart-pieces.ensures.ready in
+    let given = g.B.Bank.given p.bank in
+    let tape = g.B.Bank.tape p.bank in
+    let bank = c.take_over-spares.new.bank in
+    let new = c.take_over-spares.new.members in
+    let did = c.take_over-spares.ensures in
+    let who = c.args.who in
+    let to = c.args.to in
+    let behind = c.args.behind in
+    let end = c.ops-end.result in
+    let roles = c.told_of-told.result.roles in
+    let spares = c.take_over-spares.result in
+    let goes = subst (λ s. IsCallGoing s.parts.entries who) same c.requires.open in
+    let some : 1 ≤ p.steps = subst (λ s. 1 ≤ s.parts.steps) same c.requires.room in
+    let idle = subst (λ s. left_of s.parts.work s.parts.members ≡ 0) same c.requires.done in
+    let next = subst (λ s. IsTakeoverNext (phases_of s.ahead) to (phases_of behind)) same c.requires.next in
+    let lead : LeadTo g.B.Bank.tells (world_in given tape (scope_in given p.epoch.uuid p.epoch.given p.backup) p.epoch.first) p.epoch.entries.items p.members p.ahead =
+    subst (λ s. ArePlansKept g.B.Bank.tells (moving_world (g.B.Bank.given s.parts.bank) (g.B.Bank.tape s.parts.bank) s) s) same c.requires.plans in
+    let update : IsUpdated g.B.Bank.tells given tape (g.B.Bank.tape bank) to c.in-Ok.slot p.members new spares (g.B.Bank.faults_of p.bank) (g.B.Bank.faults_of bank) = record {
+      newest = did.newest;
+      plan = did.plan;
+      moved = did.moved;
+      failed = did.failed;
+      free = did.free;
+      others = did.others;
+      grows = did.grows;
+      rise = did.rise;
+      safe = did.safe;
+      counts = did.counts;
+    } in
+    let left_is : c.told_of-told.result.left ≡ still_left (work_then to p.work) new behind = c.told_of-told.ensures.left ∙ ap (λ (w : Work). still_left w new behind) c.mark_unbuilt.ensures.work in
+    let spares_is : c.told_of-told.result.spares ≡ spares = c.told_of-told.ensures.spares in
+    let entered = c.enter_taken.ensures.items ∙ (λ i. p.epoch.entries.items ++ entries_of who end (Step TakenOver (c.told_of-told.ensures.left i) ∷ losses_of roles (spares_is i))) in
+    let items = c.enter_taken.ensures.items ∙ (λ i. p.epoch.entries.items ++ entries_of who end (Step TakenOver (left_is i) ∷ losses_of roles (spares_is i))) in
+    rw (c.of_pieces.ensures.same) (rw (c.take_apart-pieces.ensures.same) (record {
+      whole = c.in-Ok.ensures.whole;
+      slot = c.in-Ok.slot;
+      chosen = c.in-Ok.ensures.chosen;
+      entered = record {
+        roles = roles;
+        spares = spares;
+        end = end;
+        roles_told = taken-told p.ahead behind to c.in-Ok.slot who end roles spares was goes c.requires.caller idle next lead c.in-Ok.ensures.whole c.in-Ok.ensures.chosen update c.ops-end.ensures.count c.mark_unbuilt.ensures.long
+            c.told_of-told.ensures.roles;
+        spares_told = did.failed.told;
+        is = entered;
+      };
+      ended = λ t. ap (λ (l : List Entry). last_end_from c.enter_taken.new.epoch.first l) items
+          ∙ last_end-call c.enter_taken.new.epoch.first p.epoch.entries.items who end (Step TakenOver (still_left (work_then to p.work) new behind)) (losses_of roles spares) ∙ c.ops-end.ensures.count t;
+      grows = did.grows;
+      newest = did.newest;
+      long = taken-longer p.ahead behind to c.in-Ok.slot who end roles spares was goes c.requires.caller idle next lead c.in-Ok.ensures.whole c.in-Ok.ensures.chosen update c.ops-end.ensures.count c.mark_unbuilt.ensures.long
+          c.told_of-told.ensures.roles;
+      held = did.moved.held;
+      spares = did.moved.fewer;
+      kept = did.failed.roles;
+      losses = taken-losses p.ahead behind to c.in-Ok.slot who end roles spares was goes c.requires.caller idle next lead c.in-Ok.ensures.whole c.in-Ok.ensures.chosen update c.ops-end.ensures.count c.mark_unbuilt.ensures.long
+          c.told_of-told.ensures.roles refl items;
+      never_falls = did.counts;
+      others = did.others;
+      course = refl;
+      ahead = refl;
+      steps = omega (arith, some);
+      work = c.mark_unbuilt.ensures.work;
+      same = record { uuid = c.enter_taken.ensures.uuid; given = c.enter_taken.ensures.given; first = c.enter_taken.ensures.first; backup = refl; limit = refl };
+    }))
