@@ -523,11 +523,6 @@ module _ {B : Type 0} (setting : Setting) (bank : B) (olds epochs : Vec Epoch) (
         course = opened_course 1 status.length (ap (λ (l : List Entry). next_number 0 l) entries ∙ one_call) (ap (λ (m : Members). list_length m.newest) members ∙ is.shown status told);
       }
         where
-          turning : IsTurningTold (is_reshaping array.parts.members.newest) (phases_of array.ahead) array.parts.entries
-          turning = subst (λ (l : List Entry). IsTurningTold (is_reshaping array.parts.members.newest) (phases_of array.ahead) l) (sym entries)
-              (found-told (is_reshaping array.parts.members.newest) (phases_of array.ahead) (entries_of opener array.parts.first losses) first_entry status refl
-              (λ none. ap (λ (m : Members). is_reshaping m.newest) members ∙ is.targeted status told none) (ap (λ (p : PhasesLeft). phases_of p) ahead ∙ is.planless))
-
           first_entry : Entry
           first_entry = record { caller = 0; number = 0; end = entered.end; event = Shown status }
 
@@ -536,3 +531,8 @@ module _ {B : Type 0} (setting : Setting) (bank : B) (olds epochs : Vec Epoch) (
 
           one_call : next_number 0 (entries_of opener array.parts.first losses ++ first_entry ∷ []) ≡ 1
           one_call = fold-append (number_after 0) 0 (entries_of opener array.parts.first losses) (first_entry ∷ [])
+
+          turning : IsTurningTold (is_reshaping array.parts.members.newest) (phases_of array.ahead) array.parts.entries
+          turning = subst (λ (l : List Entry). IsTurningTold (is_reshaping array.parts.members.newest) (phases_of array.ahead) l) (sym entries)
+              (found-told (is_reshaping array.parts.members.newest) (phases_of array.ahead) (entries_of opener array.parts.first losses) first_entry status refl
+              (λ none. ap (λ (m : Members). is_reshaping m.newest) members ∙ is.targeted status told none) (ap (λ (p : PhasesLeft). phases_of p) ahead ∙ is.planless))

@@ -84,7 +84,10 @@ fn wishes_and_limits(rt: HostRuntime) -> Result<(), Fail> {
     }
     for (text, limit) in &LIMITS {
         let limit = *limit;
-        assert!(rt; asks_alone(alloc, text, Line::ArraySize { limit })?, "{text:?}");
+        assert!(rt;
+            asks_alone(alloc, text, Line::ArraySize { limit })?,
+            "{text:?}"
+        );
     }
     for text in BAD {
         assert!(rt; first_bad(alloc, text.as_bytes())? == Some(1), "{text:?}");
