@@ -12,4 +12,6 @@ pub use joining::{together, work_alone};
 pub use samples::{SPEC, bank_of, created, fail, found, next_call, planned, write};
 
 #[cfg(test)]
+mod requests;
+#[cfg(test)]
 mod tests;

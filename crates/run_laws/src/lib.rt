@@ -7,6 +7,6 @@ mod report;
 mod states;
 
 pub use openings;
-pub use openings::{array, running, running_steps};
+pub use openings::{assemble, running, running_steps};
 pub use report::{Answered, LineReply, Outside};
 pub use states::State;

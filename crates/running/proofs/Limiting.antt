@@ -45,37 +45,35 @@ judged-still array limit visible result still judged = subst (λ (o : Option Ref
 -- in a reshape each is refused
 pub judged-moving : {B : Type 0} (array : RunningParts B) (limit : Option ℕ) (visible : ℕ) (result : Result ℕ Fault) → is_reshaping array.parts.members.newest ≡ true → IsErr result → IsJudged (Some (Busy Reshape)) result
     → IsVisibleJudged (limit_refusal array limit) visible result
-judged-moving array limit visible (Ok x) active err judged = absurd err
+judged-moving array limit visible (Ok x) active err judged = absurd (cc)
 judged-moving array limit visible (Err (IsRefusedWith refusal)) active err judged = limit-moving array limit active ∙ judged
 judged-moving array limit visible (Err NoMemory) active err judged = tt
 
 -- what it leaves then is by the answer too
 pub limited-moving : {B : Type 0} (limit : Option ℕ) (old new : RunningParts B) (result : Result ℕ Fault) → IsErr result → IsLimitedAs old.limit old new → IsLimitedAs (by_answer result limit old.limit) old new
-limited-moving limit old new (Ok x) err was = absurd err
+limited-moving limit old new (Ok x) err was = absurd (cc)
 limited-moving limit old new (Err fault) err was = was
 
 -- ---- the reply
 
--- it fits the request whatever the superblocks say, without a reshape
-pub replied-still : {tells : Type 0} {world : World} {phases : ℕ} {limit : Option ℕ} {who : Who} {old new : List Entry} {event : Event} (members : Members) (result : Result ℕ Fault) → IsVisibleAnswered tells world phases limit who old new event result
-    → IsReplied tells world phases members (AsksVisible limit) who old new event result
-replied-still members (Ok x) is = record { end = is.end; at_end = is.at_end; is = is.is; fits = λ t right told read. is.fits t told }
-replied-still members (Err (IsRefusedWith refusal)) is = record { end = is.end; at_end = is.at_end; is = is.is; fits = λ t right told read. is.fits t told }
-replied-still members (Err NoMemory) is = is
+module _ (tells : Type 0) (world : World) (phases : ℕ) (members : Members) (limit : Option ℕ) (who : Who) (old new : List Entry) where
+  -- it fits the request whatever the superblocks say, without a reshape
+  pub replied-still : (event : Event) (result : Result ℕ Fault) → IsVisibleAnswered tells world phases limit who old new event result → IsReplied tells world phases members (AsksVisible limit) who old new event result
+  replied-still event (Ok x) is = record { end = is.end; at_end = is.at_end; is = is.is; fits = λ t right told read. is.fits t told }
+  replied-still event (Err (IsRefusedWith refusal)) is = record { end = is.end; at_end = is.at_end; is = is.is; fits = λ t right told read. is.fits t told }
+  replied-still event (Err NoMemory) is = is
 
--- what would have been told of an Ok doesn't matter where there is none
-pub replied-moving : {tells : Type 0} {world : World} {phases : ℕ} {members : Members} {limit : Option ℕ} {who : Who} {old new : List Entry} {event : Event} (other : Event) (result : Result ℕ Fault) → IsErr result
-    → IsReplied tells world phases members (AsksVisible limit) who old new event result → IsReplied tells world phases members (AsksVisible limit) who old new other result
-replied-moving other (Ok x) err is = absurd err
-replied-moving other (Err (IsRefusedWith refusal)) err is = is
-replied-moving other (Err NoMemory) err is = is
+  -- what would have been told of an Ok doesn't matter where there is none
+  pub replied-moving : (event other : Event) (result : Result ℕ Fault) → IsErr result → IsReplied tells world phases members (AsksVisible limit) who old new event result → IsReplied tells world phases members (AsksVisible limit) who old new other result
+  replied-moving event other (Ok x) err is = absurd (cc)
+  replied-moving event other (Err (IsRefusedWith refusal)) err is = is
+  replied-moving event other (Err NoMemory) err is = is
 
--- it is no plan
-add-limited : {tells : Type 0} {world : World} {phases : ℕ} {members : Members} {limit : Option ℕ} {who : Who} {old new : List Entry} (count : ℕ) (result : Result ℕ Fault)
-    → IsReplied tells world phases members (AsksVisible limit) who old new (Visible limit count) result → AddNoPlan old new
-add-limited {limit = limit} {who = who} count (Ok x) is = record { more = entries_of who is.end (Visible limit count ∷ []); grown = is.is; none = refl }
-add-limited {who = who} count (Err (IsRefusedWith refusal)) is = record { more = entries_of who is.end (Refused refusal ∷ []); grown = is.is; none = refl }
-add-limited count (Err NoMemory) is = add-nothing is
+  -- it is no plan
+  add-limited : (count : ℕ) (result : Result ℕ Fault) → IsReplied tells world phases members (AsksVisible limit) who old new (Visible limit count) result → AddNoPlan old new
+  add-limited count (Ok x) is = record { more = entries_of who is.end (Visible limit count ∷ []); grown = is.is; none = refl }
+  add-limited count (Err (IsRefusedWith refusal)) is = record { more = entries_of who is.end (Refused refusal ∷ []); grown = is.is; none = refl }
+  add-limited count (Err NoMemory) is = add-nothing is
 
 -- ---- what it leaves
 
@@ -92,13 +90,13 @@ as-before was = record {
 }
 
 module _ {B : Type 0} {tells : Type 0} (given : B → Given) (tape : B → List Operation) (old new : RunningParts B) {limit : Option ℕ} (did : IsLimitedAs limit old new)
-    {world : World} {phases : ℕ} {members : Members} {asked : Option ℕ} {who : Who} (count : ℕ) (result : Result ℕ Fault) (replied : IsReplied tells world phases members (AsksVisible asked) who old.parts.entries new.parts.entries (Visible asked count) result) where
+    (world : World) (phases : ℕ) (members : Members) (asked : Option ℕ) (who : Who) (count : ℕ) (result : Result ℕ Fault) (replied : IsReplied tells world phases members (AsksVisible asked) who old.parts.entries new.parts.entries (Visible asked count) result) where
   pub rest-limited : (window : ℕ) → IsStillNow new → IsWithin tells (tape new.parts.bank) new → IsAtRest tells (given old.parts.bank) (tape old.parts.bank) window old → IsAtRest tells (given new.parts.bank) (tape new.parts.bank) window new
   rest-limited window now within was =
-      let added = add-limited count result replied in
+      let added = add-limited tells world phases members asked who old.parts.entries new.parts.entries count result replied in
       rest-kept given tape window old new (history-on given tape old new (as-before did) added) (history-leaves old new (as-before did) did.ahead) now within
       (closed-kept old new (ap (λ (w : Work). w.resync) did.work) did.ahead (λ whole. subst AreWhole did.members whole) added was.closed) was
 
   pub reshape-limited : is_reshaping new.parts.members.newest ≡ true → IsWithin tells (tape new.parts.bank) new → IsInReshape tells (given old.parts.bank) (tape old.parts.bank) old → IsInReshape tells (given new.parts.bank) (tape new.parts.bank) new
   reshape-limited active within was =
-      reshape-kept given tape old new (history-on given tape old new (as-before did) (add-limited count result replied)) (ap (λ (m : Members). shape_of m.newest) did.members) (ap (λ (m : Members). final_shape m.newest) did.members) did.ahead active within was
+      reshape-kept given tape old new (history-on given tape old new (as-before did) (add-limited tells world phases members asked who old.parts.entries new.parts.entries count result replied)) (ap (λ (m : Members). shape_of m.newest) did.members) (ap (λ (m : Members). final_shape m.newest) did.members) did.ahead active within was

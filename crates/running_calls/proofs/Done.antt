@@ -1,23 +1,15 @@
 -- What a request leaves that was done.
-use Rattle.std.proofs.Common.{◌≡◌, ℕ, ◌≤◌, Option, None, List, [], ◌∷◌, ◌++◌, length, fold, refl, sym, ◌∙◌, ap, subst, arith, append_assoc, length-append}
-use Rattle.std.proofs.lemmas.List.Sums.{fold-append}
-use Rattle.bank.specs.declared.bank.Operation.{Operation}
-use Rattle.bank.specs.Given.{Given}
+use Rattle.std.proofs.Common.{◌≡◌, ℕ, ◌≤◌, List, [], ◌∷◌, ◌++◌, length, ◌∙◌, ap, arith, length-append}
 use Rattle.md_base.specs.declared.answers.Who.{Who}
 use Rattle.superblocks.specs.Reading.{list_length}
 use Rattle.flat_history.specs.declared.events.Entry.{Entry}
 use Rattle.flat_history.specs.declared.events.Event.{Event}
-use Rattle.flat_history.specs.declared.events.Event.TheVariants.{Shown}
 use Rattle.flat_history.specs.declared.events.Request.{Request}
 use Rattle.flat_history.specs.declared.events.Request.TheVariants.{Read as AsksRead, Write as AsksWrite, Flush as AsksFlush, Fail as AsksFail, Add as AsksAdd, Visible as AsksVisible, Grow as AsksGrow, Steps as AsksSteps, Show as AsksShow}
-use Rattle.flat_history.specs.Flat.{length_of, limit_after, limit_of}
-use Rattle.flat_history.specs.Legal.{call_before}
 use Rattle.call_entries.proofs.PlainLaws.{one}
 use Rattle.running_steps.specs.running_words_Parts.{RunningParts}
 use Rattle.running_steps.specs.running_replies_Replies.{IsAnsweredWith}
-use Rattle.running_calls.specs.Going.{HasGoneOn}
-use Rattle.running_calls.specs.Replies.{TellsLength, IsShownBy, IsPerformed}
-use Rattle.running_calls.proofs.Leaving.{sized-again, limit-call}
+use Rattle.running_calls.specs.Replies.{IsShownBy, IsPerformed}
 
 -- ---- a request was done: a status was shown, or another was answered
 

@@ -1,9 +1,11 @@
 //! How much of a running array's list can be read and written.
 
-ghost use Rattle.std.specs.Prelude.{◌≡◌, ◌≢◌, length};
+ghost use Rattle.std.specs.Prelude.{◌≡◌, ◌≢◌, Some, length, IsErr};
+ghost use Rattle.md_base.specs.declared.answers.Refusal.TheVariants.{Busy};
+ghost use Rattle.md_base.specs.declared.answers.BusyKind.TheVariants.{Reshape};
 ghost use Rattle.superblocks.specs.Reading.{list_length};
 ghost use Rattle.flat_history.specs.Flat.{next_number};
-ghost use Rattle.flat_history.specs.declared.events.Event.TheVariants.{Visible};
+ghost use Rattle.flat_history.specs.declared.events.Event.TheVariants.{Visible, Refused};
 ghost use Rattle.flat_history.specs.declared.events.Request.TheVariants.{Visible as AsksVisible};
 ghost use Rattle.array_kept.specs.Calls.{OnNoMemory, IsEndOf, by_answer};
 ghost use Rattle.grow_asked.specs.Left.{phases_of};
@@ -13,13 +15,32 @@ ghost use Rattle.growing.specs.running_words_Visible.{IsVisibleJudged, IsLimited
 ghost use Rattle.growing.specs.running_replies_Going.{HasRunOn};
 ghost use Rattle.growing.specs.running_replies_Replies.{IsRepliedWith};
 ghost use Rattle.growing.specs.running_replies_Limits.{limit_refusal};
-ghost use Rattle.growing.specs.Planned.{IsReplied};
+ghost use Rattle.growing.specs.Planned.{IsJudged, IsReplied};
 
 use crate::state::{Running, State, check_moving, check_still};
 use bank::Bank;
 use core::mem::replace_with;
+use growing::moving::Moving;
 use growing::refuse_limit;
 use md_base::{Fault, Who};
+
+// Refuses the limit of a caller, in a reshape.
+fn refuse_moving<B: Bank>(
+    moving: Moving<B>,
+    asked: (Who, Option<u64>),
+) -> (Moving<B>, Result<u64, Fault>)
+    requires next { asked.0.number ≡ next_number asked.0.caller moving.parts.entries }
+    requires caller { asked.0.caller ≢ 254 }
+    ensures answered { IsReplied B.tells (moving_world (B.given moving.parts.bank) (B.tape moving.parts.bank) moving) (length (phases_of moving.ahead)) moving.parts.members (AsksVisible asked.1) asked.0 moving.parts.entries result.0.parts.entries
+        (Refused (Busy Reshape)) result.1 }
+    ensures refused { IsErr result.1 }
+    ensures judged { IsJudged (Some (Busy Reshape)) result.1 }
+    ensures unchanged { OnNoMemory result.1 (result.0 ≡ moving) }
+    ensures limited { IsLimitedAs moving.limit moving result.0 }
+    ensures ended { IsEndOf B.tells result.0.parts.first result.0.parts.entries (B.tape result.0.parts.bank) }
+{
+    refuse_limit(moving, asked)
+}
 
 impl<B: Bank> Running<B> {
     /// Limits how many sectors of the list can be read and written, or takes the limit away; the answer is how many can be then. It makes
@@ -44,7 +65,7 @@ impl<B: Bank> Running<B> {
                 done
             }
             State::Moving(moving) => {
-                let done = replace_with(moving, (who, limit), refuse_limit);
+                let done = replace_with(moving, (who, limit), refuse_moving);
                 check_moving(moving);
                 done
             }

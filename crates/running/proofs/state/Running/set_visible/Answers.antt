@@ -1,6 +1,8 @@
 use Rattle.std.proofs.Common.{◌≡◌, length, sym, ◌∙◌, ap, subst}
+use Rattle.md_base.specs.declared.answers.BusyKind.TheVariants.{Reshape}
+use Rattle.md_base.specs.declared.answers.Refusal.TheVariants.{Busy}
 use Rattle.superblocks.specs.Reading.{list_length}
-use Rattle.flat_history.specs.declared.events.Event.TheVariants.{Visible}
+use Rattle.flat_history.specs.declared.events.Event.TheVariants.{Visible, Refused}
 use Rattle.flat_history.specs.Flat.{next_number}
 use Rattle.grow_asked.specs.Left.{phases_of}
 use Rattle.growing.specs.running_words_Parts.{visible_in}
@@ -14,11 +16,20 @@ use Rattle.running.proofs.state.Running.set_visible.Goals.{in-Still, in-Moving}
 pub returns-clause-fits : goal.returns-clause-fits
 returns-clause-fits g c = elim c.match-self.branch [
   | in-Still w ↦
-      rw (← c.self.view_is, w.in-Still.is, w.self-inside-is, w.check_still.ensures.same, w.result-is) (replied-still w.in-Still.still.parts.members w.set_visible-done.result w.set_visible-done.ensures.answered)
+      let old = w.in-Still.still in
+      let new = w.set_visible-done.new.self in
+      let result = w.set_visible-done.result in
+      let world = moving_world (g.B.Bank.given old.parts.bank) (g.B.Bank.tape old.parts.bank) old in
+      rw (← c.self.view_is, w.in-Still.is, w.self-inside-is, w.check_still.ensures.same, w.result-is)
+      (replied-still g.B.Bank.tells world (length (phases_of old.ahead)) old.parts.members c.args.limit c.args.who old.parts.entries new.parts.entries (Visible c.args.limit (visible_in new)) result w.set_visible-done.ensures.answered)
   | in-Moving w ↦
+      let old = w.in-Moving.moving in
+      let new = w.replace_with-done.new.dest in
+      let result = w.replace_with-done.result in
       let did = w.replace_with-done.ensures in
+      let world = moving_world (g.B.Bank.given old.parts.bank) (g.B.Bank.tape old.parts.bank) old in
       rw (← c.self.view_is, w.in-Moving.is, w.self-inside-is, w.check_moving.ensures.same, w.result-is)
-      (replied-moving (Visible c.args.limit (visible_in w.replace_with-done.new.dest)) w.replace_with-done.result did.1.0 did.0)
+      (replied-moving g.B.Bank.tells world (length (phases_of old.ahead)) old.parts.members c.args.limit c.args.who old.parts.entries new.parts.entries (Refused (Busy Reshape)) (Visible c.args.limit (visible_in new)) result did.1.0 did.0)
 ]
 
 pub returns-clause-judged : goal.returns-clause-judged
@@ -54,7 +65,7 @@ returns-clause-answered g c = elim c.match-self.branch [
       let number = subst (λ p. c.args.who.number ≡ next_number c.args.who.caller p.parts.entries) (sym c.self.view_is ∙ ap (λ s. parts_in s) w.in-Still.is) c.requires.next in
       rw (← c.self.view_is, w.in-Still.is, w.self-inside-is, w.check_still.ensures.same, w.result-is)
       (limit-replied old g.B.Bank.tells world (length (phases_of old.ahead)) old.parts.members (list_length old.parts.members.newest) c.args.limit c.args.who old.parts.entries new.parts.entries (visible_in new) (visible_in new) result
-      number was.within.sized (replied-still old.parts.members result w.set_visible-done.ensures.answered) (judged-still old c.args.limit (visible_in new) result was.now.still w.set_visible-done.ensures.judged))
+      number was.within.sized (replied-still g.B.Bank.tells world (length (phases_of old.ahead)) old.parts.members c.args.limit c.args.who old.parts.entries new.parts.entries (Visible c.args.limit (visible_in new)) result w.set_visible-done.ensures.answered) (judged-still old c.args.limit (visible_in new) result was.now.still w.set_visible-done.ensures.judged))
   | in-Moving w ↦
       let was = rw w.in-Moving.is at c.self.invariant in
       let old = w.in-Moving.moving in
@@ -65,7 +76,7 @@ returns-clause-answered g c = elim c.match-self.branch [
       let number = subst (λ p. c.args.who.number ≡ next_number c.args.who.caller p.parts.entries) (sym c.self.view_is ∙ ap (λ s. parts_in s) w.in-Moving.is) c.requires.next in
       rw (← c.self.view_is, w.in-Moving.is, w.self-inside-is, w.check_moving.ensures.same, w.result-is)
       (limit-replied old g.B.Bank.tells world (length (phases_of old.ahead)) old.parts.members (list_length old.parts.members.newest) c.args.limit c.args.who old.parts.entries new.parts.entries (visible_in new) (visible_in new) result
-      number was.within.sized (replied-moving (Visible c.args.limit (visible_in new)) result did.1.0 did.0) (judged-moving old c.args.limit (visible_in new) result was.active did.1.0 did.1.1.0))
+      number was.within.sized (replied-moving g.B.Bank.tells world (length (phases_of old.ahead)) old.parts.members c.args.limit c.args.who old.parts.entries new.parts.entries (Refused (Busy Reshape)) (Visible c.args.limit (visible_in new)) result did.1.0 did.0) (judged-moving old c.args.limit (visible_in new) result was.active did.1.0 did.1.1.0))
 ]
 
 pub returns-clause-went : goal.returns-clause-went
@@ -78,7 +89,7 @@ returns-clause-went g c = elim c.match-self.branch [
       let world = moving_world (g.B.Bank.given old.parts.bank) (g.B.Bank.tape old.parts.bank) old in
       rw (← c.self.view_is, w.in-Still.is, w.self-inside-is, w.check_still.ensures.same)
       (limit-went g.B.Bank.tells g.B.Bank.given g.B.Bank.tape g.B.Bank.faults_of old new (as-before w.set_visible-done.ensures.limited) world (length (phases_of old.ahead)) old.parts.members c.args.limit c.args.who (visible_in new) (visible_in new) result
-      (replied-still old.parts.members result w.set_visible-done.ensures.answered) (judged-still old c.args.limit (visible_in new) result was.now.still w.set_visible-done.ensures.judged) w.set_visible-done.ensures.limited.ahead)
+      (replied-still g.B.Bank.tells world (length (phases_of old.ahead)) old.parts.members c.args.limit c.args.who old.parts.entries new.parts.entries (Visible c.args.limit (visible_in new)) result w.set_visible-done.ensures.answered) (judged-still old c.args.limit (visible_in new) result was.now.still w.set_visible-done.ensures.judged) w.set_visible-done.ensures.limited.ahead)
   | in-Moving w ↦
       let was = rw w.in-Moving.is at c.self.invariant in
       let old = w.in-Moving.moving in
@@ -88,7 +99,7 @@ returns-clause-went g c = elim c.match-self.branch [
       let world = moving_world (g.B.Bank.given old.parts.bank) (g.B.Bank.tape old.parts.bank) old in
       rw (← c.self.view_is, w.in-Moving.is, w.self-inside-is, w.check_moving.ensures.same)
       (limit-went g.B.Bank.tells g.B.Bank.given g.B.Bank.tape g.B.Bank.faults_of old new (as-before did.1.1.1.1.0) world (length (phases_of old.ahead)) old.parts.members c.args.limit c.args.who (visible_in new) (visible_in new) result
-      (replied-moving (Visible c.args.limit (visible_in new)) result did.1.0 did.0) (judged-moving old c.args.limit (visible_in new) result was.active did.1.0 did.1.1.0) did.1.1.1.1.0.ahead)
+      (replied-moving g.B.Bank.tells world (length (phases_of old.ahead)) old.parts.members c.args.limit c.args.who old.parts.entries new.parts.entries (Refused (Busy Reshape)) (Visible c.args.limit (visible_in new)) result did.1.0 did.0) (judged-moving old c.args.limit (visible_in new) result was.active did.1.0 did.1.1.0) did.1.1.1.1.0.ahead)
 ]
 
 pub invariant_of-self : goal.invariant_of-self
@@ -98,8 +109,9 @@ invariant_of-self g c = elim c.match-self.branch [
       let old = w.in-Still.still in
       let new = w.set_visible-done.new.self in
       let result = w.set_visible-done.result in
+      let world = moving_world (g.B.Bank.given old.parts.bank) (g.B.Bank.tape old.parts.bank) old in
       rw (w.self-inside-is, w.check_still.ensures.same)
-      (rest-limited g.B.Bank.given g.B.Bank.tape old new w.set_visible-done.ensures.limited (visible_in new) result (replied-still old.parts.members result w.set_visible-done.ensures.answered) (length c.self.inside.window.items)
+      (rest-limited g.B.Bank.given g.B.Bank.tape old new w.set_visible-done.ensures.limited world (length (phases_of old.ahead)) old.parts.members c.args.limit c.args.who (visible_in new) result (replied-still g.B.Bank.tells world (length (phases_of old.ahead)) old.parts.members c.args.limit c.args.who old.parts.entries new.parts.entries (Visible c.args.limit (visible_in new)) result w.set_visible-done.ensures.answered) (length c.self.inside.window.items)
       w.check_still.ensures.rest w.check_still.ensures.within was)
   | in-Moving w ↦
       let was = rw w.in-Moving.is at c.self.invariant in
@@ -107,6 +119,7 @@ invariant_of-self g c = elim c.match-self.branch [
       let new = w.replace_with-done.new.dest in
       let result = w.replace_with-done.result in
       let did = w.replace_with-done.ensures in
+      let world = moving_world (g.B.Bank.given old.parts.bank) (g.B.Bank.tape old.parts.bank) old in
       rw (w.self-inside-is, w.check_moving.ensures.same)
-      (reshape-limited g.B.Bank.given g.B.Bank.tape old new did.1.1.1.1.0 (visible_in new) result (replied-moving (Visible c.args.limit (visible_in new)) result did.1.0 did.0) w.check_moving.ensures.active w.check_moving.ensures.within was)
+      (reshape-limited g.B.Bank.given g.B.Bank.tape old new did.1.1.1.1.0 world (length (phases_of old.ahead)) old.parts.members c.args.limit c.args.who (visible_in new) result (replied-moving g.B.Bank.tells world (length (phases_of old.ahead)) old.parts.members c.args.limit c.args.who old.parts.entries new.parts.entries (Refused (Busy Reshape)) (Visible c.args.limit (visible_in new)) result did.1.0 did.0) w.check_moving.ensures.active w.check_moving.ensures.within was)
 ]

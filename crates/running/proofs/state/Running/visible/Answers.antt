@@ -1,14 +1,13 @@
 use Rattle.running.proofs.state.Running.visible.Goals as goal
-use Rattle.running.proofs.state.Running.visible.Goals.{in-Still, in-Moving}
+
+pub returns-in-Still-clause-limited : goal.returns-in-Still-clause-limited
+returns-in-Still-clause-limited g c = let was = rw c.in-Still.is at c.self.invariant in rw (← c.self.view_is, c.in-Still.is) was.within.limited
+
+pub returns-in-Still-clause-sized : goal.returns-in-Still-clause-sized
+returns-in-Still-clause-sized g c = let was = rw c.in-Still.is at c.self.invariant in rw (← c.self.view_is, c.in-Still.is) was.within.sized
 
 pub returns-clause-limited : goal.returns-clause-limited
-returns-clause-limited g c = elim c.match-self.branch [
-  | in-Still w ↦ let was = rw w.in-Still.is at c.self.invariant in rw (← c.self.view_is, w.in-Still.is) was.within.limited
-  | in-Moving w ↦ let was = rw w.in-Moving.is at c.self.invariant in rw (← c.self.view_is, w.in-Moving.is) was.within.limited
-]
+returns-clause-limited g c = let was = rw c.in-Moving.is at c.self.invariant in rw (← c.self.view_is, c.in-Moving.is) was.within.limited
 
 pub returns-clause-sized : goal.returns-clause-sized
-returns-clause-sized g c = elim c.match-self.branch [
-  | in-Still w ↦ let was = rw w.in-Still.is at c.self.invariant in rw (← c.self.view_is, w.in-Still.is) was.within.sized
-  | in-Moving w ↦ let was = rw w.in-Moving.is at c.self.invariant in rw (← c.self.view_is, w.in-Moving.is) was.within.sized
-]
+returns-clause-sized g c = let was = rw c.in-Moving.is at c.self.invariant in rw (← c.self.view_is, c.in-Moving.is) was.within.sized
