@@ -14,8 +14,7 @@ ghost use Rattle.assemble.specs.Made.{used_slot, HasCreateCause};
 ghost use Rattle.assemble.specs.Running.{IsCreated};
 
 use crate::finding::run_still;
-use assemble::CreateSpec;
-use assemble::make;
+use assemble::{CreateSpec, make};
 use bank::Bank;
 use md_base::Fault;
 use running_steps::running::Running;

@@ -39,7 +39,13 @@ fn end_beside(window: Option<Span>, end: u64) -> u64
 {
     match window {
         None => end,
-        Some(span) => { if span.lo < end && end <= span.hi { span.lo } else { end } }
+        Some(span) => {
+            if span.lo < end && end <= span.hi {
+                span.lo
+            } else {
+                end
+            }
+        }
     }
 }
 
@@ -69,13 +75,7 @@ fn run_at(members: &Members, window: Option<Span>, from: u64, to: u64, relied: u
 
 /// Cuts the sectors of the list from `first` up to `to` at the position, where parity is relied on up to sector `relied`, and in the
 /// window, if there is one.
-pub fn runs_of(
-    members: &Members,
-    window: Option<Span>,
-    first: u64,
-    to: u64,
-    relied: u64,
-) -> Cut
+pub fn runs_of(members: &Members, window: Option<Span>, first: u64, to: u64, relied: u64) -> Cut
     requires fit { AreShapesFit members.now.newest }
     requires some { first < to }
     requires within { to ≤ list_length members.now.newest }

@@ -77,7 +77,14 @@ impl<B: Bank> Moving<B> {
     {
         let window = open_span(&self.course);
         let relied = relied_sector(&self.members, self.work.resync);
-        if let Some(refusal) = unwritten_here(&self.members, window, self.limit, relied, at, count) {
+        if let Some(refusal) = unwritten_here(
+            &self.members,
+            window,
+            self.limit,
+            relied,
+            at,
+            count,
+        ) {
             self.steps -= 1;
             check_going(&self.epoch.entries, who);
             let end = self.bank.ops();

@@ -80,9 +80,11 @@ returns-clause-caused g c =
     let old = c.args.self.now.parts in
     let m = old.members in
     let to = c.args.at + c.args.count in
-    let fine = subst (λ p. (to ≤ visible_in p) × ((refusal : Refusal) → IsListUnwritten (open_in p.course.window) (relied_sector p.parts.members.newest p.parts.work.resync) c.args.at to p.parts.members refusal → ⊥)) c.self.view_is
-    (c.in_default.ensures.why.0, λ refusal why. c.in_default.ensures.why.1 refusal (subst (λ (o : Option Span). IsListUnwritten o c.relied_sector-relied.result c.args.at to c.self.inside.members refusal) (sym c.open_span-window.ensures)
-    (subst (λ (n : ℕ). IsListUnwritten (open_in c.self.inside.course.window) n c.args.at to c.self.inside.members refusal) (sym c.relied_sector-relied.ensures.value) why))) in
+    let fine = subst (λ p. (to ≤ visible_in p) × ((refusal : Refusal) → IsListUnwritten (open_in p.course.window) (relied_sector p.parts.members.newest p.parts.work.resync) c.args.at to p.parts.members refusal → ⊥)) c.self.view_is (
+      c.in_default.ensures.why.0,
+      λ refusal why. c.in_default.ensures.why.1 refusal (subst (λ (o : Option Span). IsListUnwritten o c.relied_sector-relied.result c.args.at to c.self.inside.members refusal) (sym c.open_span-window.ensures)
+          (subst (λ (n : ℕ). IsListUnwritten (open_in c.self.inside.course.window) n c.args.at to c.self.inside.members refusal) (sym c.relied_sector-relied.ensures.value) why)),
+    ) in
     finish-caused (list_length m.newest) (visible_in c.args.self.now) to (IsListUnwritten (open_in c.args.self.now.course.window) (relied_sector m.newest old.work.resync) c.args.at to) m c.finish_window.new.self.parts.members c.finish_window.result fine.0 fine.1 c.finish_window.ensures.caused
 
 pub returns-in-Some-clause-failed : goal.returns-in-Some-clause-failed
