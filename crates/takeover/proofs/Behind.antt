@@ -15,7 +15,6 @@ use Rattle.bank.specs.Given.{Given, IsFaulted}
 use Rattle.layout.proofs.Limits.{limited}
 use Rattle.superblocks.specs.declared.change.Change.{Change}
 use Rattle.superblocks.specs.declared.change.Give.{Give}
-use Rattle.superblocks.specs.declared.change.Give.TheVariants as give
 use Rattle.superblocks.specs.declared.members.Members.{Members}
 use Rattle.superblocks.specs.Outcome.{is_planned_holder, held_state, planned_state}
 use Rattle.superblocks.specs.Reading.{is_reshaping, is_whole, shape_of, role_count, role_state, holder}
