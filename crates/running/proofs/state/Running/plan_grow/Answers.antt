@@ -46,7 +46,7 @@ pub invariant_of-self-in-Err : goal.invariant_of-self-in-Err
 invariant_of-self-in-Err g c =
     let was = rw c.in-Still.is at c.self.invariant in
     let did = c.in-Err.ensures in
-    rw (c.check_still.ensures.same) (rest-refused g.B.Bank.given g.B.Bank.tape c.in-Still.still c.replace_with-made.new.dest did.1.1.1.1.0 ⊤ _ _ _ _ (Planned (still_left c.replace_with-made.new.dest.parts.work c.replace_with-made.new.dest.parts.members c.replace_with-made.new.dest.ahead) c.args.wish) c.in-Err.fault did.0 did.1.1.1.1.1.1.1.0 (length c.self.inside.window.items)
+    rw (c.check_still.ensures.same) (rest-refused g.B.Bank.given g.B.Bank.tape c.in-Still.still c.replace_with-made.new.dest did.1.1.1.1.0 ⊤ _ (asked_in (g.B.Bank.given c.in-Still.still.parts.bank) c.in-Still.still) _ _ (Planned (still_left c.replace_with-made.new.dest.parts.work c.replace_with-made.new.dest.parts.members c.replace_with-made.new.dest.ahead) c.args.wish) c.in-Err.fault did.0 did.1.1.1.1.1.1.1.0 (length c.self.inside.window.items)
     c.check_still.ensures.rest c.check_still.ensures.within was)
 
 pub returns-in-Err-clause-answered : goal.returns-in-Err-clause-answered
@@ -73,7 +73,7 @@ pub invariant_of-self-in-Moving : goal.invariant_of-self-in-Moving
 invariant_of-self-in-Moving g c =
     let was = rw c.in-Moving.is at c.self.invariant in
     let did = c.in-Err-made.ensures in
-    rw (c.check_moving.ensures.same) (reshape-refused g.B.Bank.given g.B.Bank.tape c.in-Moving.moving c.replace_with-made-in-Moving.new.dest did.1.1.1.1.1.0 ⊤ _ _ _ _ (Refused (Busy Reshape)) c.in-Err-made.fault did.0 did.1.1.1.1.1.1.1.1 c.check_moving.ensures.active c.check_moving.ensures.within was)
+    rw (c.check_moving.ensures.same) (reshape-refused g.B.Bank.given g.B.Bank.tape c.in-Moving.moving c.replace_with-made-in-Moving.new.dest did.1.1.1.1.1.0 ⊤ _ (asked_in (g.B.Bank.given c.in-Moving.moving.parts.bank) c.in-Moving.moving) _ _ (Refused (Busy Reshape)) c.in-Err-made.fault did.0 did.1.1.1.1.1.1.1.1 c.check_moving.ensures.active c.check_moving.ensures.within was)
 
 pub returns-in-Err-made-clause-answered : goal.returns-in-Err-made-clause-answered
 returns-in-Err-made-clause-answered g c =

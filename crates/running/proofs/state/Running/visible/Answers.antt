@@ -5,9 +5,3 @@ returns-in-Still-clause-limited g c = let was = rw c.in-Still.is at c.self.invar
 
 pub returns-in-Still-clause-sized : goal.returns-in-Still-clause-sized
 returns-in-Still-clause-sized g c = let was = rw c.in-Still.is at c.self.invariant in rw (← c.self.view_is, c.in-Still.is) was.within.sized
-
-pub returns-clause-limited : goal.returns-clause-limited
-returns-clause-limited g c = let was = rw c.in-Moving.is at c.self.invariant in rw (← c.self.view_is, c.in-Moving.is) was.within.limited
-
-pub returns-clause-sized : goal.returns-clause-sized
-returns-clause-sized g c = let was = rw c.in-Moving.is at c.self.invariant in rw (← c.self.view_is, c.in-Moving.is) was.within.sized
