@@ -1,11 +1,11 @@
 -- What the entries of a line tell of a reshape: whether one may be active behind them, or ahead; and that its reply tells none of what only a reshape can where there is none.
-use Rattle.std.proofs.Common.{◌≡◌, ◌≢◌, inl, inr, ℕ, ◌+◌, ◌&&◌, ◌||◌, ◌==◌, not, Bool, true, false, is_some, Option, Some, None, List, [], ◌∷◌, ◌++◌, length, take, drop, fold, Result, Ok, Err, refl, sym, ◌∙◌, ap, subst, arith, append_assoc, append-nil, length-append, All, MatchBool, MatchOption, IsTrue}
+use Rattle.std.proofs.Common.{◌≡◌, ◌≢◌, ℕ, ◌+◌, ◌&&◌, ◌||◌, ◌==◌, not, Bool, true, false, is_some, Option, Some, List, [], ◌∷◌, ◌++◌, length, take, drop, fold, Result, Ok, Err, refl, sym, ◌∙◌, ap, subst, arith, append_assoc, append-nil, length-append, All, MatchBool, MatchOption, IsTrue}
 use Rattle.std.proofs.Math.Seq.{drop-append_seam}
 use Rattle.std.proofs.lemmas.List.{take_at}
 use Rattle.std.proofs.lemmas.Bool.Decides.{nat_tests}
 use Rattle.std.proofs.lemmas.List.Folds.{list_any-append}
 use Rattle.std.proofs.lemmas.List.Sums.{fold-append}
-use Rattle.std.proofs.lemmas.List.Elements.{All-nil, All-cons, All-head, All-tail, All-push, All-weaker}
+use Rattle.std.proofs.lemmas.List.Elements.{All-head, All-tail, All-push, All-weaker}
 use Rattle.std.specs.Prelude.{slice_get, nat_lt}
 use Rattle.std.specs.List.{list_any}
 use Rattle.md_base.specs.declared.answers.Fault.{Fault}
@@ -31,15 +31,13 @@ use Rattle.flat_history.specs.Reshaped.{is_planned}
 use Rattle.flat_history.specs.Transfers.{IsRefusedAt, IsPastEnd}
 use Rattle.kept_history.specs.Recorded.{entry_of}
 use Rattle.grow_asked.specs.Left.{phases_of}
-use Rattle.openings.specs.moving_laws_Writing.{IsRepliedBehind, IsWriteReplied}
+use Rattle.openings.specs.moving_laws_Writing.{IsWriteReplied}
 use Rattle.openings.specs.running_words_Parts.{RunningParts}
 use Rattle.openings.specs.running_replies_Going.{is_begin, HasNoReshape, HasRunOn}
 use Rattle.openings.specs.running_replies_Replies.{MayTellBy, RunningAnswers, RunningFits, IsAnsweredWith}
 use Rattle.openings.proofs.running_replies_Fitting.{tell-more}
 use Rattle.openings.specs.running_Calls.{running_left}
 use Rattle.script.specs.declared.lines.Line.{Line}
-use Rattle.script.specs.declared.lines.Line.TheVariants.{Create, Read, Write, Flush, Fail, Add, Grow, Step as StepLine, Wait, Stop, Halt, Detail, Mdstat, Examine, Assemble}
-use Rattle.script.specs.Seeds.{seeded}
 use Rattle.run_laws.specs.Asked.{script_who, IsAskedAt}
 use Rattle.run_laws.specs.Replies.{FitsLine}
 use Rattle.run_laws.specs.Showing.{IsShown}

@@ -1,5 +1,5 @@
 -- A reply of an array of one shape is one of a running array.
-use Rattle.std.proofs.Common.{inl, inr, ℕ, ◌+◌, Bool, true, false, Option, Some, None, List, length}
+use Rattle.std.proofs.Common.{inl, inr, ℕ, ◌+◌, Bool, true, false, Some, None, List, length}
 use Rattle.std.specs.Prelude.{MatchBool, nat_lt}
 use Rattle.md_base.specs.declared.answers.Refusal.{Refusal}
 use Rattle.md_base.specs.declared.answers.Refusal.TheVariants.{BackupFault, Degraded, NeedSpares, Nothing}

@@ -1,5 +1,5 @@
 -- What the calls of an array in a reshape tell of it, and what none of them changes.
-use Rattle.std.specs.Prelude.{◌≡◌, ◌≢◌, ℕ, ◌<◌, ◌≤◌, Bool, false, List, [], ◌∷◌, length, drop, Option, Some, None, Result, Ok, Err, ◌⊎◌, true, IfSome}
+use Rattle.std.specs.Prelude.{◌≡◌, ℕ, ◌<◌, ◌≤◌, Bool, List, length, Option, Some, None, Result, Ok, Err, ◌⊎◌, true, IfSome}
 use Rattle.md_base.specs.declared.answers.Fault.{Fault}
 use Rattle.md_base.specs.declared.answers.Fault.TheVariants.{Refused as IsRefusedWith, NoMemory}
 use Rattle.md_base.specs.declared.answers.Refusal.{Refusal}
@@ -10,10 +10,8 @@ use Rattle.md_base.specs.declared.status.Status.{Status}
 use Rattle.geometry.specs.Geometry.{stripes, zeroed_stripes, is_critical}
 use Rattle.bank.specs.Given.{Given, IsFaulted, NeverFalls}
 use Rattle.bank.specs.declared.bank.Operation.{Operation}
-use Rattle.bank.specs.Tape.{disk}
 use Rattle.superblocks.specs.declared.members.Members.{Members}
-use Rattle.superblocks.specs.Reading.{is_backward, is_clean, shape_of, final_shape, list_length, next_window, role_state, holder}
-use Rattle.row_io.specs.Rows.{reading_of, present}
+use Rattle.superblocks.specs.Reading.{is_backward, is_clean, shape_of, final_shape, list_length, next_window}
 use Rattle.flat_history.specs.declared.events.Entry.{Entry}
 use Rattle.flat_history.specs.declared.events.Epoch.{Epoch}
 use Rattle.flat_history.specs.declared.events.Event.TheVariants.{Step, Refused}
@@ -29,7 +27,7 @@ use Rattle.views.specs.Lacking.{AreTooMany}
 use Rattle.views.specs.Moving.{Grows}
 use Rattle.array_kept.specs.Calls.{world_for, IsBehind, AreSparesFewer, AreLossesOf, IsEndOf, IsSameArray}
 use Rattle.course_kept.specs.Laws.{entered, closed, unsure}
-use Rattle.running_words.specs.Parts.{RunningParts, visible_in, left_in, still_left}
+use Rattle.running_words.specs.Parts.{RunningParts, visible_in, left_in}
 use Rattle.course_kept.specs.declared.course.Course.{Course}
 
 -- this status tells the array as it is

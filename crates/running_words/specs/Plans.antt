@@ -1,5 +1,5 @@
 -- Where the plans of an array go that are open, and which histories tell neither a limit nor a reshape.
-use Rattle.std.specs.Prelude.{◌≡◌, Bool, true, false, if◌then◌else◌, List, Option, Some, MatchOption, ⊤}
+use Rattle.std.specs.Prelude.{◌≡◌, Bool, true, false, if◌then◌else◌, List, Some, MatchOption, ⊤}
 use Rattle.std.specs.List.{list_any, All}
 use Rattle.md_base.specs.declared.places.Shape.{Shape}
 use Rattle.grow_plan.specs.Plans.{last_shape}

@@ -13,7 +13,6 @@ use Rattle.md_base.proofs.SectorLaws.{length-sectors_of}
 use Rattle.bank.specs.declared.bank.Operation.{Operation}
 use Rattle.bank.specs.Given.{Given}
 use Rattle.bank.specs.Tape.{IsIn}
-use Rattle.layout.specs.Layout.{place}
 use Rattle.superblocks.specs.declared.members.Members.{Members}
 use Rattle.superblocks.specs.Reading.{Scope, is_clean, shape_of, list_length, role_state}
 use Rattle.row_io.specs.Rows.{reading_of, present}

@@ -46,7 +46,7 @@ use Rattle.history_calls.specs.Reliable.{IsReliable}
 use Rattle.history_calls.proofs.Behind.{IsAmong}
 use Rattle.history_calls.proofs.Plans.{ArePlannedTo}
 use Rattle.moving_kept.specs.Moving.{IsStillKept}
-use Rattle.still_kept.specs.Still.{AreAtRest, HasListStood, AreNoneMissing, IsStill}
+use Rattle.still_kept.specs.Still.{AreAtRest, HasListStood, IsStill}
 use Rattle.still_kept.proofs.Bridges.{stands-kept}
 use Rattle.still_kept.proofs.Stood.{shown-list, shown-rows, sector-inside}
 use Rattle.takeover_kept.proofs.TakenMembers.{IsTaken, still-then}
