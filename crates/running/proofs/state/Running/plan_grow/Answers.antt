@@ -9,7 +9,7 @@ use Rattle.growing.specs.Replied.{IsGrowReplied}
 use Rattle.growing.proofs.Replied.{grow-went}
 use Rattle.growing.specs.running_words_Calls.{moving_world}
 use Rattle.growing.specs.running_words_Parts.{still_left}
-use Rattle.growing.specs.Planned.{asked_in}
+use Rattle.growing.specs.Planned.{asked_in, IsGrowJudged}
 use Rattle.running.specs.Calls.{running_left}
 use Rattle.running.specs.State.{parts_in}
 use Rattle.running.proofs.Planning.{rest-planned, rest-refused, reshape-refused, replied-planned, replied-refused, went-refused}
@@ -59,6 +59,12 @@ returns-in-Err-clause-answered g c =
     let replied = replied-refused ⊤ g.B.Bank.tells g.B.Bank.given g.B.Bank.tape g.B.Bank.faults_of old new c.args.wish c.args.who number did.1.0 ℕ (Planned (still_left new.parts.work new.parts.members new.ahead) c.args.wish) (running_left new) c.in-Err.fault did.0 did.1.1.0 in
     subst (λ p. IsGrowReplied {T = ℕ} (list_length p.parts.members.newest) c.args.wish c.args.who p.parts.entries c.check_still.new.still.parts.entries (running_left c.check_still.new.still) (Err c.in-Err.fault)) (sym here)
     (subst (λ p. IsGrowReplied {T = ℕ} (list_length old.parts.members.newest) c.args.wish c.args.who old.parts.entries p.parts.entries (running_left p) (Err c.in-Err.fault)) (sym c.check_still.ensures.same) replied)
+
+pub returns-in-Err-clause-judged : goal.returns-in-Err-clause-judged
+returns-in-Err-clause-judged g c =
+    let did = c.in-Err.ensures in
+    let here = sym c.self.view_is ∙ ap (λ s. parts_in s) c.in-Still.is in
+    subst (λ p. IsGrowJudged {T = ℕ} (asked_in (g.B.Bank.given p.parts.bank) p) c.args.wish (Err c.in-Err.fault)) (sym here) did.1.1.0
 
 pub returns-in-Err-clause-went : goal.returns-in-Err-clause-went
 returns-in-Err-clause-went g c =
