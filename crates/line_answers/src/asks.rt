@@ -264,10 +264,11 @@ pub fn ask_steps<B: Bank>(array: &mut Running<B>, most: u32) -> Result<u64, NoMe
     ensures went { HasRunOn B.tells B.given B.tape B.faults_of array.old array.new }
 {
     let who = script_call(array);
-    match steps(array, who, u64::from(most)) {
-        Ok(_) => Ok(last_place(array)),
-        Err(none) => Err(none),
-    }
+    let _event = match steps(array, who, u64::from(most)) {
+        Ok(event) => event,
+        Err(none) => return Err(none),
+    };
+    Ok(last_place(array))
 }
 
 // Whether the reply at this place leaves steps to do, of which none was refused.

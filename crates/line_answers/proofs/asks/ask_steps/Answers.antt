@@ -6,16 +6,16 @@ use Rattle.run_laws.specs.running_steps_Steps.{IsStepCount}
 use Rattle.run_laws.proofs.Turned.{told-still, told-steps, steps-tellable}
 use Rattle.line_answers.proofs.asks.ask_steps.Goals as goal
 
-pub returns-in-Ok-clause-turning : goal.returns-in-Ok-clause-turning
-returns-in-Ok-clause-turning g c =
+pub returns-clause-turning : goal.returns-clause-turning
+returns-clause-turning g c =
     let did = c.in-Ok.ensures in
     let old = c.args.array.now in
     let new = c.steps.new.array in
     told-steps g.B.Bank.tells g.B.Bank.given g.B.Bank.tape g.B.Bank.faults_of old new did.went c.requires.turning did.replied
     (λ (done left : ℕ) (ended : Option Refusal) is. (subst (λ (e : Event). IsStepCount old.parts.entries new.parts.entries (running_left old) (running_left new) e) is did.counted).0) did.rest
 
-pub returns-in-Ok-clause-tellable : goal.returns-in-Ok-clause-tellable
-returns-in-Ok-clause-tellable g c =
+pub returns-clause-tellable : goal.returns-clause-tellable
+returns-clause-tellable g c =
     let did = c.in-Ok.ensures in
     steps-tellable g.B.Bank.tells g.B.Bank.given g.B.Bank.tape g.B.Bank.faults_of c.args.array.now c.steps.new.array did.went c.requires.turning did.replied c.last_place.result c.last_place.ensures did.may
 
