@@ -220,15 +220,6 @@ fn refused_in_a_resync(rt: HostRuntime) -> Result<(), Fail> {
             Some(Refusal::NotResynced(_)) => assert!(rt; beside == None),
             _ => assert!(rt; beside == *read),
         }
-        let to = at + count;
-        let inside = Some(Span { lo: at, hi: to });
-        let inside = unwritten_from(&members, inside, visible, relied, at, count);
-        match write {
-            Some(Refusal::NotResynced(_)) => assert!(rt; inside == None),
-            _ => assert!(rt; inside == *write),
-        }
-        let short = Some(Span { lo: at, hi: to - 1 });
-        assert!(rt; unwritten_from(&members, short, visible, relied, at, count) == *write);
     }
     Ok(())
 }

@@ -1,7 +1,5 @@
-//! Tests of `assemble`: arrays that are found, or refused, and arrays that are made; and of `openings`: arrays that run then.
+//! Tests of `assemble`: arrays that are found, or refused, and arrays that are made.
 #![tactic(auto)]
 
 #[cfg(test)]
 mod arrays;
-#[cfg(test)]
-mod runs;
