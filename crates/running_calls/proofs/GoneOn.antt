@@ -36,7 +36,7 @@ use Rattle.running_steps.specs.running_words_Calls.{IsSameReshape, IsCalled}
 use Rattle.running_steps.specs.running_words_Adding.{IsAddCalled}
 use Rattle.running_steps.specs.running_replies_Replies.{HasToldBy}
 use Rattle.running_steps.specs.running_replies_Going.{is_begin, IsSameEpoch, HasRunOn}
-use Rattle.running_steps.proofs.running_replies_GoneOn.{has-told-wider, told-then}
+use Rattle.running_replies.proofs.GoneOn.{has-told-wider, told-then}
 use Rattle.running_calls.specs.Going.{is_added, AreLossesSince, HasGoneOn}
 use Rattle.running_calls.proofs.Leaving.{call-leaves}
 use Rattle.running_calls.proofs.Plain.{IsCallEntered, IsCallAnswered, inside-of}

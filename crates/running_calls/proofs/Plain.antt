@@ -26,7 +26,7 @@ use Rattle.array_kept.specs.Calls.{StandsInside, IsReplied, IsAnswered}
 use Rattle.array_kept.proofs.ReplyLaws.{none_before}
 use Rattle.running_steps.specs.moving_laws_Writing.{IsRepliedBehind, IsWriteReplied}
 use Rattle.running_steps.specs.running_replies_Replies.{RunningFits, IsAnsweredWith}
-use Rattle.running_steps.proofs.running_replies_Fitting.{inside-inner, fits-write}
+use Rattle.running_replies.proofs.Fitting.{inside-inner, fits-write}
 use Rattle.running_calls.specs.Replies.{told_by}
 
 -- The call entered these entries, none of which tells a length, and a reply behind them that fits.
