@@ -1,6 +1,7 @@
 //! Banks, and what is made and found in them, for tests.
 #![tactic(auto)]
 
+pub use assemble;
 use assemble::{CreateSpec, Opened, find, make};
 use bank::{Bank, MemoryBank};
 use md_base::{Fault, Shape};

@@ -10,10 +10,10 @@ use Rattle.md_base.specs.declared.answers.Refusal.{Refusal}
 use Rattle.md_base.specs.declared.answers.Refusal.TheVariants.{PastEnd}
 use Rattle.superblocks.specs.declared.members.Members.{Members}
 use Rattle.views.specs.Lacking.{IsUnread, IsUnwritten}
-use Rattle.safe_updates.specs.First.{read_refusal, write_refusal, call_refusal}
-use Rattle.safe_updates.proofs.RefusingLaws.{read-none, write-none, read-cause, write-cause}
-use Rattle.array_kept.specs.Calls.{IsRefusalOf}
-use Rattle.array_kept.proofs.ReplyLaws.{unread-of, unwritten-of, refused-for}
+use Rattle.safe_additions.specs.safe_updates_First.{read_refusal, write_refusal, call_refusal}
+use Rattle.safe_additions.proofs.safe_updates_RefusingLaws.{read-none, write-none, read-cause, write-cause}
+use Rattle.calls_kept.specs.array_kept_Calls.{IsRefusalOf}
+use Rattle.calls_kept.proofs.array_kept_ReplyLaws.{unread-of, unwritten-of, refused-for}
 
 -- the list is short
 pub short-list : (shape : Shape) (size : ℕ) → is_valid_shape shape ≡ true → size ≤ 2 ^ 48 → data_disks shape * size ≤ 2 ^ 52

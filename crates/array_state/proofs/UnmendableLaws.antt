@@ -7,7 +7,7 @@ use Rattle.superblocks.specs.declared.members.Members.{Members}
 use Rattle.superblocks.specs.Reading.{is_reshaping, shape_of}
 use Rattle.views.specs.Lacking.{IsUnwritten}
 use Rattle.views.proofs.LackingLaws.{too-many-still}
-use Rattle.array_kept.specs.Calls.{IsUnmendable}
+use Rattle.calls_kept.specs.array_kept_Calls.{IsUnmendable}
 
 pub unmendable-of : (shape : Shape) (m : Members) (refusal : Refusal) → shape ≡ shape_of m.newest → IsUnwritten shape false m refusal → IsUnmendable m refusal
 unmendable-of shape m refusal same why = by (subst (λ (s : Shape). IsUnwritten s false m refusal) same why)

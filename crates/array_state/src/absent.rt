@@ -4,7 +4,7 @@ ghost use Rattle.std.specs.Prelude.{◌≡◌, ◌<◌, ◌≤◌, ◌+◌, ◌+
 ghost use Rattle.row_io.specs.Rows.{reading_of};
 ghost use Rattle.flat_history.specs.Plain.{entries_of};
 ghost use Rattle.call_entries.specs.Losing.{IsSameEpoch};
-ghost use Rattle.array_kept.specs.Adopting.{opener, absent_loss, absent_losses};
+ghost use Rattle.calls_kept.specs.array_kept_Adopting.{opener, absent_loss, absent_losses};
 
 use call_entries::calls::enter;
 use flat_history::{Epoch, Event, LostCause};

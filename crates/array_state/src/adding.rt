@@ -6,14 +6,14 @@ ghost use Rattle.superblocks.specs.Reading.{entry_of};
 ghost use Rattle.views.specs.Placed.{IsPlaced};
 ghost use Rattle.shape_views.specs.Regions.{DoWithout};
 ghost use Rattle.views.specs.Numbers.{IsSpareSb};
-ghost use Rattle.array_kept.specs.Calls.{IsTaken, IsFirstOffset, IsUnaddable};
+ghost use Rattle.calls_kept.specs.array_kept_Calls.{IsTaken, IsFirstOffset, IsUnaddable};
 
 use crate::holders::{first_offset, holds_role};
 use crate::refusing::refusal_of;
 use bank::Bank;
 use md_base::Refusal;
 use safe_additions::device::spare_sb;
-use safe_updates::roles::is_spare;
+use safe_additions::safe_updates::roles::is_spare;
 use sb1::Sb;
 use superblocks::Members;
 

@@ -5,11 +5,11 @@ ghost use Rattle.md_base.specs.Shapes.{is_valid_shape};
 ghost use Rattle.superblocks.specs.Reading.{shape_of, role_state, holder};
 ghost use Rattle.row_io.specs.Rows.{reading_of};
 ghost use Rattle.views.specs.Rebuilding.{Held};
-ghost use Rattle.array_kept.specs.Calls.{HasRole, IsFirstOffset};
+ghost use Rattle.calls_kept.specs.array_kept_Calls.{HasRole, IsFirstOffset};
 
 use md_base::Role;
 use safe_additions::adding::data_offset;
-use safe_updates::roles::shape_in;
+use safe_additions::safe_updates::roles::shape_in;
 use superblocks::Members;
 
 /// Whether the slot holds a role.

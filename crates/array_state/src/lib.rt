@@ -8,3 +8,5 @@ pub mod holders;
 pub mod refusing;
 pub mod room;
 pub mod work;
+
+pub use safe_additions;

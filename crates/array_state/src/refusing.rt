@@ -9,14 +9,14 @@ ghost use Rattle.views.specs.Whole.{list_size};
 ghost use Rattle.views.specs.Placed.{places_of};
 ghost use Rattle.views.specs.Status.{stripes_of};
 ghost use Rattle.views.specs.Lacking.{AreTooMany, IsUnread, IsUnwritten, are_mended, mended_rows};
-ghost use Rattle.safe_updates.specs.First.{read_refusal, write_refusal, call_refusal};
-ghost use Rattle.array_kept.specs.Calls.{IsRefusalOf, IsUnmendable};
+ghost use Rattle.safe_additions.specs.safe_updates_First.{read_refusal, write_refusal, call_refusal};
+ghost use Rattle.calls_kept.specs.array_kept_Calls.{IsRefusalOf, IsUnmendable};
 
 use crate::asking::visible;
 use md_base::{Refusal, Shape};
+use safe_additions::safe_updates::refusing::{too_many, unread, unwritten};
+use safe_additions::safe_updates::roles::{list_length, shape_in};
 use safe_rows::mending::mended_rows;
-use safe_updates::refusing::{too_many, unread, unwritten};
-use safe_updates::roles::{list_length, shape_in};
 use superblocks::Members;
 
 /// The refusal of a call that ends at the sector `to`, by the visible size and how many roles are missing: `PastEnd`, or else

@@ -8,11 +8,11 @@ ghost use Rattle.md_base.specs.declared.status.Role.TheVariants.{Recovering as I
 ghost use Rattle.superblocks.specs.Reading.{is_reshaping, shape_of, role_state, rows_held, holder};
 ghost use Rattle.superblocks.specs.Update.{own_in};
 ghost use Rattle.row_io.specs.Rows.{reading_of};
-ghost use Rattle.array_kept.specs.Adopting.{found_stripes, is_number_of, found_work};
-ghost use Rattle.array_kept.specs.Calls.{with_rebuilt};
+ghost use Rattle.calls_kept.specs.array_kept_Adopting.{found_stripes, is_number_of, found_work};
+ghost use Rattle.calls_kept.specs.array_kept_Calls.{with_rebuilt};
 
 use md_base::Role;
-use safe_updates::roles::shape_in;
+use safe_additions::safe_updates::roles::shape_in;
 use superblocks::Members;
 use superblocks::says::is_clean;
 use views::Work;

@@ -12,7 +12,7 @@ ghost use Rattle.views.specs.Flushing.{OnlyFlushesAdded, OnlyItsSlotsFail};
 
 use bank::Bank;
 use election::reads::read_superblocks;
-use safe_updates::flush_slots;
+use safe_additions::safe_updates::flush_slots;
 use std::alloc::{AllocError, Global};
 use superblocks::SbList;
 use superblocks::sets::{contains, with};

@@ -18,3 +18,6 @@ pub mod RebuildGiven
 pub mod RebuildTaken
 pub mod RebuildEnded
 pub mod RebuildWhole
+pub use Rattle.array_kept.proofs.FoundLaws as array_kept_FoundLaws
+pub use Rattle.array_kept.proofs.ReplyLaws as array_kept_ReplyLaws
+pub use Rattle.array_kept.proofs.StepsLeft as array_kept_StepsLeft

@@ -5,3 +5,6 @@ pub mod course;
 pub mod laws;
 
 pub use course::Course;
+pub use reshape_ends;
+pub use window_steps;
+pub use window_steps::safe_updates;

@@ -18,3 +18,14 @@ pub use Rattle.region_mends.proofs.StripeLaws as region_mends_StripeLaws
 pub use Rattle.region_mends.proofs.region_writes_RunLists
 pub use Rattle.region_mends.proofs.region_writes_Sides
 pub use Rattle.region_mends.proofs.region_writes_Together
+pub use Rattle.course_kept.proofs.reshape_ends_BeginLaws
+pub use Rattle.course_kept.proofs.reshape_ends_Cleared
+pub use Rattle.course_kept.proofs.reshape_ends_FinishLaws
+pub use Rattle.course_kept.proofs.reshape_ends_Made
+pub use Rattle.course_kept.proofs.reshape_updates_BegunNewest
+pub use Rattle.course_kept.proofs.reshape_updates_BegunPlan
+pub use Rattle.course_kept.proofs.reshape_updates_EndedPlan
+pub use Rattle.course_kept.proofs.reshape_updates_NewRoles
+pub use Rattle.course_kept.proofs.reshape_updates_Taken
+pub use Rattle.course_kept.proofs.safe_updates_Under
+pub use Rattle.course_kept.proofs.safe_updates_Unused

@@ -2,3 +2,6 @@
 #![tactic(auto)]
 
 pub mod laws;
+
+pub use course_kept::{reshape_ends, safe_updates};
+pub use region_mends::safe_rows;

@@ -4,7 +4,7 @@ use Rattle.superblocks.specs.declared.members.Members.{Members}
 use Rattle.superblocks.specs.Reads.{has_spare}
 use Rattle.views.specs.Placed.{AreStillHeld}
 use Rattle.views.specs.Rebuilding.{MayHold}
-use Rattle.array_kept.specs.Calls.{AreSparesFewer, AreHeldOrSpare}
+use Rattle.running_replies.specs.array_kept_Calls.{AreSparesFewer, AreHeldOrSpare}
 use Rattle.turning.specs.running_words_Adding.{AreSparesBut}
 use Rattle.growing.specs.Plans.{IsAside}
 

@@ -23,7 +23,7 @@ use Rattle.flat_history.specs.Flat.{limit_of, next_number}
 use Rattle.flat_history.specs.Plain.{entries_of}
 use Rattle.flat_history.specs.World.{World, until, reading_at, opening_list}
 use Rattle.views.specs.declared.work.Work.{Work}
-use Rattle.array_kept.proofs.ReplyLaws.{none_before}
+use Rattle.running_replies.proofs.array_kept_ReplyLaws.{none_before}
 use Rattle.grow_asked.specs.Asked.{Asked, asked_of, IsFirst, IsUngrowable, grow_refusal}
 use Rattle.grow_asked.specs.Fitting.{IsToldBy, IsReadLike, SaysSameShape}
 use Rattle.grow_asked.proofs.FirstLaws.{judged}
@@ -31,7 +31,7 @@ use Rattle.grow_asked.proofs.FitLaws.{refusals-fit, plans-fit}
 use Rattle.kept_history.specs.Recorded.{entry_of}
 use Rattle.kept_history.specs.Safe.{world_in, IsFilledRight}
 use Rattle.kept_history.proofs.Turned.{filled-before}
-use Rattle.history_calls.specs.Reliable.{IsReliable}
+use Rattle.running_replies.specs.history_calls_Reliable.{IsReliable}
 use Rattle.turning.specs.still_kept_Still.{AreNoneMissing, IsStill}
 use Rattle.turning.specs.running_words_Parts.{visible_size}
 use Rattle.turning.proofs.running_words_Visible.{visible-is}

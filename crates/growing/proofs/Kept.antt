@@ -17,7 +17,7 @@ use Rattle.flat_history.specs.Flat.{next_number}
 use Rattle.flat_history.specs.Plain.{entries_of}
 use Rattle.views.specs.declared.work.Work.{Work}
 use Rattle.call_entries.proofs.LeftLaws.{fold-left}
-use Rattle.array_kept.proofs.NowLaws.{length-more}
+use Rattle.running_replies.proofs.array_kept_NowLaws.{length-more}
 use Rattle.grow_asked.specs.declared.window.PhasesLeft.{PhasesLeft}
 use Rattle.grow_asked.specs.Asked.{Asked, window_for, grow_refusal}
 use Rattle.grow_asked.specs.Left.{phases_of}

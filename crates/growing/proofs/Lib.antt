@@ -16,3 +16,8 @@ pub use Rattle.turning.proofs.still_kept_Whole
 pub use Rattle.turning.proofs.still_laws_PlansKept
 pub use Rattle.turning.proofs.still_steps_Lowest
 pub use Rattle.turning.proofs.still_steps_NextLaws
+pub use Rattle.running_replies.proofs.array_kept_LossLaws
+pub use Rattle.running_replies.proofs.array_kept_ReadyLaws
+pub use Rattle.running_replies.proofs.array_kept_ReplyLaws
+pub use Rattle.running_replies.proofs.calls_kept_AdoptingLaws
+pub use Rattle.running_replies.proofs.reshape_updates_NewRoles

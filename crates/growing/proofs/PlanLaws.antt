@@ -24,7 +24,7 @@ use Rattle.flat_history.specs.World.{reading_at}
 use Rattle.views.specs.declared.work.Work.{Work}
 use Rattle.kept_history.specs.Recorded.{entry_of}
 use Rattle.kept_history.specs.Safe.{world_in}
-use Rattle.history_calls.specs.Reliable.{IsReliable}
+use Rattle.running_replies.specs.history_calls_Reliable.{IsReliable}
 use Rattle.turning.specs.still_kept_Still.{AreNoneMissing, IsStill}
 use Rattle.turning.specs.running_words_Plans.{GoTo}
 use Rattle.growing.specs.Planned.{HasWideBackup}

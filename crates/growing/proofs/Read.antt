@@ -18,7 +18,7 @@ use Rattle.views.proofs.MemberLaws.{holder-is}
 use Rattle.grow_asked.specs.Fitting.{SaysSameShape}
 use Rattle.kept_history.specs.Safe.{world_in}
 use Rattle.kept_history.proofs.Lengths.{now-drawn}
-use Rattle.history_calls.specs.Reliable.{IsReliable}
+use Rattle.running_replies.specs.history_calls_Reliable.{IsReliable}
 use Rattle.turning.specs.still_kept_Still.{AreNoneMissing, AreAtRest, IsStill}
 use Rattle.turning.proofs.still_kept_Leaving.{safe-now}
 use Rattle.turning.proofs.still_kept_Stood.{within-count}

@@ -28,8 +28,8 @@ use Rattle.flat_history.specs.Plain.{entries_of}
 use Rattle.flat_history.specs.Reshaped.{is_planned}
 use Rattle.flat_history.specs.World.{World}
 use Rattle.views.specs.Rebuilding.{Held}
-use Rattle.array_kept.specs.Calls.{IsLossBy}
-use Rattle.array_kept.proofs.ReplyLaws.{none_before}
+use Rattle.running_replies.specs.array_kept_Calls.{IsLossBy}
+use Rattle.running_replies.proofs.array_kept_ReplyLaws.{none_before}
 use Rattle.grow_asked.specs.Asked.{Asked, IsUngrowable}
 use Rattle.grow_asked.specs.Left.{phases_of}
 use Rattle.grow_asked.specs.declared.window.PhasesLeft.{PhasesLeft}

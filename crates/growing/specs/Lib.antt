@@ -34,3 +34,11 @@ pub use Rattle.turning.specs.still_laws_Steps
 pub use Rattle.turning.specs.still_steps_Rebuilding
 pub use Rattle.turning.specs.still_steps_Resyncing
 pub use Rattle.turning.specs.still_steps_Stepping
+pub use Rattle.running_replies.specs.array_kept_Adopting
+pub use Rattle.running_replies.specs.array_kept_Calls
+pub use Rattle.running_replies.specs.array_kept_Kept
+pub use Rattle.running_replies.specs.history_calls_Reliable
+pub use Rattle.running_replies.specs.reshape_ends_Begun
+pub use Rattle.running_replies.specs.reshape_updates_Beginning
+pub use Rattle.running_replies.specs.safe_updates_First
+pub use Rattle.running_replies.specs.safe_updates_Unused

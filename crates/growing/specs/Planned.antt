@@ -22,7 +22,7 @@ use Rattle.grow_asked.specs.Asked.{Asked, asked_of, grow_refusal}
 use Rattle.grow_asked.specs.Fitting.{IsReadLike}
 use Rattle.grow_asked.specs.Left.{phases_of}
 use Rattle.kept_history.specs.Recorded.{entry_of}
-use Rattle.history_calls.specs.Reliable.{IsReliable}
+use Rattle.running_replies.specs.history_calls_Reliable.{IsReliable}
 use Rattle.turning.specs.still_kept_Still.{AreNoneMissing}
 use Rattle.turning.specs.running_words_Parts.{RunningParts, visible_in}
 

@@ -10,6 +10,7 @@ mod refusing;
 pub use backing::can_back;
 pub use planning::{PlannedGrow, plan_grow};
 pub use refusing::{refuse_grow, refuse_limit};
+pub use running_replies::safe_updates;
 pub use turning;
 pub use turning::{
     array_state, course_kept, moving, moving_state, moving_steps, still, still_steps,

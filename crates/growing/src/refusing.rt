@@ -8,7 +8,7 @@ ghost use Rattle.flat_history.specs.Flat.{next_number, visible_of};
 ghost use Rattle.flat_history.specs.declared.events.Event.TheVariants.{Refused};
 ghost use Rattle.flat_history.specs.declared.events.Request.{Request};
 ghost use Rattle.flat_history.specs.declared.events.Request.TheVariants.{Visible as AsksVisible};
-ghost use Rattle.array_kept.specs.Calls.{OnNoMemory, IsEndOf};
+ghost use Rattle.running_replies.specs.array_kept_Calls.{OnNoMemory, IsEndOf};
 ghost use Rattle.grow_asked.specs.Left.{phases_of};
 ghost use Rattle.turning.specs.running_words_Parts.{visible_in};
 ghost use Rattle.turning.specs.running_words_Calls.{moving_world};

@@ -15,8 +15,8 @@ use Rattle.turn_lock.specs.declared.lock.Pass.{Pass}
 use Rattle.turn_lock.specs.declared.view.View.{View}
 use Rattle.turn_lock.specs.Turns.{mine_of, fresh, resting}
 use Rattle.turn_lock.specs.Passes.{LockId, AreNew, calls_by, Ended}
-use Rattle.seen_laws.specs.Callers.{AreReplied, HasCalled}
-use Rattle.seen_laws.proofs.PlaceLaws.{there, still-replied}
+use Rattle.shared_lanes.specs.seen_laws_Callers.{AreReplied, HasCalled}
+use Rattle.shared_lanes.proofs.seen_laws_PlaceLaws.{there, still-replied}
 use Rattle.shared_lanes.specs.lanes_the_Worked.{Worked}
 use Rattle.shared_lanes.specs.lanes_Lane.{StandsIn, done_of}
 use Rattle.shared_lanes.specs.Serving.{most_entries, sectors_of, IsEarlier, HasMade, requests_of, array_ways}

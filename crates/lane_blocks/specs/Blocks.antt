@@ -8,7 +8,7 @@ use Rattle.flat_history.specs.declared.events.Request.TheVariants.{Steps as Asks
 use Rattle.shared_lanes.specs.running_words_Parts.{RunningParts}
 use Rattle.shared_lanes.specs.running_calls_the_Reply.{Reply}
 use Rattle.turn_lock.specs.declared.lock.Pass.{Pass}
-use Rattle.seen_laws.specs.Callers.{AreReplied, HasCalled}
+use Rattle.shared_lanes.specs.seen_laws_Callers.{AreReplied, HasCalled}
 use Rattle.shared_lanes.specs.lanes_the_Worked.{Worked}
 use Rattle.shared_lanes.specs.lanes_Carried.{GoesOn}
 use Rattle.shared_lanes.specs.lanes_Lane.{AreOneEach, StandsIn, done_of, AreDone}

@@ -1,7 +1,7 @@
 //! A block of lanes, from the start of the sharing to its end.
 ghost use Rattle.std.specs.Prelude.{◌≡◌, ◌≢◌, ◌≤◌, ℕ, [], ◌∷◌, IfOk, IfErr, vec_capacity};
 ghost use Rattle.std.specs.List.{All};
-ghost use Rattle.array_kept.specs.Calls.{IsEndOf};
+ghost use Rattle.shared_lanes.specs.array_kept_Calls.{IsEndOf};
 ghost use Rattle.shared_lanes.specs.running_calls_Going.{HasGoneOn};
 ghost use Rattle.shared_lanes.specs.running_calls_Replies.{IsAskable};
 ghost use Rattle.shared_lanes.specs.running_Calls.{running_left};

@@ -14,7 +14,7 @@ use Rattle.flat_history.specs.declared.events.Event.TheVariants.{Wrote}
 use Rattle.flat_history.specs.declared.events.Request.TheVariants.{Write as AsksWrite}
 use Rattle.flat_history.specs.Fits.{IsReadRefused}
 use Rattle.flat_history.specs.Transfers.{IsRefusedAt, IsPastEnd}
-use Rattle.array_kept.specs.Calls.{IsAnswered, IsCausedBy}
+use Rattle.run_laws.specs.array_kept_Calls.{IsAnswered, IsCausedBy}
 use Rattle.run_laws.proofs.AskLaws.{barred_within}
 
 -- a reply of an array of one shape doesn't tell it

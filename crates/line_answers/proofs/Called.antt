@@ -27,7 +27,7 @@ use Rattle.flat_history.specs.declared.events.Event.{Event}
 use Rattle.flat_history.specs.declared.events.Event.TheVariants.{Refused}
 use Rattle.flat_history.specs.declared.events.Request.{Request}
 use Rattle.std.specs.Prelude.{Result, Ok, Err, IfErr}
-use Rattle.array_kept.specs.Calls.{AreLossesBy}
+use Rattle.run_laws.specs.array_kept_Calls.{AreLossesBy}
 use Rattle.run_laws.specs.Asked.{IsSizedBy}
 use Rattle.run_laws.specs.States.{running_history}
 use Rattle.run_laws.proofs.Losses.{IsSameOpening, IsHistoryLater, AreHeldOn, on-steps}

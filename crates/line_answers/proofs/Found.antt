@@ -22,7 +22,7 @@ use Rattle.flat_history.specs.World.{World, reading_at, opening_list}
 use Rattle.flat_history.specs.Stands.{stands, standing_sector}
 use Rattle.flat_history.specs.Fits.{whole_slot}
 use Rattle.flat_history.specs.Reopened.{OpensAccepted}
-use Rattle.array_kept.specs.Adopting.{opener, found_loss, absent_loss, absent_losses, found_losses, stripes_held, found_stripes, found_work}
+use Rattle.run_laws.specs.array_kept_Adopting.{opener, found_loss, absent_loss, absent_losses, found_losses, stripes_held, found_stripes, found_work}
 use Rattle.views.specs.declared.work.Work.{Work}
 use Rattle.views.specs.Parts.{Parts}
 use Rattle.views.proofs.Still.{count-still}

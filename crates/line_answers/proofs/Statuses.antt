@@ -15,8 +15,8 @@ use Rattle.run_laws.specs.running_words_Parts.{RunningParts, visible_in}
 use Rattle.run_laws.specs.running_words_Calls.{IsStatusFor}
 use Rattle.run_laws.specs.running_words_Still.{IsStillStatus}
 use Rattle.run_laws.specs.running_Calls.{IsShownAs}
-use Rattle.array_kept.specs.Calls.{IsEntered}
-use Rattle.array_kept.proofs.ReplyLaws.{none-inside}
+use Rattle.run_laws.specs.array_kept_Calls.{IsEntered}
+use Rattle.run_laws.proofs.array_kept_ReplyLaws.{none-inside}
 use Rattle.script.specs.declared.lines.Line.{Line}
 use Rattle.script.specs.declared.lines.Line.TheVariants.{Detail, Mdstat}
 use Rattle.run_laws.specs.Asked.{script_who, IsAskedAt}

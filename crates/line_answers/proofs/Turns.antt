@@ -39,8 +39,8 @@ use Rattle.flat_history.specs.Epochs.{OpensAlike}
 use Rattle.flat_history.specs.Opened.{OpensSound}
 use Rattle.bank.specs.Given.{sizes}
 use Rattle.superblocks.specs.declared.members.Members.{Members}
-use Rattle.array_kept.specs.Adopting.{opener, absent_losses}
-use Rattle.array_kept.specs.Calls.{IsEndOf, IsEntered, world_for}
+use Rattle.run_laws.specs.array_kept_Adopting.{opener, absent_losses}
+use Rattle.run_laws.specs.array_kept_Calls.{IsEndOf, IsEntered, world_for}
 use Rattle.run_laws.specs.assemble_Creating.{create_refusal}
 use Rattle.run_laws.specs.assemble_Opening.{AreGiven, array_of, scope_of}
 use Rattle.run_laws.specs.assemble_Made.{used_slot}

@@ -17,3 +17,5 @@ pub use Rattle.run_laws.specs.running_replies_Replies
 pub use Rattle.run_laws.specs.running_words_Parts
 pub use Rattle.run_laws.specs.running_words_Plans
 pub use Rattle.run_laws.specs.still_laws_Plain
+pub use Rattle.run_laws.specs.array_kept_Calls
+pub use Rattle.run_laws.specs.history_calls_Reliable

@@ -8,7 +8,7 @@ ghost use Rattle.std.specs.List.{list_any};
 ghost use Rattle.superblocks.specs.Reads.{has_spare};
 ghost use Rattle.superblocks.specs.Reading.{is_reshaping, list_length};
 ghost use Rattle.views.specs.Placed.{AreStillHeld};
-ghost use Rattle.array_kept.specs.Calls.{AreSparesFewer, AreLossesOf, IsEndOf};
+ghost use Rattle.run_laws.specs.array_kept_Calls.{AreSparesFewer, AreLossesOf, IsEndOf};
 ghost use Rattle.views.specs.Moving.{Grows};
 ghost use Rattle.grow_asked.specs.Left.{phases_of};
 ghost use Rattle.run_laws.specs.running_replies_Going.{IsSameEpoch, HasRunOn};

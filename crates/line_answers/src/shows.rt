@@ -6,7 +6,7 @@ ghost use Rattle.superblocks.specs.Reading.{is_reshaping, list_length};
 ghost use Rattle.views.specs.Placed.{AreStillHeld};
 ghost use Rattle.views.specs.Moving.{Grows};
 ghost use Rattle.grow_asked.specs.Left.{phases_of};
-ghost use Rattle.array_kept.specs.Calls.{AreSparesFewer, AreLossesOf, IsEndOf};
+ghost use Rattle.run_laws.specs.array_kept_Calls.{AreSparesFewer, AreLossesOf, IsEndOf};
 ghost use Rattle.run_laws.specs.running_replies_Going.{IsSameEpoch};
 ghost use Rattle.run_laws.specs.running_replies_Replies.{HasToldBy};
 ghost use Rattle.run_laws.specs.Asked.{IsAsked, IsSizedBy};

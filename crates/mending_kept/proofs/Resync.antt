@@ -38,7 +38,7 @@ use Rattle.views.specs.Moving.{Grows, IsMoved}
 use Rattle.views.specs.Placed.{IsPlaced, IsInForce}
 use Rattle.views.proofs.Fit.{list-alike, force-disks, alike-force}
 use Rattle.views.proofs.LiveLeft.{without-left}
-use Rattle.safe_updates.specs.Unused.{IsUnusedKept}
+use Rattle.moving_kept.specs.safe_updates_Unused.{IsUnusedKept}
 use Rattle.call_entries.specs.Losing.{losses_of}
 use Rattle.call_entries.proofs.CallLaws.{losses-are, ends-losses}
 use Rattle.call_entries.proofs.LeftLaws.{left-behind, left-more}
@@ -53,7 +53,7 @@ use Rattle.kept_history.specs.Told.{told_now}
 use Rattle.kept_history.proofs.Growing.{unsynced-grown}
 use Rattle.kept_history.proofs.Ledgers.{unsynced-still}
 use Rattle.kept_history.proofs.Lists.{newest-in}
-use Rattle.history_calls.specs.Reliable.{AreToldGone}
+use Rattle.moving_kept.specs.history_calls_Reliable.{AreToldGone}
 use Rattle.grow_asked.specs.declared.window.Window.{Window}
 use Rattle.grow_asked.specs.declared.window.Window.TheVariants.{Closed, Entered, Unsure}
 use Rattle.moving_kept.specs.course_kept_the_Course.{Course}

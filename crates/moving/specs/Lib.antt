@@ -18,4 +18,4 @@ pub use Rattle.moving_laws.specs.running_words_Adding
 pub use Rattle.moving_laws.specs.running_words_Calls
 pub use Rattle.moving_laws.specs.running_words_Plans
 pub use Rattle.moving_laws.specs.running_words_Still
-pub use Rattle.window_steps.specs.Zeroing as window_steps_Zeroing
+pub use Rattle.moving_laws.specs.window_steps_Zeroing

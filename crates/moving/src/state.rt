@@ -31,7 +31,7 @@ use flat_history::Epoch;
 use grow_asked::{PhasesLeft, planned_left, reshape_left};
 use moving_laws::course_kept::Course;
 use moving_laws::region_mends::counting::resync_left;
-use safe_updates::roles::final_in;
+use moving_laws::safe_updates::roles::final_in;
 use std::alloc::Global;
 use std::marker::Model;
 use superblocks::Members;
@@ -61,7 +61,7 @@ pub struct Moving<B: Bank> {
 
 impl<B: Bank> Model for Moving<B> {
     ghost use Rattle.std.specs.Prelude.{vec_capacity, length, Some};
-    ghost use Rattle.array_kept.specs.Kept.{scope_in};
+    ghost use Rattle.moving_laws.specs.array_kept_Kept.{scope_in};
     ghost use Rattle.moving_laws.specs.running_words_Parts.{RunningParts};
     ghost use Rattle.moving_laws.specs.Ready.{IsReady};
 

@@ -31,7 +31,7 @@ use Rattle.views.proofs.Fit.{valid}
 use Rattle.views.proofs.LiveLeft.{without-left}
 use Rattle.views.proofs.Still.{count-still, without-still}
 use Rattle.kept_history.proofs.Lengths.{now-drawn}
-use Rattle.history_calls.specs.Reliable.{AreToldGone}
+use Rattle.moving_kept.specs.history_calls_Reliable.{AreToldGone}
 use Rattle.moving_ends.proofs.EndedRows.{rows-still}
 
 -- Where the superblocks are held as members without a reshape say, which lack no more than is tolerated, and whose rows stand, the contents are consistent.

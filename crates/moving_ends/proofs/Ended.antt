@@ -72,17 +72,17 @@ use Rattle.kept_history.proofs.Seen.{now-more}
 use Rattle.kept_history.proofs.Tests.{or-right}
 use Rattle.kept_history.proofs.Turned.{filled-before}
 use Rattle.kept_history.proofs.Turns.{either-call, resized-call}
-use Rattle.reshape_ends.specs.Finished.{IsFinishable}
+use Rattle.moving_kept.specs.reshape_ends_Finished.{IsFinishable}
 use Rattle.moving_kept.specs.course_kept_Course.{AnyShape, StandsInCourse}
 use Rattle.moving_kept.specs.course_kept_Laws.{closed}
 use Rattle.moving_kept.proofs.course_kept_Frames.{stands-whole, list-whole, rows-whole}
 use Rattle.moving_kept.proofs.course_mends_Mended.{none-pending}
 use Rattle.moving_kept.proofs.course_kept_Courses.{zeroes-are-all}
-use Rattle.history_calls.specs.Reliable.{IsReliable, AreToldGone, IsNonePast}
-use Rattle.history_calls.proofs.LastStep.{last-behind, last-step}
+use Rattle.moving_kept.specs.history_calls_Reliable.{IsReliable, AreToldGone, IsNonePast}
+use Rattle.moving_kept.proofs.history_calls_LastStep.{last-behind, last-step}
 use Rattle.moving_kept.specs.Moving.{HasListInCourse, HasListStill, IsMoving}
-use Rattle.history_calls.proofs.Behind.{IsAmong, inner-of, legal-losses}
-use Rattle.history_calls.proofs.Plans.{behind-all, ArePlannedTo, plans-behind, plans-done}
+use Rattle.moving_kept.proofs.history_calls_Behind.{IsAmong, inner-of, legal-losses}
+use Rattle.moving_kept.proofs.history_calls_Plans.{behind-all, ArePlannedTo, plans-behind, plans-done}
 use Rattle.moving_ends.proofs.Consistent.{consistent-at}
 use Rattle.moving_ends.proofs.EndedRows.{HaveEnded, ended-short, listed-still}
 use Rattle.moving_ends.proofs.Ending.{length_by, grown_to, ending_events, only-adds, only-gives, only-lost, ending-gives, ending-settles, ending-level, ending-values, ending-length, ending-lost, ending-late, ending-last, ending-comes, ending-ends, comes-more, before-step, told-longer}

@@ -33,17 +33,17 @@ use Rattle.shape_changes.proofs.ChangeViews.{later-says}
 use Rattle.shape_changes.proofs.FitKinds.{dropping-is-fit}
 use Rattle.shape_changes.proofs.Risen.{room-first, room-then}
 use Rattle.shape_ends.specs.Plans.{HasNoneRecovering}
-use Rattle.reshape_updates.specs.Ending.{ending}
-use Rattle.reshape_updates.proofs.EndedPlan.{dropping, planned-fits-is}
+use Rattle.moving_kept.specs.reshape_updates_Ending.{ending}
+use Rattle.moving_kept.proofs.reshape_updates_EndedPlan.{dropping, planned-fits-is}
 use Rattle.views.specs.Placed.{is_vacant, IsPlaced}
 use Rattle.views.proofs.HeldRows.{vacant-missing, without-before}
 use Rattle.views.proofs.LiveLeft.{left-steady, without-left}
 use Rattle.views.proofs.Still.{count-still}
-use Rattle.reshape_ends.specs.Finished.{IsOver, IsEndedBehind, IsFinishable}
-use Rattle.reshape_ends.proofs.FinishLaws.{active-then, small-then, whole-then}
+use Rattle.moving_kept.specs.reshape_ends_Finished.{IsOver, IsEndedBehind, IsFinishable}
+use Rattle.moving_kept.proofs.reshape_ends_FinishLaws.{active-then, small-then, whole-then}
 use Rattle.kept_history.specs.Safe.{world_in}
 use Rattle.kept_history.proofs.Lengths.{now-drawn}
-use Rattle.history_calls.proofs.Behind.{IsAmong}
+use Rattle.moving_kept.proofs.history_calls_Behind.{IsAmong}
 use Rattle.moving_ends.proofs.Ended.{IsEndingCall}
 use Rattle.moving_ends.proofs.EndedRows.{HaveEnded, ended-stands}
 use Rattle.moving_kept.proofs.ReadShapes.{HasShapesOf, IsEitherRead, either-read_since}

@@ -27,7 +27,7 @@ use Rattle.views.proofs.MarkEnds.{some-or-none}
 use Rattle.kept_history.specs.Recorded.{IsHistoryKept, IsCallGoing}
 use Rattle.kept_history.specs.Safe.{world_in, IsFilledRight, IsSafeHistory}
 use Rattle.moving_kept.specs.course_kept_Laws.{closed}
-use Rattle.history_calls.specs.Reliable.{IsReliable, AreToldGone, IsNonePast}
+use Rattle.moving_kept.specs.history_calls_Reliable.{IsReliable, AreToldGone, IsNonePast}
 use Rattle.moving_kept.specs.Moving.{HasListStill, IsStillKept, IsMoving}
 use Rattle.moving_ends.proofs.Ended.{IsPlannedTo, IsStepped, IsEndingCall, ended-before, ended-gone, ended-unclean, ended-level, ended-listed, ended-past, ended-safe, ended-recorded}
 use Rattle.moving_ends.proofs.EndedCall.{IsEndedBy, ended-call}

@@ -36,7 +36,7 @@ use Rattle.views.specs.Placed.{IsPlaced, HaveSameReshape}
 use Rattle.views.proofs.Fit.{fit-alike, valid, multiple}
 use Rattle.views.proofs.HeldRows.{rows-same}
 use Rattle.views.proofs.Still.{length-still, placed-two, backup-still}
-use Rattle.reshape_ends.specs.Finished.{IsZeroBehind}
+use Rattle.moving_kept.specs.reshape_ends_Finished.{IsZeroBehind}
 use Rattle.moving_kept.specs.course_kept_Course.{AnyShape, StandsInCourse}
 use Rattle.moving_kept.specs.course_kept_Laws.{closed}
 use Rattle.moving_kept.proofs.course_kept_Frames.{list-whole, rows-whole}

@@ -29,7 +29,7 @@ use Rattle.kept_history.proofs.Entered.{AreAdding, length-adding, values-adding,
 use Rattle.shape_changes.specs.Steady.{IsMoreTold}
 use Rattle.kept_history.proofs.Tests.{or-right}
 use Rattle.flat_history.proofs.LegalLaws.{both}
-use Rattle.history_calls.proofs.Behind.{IsAmong, early-losses, and-true}
+use Rattle.moving_kept.proofs.history_calls_Behind.{IsAmong, early-losses, and-true}
 
 -- ---- the call
 

@@ -9,7 +9,7 @@ use Rattle.flat_history.specs.Growing.{grown, EndBy}
 use Rattle.flat_history.specs.Reshaped.{is_done, is_planned, plans_after, open_plans}
 use Rattle.flat_history.specs.World.{World}
 use Rattle.kept_history.proofs.Tests.{neither}
-use Rattle.history_calls.proofs.Plans.{plans-end, planned-grown, ArePlannedTo}
+use Rattle.moving_kept.proofs.history_calls_Plans.{plans-end, planned-grown, ArePlannedTo}
 
 plans-still : (plans added : List Entry) → list_any (λ e. is_done e.event || is_planned e.event) added ≡ false → fold plans_after plans added ≡ plans
 plans-still plans [] none = refl

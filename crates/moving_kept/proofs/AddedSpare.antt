@@ -51,8 +51,8 @@ use Rattle.views.proofs.MarkedSafe.{added-longer, flushed-safe}
 use Rattle.views.proofs.MarkLaws.{few-below}
 use Rattle.views.proofs.MovedLaws.{grows-then, moved-same}
 use Rattle.views.proofs.SafeStretch.{safe-then}
-use Rattle.safe_updates.specs.Unused.{IsUnused}
-use Rattle.safe_updates.proofs.Under.{flushed-fewer}
+use Rattle.course_mends.specs.safe_updates_Unused.{IsUnused}
+use Rattle.course_mends.proofs.safe_updates_Under.{flushed-fewer}
 use Rattle.call_entries.specs.Losing.{losses_of}
 use Rattle.call_entries.proofs.CallLaws.{losses-are}
 use Rattle.call_entries.proofs.LeftLaws.{TellLeft, left-behind, left-more}

@@ -17,9 +17,9 @@ use Rattle.shape_changes.specs.Marking.{marking}
 use Rattle.shape_changes.proofs.PlannedRoles.{live-was}
 use Rattle.shape_changes.proofs.Without.{any-holds, live-of}
 use Rattle.views.specs.Moving.{IsMoved}
-use Rattle.safe_updates.specs.Unused.{IsUnused, IsUnusedKept}
-use Rattle.reshape_updates.specs.Beginning.{beginning}
-use Rattle.reshape_ends.specs.Begun.{begun_plan, IsBackupOf}
+use Rattle.course_mends.specs.safe_updates_Unused.{IsUnused, IsUnusedKept}
+use Rattle.course_mends.specs.reshape_updates_Beginning.{beginning}
+use Rattle.course_mends.specs.reshape_ends_Begun.{begun_plan, IsBackupOf}
 use Rattle.grow_asked.specs.declared.window.Window.{Window}
 use Rattle.grow_asked.specs.declared.window.Window.TheVariants.{Closed, Entered, Unsure}
 use Rattle.course_mends.specs.course_kept_Course.{IsSectionKept, IsBackupKept, IsStored}

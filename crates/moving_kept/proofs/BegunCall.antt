@@ -28,9 +28,9 @@ use Rattle.views.specs.Moving.{IsMoved}
 use Rattle.views.proofs.Fit.{count-alike, roles-still}
 use Rattle.views.proofs.HeldRows.{missing-moved}
 use Rattle.views.proofs.Still.{count-still}
-use Rattle.reshape_updates.specs.Beginning.{HasBegun, goes_back}
-use Rattle.reshape_updates.proofs.BegunPlan.{planned-begun-is}
-use Rattle.reshape_ends.specs.Begun.{IsBackupOf, IsBegunBehind, begun_plan}
+use Rattle.course_mends.specs.reshape_updates_Beginning.{HasBegun, goes_back}
+use Rattle.course_mends.proofs.reshape_updates_BegunPlan.{planned-begun-is}
+use Rattle.course_mends.specs.reshape_ends_Begun.{IsBackupOf, IsBegunBehind, begun_plan}
 use Rattle.kept_history.specs.Safe.{world_in}
 use Rattle.kept_history.specs.Told.{told_now}
 use Rattle.kept_history.proofs.Calls.{now-live}

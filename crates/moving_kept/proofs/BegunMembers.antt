@@ -32,13 +32,13 @@ use Rattle.views.specs.Lacking.{AreOtherRowsKept}
 use Rattle.views.specs.Moving.{Grows}
 use Rattle.views.specs.Rebuilding.{AreSparesFree}
 use Rattle.views.proofs.Fit.{roles-still}
-use Rattle.safe_updates.proofs.Unused.{unused-moved}
+use Rattle.course_mends.proofs.safe_updates_Unused.{unused-moved}
 use Rattle.call_entries.specs.Losing.{losses_of}
-use Rattle.reshape_updates.specs.Beginning.{beginning, goes_back}
-use Rattle.reshape_updates.proofs.BegunPlan.{is-begun}
-use Rattle.reshape_updates.proofs.NewRoles.{new-or}
-use Rattle.reshape_ends.specs.Begun.{begun_plan}
-use Rattle.reshape_ends.proofs.BeginLaws.{gives-live, begun-placed}
+use Rattle.course_mends.specs.reshape_updates_Beginning.{beginning, goes_back}
+use Rattle.course_mends.proofs.reshape_updates_BegunPlan.{is-begun}
+use Rattle.course_mends.proofs.reshape_updates_NewRoles.{new-or}
+use Rattle.course_mends.specs.reshape_ends_Begun.{begun_plan}
+use Rattle.course_mends.proofs.reshape_ends_BeginLaws.{gives-live, begun-placed}
 use Rattle.kept_history.specs.Recorded.{IsCallGoing, IsOpenBehind}
 use Rattle.kept_history.specs.Safe.{world_in}
 use Rattle.course_mends.specs.course_kept_Laws.{closed}

@@ -18,10 +18,10 @@ use Rattle.shape_changes.specs.Safety.{HasLiveSlot, HasRoomLeft}
 use Rattle.shape_changes.specs.Steady.{IsSteady, IsSafeNow}
 use Rattle.shape_changes.proofs.ChangeSafe.{told-changed}
 use Rattle.shape_changes.proofs.FitKinds.{taking-is-fit}
-use Rattle.reshape_updates.specs.Beginning.{beginning}
-use Rattle.reshape_updates.proofs.BegunPlan.{is-beginning, planned-begun-is, planned-fits-is}
-use Rattle.reshape_ends.specs.Begun.{IsBegunBehind}
-use Rattle.reshape_ends.proofs.Cleared.{marks-of, steady-then, room-longer}
+use Rattle.course_mends.specs.reshape_updates_Beginning.{beginning}
+use Rattle.course_mends.proofs.reshape_updates_BegunPlan.{is-beginning, planned-begun-is, planned-fits-is}
+use Rattle.course_mends.specs.reshape_ends_Begun.{IsBegunBehind}
+use Rattle.course_mends.proofs.reshape_ends_Cleared.{marks-of, steady-then, room-longer}
 use Rattle.superblocks.specs.Updating.{planned_newest}
 use Rattle.moving_kept.proofs.ReadShapes.{IsShapeRead, IsEitherRead, same-shape, either-read_since}
 

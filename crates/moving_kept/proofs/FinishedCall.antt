@@ -27,7 +27,7 @@ use Rattle.shape_views.specs.Windows.{HasNoSection, moved_past}
 use Rattle.shape_changes.specs.Safety.{HasRoomLeft, IsRisen}
 use Rattle.shape_changes.specs.Steady.{IsSafeOver, KeepsSafe, AreGoneTold, IsUncleanTold}
 use Rattle.views.specs.Placed.{IsPlaced}
-use Rattle.safe_updates.specs.Unused.{IsUnusedKept}
+use Rattle.course_mends.specs.safe_updates_Unused.{IsUnusedKept}
 use Rattle.views.specs.Moving.{Grows, IsMoved}
 use Rattle.views.specs.Lacking.{AreTooMany, AreOtherRowsKept}
 use Rattle.window_rows.specs.Copies.{tail_of, IsCopied}

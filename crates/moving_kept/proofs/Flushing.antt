@@ -29,7 +29,7 @@ use Rattle.shape_changes.specs.Steady.{IsSafeOver, KeepsSafe, AreGoneTold, IsUnc
 use Rattle.views.specs.Lacking.{DoesWithout, AreTooMany}
 use Rattle.views.specs.Moving.{Grows, IsMoved}
 use Rattle.views.specs.Under.{StandsUnder, RowsStandUnder}
-use Rattle.safe_updates.specs.Unused.{IsUnusedKept}
+use Rattle.course_mends.specs.safe_updates_Unused.{IsUnusedKept}
 use Rattle.views.proofs.Fit.{list-alike}
 use Rattle.views.proofs.LackingLaws.{never-both}
 use Rattle.views.proofs.LackingLists.{none-of}

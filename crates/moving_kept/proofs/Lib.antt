@@ -41,3 +41,31 @@ pub use Rattle.course_mends.proofs.region_writes_Sides
 pub use Rattle.course_mends.proofs.region_writes_Together
 pub use Rattle.course_mends.proofs.window_steps_CopyLaws
 pub use Rattle.course_mends.proofs.window_steps_PastLaws
+pub use Rattle.array_kept.proofs.DegradedLaws as array_kept_DegradedLaws
+pub use Rattle.array_kept.proofs.KeptLaws as array_kept_KeptLaws
+pub use Rattle.array_kept.proofs.LedgerLaws as array_kept_LedgerLaws
+pub use Rattle.array_kept.proofs.LossLaws as array_kept_LossLaws
+pub use Rattle.array_kept.proofs.NowLaws as array_kept_NowLaws
+pub use Rattle.array_kept.proofs.OnlyLaws as array_kept_OnlyLaws
+pub use Rattle.array_kept.proofs.ReadyLaws as array_kept_ReadyLaws
+pub use Rattle.array_kept.proofs.RecordLaws as array_kept_RecordLaws
+pub use Rattle.array_kept.proofs.ReplyLaws as array_kept_ReplyLaws
+pub use Rattle.array_kept.proofs.StepsLeft as array_kept_StepsLeft
+pub use Rattle.array_kept.proofs.ToldLosses as array_kept_ToldLosses
+pub use Rattle.course_mends.proofs.reshape_ends_FinishLaws
+pub use Rattle.course_mends.proofs.reshape_ends_Made
+pub use Rattle.course_mends.proofs.reshape_updates_BegunNewest
+pub use Rattle.course_mends.proofs.reshape_updates_BegunPlan
+pub use Rattle.course_mends.proofs.reshape_updates_EndedPlan
+pub use Rattle.course_mends.proofs.reshape_updates_NewRoles
+pub use Rattle.course_mends.proofs.reshape_updates_Taken
+pub use Rattle.course_mends.proofs.safe_updates_Under
+pub use Rattle.course_mends.proofs.safe_updates_Unused
+pub use Rattle.history_calls.proofs.Adding as history_calls_Adding
+pub use Rattle.history_calls.proofs.Behind as history_calls_Behind
+pub use Rattle.history_calls.proofs.Failed as history_calls_Failed
+pub use Rattle.history_calls.proofs.Giving as history_calls_Giving
+pub use Rattle.history_calls.proofs.LastStep as history_calls_LastStep
+pub use Rattle.history_calls.proofs.Plans as history_calls_Plans
+pub use Rattle.history_calls.proofs.Quiet as history_calls_Quiet
+pub use Rattle.history_calls.proofs.Settling as history_calls_Settling

@@ -15,7 +15,7 @@ use Rattle.shape_changes.proofs.Without.{live-is}
 use Rattle.views.specs.Placed.{HaveSameReshape}
 use Rattle.views.specs.Moving.{IsMoved}
 use Rattle.views.proofs.Fit.{list-alike}
-use Rattle.safe_updates.proofs.Unused.{unused-moved}
+use Rattle.course_mends.proofs.safe_updates_Unused.{unused-moved}
 use Rattle.course_mends.proofs.window_steps_PastLaws.{free-moved}
 use Rattle.moving_kept.specs.Moving.{AreReshaping}
 

@@ -33,7 +33,7 @@ use Rattle.views.proofs.LiveLeft.{without-left}
 use Rattle.call_entries.specs.Losing.{losses_of}
 use Rattle.call_entries.proofs.CallLaws.{losses-are}
 use Rattle.window_rows.specs.Copies.{tail_of, IsZeroIn}
-use Rattle.safe_updates.specs.Unused.{IsUnusedKept}
+use Rattle.course_mends.specs.safe_updates_Unused.{IsUnusedKept}
 use Rattle.course_mends.specs.window_steps_Recording.{IsCopiedWindow}
 use Rattle.course_mends.specs.window_steps_Zeroing.{IsThrough}
 use Rattle.course_mends.proofs.window_steps_ZeroLaws.{through-moved}

@@ -44,9 +44,9 @@ use Rattle.views.proofs.Still.{count-still}
 use Rattle.call_entries.specs.Losing.{losses_of}
 use Rattle.call_entries.proofs.CallLaws.{losses-are}
 use Rattle.call_entries.proofs.LeftLaws.{left-behind, fold-left}
-use Rattle.reshape_updates.specs.Beginning.{HasBegun, goes_back}
-use Rattle.reshape_updates.proofs.BegunPlan.{planned-begun-is}
-use Rattle.reshape_ends.specs.Begun.{begun_plan}
+use Rattle.course_mends.specs.reshape_updates_Beginning.{HasBegun, goes_back}
+use Rattle.course_mends.proofs.reshape_updates_BegunPlan.{planned-begun-is}
+use Rattle.course_mends.specs.reshape_ends_Begun.{begun_plan}
 use Rattle.kept_history.specs.Recorded.{IsHistoryKept, IsCallGoing, IsOpenBehind}
 use Rattle.kept_history.specs.Safe.{world_in, IsFilledRight}
 use Rattle.kept_history.specs.Told.{told_now}

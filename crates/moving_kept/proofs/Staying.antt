@@ -27,7 +27,7 @@ use Rattle.shape_changes.specs.Steady.{IsMoreTold, IsSafeOver, KeepsSafe, AreGon
 use Rattle.views.specs.Placed.{HaveSameReshape}
 use Rattle.views.specs.Moving.{Grows, IsMoved}
 use Rattle.views.specs.Lacking.{DoesWithout, AreTooMany}
-use Rattle.safe_updates.specs.Unused.{IsUnusedKept}
+use Rattle.course_mends.specs.safe_updates_Unused.{IsUnusedKept}
 use Rattle.views.proofs.Fit.{list-alike}
 use Rattle.call_entries.specs.Losing.{losses_of}
 use Rattle.call_entries.proofs.CallLaws.{losses-are}

@@ -35,7 +35,7 @@ use Rattle.shape_changes.specs.Steady.{IsSafeOver, KeepsSafe, AreGoneTold, IsUnc
 use Rattle.views.specs.Moving.{Grows, IsMoved}
 use Rattle.views.specs.Placed.{is_vacant}
 use Rattle.views.specs.Lacking.{DoesWithout, IsOfStripe, AreOtherRowsKept}
-use Rattle.safe_updates.specs.Unused.{IsUnusedKept}
+use Rattle.course_mends.specs.safe_updates_Unused.{IsUnusedKept}
 use Rattle.views.proofs.Fit.{list-alike, count-alike}
 use Rattle.views.proofs.HeldRows.{missing-before, vacant-missing}
 use Rattle.call_entries.specs.Losing.{losses_of}

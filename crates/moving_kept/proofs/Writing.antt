@@ -40,7 +40,7 @@ use Rattle.shape_changes.specs.Safety.{HasLiveSlot, HasRoomLeft, IsRisen}
 use Rattle.shape_changes.specs.Steady.{IsMoreTold, IsSafeOver, KeepsSafe, AreGoneTold, AreWritesAllowed}
 use Rattle.views.specs.Placed.{AreWhole}
 use Rattle.views.specs.Moving.{Grows, IsMoved}
-use Rattle.safe_updates.specs.Unused.{IsUnusedKept}
+use Rattle.course_mends.specs.safe_updates_Unused.{IsUnusedKept}
 use Rattle.views.specs.Lacking.{lacking, DoesWithout, AreOtherRowsKept, AreBytes}
 use Rattle.views.proofs.Fit.{list-alike, force-disks}
 use Rattle.views.proofs.LackingLists.{row-sector, sectors-whole}

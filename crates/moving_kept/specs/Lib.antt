@@ -11,3 +11,14 @@ pub use Rattle.course_mends.specs.window_steps_Recording
 pub use Rattle.course_mends.specs.window_steps_Zeroing
 pub use Rattle.window_calls.specs.Fetching as window_calls_Fetching
 pub use Rattle.window_calls.specs.Finishing as window_calls_Finishing
+pub use Rattle.array_kept.specs.Adopting as array_kept_Adopting
+pub use Rattle.array_kept.specs.Calls as array_kept_Calls
+pub use Rattle.array_kept.specs.Kept as array_kept_Kept
+pub use Rattle.course_mends.specs.reshape_ends_Begun
+pub use Rattle.course_mends.specs.reshape_ends_Finished
+pub use Rattle.course_mends.specs.reshape_updates_Beginning
+pub use Rattle.course_mends.specs.reshape_updates_Ending
+pub use Rattle.course_mends.specs.safe_updates_First
+pub use Rattle.course_mends.specs.safe_updates_Named
+pub use Rattle.course_mends.specs.safe_updates_Unused
+pub use Rattle.history_calls.specs.Reliable as history_calls_Reliable

@@ -26,7 +26,7 @@ use Rattle.shape_ends.specs.Plans.{HasNoneRecovering}
 use Rattle.views.specs.Placed.{IsPlaced}
 use Rattle.views.specs.Lacking.{DoesWithout}
 use Rattle.views.specs.Rebuilding.{AreSparesFree}
-use Rattle.safe_updates.specs.Unused.{IsUnused}
+use Rattle.course_mends.specs.safe_updates_Unused.{IsUnused}
 use Rattle.kept_history.specs.Recorded.{IsHistoryKept}
 use Rattle.kept_history.specs.Safe.{world_in, OpensOnCourse, IsFilledRight, IsSafeHistory}
 use Rattle.history_calls.specs.Reliable.{IsReliable, AreToldGone, IsNonePast, HasLastStep}

@@ -24,12 +24,12 @@ use Rattle.views.specs.Placed.{IsPlaced}
 use Rattle.views.specs.Rebuilding.{Held, with_spare}
 use Rattle.views.specs.Under.{IsRestKept}
 use Rattle.views.proofs.MovedLaws.{grows-none, grows-then}
-use Rattle.array_kept.specs.Kept.{scope_in}
-use Rattle.array_kept.specs.Calls.{IsUnaddable, IsLossBy, AreLossesOf, IsEndOf, IsWorkAdded}
-use Rattle.array_kept.proofs.ReadyLaws.{list-same}
-use Rattle.calls_kept.proofs.AddLaws.{slot-free}
-use Rattle.calls_kept.proofs.AddedKept.{AddsSafe, with_carried, carries-number, carries-only}
-use Rattle.calls_kept.proofs.AddedLosses.{IsAddDone, spares-added}
+use Rattle.running_words.specs.array_kept_Kept.{scope_in}
+use Rattle.running_words.specs.array_kept_Calls.{IsUnaddable, IsLossBy, AreLossesOf, IsEndOf, IsWorkAdded}
+use Rattle.running_words.proofs.array_kept_ReadyLaws.{list-same}
+use Rattle.running_words.proofs.calls_kept_AddLaws.{slot-free}
+use Rattle.running_words.proofs.calls_kept_AddedKept.{AddsSafe, with_carried, carries-number, carries-only}
+use Rattle.running_words.proofs.calls_kept_AddedLosses.{IsAddDone, spares-added}
 use Rattle.grow_asked.specs.declared.window.PhasesLeft.{PhasesLeft}
 use Rattle.mending_kept.specs.course_kept_the_Course.{Course}
 use Rattle.mending_kept.proofs.moving_kept_AddedSpare.{IsSpareMade}

@@ -16,11 +16,11 @@ use Rattle.flat_history.specs.Plain.{entries_of}
 use Rattle.flat_history.proofs.SoundLaws.{stays-throughout}
 use Rattle.history_laws.proofs.NumberLaws.{safe-throughout}
 use Rattle.call_entries.proofs.LeftLaws.{keeps-left}
-use Rattle.array_kept.specs.Kept.{scope_in}
+use Rattle.running_words.specs.array_kept_Kept.{scope_in}
 use Rattle.kept_history.specs.Recorded.{entry_of}
 use Rattle.kept_history.proofs.Records.{begins-going}
-use Rattle.history_calls.specs.Reliable.{IsReliable}
-use Rattle.history_calls.proofs.Quiet.{IsQuiet}
+use Rattle.running_words.specs.history_calls_Reliable.{IsReliable}
+use Rattle.running_words.proofs.history_calls_Quiet.{IsQuiet}
 use Rattle.mending_kept.specs.course_kept_the_Course.{Course}
 use Rattle.mending_kept.specs.moving_kept_Moving.{IsMoving}
 use Rattle.mending_kept.proofs.moving_kept_Resting.{resting-moves}

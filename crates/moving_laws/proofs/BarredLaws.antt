@@ -16,17 +16,17 @@ use Rattle.flat_history.specs.Flat.{next_number, length_of, limit_of}
 use Rattle.shape_views.specs.Regions.{DoWithout}
 use Rattle.views.specs.Lacking.{AreTooMany}
 use Rattle.views.proofs.LackingLaws.{never-both}
-use Rattle.array_kept.specs.Calls.{IsRefusedFor, IsCausedBy}
-use Rattle.array_kept.proofs.LossLaws.{behind-alone}
+use Rattle.running_words.specs.array_kept_Calls.{IsRefusedFor, IsCausedBy}
+use Rattle.running_words.proofs.array_kept_LossLaws.{behind-alone}
 use Rattle.grow_asked.specs.declared.window.Window.{Window}
 use Rattle.grow_asked.specs.declared.window.Window.TheVariants.{Unsure}
 use Rattle.mending_kept.specs.course_kept_the_Course.{Course}
 use Rattle.mending_kept.specs.course_kept_Laws.{closed, unsure}
 use Rattle.mending_kept.specs.region_writes_Runs.{IsListUnwritten}
-use Rattle.moving_state.specs.Left.{visible_by}
+use Rattle.running_words.specs.moving_state_Left.{visible_by}
 use Rattle.running_words.specs.Calls.{IsStepTaken, IsEnterCaused}
 use Rattle.flat_history.specs.declared.events.StepKind.{StepKind}
-use Rattle.moving_state.specs.Due.{open_in}
+use Rattle.running_words.specs.moving_state_Due.{open_in}
 use Rattle.moving_laws.specs.Writing.{TouchesUnsure, IsWriteLacked, IsWriteBarred, IsWriteEntered, IsWriteAnswered, IsWriteReplied, IsRefusedAlone}
 use Rattle.moving_laws.proofs.WriteReplies.{lacked-missing, write-answered}
 

@@ -33,7 +33,7 @@ use Rattle.shape_changes.specs.Safety.{HasLiveSlot, HasRoomLeft, IsRisen}
 use Rattle.shape_changes.specs.Steady.{IsSafeOver, KeepsSafe, AreGoneTold, IsUncleanTold}
 use Rattle.views.specs.Moving.{Grows, IsMoved}
 use Rattle.views.specs.Lacking.{AreTooMany, AreOtherRowsKept, IsOfStripe}
-use Rattle.safe_updates.specs.Unused.{IsUnusedKept}
+use Rattle.running_words.specs.safe_updates_Unused.{IsUnusedKept}
 use Rattle.call_entries.specs.Losing.{losses_of}
 use Rattle.grow_asked.specs.declared.window.Window.TheVariants.{Entered}
 use Rattle.grow_asked.specs.declared.window.PhasesLeft.{PhasesLeft}

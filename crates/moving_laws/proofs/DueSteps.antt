@@ -1,7 +1,7 @@
 -- The next window of a reshape is to be entered: what the step asks of the array is so.
 use Rattle.std.proofs.Common.{ℕ, Option}
-use Rattle.moving_state.specs.Due.{IsDue}
-use Rattle.moving_state.specs.declared.stepping.Due.TheVariants.{Enter}
+use Rattle.running_words.specs.moving_state_Due.{IsDue}
+use Rattle.running_words.specs.moving_state_the_Due_TheVariants.{Enter}
 use Rattle.running_words.specs.Parts.{RunningParts}
 use Rattle.running_words.specs.Calls.{IsEnterDue}
 

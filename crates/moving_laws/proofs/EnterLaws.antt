@@ -9,9 +9,9 @@ use Rattle.bank.specs.Given.{Given}
 use Rattle.superblocks.specs.declared.members.Members.{Members}
 use Rattle.superblocks.specs.Reading.{is_reshaping, next_window}
 use Rattle.flat_history.specs.Stands.{reach_of}
-use Rattle.array_kept.specs.Kept.{scope_in}
+use Rattle.running_words.specs.array_kept_Kept.{scope_in}
 use Rattle.window_entering.specs.Backup.{IsBackupFor}
-use Rattle.moving_state.proofs.ReshapeLaws.{window-reach}
+use Rattle.running_words.proofs.moving_state_ReshapeLaws.{window-reach}
 use Rattle.mending_kept.specs.moving_kept_Moving.{AreReshaping}
 
 -- ---- the backup

@@ -51,19 +51,19 @@ use Rattle.kept_history.specs.Recorded.{IsCallGoing, entry_of}
 use Rattle.kept_history.specs.Safe.{world_in, IsFilledRight, TakesNone, OpensOnCourse}
 use Rattle.kept_history.proofs.Entered.{adds_only}
 use Rattle.kept_history.proofs.Lists.{newest-in}
-use Rattle.history_calls.specs.Reliable.{IsReliable, AreToldGone}
-use Rattle.history_calls.proofs.Adding.{IsAdding, ChangesEarly, changing-leaves}
-use Rattle.history_calls.proofs.Behind.{IsAmong, and-true, early-losses, first-of, legal-losses}
-use Rattle.history_calls.proofs.LastStep.{IsWithin, losses-within}
-use Rattle.history_calls.proofs.Quiet.{IsQuiet, IsLeftBehind, fit-later, quiet-now, last-left}
+use Rattle.running_words.specs.history_calls_Reliable.{IsReliable, AreToldGone}
+use Rattle.running_words.proofs.history_calls_Adding.{IsAdding, ChangesEarly, changing-leaves}
+use Rattle.running_words.proofs.history_calls_Behind.{IsAmong, and-true, early-losses, first-of, legal-losses}
+use Rattle.running_words.proofs.history_calls_LastStep.{IsWithin, losses-within}
+use Rattle.running_words.proofs.history_calls_Quiet.{IsQuiet, IsLeftBehind, fit-later, quiet-now, last-left}
 use Rattle.mending_kept.specs.course_kept_the_Course.{Course}
 use Rattle.mending_kept.specs.course_kept_Course.{HasWindowIn, IsCourseOf, IsStored, StandsInCourse}
 use Rattle.mending_kept.specs.course_kept_Laws.{closed}
 use Rattle.mending_kept.proofs.course_kept_Courses.{enters-stand}
 use Rattle.mending_kept.proofs.course_kept_Frames.{stands-on, stands-whole}
 use Rattle.mending_kept.specs.course_mends_Mended.{IsUnmended, StandsMended}
-use Rattle.moving_state.proofs.LeftLaws.{plans-counted, some-left}
-use Rattle.moving_state.proofs.ReshapeLaws.{under-way-of}
+use Rattle.running_words.proofs.moving_state_LeftLaws.{plans-counted, some-left}
+use Rattle.running_words.proofs.moving_state_ReshapeLaws.{under-way-of}
 use Rattle.mending_kept.specs.moving_kept_Moving.{HasListInCourse, IsMoving}
 use Rattle.mending_kept.proofs.moving_kept_Pending.{HasResync, resync-of, resync-moved, pending-on, none-stands, none-on, mended-later}
 use Rattle.mending_kept.proofs.moving_kept_Quiet.{safe-now, course-earlier}

@@ -7,7 +7,7 @@ use Rattle.superblocks.specs.declared.members.Members.{Members}
 use Rattle.superblocks.specs.Reading.{Scope}
 use Rattle.flat_history.specs.declared.events.Entry.{Entry}
 use Rattle.views.specs.declared.work.Work.{Work}
-use Rattle.array_kept.specs.Kept.{scope_in}
+use Rattle.running_words.specs.array_kept_Kept.{scope_in}
 use Rattle.grow_asked.specs.declared.window.PhasesLeft.{PhasesLeft}
 use Rattle.mending_kept.specs.course_kept_the_Course.{Course}
 use Rattle.mending_kept.specs.moving_kept_Moving.{IsMoving}

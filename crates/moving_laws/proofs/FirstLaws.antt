@@ -4,7 +4,7 @@ use Rattle.std.specs.Prelude.{MatchOption, ⊤}
 use Rattle.md_base.specs.declared.answers.Fault.{Fault as AnyFault}
 use Rattle.md_base.specs.declared.answers.Fault.TheVariants.{Refused as IsRefusedWith, NoMemory}
 use Rattle.md_base.specs.declared.answers.Refusal.{Refusal}
-use Rattle.safe_updates.specs.First.{call_refusal}
+use Rattle.running_words.specs.safe_updates_First.{call_refusal}
 use Rattle.moving_laws.specs.Refusing.{IsFirstFor}
 
 -- as much is visible

@@ -12,7 +12,7 @@ use Rattle.bank.specs.declared.bank.Operation.{Operation}
 use Rattle.md_base.specs.declared.answers.Who.{Who}
 use Rattle.call_entries.specs.Losing.{losses_of}
 use Rattle.call_entries.proofs.CallLaws.{losses-are, length-losses, limit-losses}
-use Rattle.array_kept.proofs.NowLaws.{length-more}
+use Rattle.running_words.proofs.array_kept_NowLaws.{length-more}
 use Rattle.bank.specs.Given.{Given, NeverFalls}
 use Rattle.sb1.specs.declared.sb.Sb.{Sb}
 use Rattle.geometry.specs.Geometry.{unit, steps_of, stripes, beyond}
@@ -47,7 +47,7 @@ use Rattle.kept_history.specs.Safe.{world_in, TakesNone}
 use Rattle.kept_history.proofs.Entered.{lost-taken}
 use Rattle.kept_history.proofs.Growing.{takes-grown}
 use Rattle.kept_history.proofs.Tests.{neither, none-before}
-use Rattle.history_calls.proofs.Behind.{early-losses}
+use Rattle.running_words.proofs.history_calls_Behind.{early-losses}
 use Rattle.mending_kept.specs.course_kept_the_Course.{Course}
 use Rattle.mending_kept.specs.moving_kept_Moving.{IsMoving}
 use Rattle.mending_kept.proofs.moving_kept_Steps.{AreMissingSince, missing-moved}

@@ -34,8 +34,16 @@ pub use Rattle.mending_kept.proofs.moving_kept_BegunCall
 pub use Rattle.mending_kept.proofs.moving_kept_BegunMembers
 pub use Rattle.mending_kept.proofs.moving_kept_Shortened
 pub use Rattle.mending_kept.proofs.moving_kept_Staying
-pub use Rattle.moving_state.proofs.DueLaws as moving_state_DueLaws
-pub use Rattle.moving_state.proofs.ReshapeLaws as moving_state_ReshapeLaws
+pub use Rattle.running_words.proofs.moving_state_DueLaws
+pub use Rattle.running_words.proofs.moving_state_ReshapeLaws
 pub use Rattle.running_words.proofs.Lengths as running_words_Lengths
 pub use Rattle.running_words.proofs.Replies as running_words_Replies
 pub use Rattle.running_words.proofs.Visible as running_words_Visible
+pub use Rattle.running_words.proofs.array_kept_LossLaws
+pub use Rattle.running_words.proofs.array_kept_ReadyLaws
+pub use Rattle.running_words.proofs.array_kept_ReplyLaws
+pub use Rattle.running_words.proofs.calls_kept_AddLaws
+pub use Rattle.running_words.proofs.calls_kept_AddedKept
+pub use Rattle.running_words.proofs.calls_kept_AddedLosses
+pub use Rattle.running_words.proofs.calls_kept_FailedLaws
+pub use Rattle.running_words.proofs.calls_kept_ReadLaws

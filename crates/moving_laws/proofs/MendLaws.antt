@@ -35,12 +35,12 @@ use Rattle.views.specs.Lacking.{DoesWithout, AreTooMany, AreLostSince, AreOtherR
 use Rattle.views.specs.Numbers.{is_carried}
 use Rattle.views.proofs.Fit.{fit-short}
 use Rattle.views.proofs.LackingLaws.{never-both}
-use Rattle.safe_updates.specs.First.{write_refusal}
-use Rattle.safe_updates.specs.Unused.{IsUnusedKept}
-use Rattle.safe_updates.proofs.RefusingLaws.{write-none}
+use Rattle.running_words.specs.safe_updates_First.{write_refusal}
+use Rattle.running_words.specs.safe_updates_Unused.{IsUnusedKept}
+use Rattle.running_words.proofs.safe_updates_RefusingLaws.{write-none}
 use Rattle.call_entries.specs.Losing.{losses_of}
-use Rattle.array_kept.specs.Calls.{one_more, IsRefusedFor}
-use Rattle.array_kept.proofs.ReplyLaws.{IsOfMissing, too-many-of, unwritten-of, refused-for}
+use Rattle.running_words.specs.array_kept_Calls.{one_more, IsRefusedFor}
+use Rattle.running_words.proofs.array_kept_ReplyLaws.{IsOfMissing, too-many-of, unwritten-of, refused-for}
 use Rattle.grow_asked.specs.declared.window.Window.{Window}
 use Rattle.grow_asked.specs.declared.window.Window.TheVariants.{Closed, Entered, Unsure}
 use Rattle.grow_asked.specs.declared.window.PhasesLeft.{PhasesLeft}
@@ -56,8 +56,8 @@ use Rattle.kept_history.specs.Safe.{world_in}
 use Rattle.mending_kept.specs.course_kept_the_Course.{Course}
 use Rattle.mending_kept.specs.course_kept_Course.{IsCourseOf, hidden_in}
 use Rattle.mending_kept.specs.course_mends_Mended.{IsAside}
-use Rattle.moving_state.specs.Due.{open_in}
-use Rattle.moving_state.proofs.LeftLaws.{plans-counted, some-left}
+use Rattle.running_words.specs.moving_state_Due.{open_in}
+use Rattle.running_words.proofs.moving_state_LeftLaws.{plans-counted, some-left}
 use Rattle.mending_kept.specs.moving_kept_Moving.{IsMoving}
 use Rattle.mending_kept.proofs.moving_kept_Flushing.{AreFlushed, AreSettled}
 use Rattle.mending_kept.proofs.moving_kept_Staying.{course-moved}

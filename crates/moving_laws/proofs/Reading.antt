@@ -45,14 +45,14 @@ use Rattle.views.specs.Lacking.{DoesWithout, lacking, too_many}
 use Rattle.views.specs.Moving.{Grows, IsMoved}
 use Rattle.views.proofs.Fit.{list-alike}
 use Rattle.views.proofs.LackingLists.{row-sector}
-use Rattle.safe_updates.specs.Unused.{IsUnusedKept}
+use Rattle.running_words.specs.safe_updates_Unused.{IsUnusedKept}
 use Rattle.call_entries.specs.Losing.{losses_of}
 use Rattle.call_entries.proofs.CallLaws.{losses-are, limit-losses, length-losses, values-losses}
 use Rattle.call_entries.proofs.LeftLaws.{left-behind, left-more}
 use Rattle.call_entries.proofs.LosingLaws.{entries-both}
-use Rattle.array_kept.specs.Calls.{IsRefusedFor, IsReplied}
-use Rattle.array_kept.proofs.NowLaws.{sectors_of-at}
-use Rattle.array_kept.proofs.ReplyLaws.{IsOfMissing, unread-of}
+use Rattle.running_words.specs.array_kept_Calls.{IsRefusedFor, IsReplied}
+use Rattle.running_words.proofs.array_kept_NowLaws.{sectors_of-at}
+use Rattle.running_words.proofs.array_kept_ReplyLaws.{IsOfMissing, unread-of}
 use Rattle.mending_kept.specs.region_rows_Stretches.{ListStandsIn, RowsStandIn}
 use Rattle.mending_kept.proofs.region_writes_Together.{shape-force}
 use Rattle.window_rows.specs.Copies.{HasWindow, IsRoomFor}
@@ -63,9 +63,9 @@ use Rattle.kept_history.proofs.Entered.{adds_only, values-more, length-more}
 use Rattle.kept_history.proofs.Growing.{opening-grown}
 use Rattle.kept_history.proofs.Ledgers.{gone-any}
 use Rattle.kept_history.proofs.Tests.{none-before}
-use Rattle.history_calls.specs.Reliable.{IsReliable, AreToldGone}
-use Rattle.history_calls.proofs.Behind.{IsAmong, and-true, early-losses, legal-losses}
-use Rattle.history_calls.proofs.Quiet.{IsQuiet, LeavesList, IsLeftBehind, quiet-leaves, quiet-now, last-left}
+use Rattle.running_words.specs.history_calls_Reliable.{IsReliable, AreToldGone}
+use Rattle.running_words.proofs.history_calls_Behind.{IsAmong, and-true, early-losses, legal-losses}
+use Rattle.running_words.proofs.history_calls_Quiet.{IsQuiet, LeavesList, IsLeftBehind, quiet-leaves, quiet-now, last-left}
 use Rattle.mending_kept.specs.course_kept_the_Course.{Course}
 use Rattle.grow_asked.specs.declared.window.Window.{Window}
 use Rattle.grow_asked.specs.declared.window.Window.TheVariants.{Closed, Entered, Unsure}
@@ -82,8 +82,8 @@ use Rattle.mending_kept.proofs.moving_kept_Quiet.{safe-now, listed-later, course
 use Rattle.mending_kept.proofs.moving_kept_Refusals.{quiet-refusal, lacking-right}
 use Rattle.mending_kept.proofs.moving_kept_Staying.{course-moved, stays-moves}
 use Rattle.mending_kept.proofs.moving_kept_Steps.{AreMissingSince, missing-moved}
-use Rattle.moving_state.specs.First.{IsUnreadAround}
-use Rattle.moving_state.proofs.ReshapeLaws.{window-reach}
+use Rattle.running_words.specs.moving_state_First.{IsUnreadAround}
+use Rattle.running_words.proofs.moving_state_ReshapeLaws.{window-reach}
 use Rattle.running_words.specs.Parts.{visible_size}
 use Rattle.running_words.proofs.Visible.{visible-is, visible-within}
 use Rattle.running_words.proofs.Replies.{refused_reply, read_kind}

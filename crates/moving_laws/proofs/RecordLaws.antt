@@ -31,7 +31,7 @@ use Rattle.views.specs.Placed.{IsPlaced}
 use Rattle.views.specs.Moving.{Grows, IsMoved}
 use Rattle.views.specs.Lacking.{AreTooMany, AreLostSince, HaveFailedSince}
 use Rattle.views.proofs.LackingLaws.{AreVacant, AreNewlyVacant, lost-since}
-use Rattle.safe_updates.specs.Unused.{IsUnusedKept}
+use Rattle.running_words.specs.safe_updates_Unused.{IsUnusedKept}
 use Rattle.call_entries.specs.Losing.{losses_of}
 use Rattle.mending_kept.specs.window_steps_Recording.{IsCopiedWindow}
 use Rattle.mending_kept.proofs.window_steps_PastLaws.{past-placed}
@@ -47,7 +47,7 @@ use Rattle.mending_kept.specs.course_kept_Laws.{closed, entered}
 use Rattle.mending_kept.specs.region_mends_Left.{resync_left}
 use Rattle.mending_kept.proofs.region_mends_LeftLaws.{records-leave}
 use Rattle.mending_kept.proofs.course_mends_Mended.{mended-courses-move}
-use Rattle.moving_state.proofs.LeftLaws.{plans-counted, some-left}
+use Rattle.running_words.proofs.moving_state_LeftLaws.{plans-counted, some-left}
 use Rattle.mending_kept.specs.moving_kept_Moving.{IsMoving}
 use Rattle.mending_kept.proofs.moving_kept_MoreSteps.{recorded-moves}
 use Rattle.mending_kept.proofs.moving_kept_Staying.{refused-moves}

@@ -27,7 +27,7 @@ use Rattle.call_entries.proofs.CallLaws.{losses-are, ends-losses}
 use Rattle.kept_history.specs.Safe.{world_in}
 use Rattle.kept_history.proofs.Growing.{unsynced-grown}
 use Rattle.kept_history.proofs.Ledgers.{unsynced-still}
-use Rattle.history_calls.specs.Reliable.{AreToldGone}
+use Rattle.running_words.specs.history_calls_Reliable.{AreToldGone}
 use Rattle.mending_kept.specs.region_rows_Stretches.{relied_rows}
 use Rattle.mending_kept.proofs.region_writes_Together.{shape-force}
 use Rattle.mending_kept.specs.region_mends_Mends.{relied_sector}

@@ -8,7 +8,7 @@ use Rattle.flat_history.specs.declared.events.Event.{Event}
 use Rattle.flat_history.specs.Flat.{length_after, limit_after}
 use Rattle.shape_changes.specs.Safety.{IsRisen}
 use Rattle.views.specs.Lacking.{AreTooMany}
-use Rattle.array_kept.specs.Calls.{IsSettling}
+use Rattle.running_words.specs.array_kept_Calls.{IsSettling}
 use Rattle.mending_kept.proofs.moving_kept_Settling as law
 
 -- a flush or a stop settles

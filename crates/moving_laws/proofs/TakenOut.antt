@@ -19,10 +19,10 @@ use Rattle.views.proofs.Fit.{count-alike}
 use Rattle.views.proofs.HeldRows.{missing-before, vacant-missing}
 use Rattle.views.proofs.LackingLaws.{AreVacant, AreNewlyVacant, lost-since}
 use Rattle.views.proofs.MovedLaws.{moved-then}
-use Rattle.safe_updates.proofs.Unused.{unused-moved, rest-unused}
-use Rattle.array_kept.proofs.KeptLaws.{NamesSafe}
-use Rattle.calls_kept.proofs.FailedLaws.{placed-out, moved-out, out-only, clean-out, rise-out, named-out}
-use Rattle.history_calls.proofs.Failed.{IsFailedOrAmong}
+use Rattle.running_words.proofs.safe_updates_Unused.{unused-moved, rest-unused}
+use Rattle.running_words.proofs.array_kept_KeptLaws.{NamesSafe}
+use Rattle.running_words.proofs.calls_kept_FailedLaws.{placed-out, moved-out, out-only, clean-out, rise-out, named-out}
+use Rattle.running_words.proofs.history_calls_Failed.{IsFailedOrAmong}
 use Rattle.mending_kept.proofs.moving_kept_Failing.{IsTakenOut}
 
 module _ (given : Given) (old mid new : Members) (lost slot role : ℕ) (was : IsPlaced given old) (unlost : AreUnlost old) (is : mid ≡ members_without lost old) (alone : (s : ℕ) → has_slot lost s ≡ (slot == s))

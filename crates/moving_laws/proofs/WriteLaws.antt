@@ -43,8 +43,8 @@ use Rattle.views.proofs.LackingLaws.{AreVacant, AreNewlyVacant, lost-since, shap
 use Rattle.views.proofs.MovedLaws.{grows-then}
 use Rattle.call_entries.specs.Losing.{losses_of, failure_events}
 use Rattle.call_entries.proofs.CallLaws.{losses-are, length-losses, limit-losses}
-use Rattle.array_kept.specs.Calls.{IsRoleLossBy, IsLossBy, AreLossesOf, IsBehind, IsRefusedFor, IsCausedBy}
-use Rattle.array_kept.proofs.ReplyLaws.{IsOfMissing, unwritten-of}
+use Rattle.running_words.specs.array_kept_Calls.{IsRoleLossBy, IsLossBy, AreLossesOf, IsBehind, IsRefusedFor, IsCausedBy}
+use Rattle.running_words.proofs.array_kept_ReplyLaws.{IsOfMissing, unwritten-of}
 use Rattle.mending_kept.specs.region_writes_Runs.{IsListUnwritten}
 use Rattle.mending_kept.proofs.region_writes_Together.{shape-force}
 use Rattle.grow_asked.specs.declared.window.Window.{Window}
@@ -54,8 +54,8 @@ use Rattle.grow_asked.specs.Left.{stripes_in, phases_of, grow_left}
 use Rattle.grow_asked.proofs.LeftLaws.{finishing}
 use Rattle.kept_history.specs.Recorded.{IsCallGoing}
 use Rattle.kept_history.specs.Safe.{world_in, TakesNone}
-use Rattle.history_calls.proofs.Behind.{early-losses}
-use Rattle.history_calls.specs.Reliable.{IsReliable}
+use Rattle.running_words.proofs.history_calls_Behind.{early-losses}
+use Rattle.running_words.specs.history_calls_Reliable.{IsReliable}
 use Rattle.mending_kept.specs.course_kept_the_Course.{Course}
 use Rattle.mending_kept.specs.course_kept_Course.{IsWindowOf, IsCourseOf, span_in}
 use Rattle.mending_kept.specs.course_kept_Laws.{closed, entered}
@@ -64,7 +64,7 @@ use Rattle.mending_kept.specs.region_mends_Mends.{relied_sector}
 use Rattle.mending_kept.proofs.region_mends_LeftLaws.{records-leave}
 use Rattle.mending_kept.proofs.region_mends_ReliedLaws.{relied-reaches}
 use Rattle.mending_kept.specs.course_mends_Mended.{IsUnmended}
-use Rattle.moving_state.specs.Due.{open_in, unsure_in}
+use Rattle.running_words.specs.moving_state_Due.{open_in, unsure_in}
 use Rattle.mending_kept.specs.moving_kept_Moving.{IsWindowStanding, IsMoving}
 use Rattle.mending_kept.proofs.moving_kept_CopiedWindow.{window-stands}
 use Rattle.mending_kept.proofs.moving_kept_NoneLeft.{shape-left}

@@ -26,14 +26,14 @@ use Rattle.flat_history.specs.Plain.{entries_of}
 use Rattle.call_entries.specs.Losing.{losses_of, failure_events}
 use Rattle.call_entries.proofs.CallLaws.{AreLossEvents, losses-are, length-losses, limit-losses, torn-losses, torn-both, torn-reverse}
 use Rattle.call_entries.proofs.LosingLaws.{entries-both}
-use Rattle.array_kept.specs.Calls.{StandsInside, IsRefusedFor, IsCausedBy}
-use Rattle.array_kept.proofs.NowLaws.{length-more}
-use Rattle.array_kept.proofs.ReplyLaws.{IsOfMissing, none_before, too-many-of}
+use Rattle.running_words.specs.array_kept_Calls.{StandsInside, IsRefusedFor, IsCausedBy}
+use Rattle.running_words.proofs.array_kept_NowLaws.{length-more}
+use Rattle.running_words.proofs.array_kept_ReplyLaws.{IsOfMissing, none_before, too-many-of}
 use Rattle.grow_asked.specs.declared.window.Window.{Window}
 use Rattle.kept_history.specs.Recorded.{entry_of}
-use Rattle.moving_state.specs.Due.{open_in}
+use Rattle.running_words.specs.moving_state_Due.{open_in}
 use Rattle.moving_laws.specs.Writing.{IsWriteLacked, IsFinishedFirst, IsWriteEntered, IsRepliedBehind, IsWriteAnswered}
-use Rattle.moving_state.specs.Left.{visible_by}
+use Rattle.running_words.specs.moving_state_Left.{visible_by}
 use Rattle.running_words.proofs.Visible.{visible-is, limit-kept}
 use Rattle.running_words.proofs.Replies.{write_kind}
 use Rattle.moving_laws.proofs.WriteLaws.{torn-missing}

@@ -25,7 +25,7 @@ use Rattle.shape_changes.specs.Steady.{IsSafeOver, KeepsSafe, AreGoneTold, IsUnc
 use Rattle.views.specs.Moving.{Grows, IsMoved}
 use Rattle.views.specs.Lacking.{AreTooMany, AreLostSince, IsOfStripe, AreOtherRowsKept}
 use Rattle.window_rows.specs.Copies.{tail_of, IsZeroIn}
-use Rattle.safe_updates.specs.Unused.{IsUnusedKept}
+use Rattle.running_words.specs.safe_updates_Unused.{IsUnusedKept}
 use Rattle.call_entries.specs.Losing.{losses_of}
 use Rattle.grow_asked.specs.declared.window.Window.{Window}
 use Rattle.grow_asked.specs.declared.window.PhasesLeft.{PhasesLeft}
@@ -39,8 +39,8 @@ use Rattle.mending_kept.specs.course_kept_Laws.{closed}
 use Rattle.mending_kept.proofs.course_kept_Courses.{zeroes-go-on}
 use Rattle.mending_kept.specs.region_mends_Left.{resync_left}
 use Rattle.mending_kept.specs.course_mends_Mended.{StandsMended}
-use Rattle.moving_state.proofs.LeftLaws.{plans-counted, some-left}
-use Rattle.moving_state.proofs.ReshapeLaws.{through-of}
+use Rattle.running_words.proofs.moving_state_LeftLaws.{plans-counted, some-left}
+use Rattle.running_words.proofs.moving_state_ReshapeLaws.{through-of}
 use Rattle.mending_kept.specs.moving_kept_Moving.{IsMoving}
 use Rattle.mending_kept.proofs.moving_kept_MoreSteps.{zeroed-moves}
 use Rattle.mending_kept.proofs.moving_kept_Pending.{none-on}

@@ -3,8 +3,8 @@ use Rattle.std.specs.Prelude.{ℕ, ◌≡◌, ◌+◌, Option, Some, None, Resul
 use Rattle.md_base.specs.declared.answers.Fault.{Fault}
 use Rattle.md_base.specs.declared.answers.Fault.TheVariants.{Refused as IsRefusedWith, NoMemory}
 use Rattle.md_base.specs.declared.answers.Refusal.{Refusal}
-use Rattle.moving_state.specs.First.{list_refusal}
-use Rattle.safe_updates.specs.First.{call_refusal}
+use Rattle.running_words.specs.moving_state_First.{list_refusal}
+use Rattle.running_words.specs.safe_updates_First.{call_refusal}
 use Rattle.running_words.specs.Parts.{RunningParts, visible_in}
 
 -- what refuses a request for so many sectors from this one on before any device is touched, but for want of parity: it ends past what is visible, or else the first of them

@@ -7,9 +7,9 @@ use Rattle.flat_history.specs.declared.events.StepKind.{StepKind}
 use Rattle.flat_history.specs.declared.events.StepKind.TheVariants.{Entered, Copied, Checkpointed, Zeroed, Finished, ResyncStripe, ResyncEnded}
 use Rattle.views.specs.Lacking.{AreTooMany}
 use Rattle.mending_kept.specs.region_mends_Mends.{mend_shape, IsNotMended}
-use Rattle.array_kept.specs.Calls.{one_more, IsCausedBy}
-use Rattle.moving_state.specs.declared.stepping.Due.{Due}
-use Rattle.moving_state.specs.declared.stepping.Due.TheVariants.{Copy, Record, Mend, EndResync, Enter, Zero, Finish}
+use Rattle.running_words.specs.array_kept_Calls.{one_more, IsCausedBy}
+use Rattle.running_words.specs.moving_state_the_Due.{Due}
+use Rattle.running_words.specs.moving_state_the_Due_TheVariants.{Copy, Record, Mend, EndResync, Enter, Zero, Finish}
 use Rattle.running_words.specs.Calls.{IsEnterCaused}
 
 -- the kind of the step that is entered where this one is done

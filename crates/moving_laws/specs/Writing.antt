@@ -21,14 +21,14 @@ use Rattle.flat_history.specs.Plain.{entries_of}
 use Rattle.flat_history.specs.Stands.{covers}
 use Rattle.views.specs.Lacking.{AreTooMany}
 use Rattle.call_entries.specs.Losing.{failure_events}
-use Rattle.array_kept.specs.Calls.{IsBehind, StandsInside}
+use Rattle.running_words.specs.array_kept_Calls.{IsBehind, StandsInside}
 use Rattle.kept_history.specs.Recorded.{entry_of}
 use Rattle.mending_kept.specs.region_writes_Runs.{IsListUnwritten}
 use Rattle.grow_asked.specs.declared.window.Window.{Window}
 use Rattle.grow_asked.specs.declared.window.Window.TheVariants.{Closed, Entered, Unsure}
 use Rattle.grow_asked.specs.Left.{stripes_in}
 use Rattle.mending_kept.specs.course_kept_Laws.{entered}
-use Rattle.moving_state.specs.Due.{open_in, unsure_in}
+use Rattle.running_words.specs.moving_state_Due.{open_in, unsure_in}
 use Rattle.running_words.specs.Parts.{RunningParts}
 
 -- a window is entered

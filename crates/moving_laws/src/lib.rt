@@ -2,6 +2,7 @@
 #![tactic(auto)]
 
 pub use mending_kept::window_calls;
-pub use moving_state;
-pub use running_words::{course_kept, region_mends};
+pub use running_words::{
+    course_kept, moving_state, region_mends, region_writes, safe_updates, window_steps,
+};
 pub use window_entering;

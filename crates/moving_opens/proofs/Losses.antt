@@ -22,7 +22,7 @@ use Rattle.flat_history.specs.OneShape.{is_lost}
 use Rattle.flat_history.specs.Plain.{loses_role, entries_of}
 use Rattle.flat_history.specs.World.{World}
 use Rattle.history_laws.proofs.OneShapeGrowing.{entries-both}
-use Rattle.array_kept.specs.Adopting.{found_loss, absent_loss, absent_losses}
+use Rattle.moving_kept.specs.array_kept_Adopting.{found_loss, absent_loss, absent_losses}
 use Rattle.kept_history.specs.Recorded.{gives_some}
 use Rattle.kept_history.proofs.Entered.{gone-lost}
 use Rattle.kept_history.proofs.Ledgers.{any-gone}

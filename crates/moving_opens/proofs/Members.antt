@@ -24,8 +24,8 @@ use Rattle.views.specs.Rebuilding.{IsFree, AreSparesFree}
 use Rattle.views.proofs.MemberLaws.{placed-without, less-without, unlost-without}
 use Rattle.views.proofs.MovedLaws.{moved-less}
 use Rattle.views.proofs.Still.{placed-two}
-use Rattle.safe_updates.specs.Unused.{IsUnused}
-use Rattle.safe_updates.proofs.Unused.{unused-moved}
+use Rattle.moving_kept.specs.safe_updates_Unused.{IsUnused}
+use Rattle.moving_kept.proofs.safe_updates_Unused.{unused-moved}
 use Rattle.moving_kept.specs.Moving.{AreReshaping}
 use Rattle.moving_kept.proofs.MembersMove.{backed-moved}
 use Rattle.found_members.specs.Found.{AreElected}

@@ -46,14 +46,14 @@ use Rattle.views.specs.Placed.{IsPlaced}
 use Rattle.views.specs.Under.{StandsUnder, RowsStandUnder}
 use Rattle.views.proofs.HeldRows.{missing-moved}
 use Rattle.views.proofs.SoundViews.{leaves-now}
-use Rattle.array_kept.specs.Adopting.{opener, absent_losses}
+use Rattle.moving_kept.specs.array_kept_Adopting.{opener, absent_losses}
 use Rattle.kept_history.specs.Recorded.{IsHistoryKept}
 use Rattle.kept_history.specs.Safe.{world_in, IsReshapeFit, OpensOnCourse, IsFilledRight, IsCounted, IsSafeHistory}
 use Rattle.kept_history.specs.Told.{told_now}
 use Rattle.kept_history.proofs.Opened.{opened-kept, opened-safe}
 use Rattle.kept_history.proofs.Turned.{fills-on_course}
-use Rattle.history_calls.specs.Reliable.{IsReliable, AreToldGone, HasLastStep}
-use Rattle.history_calls.proofs.LastStep.{opened-last}
+use Rattle.moving_kept.specs.history_calls_Reliable.{IsReliable, AreToldGone, HasLastStep}
+use Rattle.moving_kept.proofs.history_calls_LastStep.{opened-last}
 use Rattle.grow_asked.specs.declared.window.Window.{Window}
 use Rattle.moving_kept.specs.course_kept_Course.{IsStoredAs, HasSection, IsStored, AnyShape, StandsInCourse}
 use Rattle.moving_kept.proofs.course_kept_Frames.{stands-without}

@@ -23,7 +23,7 @@ use Rattle.views.specs.Lacking.{AreHoldersFlushed}
 use Rattle.views.specs.Placed.{IsPlaced}
 use Rattle.views.specs.Under.{StandsUnder, RowsStandUnder}
 use Rattle.views.proofs.Still.{flushed-is-settled}
-use Rattle.array_kept.specs.Adopting.{AreNumbersKept}
+use Rattle.moving_kept.specs.array_kept_Adopting.{AreNumbersKept}
 use Rattle.moving_opens.specs.Opening.{AreAmong}
 
 only : (v w : Sector) → IsIn (w ∷ []) v → v ≡ w

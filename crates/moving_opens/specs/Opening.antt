@@ -13,8 +13,8 @@ use Rattle.flat_history.specs.declared.events.Entry.{Entry}
 use Rattle.flat_history.specs.Plain.{entries_of}
 use Rattle.flat_history.specs.Stands.{backup_absent}
 use Rattle.shape_views.specs.Regions.{header_in, open_by}
-use Rattle.array_kept.specs.Kept.{scope_in}
-use Rattle.array_kept.specs.Adopting.{opener, absent_losses}
+use Rattle.moving_kept.specs.array_kept_Kept.{scope_in}
+use Rattle.moving_kept.specs.array_kept_Adopting.{opener, absent_losses}
 use Rattle.grow_asked.specs.declared.window.Window.{Window}
 use Rattle.moving_kept.specs.course_kept_Course.{IsWindowOf}
 use Rattle.moving_kept.specs.course_kept_the_Course.{Course}

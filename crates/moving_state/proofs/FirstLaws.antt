@@ -16,12 +16,12 @@ use Rattle.superblocks.proofs.Searches.{least_below-first}
 use Rattle.flat_history.specs.Stands.{covers, shape_for}
 use Rattle.shape_views.specs.Regions.{AreShapesFit, place_by}
 use Rattle.views.specs.Lacking.{lacking, too_many, DoesWithout, LacksTooMany, IsNotResynced}
-use Rattle.safe_updates.specs.First.{call_refusal, write_refusal}
-use Rattle.safe_updates.proofs.RefusingLaws.{told-few, write-none}
-use Rattle.region_rows.specs.Stretches.{IsStretch, relied_rows, IsUnrelied, IsLacked, IsListUnread}
-use Rattle.region_writes.specs.declared.runs.Run.{Run}
-use Rattle.region_writes.specs.Runs.{IsRun, IsRelied, AreRuns, AreRunsUnwritten, IsListTorn, IsListUnwritten}
-use Rattle.region_writes.proofs.RunLaws.{runs-unwritten}
+use Rattle.region_mends.specs.safe_updates_First.{call_refusal, write_refusal}
+use Rattle.region_mends.proofs.safe_updates_RefusingLaws.{told-few, write-none}
+use Rattle.region_mends.specs.region_rows_Stretches.{IsStretch, relied_rows, IsUnrelied, IsLacked, IsListUnread}
+use Rattle.region_mends.specs.region_writes_the_Run.{Run}
+use Rattle.region_mends.specs.region_writes_Runs.{IsRun, IsRelied, AreRuns, AreRunsUnwritten, IsListTorn, IsListUnwritten}
+use Rattle.region_mends.proofs.region_writes_RunLaws.{runs-unwritten}
 use Rattle.array_kept.specs.Calls.{IsRefusalOf}
 use Rattle.array_kept.proofs.ReplyLaws.{IsOfMissing, unread-of, unwritten-of, refused-for}
 use Rattle.moving_state.specs.First.{is_lacking, list_refusal, IsUnreadAround}

@@ -8,8 +8,8 @@ use Rattle.superblocks.specs.declared.members.Members.{Members}
 use Rattle.flat_history.specs.Stands.{covers, shape_for}
 use Rattle.shape_views.specs.Regions.{place_by}
 use Rattle.views.specs.Lacking.{too_many, LacksTooMany}
-use Rattle.safe_updates.specs.First.{are_too_many}
-use Rattle.region_rows.specs.Stretches.{IsUnrelied}
+use Rattle.region_mends.specs.safe_updates_First.{are_too_many}
+use Rattle.region_mends.specs.region_rows_Stretches.{IsUnrelied}
 
 -- more roles of the shape that places this sector are missing than it tolerates
 abbrev pub is_lacking : Members → ℕ → Bool

@@ -9,3 +9,8 @@ pub mod refusing;
 pub mod reshape;
 pub mod stepping;
 pub mod windows;
+
+pub use course_kept;
+pub use course_kept::window_steps;
+pub use region_mends;
+pub use region_mends::{region_writes, safe_updates};

@@ -5,18 +5,18 @@ ghost use Rattle.superblocks.specs.Reading.{list_length, role_count};
 ghost use Rattle.flat_history.specs.Stands.{covers, shape_for};
 ghost use Rattle.shape_views.specs.Regions.{AreShapesFit};
 ghost use Rattle.views.specs.Lacking.{DoesWithout};
-ghost use Rattle.safe_updates.specs.First.{call_refusal};
-ghost use Rattle.region_rows.specs.Stretches.{IsLacked};
-ghost use Rattle.region_writes.specs.Runs.{IsListTorn, IsListUnwritten};
+ghost use Rattle.region_mends.specs.safe_updates_First.{call_refusal};
+ghost use Rattle.region_mends.specs.region_rows_Stretches.{IsLacked};
+ghost use Rattle.region_mends.specs.region_writes_Runs.{IsListTorn, IsListUnwritten};
 ghost use Rattle.array_kept.specs.Calls.{IsRefusalOf};
 ghost use Rattle.moving_state.specs.First.{list_refusal, IsUnreadAround};
 
 use crate::windows::part_in;
 use md_base::{Refusal, Span};
-use region_rows::fetching::unread_list;
-use region_rows::stretches::stretch_at;
-use region_writes::runs::{runs_of, unwritten_runs};
-use safe_updates::refusing::too_many_of;
+use region_mends::region_rows::fetching::unread_list;
+use region_mends::region_rows::stretches::stretch_at;
+use region_mends::region_writes::runs::{runs_of, unwritten_runs};
+use region_mends::safe_updates::refusing::too_many_of;
 use superblocks::Members;
 
 // The refusal of the first of so many sectors from this one on of whose shape more roles are missing than it tolerates.

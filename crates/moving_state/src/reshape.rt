@@ -15,7 +15,7 @@ use geometry::{is_critical, list_end, stripe_sectors};
 use grow_asked::left::{next_window, stripes_in};
 use grow_asked::shapes::is_backward;
 use md_base::Span;
-use safe_updates::roles::{final_in, shape_in};
+use region_mends::safe_updates::roles::{final_in, shape_in};
 use superblocks::Members;
 
 /// How many sectors the list has while the reshape is active.

@@ -3,12 +3,14 @@
 ghost use Rattle.std.specs.Prelude.{◌≡◌, true, Some, IfSome};
 ghost use Rattle.superblocks.specs.Reading.{is_reshaping, next_window};
 ghost use Rattle.shape_views.specs.Regions.{AreShapesFit};
-ghost use Rattle.course_kept.specs.Course.{IsCourseOf};
+ghost use Rattle.reshape_openings.specs.course_kept_Course.{IsCourseOf};
 
-use course_kept::Course;
 use grow_asked::Window;
 use md_base::Span;
-use moving_state::reshape::{is_window_critical, next_window_of, stripes_to_zero, window_stripes};
+use reshape_openings::course_kept::Course;
+use reshape_openings::moving_state::reshape::{
+    is_window_critical, next_window_of, stripes_to_zero, window_stripes,
+};
 use superblocks::Members;
 
 // With so many stripes of the next window copied.

@@ -3,10 +3,10 @@
 use crate::courses::course_of;
 use crate::members::{Made, are_fit, members_of};
 use grow_asked::Window;
-use moving_state::reshape::next_window_of;
-use moving_state::stepping::{Due, due_step};
-use region_mends::counting::{mends_at, resync_left};
-use region_mends::stripes::{mend_stripes, next_mend, relied_sector};
+use reshape_openings::moving_state::reshape::next_window_of;
+use reshape_openings::moving_state::stepping::{Due, due_step};
+use reshape_openings::region_mends::counting::{mends_at, resync_left};
+use reshape_openings::region_mends::stripes::{mend_stripes, next_mend, relied_sector};
 use std::test::Fail;
 
 /// The members, how many stripes there are and how many of them are mended, the sector below which parity is relied on, and the disks of

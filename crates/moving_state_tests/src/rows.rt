@@ -2,17 +2,19 @@
 
 use crate::courses::course_of;
 use crate::members::{Made, are_fit, members_of};
-use course_kept::Course;
 use grow_asked::Window;
 use md_base::{Refusal, Span};
-use moving_state::asking::{role_count, steps_left, visible};
-use moving_state::holding::slot_of;
-use moving_state::refusing::{unread_from, unwritten_from};
-use moving_state::reshape::{
+use reshape_openings::course_kept::Course;
+use reshape_openings::moving_state::asking::{role_count, steps_left, visible};
+use reshape_openings::moving_state::holding::slot_of;
+use reshape_openings::moving_state::refusing::{unread_from, unwritten_from};
+use reshape_openings::moving_state::reshape::{
     list_sectors, next_window_of, stripe_to_copy, stripe_to_zero, stripes_to_zero, window_stripes,
 };
-use moving_state::stepping::{Due, due_step};
-use moving_state::windows::{hidden_span, meets, open_span, part_in, unsure_span};
+use reshape_openings::moving_state::stepping::{Due, due_step};
+use reshape_openings::moving_state::windows::{
+    hidden_span, meets, open_span, part_in, unsure_span,
+};
 use std::alloc::Global;
 use std::process::Abort;
 use std::test::Fail;

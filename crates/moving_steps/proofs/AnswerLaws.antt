@@ -19,12 +19,12 @@ use Rattle.views.specs.Numbers.{is_carried}
 use Rattle.views.specs.Placed.{IsPlaced}
 use Rattle.views.proofs.Fit.{force-disks}
 use Rattle.call_entries.proofs.LeftLaws.{keeps-left}
-use Rattle.array_kept.specs.Calls.{IsLossBy}
+use Rattle.still_kept.specs.array_kept_Calls.{IsLossBy}
 use Rattle.grow_asked.specs.declared.window.PhasesLeft.{PhasesLeft}
 use Rattle.kept_history.specs.Recorded.{IsCallGoing, entry_of}
 use Rattle.kept_history.specs.Safe.{world_in}
-use Rattle.history_calls.specs.Reliable.{IsReliable, AreToldGone}
-use Rattle.history_calls.proofs.Quiet.{IsQuiet}
+use Rattle.still_kept.specs.history_calls_Reliable.{IsReliable, AreToldGone}
+use Rattle.still_kept.proofs.history_calls_Quiet.{IsQuiet}
 use Rattle.moving.specs.course_kept_the_Course.{Course}
 use Rattle.moving.specs.moving_kept_Moving.{IsMoving}
 use Rattle.moving.proofs.moving_kept_Refusals.{refused-right}

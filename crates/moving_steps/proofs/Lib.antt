@@ -21,3 +21,14 @@ pub use Rattle.still_kept.proofs.Refusals as still_kept_Refusals
 pub use Rattle.still_kept.proofs.Resting as still_kept_Resting
 pub use Rattle.still_kept.proofs.Stood as still_kept_Stood
 pub use Rattle.still_kept.proofs.Whole as still_kept_Whole
+pub use Rattle.still_kept.proofs.array_kept_KeptLaws
+pub use Rattle.still_kept.proofs.array_kept_LossLaws
+pub use Rattle.still_kept.proofs.array_kept_NowLaws
+pub use Rattle.still_kept.proofs.array_kept_ReadyLaws
+pub use Rattle.still_kept.proofs.history_calls_Behind
+pub use Rattle.still_kept.proofs.reshape_ends_Made
+pub use Rattle.still_kept.proofs.reshape_updates_BegunNewest
+pub use Rattle.still_kept.proofs.reshape_updates_BegunPlan
+pub use Rattle.still_kept.proofs.reshape_updates_EndedPlan
+pub use Rattle.still_kept.proofs.reshape_updates_NewRoles
+pub use Rattle.still_kept.proofs.reshape_updates_Taken

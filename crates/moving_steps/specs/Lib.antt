@@ -21,3 +21,10 @@ pub use Rattle.moving.specs.running_words_Plans
 pub use Rattle.moving.specs.running_words_Still
 pub use Rattle.moving.specs.window_steps_Zeroing
 pub use Rattle.still_kept.specs.Still as still_kept_Still
+pub use Rattle.still_kept.specs.array_kept_Calls
+pub use Rattle.still_kept.specs.array_kept_Kept
+pub use Rattle.still_kept.specs.reshape_ends_Begun
+pub use Rattle.still_kept.specs.reshape_ends_Finished
+pub use Rattle.still_kept.specs.reshape_updates_Beginning
+pub use Rattle.still_kept.specs.reshape_updates_Ending
+pub use Rattle.still_kept.specs.safe_updates_Unused

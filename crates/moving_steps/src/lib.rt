@@ -8,3 +8,4 @@ pub use answering::answer;
 pub use moving;
 pub use moving::{array_state, course_kept, moving_state};
 pub use rooms::make_room;
+pub use still_kept::{reshape_ends, safe_updates};

@@ -24,7 +24,7 @@ use Rattle.row_io.specs.Rows.{reading_of}
 use Rattle.shape_views.specs.Regions.{AreShapesFit}
 use Rattle.views.specs.Parts.{Parts}
 use Rattle.views.specs.Rebuilding.{Held}
-use Rattle.array_kept.specs.Adopting.{IsAdopted}
+use Rattle.running_steps.specs.array_kept_Adopting.{IsAdopted}
 use Rattle.assemble.specs.declared.spec.CreateSpec.{CreateSpec}
 use Rattle.kept_history.proofs.Tests.{or-right}
 use Rattle.assemble.specs.declared.opening.Opened.{Opened}
@@ -32,8 +32,8 @@ use Rattle.assemble.specs.Opening.{AreOfGiven, AreCounted, IsFound, IsAside}
 use Rattle.assemble.specs.Creating.{IsLastSlot, member_slots, bad_field, create_refusal}
 use Rattle.assemble.specs.Made.{IsNew}
 use Rattle.assemble.proofs.PlacedFound.{placed-found}
-use Rattle.found_members.specs.Found.{AreElected}
-use Rattle.found_members.proofs.Placed.{live-there, holder-there-is}
+use Rattle.moving_opens.specs.found_members_Found.{AreElected}
+use Rattle.moving_opens.proofs.found_members_Placed.{live-there, holder-there-is}
 
 -- so it is of the slot, if one is the backup
 abbrev pub IsAsideOf : Option ℕ → Members → Type 0

@@ -15,7 +15,7 @@ use Rattle.superblocks.specs.Writing.{AreWritable}
 use Rattle.flat_history.specs.Stands.{verdict}
 use Rattle.shape_views.specs.Regions.{DoWithout}
 use Rattle.views.specs.Flushing.{OnlyItsSlotsFail}
-use Rattle.array_kept.specs.Adopting.{IsAdopted}
+use Rattle.running_steps.specs.array_kept_Adopting.{IsAdopted}
 use Rattle.grow_asked.specs.Left.{phases_of}
 use Rattle.running_steps.specs.running_words_Parts.{RunningParts}
 use Rattle.assemble.specs.declared.opening.Opened.{Opened}

@@ -25,9 +25,9 @@ use Rattle.shape_views.specs.Regions.{DoWithout}
 use Rattle.views.specs.Placed.{IsPlaced}
 use Rattle.assemble.specs.declared.opening.Opened.{Opened}
 use Rattle.assemble.specs.Opening.{scope_of, array_of, AreGiven, AreOfGiven, AreCounted, AreFlushed, IsFound, IsAside, IsUnfound}
-use Rattle.found_members.specs.Causes.{IsWithoutBackup}
-use Rattle.found_members.proofs.Causes.{backups-without, lost-backup}
-use Rattle.found_members.proofs.Elected.{elected-does}
+use Rattle.moving_opens.specs.found_members_Causes.{IsWithoutBackup}
+use Rattle.moving_opens.proofs.found_members_Causes.{backups-without, lost-backup}
+use Rattle.moving_opens.proofs.found_members_Elected.{elected-does}
 use Rattle.moving_opens.specs.reshape_openings_Recovering.{AreRecovering}
 use Rattle.moving_opens.specs.Opening.{AreOpenedMoving}
 use Rattle.moving_opens.proofs.Members.{placed-here}

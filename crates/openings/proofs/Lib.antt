@@ -6,3 +6,4 @@ pub mod FoundMoving
 pub mod FoundArrays
 pub use Rattle.running_steps.proofs.running_replies_Fitting
 pub use Rattle.running_steps.proofs.running_replies_GoneOn
+pub use Rattle.running_steps.proofs.array_kept_ReplyLaws

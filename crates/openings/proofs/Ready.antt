@@ -11,9 +11,9 @@ use Rattle.flat_history.specs.Stands.{reach_of}
 use Rattle.views.specs.declared.work.Work.{Work}
 use Rattle.views.specs.Numbers.{is_carried}
 use Rattle.views.specs.Placed.{AreWhole}
-use Rattle.array_kept.specs.Kept.{scope_in}
-use Rattle.array_kept.specs.Adopting.{opener}
-use Rattle.calls_kept.proofs.AdoptingLaws.{found-kept}
+use Rattle.running_steps.specs.array_kept_Kept.{scope_in}
+use Rattle.running_steps.specs.array_kept_Adopting.{opener}
+use Rattle.running_steps.proofs.calls_kept_AdoptingLaws.{found-kept}
 use Rattle.kept_history.specs.Safe.{world_in, TakesNone}
 use Rattle.grow_asked.specs.declared.window.PhasesLeft.{PhasesLeft}
 use Rattle.grow_asked.specs.declared.window.Window.{Window}

@@ -15,8 +15,8 @@ use Rattle.flat_history.specs.Plain.{entries_of}
 use Rattle.flat_history.specs.Reshaped.{open_plans}
 use Rattle.flat_history.specs.World.{reading_at}
 use Rattle.views.specs.Parts.{Parts}
-use Rattle.array_kept.specs.Kept.{scope_in}
-use Rattle.array_kept.specs.Adopting.{opener, absent_losses, IsAdopted}
+use Rattle.running_steps.specs.array_kept_Kept.{scope_in}
+use Rattle.running_steps.specs.array_kept_Adopting.{opener, absent_losses, IsAdopted}
 use Rattle.kept_history.proofs.Opened.{loss_events}
 use Rattle.running_steps.specs.running_words_Parts.{RunningParts}
 use Rattle.running_steps.specs.running_words_Calls.{moving_world}

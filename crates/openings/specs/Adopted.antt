@@ -10,7 +10,7 @@ use Rattle.superblocks.specs.declared.members.Members.{Members}
 use Rattle.row_io.specs.Rows.{present, members_without}
 use Rattle.shape_views.specs.Regions.{header_in, open_by}
 use Rattle.views.specs.declared.work.Work.{Work}
-use Rattle.array_kept.specs.Adopting.{is_number_of}
+use Rattle.running_steps.specs.array_kept_Adopting.{is_number_of}
 use Rattle.grow_asked.specs.Left.{phases_of}
 use Rattle.moving_opens.specs.reshape_openings_Finding.{window_for}
 use Rattle.moving_opens.specs.reshape_openings_Recovering.{AreRecovering}

@@ -21,3 +21,6 @@ pub use Rattle.running_steps.specs.running_words_Parts
 pub use Rattle.running_steps.specs.running_words_Plans
 pub use Rattle.running_steps.specs.running_words_Still
 pub use Rattle.running_steps.specs.still_laws_Plain
+pub use Rattle.running_steps.specs.array_kept_Adopting
+pub use Rattle.running_steps.specs.array_kept_Calls
+pub use Rattle.running_steps.specs.history_calls_Reliable

@@ -26,7 +26,7 @@ use running_steps::array_state::work::found_numbers;
 use running_steps::course_kept::Course;
 use running_steps::moving::Moving;
 use running_steps::moving_state::reshape::list_sectors;
-use safe_updates::roles::{final_in, shape_in};
+use running_steps::safe_updates::roles::{final_in, shape_in};
 use std::alloc::Global;
 use superblocks::Members;
 use superblocks::says::is_clean;

@@ -26,7 +26,7 @@ use Rattle.views.specs.Lacking.{IsHeldRowKept, DoesWithout, DataStandsAmong, Are
 use Rattle.views.proofs.Fit.{for-alike, list-alike}
 use Rattle.views.proofs.HeldRows.{held-moved}
 use Rattle.views.proofs.MendedParts.{stripe-within}
-use Rattle.region_rows.specs.Stretches.{ListStandsIn, RowsStandIn}
+use Rattle.region_writes.specs.region_rows_Stretches.{ListStandsIn, RowsStandIn}
 use Rattle.region_writes.proofs.Tails.{is_listed, listed-is, tailed-is, listed-or-tail, tail-before}
 use Rattle.region_mends.specs.declared.stripes.Stripe.{Stripe}
 use Rattle.region_mends.specs.Mends.{low_shape, low_stripes, mend_stripes, stripe_behind, relied_sector, IsMendRow, AreEndsStanding}

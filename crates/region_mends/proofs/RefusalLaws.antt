@@ -10,8 +10,8 @@ use Rattle.superblocks.specs.Reading.{shape_of, final_shape}
 use Rattle.shape_views.specs.Regions.{DoWithout}
 use Rattle.views.specs.Placed.{IsInForce}
 use Rattle.views.specs.Lacking.{lacking, too_many, DoesWithout, LacksTooMany, AreTooMany, IsUnwritten}
-use Rattle.safe_updates.specs.First.{are_too_many, write_refusal}
-use Rattle.safe_updates.proofs.RefusingLaws.{write-cause}
+use Rattle.region_writes.specs.safe_updates_First.{are_too_many, write_refusal}
+use Rattle.region_writes.proofs.safe_updates_RefusingLaws.{write-cause}
 use Rattle.region_mends.specs.Mends.{lacking_or, mend_refusal, IsNotMended}
 
 is-above : (a b : ℕ) → nat_lt a b ≡ true → a < b

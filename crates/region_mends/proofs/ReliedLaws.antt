@@ -17,8 +17,8 @@ use Rattle.shape_views.proofs.Alike.{valid-for, for-both, row-below}
 use Rattle.shape_views.proofs.Stands.{for-still}
 use Rattle.views.specs.Placed.{IsInForce}
 use Rattle.views.proofs.Stripes.{row-in_stripes}
-use Rattle.region_rows.specs.Stretches.{relied_rows}
-use Rattle.region_rows.proofs.StretchLaws.{relied-below}
+use Rattle.region_writes.specs.region_rows_Stretches.{relied_rows}
+use Rattle.region_writes.proofs.region_rows_StretchLaws.{relied-below}
 use Rattle.region_mends.specs.declared.stripes.Stripe.{Stripe}
 use Rattle.region_mends.specs.Mends.{low_end, low_shape, high_shape, low_stripes, high_stripe, mend_stripes, stripe_behind, relied_sector}
 use Rattle.region_mends.specs.Laws.{ReliedGrows, ReliedReaches, ReliedIsWhole, StillMends}

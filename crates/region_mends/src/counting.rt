@@ -10,7 +10,7 @@ use geometry::stripe_sectors;
 use grow_asked::Window;
 use grow_asked::shapes::is_backward;
 use md_base::Shape;
-use safe_updates::roles::{final_in, shape_in};
+use region_writes::safe_updates::roles::{final_in, shape_in};
 use superblocks::Members;
 
 // The stripes that two shapes have below a position and from there on.

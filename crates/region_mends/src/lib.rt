@@ -5,3 +5,6 @@ pub mod counting;
 pub mod laws;
 pub mod mending;
 pub mod stripes;
+
+pub use region_writes;
+pub use region_writes::{region_rows, safe_rows, safe_updates};

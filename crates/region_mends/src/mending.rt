@@ -22,15 +22,15 @@ ghost use Rattle.views.specs.Placed.{IsPlaced};
 ghost use Rattle.views.specs.Rebuilding.{AreSparesFree};
 ghost use Rattle.views.specs.Moving.{Grows, IsMoved};
 ghost use Rattle.views.specs.Lacking.{HaveFailedSince, DoesWithout, AreOtherRowsKept};
-ghost use Rattle.safe_updates.specs.Unused.{IsUnusedKept};
-ghost use Rattle.region_rows.specs.Stretches.{ListStandsIn, RowsStandIn};
+ghost use Rattle.region_writes.specs.safe_updates_Unused.{IsUnusedKept};
+ghost use Rattle.region_writes.specs.region_rows_Stretches.{ListStandsIn, RowsStandIn};
 ghost use Rattle.region_mends.specs.Mends.{low_shape, mend_stripes, relied_sector, mend_shape, IsMendRow, MendStands, AreEndsStanding, lacking_or, mend_refusal, IsNotMended};
 
 use crate::stripes::stripe_behind;
 use bank::Bank;
 use md_base::Refusal;
-use safe_rows::mending::{Mended, mend};
-use safe_updates::refusing::{too_many, unwritten};
+use region_writes::safe_rows::mending::{Mended, mend};
+use region_writes::safe_updates::refusing::{too_many, unwritten};
 use superblocks::Members;
 
 // The refusal where more roles of a shape in force are missing than it tolerates, of the old one first, or else the one that was found.

@@ -8,8 +8,8 @@ ghost use Rattle.region_mends.specs.Mends.{low_end, low_shape, high_shape, low_s
 
 use geometry::{list_end, stripe_sectors};
 use md_base::Shape;
-use region_rows::stretches::shape_for;
-use safe_updates::roles::{final_in, shape_in};
+use region_writes::region_rows::stretches::shape_for;
+use region_writes::safe_updates::roles::{final_in, shape_in};
 use superblocks::Members;
 use superblocks::says::is_reshaping;
 

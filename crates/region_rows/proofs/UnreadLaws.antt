@@ -13,8 +13,8 @@ use Rattle.list_io.specs.declared.outcome.Unavailable.{Unavailable}
 use Rattle.list_io.specs.declared.outcome.Unavailable.TheVariants.{TooManyMissing, NotResynced}
 use Rattle.list_io.specs.Calls.{IsAnswer}
 use Rattle.views.specs.Lacking.{lacking, LacksTooMany, IsAskedBeyond, IsUnread}
-use Rattle.safe_updates.specs.First.{read_refusal}
-use Rattle.safe_updates.proofs.RefusingLaws.{read-cause, read-none}
+use Rattle.safe_rows.specs.safe_updates_First.{read_refusal}
+use Rattle.safe_rows.proofs.safe_updates_RefusingLaws.{read-cause, read-none}
 use Rattle.region_rows.specs.Stretches.{IsStretch, relied_rows, IsUnrelied, IsLacked, IsListUnread}
 
 pub none-match : {A B : Type 0} (P : B → Type 0) (o : Option B) → is_some o ≡ false → MatchOption o A P → A

@@ -16,7 +16,7 @@ ghost use Rattle.shape_views.specs.Windows.{IsShown};
 ghost use Rattle.shape_changes.specs.Steady.{AreUnlost, IsSafeOver, KeepsSafe, AreGoneTold, IsUncleanTold};
 ghost use Rattle.shape_changes.specs.Marking.{AreOthersPresent};
 ghost use Rattle.shape_changes.specs.Safety.{HasRoomLeft, IsRisen};
-ghost use Rattle.safe_updates.specs.Unused.{IsUnusedKept};
+ghost use Rattle.safe_rows.specs.safe_updates_Unused.{IsUnusedKept};
 ghost use Rattle.views.specs.Placed.{AreWhole, IsPlaced};
 ghost use Rattle.views.specs.Rebuilding.{AreSparesFree};
 ghost use Rattle.views.specs.Moving.{Grows, IsMoved};
@@ -27,8 +27,8 @@ use crate::stretches::{relied_rows, stretch_at};
 use bank::Bank;
 use md_base::Refusal;
 use safe_rows::fetching::{Fetched, read_parts};
-use safe_updates::naming::name_missing;
-use safe_updates::refusing::{too_many_of, unread};
+use safe_rows::safe_updates::naming::name_missing;
+use safe_rows::safe_updates::refusing::{too_many_of, unread};
 use superblocks::Members;
 
 // The refusal where more roles are missing than a shape tolerates that places one of these sectors: the first of them.

@@ -3,3 +3,6 @@
 
 pub mod fetching;
 pub mod stretches;
+
+pub use safe_rows;
+pub use safe_rows::safe_updates;

@@ -11,7 +11,7 @@ ghost use Rattle.region_rows.specs.Stretches.{IsStretch, relied_rows};
 
 use geometry::{side, stripe_sectors};
 use md_base::{Shape, Side};
-use safe_updates::roles::{final_in, shape_in};
+use safe_rows::safe_updates::roles::{final_in, shape_in};
 use sb1::{Features, Sb};
 use superblocks::Members;
 use superblocks::says::{is_reshaping, list_length};

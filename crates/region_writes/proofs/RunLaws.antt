@@ -20,8 +20,8 @@ use Rattle.shape_views.specs.Regions.{AreShapesFit, place_by}
 use Rattle.views.specs.Placed.{IsInForce}
 use Rattle.views.specs.Lacking.{DoesWithout, LacksTooMany, IsNotResynced}
 use Rattle.views.proofs.Fit.{force-valid}
-use Rattle.safe_updates.specs.First.{write_refusal}
-use Rattle.safe_updates.proofs.RefusingLaws.{write-cause}
+use Rattle.region_rows.specs.safe_updates_First.{write_refusal}
+use Rattle.region_rows.proofs.safe_updates_RefusingLaws.{write-cause}
 use Rattle.region_rows.specs.Stretches.{relied_rows}
 use Rattle.region_rows.proofs.StretchLaws.{list-short, data-few}
 use Rattle.region_writes.specs.declared.runs.Run.{Run}

@@ -3,3 +3,6 @@
 
 pub mod runs;
 pub mod writing;
+
+pub use region_rows;
+pub use region_rows::{safe_rows, safe_updates};

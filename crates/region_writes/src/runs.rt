@@ -6,13 +6,13 @@ ghost use Rattle.flat_history.specs.Stands.{covers};
 ghost use Rattle.shape_views.specs.Regions.{AreShapesFit};
 ghost use Rattle.views.specs.Placed.{IsInForce};
 ghost use Rattle.views.specs.Lacking.{DoesWithout};
-ghost use Rattle.safe_updates.specs.First.{write_refusal};
+ghost use Rattle.region_rows.specs.safe_updates_First.{write_refusal};
 ghost use Rattle.region_writes.specs.Runs.{IsRun, IsRelied, AreRuns, AreRunsTorn, AreRunsUnwritten};
 
 use md_base::{Refusal, Shape, Span};
+use region_rows::safe_updates::refusing::{too_many_of, unwritten};
+use region_rows::safe_updates::roles::list_length;
 use region_rows::stretches::{relied_rows, stretch_at};
-use safe_updates::refusing::{too_many_of, unwritten};
-use safe_updates::roles::list_length;
 use superblocks::Members;
 
 /// Sectors of the list that are placed by one shape, from one up to another, and whether parity is relied on in each row that they touch.

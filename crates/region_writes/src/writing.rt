@@ -23,8 +23,8 @@ ghost use Rattle.views.specs.Placed.{AreWhole, IsPlaced, IsInForce};
 ghost use Rattle.views.specs.Rebuilding.{AreSparesFree};
 ghost use Rattle.views.specs.Moving.{Grows, IsMoved};
 ghost use Rattle.views.specs.Lacking.{HaveFailedSince, DoesWithout, LacksTooMany, AreOtherRowsKept, AreBytes, AreRowsRead};
-ghost use Rattle.safe_updates.specs.First.{write_refusal};
-ghost use Rattle.safe_updates.specs.Unused.{IsUnusedKept};
+ghost use Rattle.region_rows.specs.safe_updates_First.{write_refusal};
+ghost use Rattle.region_rows.specs.safe_updates_Unused.{IsUnusedKept};
 ghost use Rattle.region_rows.specs.Stretches.{RowsStandTo, IsShapeOf, ListStandsIn, RowsStandIn};
 ghost use Rattle.region_writes.specs.Runs.{IsRun, AreRowsOf, AreFull, StayRebuilt, IsListTouched, IsTornTouched, MayBeHidden, WindowRowsStand, IsListTorn, IsListUnwritten, AreRunsTorn, AreRunsUnwritten};
 ghost use Rattle.region_writes.specs.Ends.{AreEndsStanding};
@@ -33,8 +33,8 @@ use crate::runs::{Run, runs_of, too_many_runs, unwritten_runs};
 use bank::Bank;
 use list_io::read_touched;
 use md_base::{Refusal, Span};
-use safe_rows::putting::{Outcome, put_rows};
-use safe_updates::naming::raise;
+use region_rows::safe_rows::putting::{Outcome, put_rows};
+use region_rows::safe_updates::naming::raise;
 use superblocks::Members;
 
 // The spares that were lost, and why what was asked for wasn't done.

@@ -5,5 +5,7 @@
 mod recovering;
 mod windows;
 
+pub use moving_state;
+pub use moving_state::{course_kept, region_mends};
 pub use recovering::lose_recovering;
 pub use windows::find_window;

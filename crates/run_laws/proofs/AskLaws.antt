@@ -26,7 +26,7 @@ use Rattle.bank.specs.Given.{Given}
 use Rattle.views.specs.Parts.{Parts}
 use Rattle.call_entries.specs.Losing.{losses_of}
 use Rattle.call_entries.proofs.CallLaws.{losses-are}
-use Rattle.array_kept.proofs.ReplyLaws.{inside-losses, none-inside, none_before}
+use Rattle.openings.proofs.array_kept_ReplyLaws.{inside-losses, none-inside, none_before}
 use Rattle.flat_history.specs.declared.events.Request.{Request}
 use Rattle.flat_history.specs.declared.events.Request.TheVariants.{Write as AsksWrite, Add as AsksAdd}
 use Rattle.openings.specs.moving_laws_Writing.{IsRepliedBehind, IsWriteReplied}
@@ -37,7 +37,7 @@ use Rattle.views.specs.Lacking.{AreTooMany}
 use Rattle.flat_history.specs.Legal.{MayBeInner}
 use Rattle.openings.specs.running_replies_Replies.{RunningFits, IsAnsweredWith}
 use Rattle.openings.proofs.running_replies_Fitting.{inside-inner, fits-write}
-use Rattle.array_kept.specs.Calls.{OnNoMemory, StandsInside, IsReplied, IsAnswered, IsAddedFor, IsCausedBy, IsEntered, IsBehind, IsRefusedFor}
+use Rattle.openings.specs.array_kept_Calls.{OnNoMemory, StandsInside, IsReplied, IsAnswered, IsAddedFor, IsCausedBy, IsEntered, IsBehind, IsRefusedFor}
 use Rattle.script.specs.declared.lines.Line.TheVariants.{Wait, Stop, Halt}
 use Rattle.script.specs.declared.lines.Line.{Line}
 use Rattle.script.specs.Seeds.{seeded, seed_sector}

@@ -32,7 +32,7 @@ use Rattle.script.specs.declared.lines.Line.TheVariants.{Create, Read, Write, Fl
 use Rattle.flat_history.specs.declared.events.Entry.{Entry}
 use Rattle.flat_history.specs.declared.events.Event.TheVariants.{Shown}
 use Rattle.flat_history.specs.Plain.{entries_of}
-use Rattle.array_kept.specs.Adopting.{opener}
+use Rattle.openings.specs.array_kept_Adopting.{opener}
 use Rattle.flat_history.specs.Flat.{rest_of_call, is_same_call, length_of}
 use Rattle.script.specs.declared.lines.Line.{Line}
 use Rattle.script.specs.declared.lines.Numbered.{Numbered}

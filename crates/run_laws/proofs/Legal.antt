@@ -14,10 +14,10 @@ use Rattle.flat_history.proofs.SoundLaws.{fit-before}
 use Rattle.history_laws.proofs.ReshapedLaws.{reshapes-stay-right}
 use Rattle.kept_history.proofs.Turned.{filled-before}
 use Rattle.kept_history.specs.Safe.{IsFilledRight}
-use Rattle.history_calls.specs.Reliable.{IsReliable}
+use Rattle.openings.specs.history_calls_Reliable.{IsReliable}
 use Rattle.openings.specs.running_words_Calls.{IsEpochKept}
 use Rattle.openings.specs.still_laws_Plain.{IsPlainEpoch}
-use Rattle.array_kept.specs.Calls.{IsEndOf}
+use Rattle.openings.specs.array_kept_Calls.{IsEndOf}
 use Rattle.views.specs.Moving.{Grows}
 use Rattle.views.specs.Parts.{Parts}
 use Rattle.std.specs.Prelude.{Result, Ok, Err, IfOk, IfErr}

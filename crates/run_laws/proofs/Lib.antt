@@ -12,3 +12,4 @@ pub mod Writing
 pub mod Sizes
 pub use Rattle.openings.proofs.running_replies_Fitting
 pub use Rattle.openings.proofs.running_replies_GoneOn
+pub use Rattle.openings.proofs.array_kept_ReplyLaws

@@ -23,8 +23,8 @@ use Rattle.md_base.specs.declared.status.Role.TheVariants.{Whole, Recovering as 
 use Rattle.superblocks.specs.Reading.{Reading, is_whole, role_state}
 use Rattle.superblocks.specs.Reads.{has_spare}
 use Rattle.row_io.specs.Rows.{is_missing}
-use Rattle.array_kept.specs.Adopting.{opener, found_loss, absent_loss, absent_losses}
-use Rattle.array_kept.specs.Calls.{IsRoleLossBy, IsLossBy, AreLossesBy, AreLossesOf, AreSparesFewer, IsSameArray, IsEntered}
+use Rattle.openings.specs.array_kept_Adopting.{opener, found_loss, absent_loss, absent_losses}
+use Rattle.openings.specs.array_kept_Calls.{IsRoleLossBy, IsLossBy, AreLossesBy, AreLossesOf, AreSparesFewer, IsSameArray, IsEntered}
 use Rattle.views.specs.Rebuilding.{Held, MayHold}
 use Rattle.views.specs.Placed.{AreStillHeld}
 use Rattle.openings.specs.running_replies_Going.{is_finish, MayBeDropped, MayHoldBehind, AreHeldBehind, AreLossesAlong}

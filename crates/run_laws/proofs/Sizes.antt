@@ -17,8 +17,8 @@ use Rattle.flat_history.specs.OneShape.{IsOfCall}
 use Rattle.flat_history.specs.Plain.{entries_of}
 use Rattle.call_entries.specs.Losing.{losses_of}
 use Rattle.call_entries.proofs.CallLaws.{losses-are}
-use Rattle.array_kept.specs.Calls.{StandsInside, IsReplied, IsAnswered, IsBehind, IsEntered}
-use Rattle.array_kept.proofs.ReplyLaws.{inside-losses}
+use Rattle.openings.specs.array_kept_Calls.{StandsInside, IsReplied, IsAnswered, IsBehind, IsEntered}
+use Rattle.openings.proofs.array_kept_ReplyLaws.{inside-losses}
 use Rattle.kept_history.specs.Recorded.{entry_of}
 use Rattle.openings.specs.moving_laws_Writing.{IsRepliedBehind, IsWriteReplied}
 use Rattle.run_laws.specs.Asked.{IsSizedBy}

@@ -24,8 +24,8 @@ use Rattle.flat_history.specs.Transfers.{IsRefusedAt, IsPastEnd}
 use Rattle.flat_history.specs.OneShape.{IsOfCall, OneShapeAnswers, EndsIdleSteps}
 use Rattle.call_entries.specs.Losing.{losses_of}
 use Rattle.call_entries.proofs.CallLaws.{losses-are}
-use Rattle.array_kept.proofs.ReplyLaws.{inside-losses}
-use Rattle.array_kept.specs.Calls.{StandsInside, IsReplied, IsAnswered, IsAddedFor, IsBehind, IsEntered}
+use Rattle.openings.proofs.array_kept_ReplyLaws.{inside-losses}
+use Rattle.openings.specs.array_kept_Calls.{StandsInside, IsReplied, IsAnswered, IsAddedFor, IsBehind, IsEntered}
 use Rattle.kept_history.specs.Recorded.{entry_of}
 use Rattle.openings.specs.moving_laws_Writing.{IsRepliedBehind, IsWriteReplied}
 use Rattle.flat_history.specs.Legal.{call_before}

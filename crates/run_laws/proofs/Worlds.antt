@@ -19,7 +19,7 @@ use Rattle.grow_asked.specs.declared.window.Window.{Window}
 use Rattle.grow_asked.specs.Left.{grow_left}
 use Rattle.openings.specs.region_mends_Left.{resync_left}
 use Rattle.openings.specs.reshape_openings_Finding.{window_for}
-use Rattle.array_kept.specs.Adopting.{found_work}
+use Rattle.openings.specs.array_kept_Adopting.{found_work}
 use Rattle.views.specs.Status.{left_of}
 use Rattle.superblocks.specs.Found.{AreLikeNewest}
 use Rattle.md_base.specs.declared.status.Status.{Status}

@@ -23,7 +23,7 @@ use Rattle.flat_history.specs.Transfers.{last_end_from}
 use Rattle.views.specs.Flushing.{OnlyFlushesAdded}
 use Rattle.views.specs.Moving.{Grows}
 use Rattle.openings.specs.running_words_Parts.{RunningParts}
-use Rattle.array_kept.specs.Calls.{IsEntered}
+use Rattle.openings.specs.array_kept_Calls.{IsEntered}
 use Rattle.openings.specs.assemble_Creating.{create_refusal}
 use Rattle.openings.specs.assemble_Filling.{AreBelow, OnlyBelow}
 use Rattle.openings.specs.assemble_Made.{HasCreateCause}

@@ -29,3 +29,6 @@ pub use Rattle.openings.specs.running_words_Parts
 pub use Rattle.openings.specs.running_words_Plans
 pub use Rattle.openings.specs.running_words_Still
 pub use Rattle.openings.specs.still_laws_Plain
+pub use Rattle.openings.specs.array_kept_Adopting
+pub use Rattle.openings.specs.array_kept_Calls
+pub use Rattle.openings.specs.history_calls_Reliable

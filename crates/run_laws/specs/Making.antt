@@ -25,7 +25,7 @@ use Rattle.flat_history.specs.Legal.{IsAbsentAtFirst}
 use Rattle.flat_history.specs.Plain.{entries_of}
 use Rattle.openings.specs.assemble_the_CreateSpec.{CreateSpec}
 use Rattle.views.specs.Status.{left_of}
-use Rattle.array_kept.specs.Adopting.{opener, absent_losses, found_losses, found_work}
+use Rattle.openings.specs.array_kept_Adopting.{opener, absent_losses, found_losses, found_work}
 use Rattle.openings.specs.assemble_Made.{HasCreateCause}
 use Rattle.openings.specs.assemble_Opening.{HasFoundNone}
 use Rattle.shape_views.specs.Regions.{header_in, open_by}

@@ -10,7 +10,7 @@ use Rattle.flat_history.specs.declared.events.Epoch.{Epoch}
 use Rattle.flat_history.specs.declared.events.Event.TheVariants.{Halted}
 use Rattle.flat_history.specs.Flat.{next_number, last_of}
 use Rattle.md_base.specs.declared.answers.Who.{Who}
-use Rattle.array_kept.specs.Calls.{IsEntered}
+use Rattle.line_answers.specs.array_kept_Calls.{IsEntered}
 use Rattle.line_answers.specs.running_words_Parts.{RunningParts}
 use Rattle.superblocks.specs.Reading.{list_length}
 use Rattle.script.specs.declared.lines.Line.TheVariants.{Halt}

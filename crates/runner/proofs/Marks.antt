@@ -9,7 +9,7 @@ use Rattle.bank.specs.Given.{Given, sizes}
 use Rattle.bank.specs.declared.bank.Operation.{Operation}
 use Rattle.flat_history.specs.Legal.{IsLegal}
 use Rattle.flat_history.specs.Reshaped.{IsReshaped}
-use Rattle.history_calls.specs.Reliable.{IsReliable}
+use Rattle.line_answers.specs.history_calls_Reliable.{IsReliable}
 use Rattle.line_answers.specs.running_words_Plans.{KeepsShape}
 use Rattle.line_answers.specs.still_laws_Plain.{AreToldPlainly}
 use Rattle.flat_history.specs.Epochs.{world_of}

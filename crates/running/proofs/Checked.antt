@@ -10,7 +10,7 @@ use Rattle.superblocks.specs.Update.{is_held_by}
 use Rattle.shape_views.proofs.Headers.{backup-is}
 use Rattle.shape_changes.proofs.Without.{live-is}
 use Rattle.views.specs.Rebuilding.{Held}
-use Rattle.safe_updates.specs.Unused.{IsUnused}
+use Rattle.growing.specs.safe_updates_Unused.{IsUnused}
 use Rattle.growing.specs.moving_kept_Moving.{AreReshaping}
 
 pub some-of : (n : ℕ) → n ≢ 0 → 0 < n

@@ -19,7 +19,7 @@ use Rattle.flat_history.specs.Growing.{EndBy}
 use Rattle.flat_history.specs.OneShape.{IsOfCall}
 use Rattle.flat_history.specs.Plain.{entries_of}
 use Rattle.views.specs.Lacking.{IsUnread, IsUnwritten, are_mended, mended_rows}
-use Rattle.array_kept.specs.Calls.{IsRefusedFor, IsCausedBy, IsAnswered, IsEntered, IsReplied, StandsInside}
+use Rattle.growing.specs.array_kept_Calls.{IsRefusedFor, IsCausedBy, IsAnswered, IsEntered, IsReplied, StandsInside}
 use Rattle.growing.specs.region_mends_Mends.{relied_sector}
 use Rattle.kept_history.specs.Recorded.{entry_of}
 use Rattle.kept_history.proofs.Marks.{ends-call}

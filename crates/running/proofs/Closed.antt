@@ -29,7 +29,7 @@ use Rattle.views.proofs.Fit.{force-disks}
 use Rattle.views.proofs.LackingLaws.{never-too-many}
 use Rattle.call_entries.specs.Losing.{losses_of}
 use Rattle.call_entries.proofs.LosingLaws.{entries-both}
-use Rattle.array_kept.specs.Calls.{IsBehind, IsFailedFor, IsRefusedFor, IsFaultFor, IsCausedBy, IsUnmendable, IsRebuildStepped}
+use Rattle.growing.specs.array_kept_Calls.{IsBehind, IsFailedFor, IsRefusedFor, IsFaultFor, IsCausedBy, IsUnmendable, IsRebuildStepped}
 use Rattle.kept_history.specs.Recorded.{entry_of}
 use Rattle.grow_asked.specs.Left.{phases_of}
 use Rattle.growing.specs.running_words_Parts.{RunningParts, still_left}

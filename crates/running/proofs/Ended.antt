@@ -18,7 +18,7 @@ use Rattle.views.specs.Placed.{IsInForce}
 use Rattle.views.specs.Lacking.{AreTooMany}
 use Rattle.growing.specs.region_mends_the_Stripe.{Stripe}
 use Rattle.growing.specs.region_mends_Mends.{low_end, low_shape, high_shape, low_stripes, high_stripe, mend_shape, IsNotMended}
-use Rattle.array_kept.specs.Calls.{by_answer, IsCausedBy}
+use Rattle.growing.specs.array_kept_Calls.{by_answer, IsCausedBy}
 use Rattle.grow_asked.specs.declared.window.PhasesLeft.{PhasesLeft}
 use Rattle.grow_asked.specs.declared.window.Window.{Window}
 use Rattle.grow_asked.specs.declared.window.Window.TheVariants.{Closed, Entered, Unsure}

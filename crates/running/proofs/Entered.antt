@@ -26,7 +26,7 @@ use Rattle.flat_history.specs.World.{World}
 use Rattle.views.specs.declared.work.Work.{Work}
 use Rattle.call_entries.specs.Losing.{losses_of}
 use Rattle.call_entries.proofs.LosingLaws.{entries-both}
-use Rattle.array_kept.specs.Calls.{IsEntered, StandsInside, IsRebuildStepped, IsUnsettled}
+use Rattle.growing.specs.array_kept_Calls.{IsEntered, StandsInside, IsRebuildStepped, IsUnsettled}
 use Rattle.kept_history.specs.Recorded.{entry_of}
 use Rattle.kept_history.proofs.Tests.{neither}
 use Rattle.growing.specs.running_words_Parts.{RunningParts}

@@ -31,8 +31,8 @@ use Rattle.views.proofs.MovedLaws.{grows-none}
 use Rattle.views.specs.Rebuilding.{Held, MayHold}
 use Rattle.views.specs.Placed.{AreWhole}
 use Rattle.views.specs.declared.work.Work.{Work}
-use Rattle.array_kept.specs.Kept.{scope_in}
-use Rattle.array_kept.specs.Calls.{AreHeldOrSpare, IsAddedFor, IsUnaddable}
+use Rattle.growing.specs.array_kept_Kept.{scope_in}
+use Rattle.growing.specs.array_kept_Calls.{AreHeldOrSpare, IsAddedFor, IsUnaddable}
 use Rattle.kept_history.proofs.Growing.{reading-grown}
 use Rattle.kept_history.proofs.Tests.{neither}
 use Rattle.grow_asked.specs.declared.window.PhasesLeft.{PhasesLeft}

@@ -12,3 +12,8 @@ pub use Rattle.growing.proofs.running_replies_GoneOn
 pub use Rattle.growing.proofs.still_kept_Whole
 pub use Rattle.growing.proofs.still_steps_NextLaws
 pub use Rattle.growing.proofs.turning_Begun
+pub use Rattle.growing.proofs.array_kept_LossLaws
+pub use Rattle.growing.proofs.array_kept_ReadyLaws
+pub use Rattle.growing.proofs.array_kept_ReplyLaws
+pub use Rattle.growing.proofs.calls_kept_AdoptingLaws
+pub use Rattle.growing.proofs.reshape_updates_NewRoles

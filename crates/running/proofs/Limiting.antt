@@ -19,7 +19,7 @@ use Rattle.flat_history.specs.Plain.{entries_of}
 use Rattle.flat_history.specs.World.{World}
 use Rattle.views.specs.declared.work.Work.{Work}
 use Rattle.views.specs.Placed.{AreWhole}
-use Rattle.array_kept.specs.Calls.{by_answer}
+use Rattle.growing.specs.array_kept_Calls.{by_answer}
 use Rattle.growing.specs.running_words_Parts.{RunningParts}
 use Rattle.growing.specs.running_words_Visible.{still_refusal, IsVisibleJudged, IsVisibleAnswered, IsLimitedAs}
 use Rattle.growing.specs.running_replies_Limits.{limit_refusal}

@@ -17,7 +17,7 @@ use Rattle.growing.specs.region_mends_Mends.{relied_sector}
 use Rattle.views.specs.Status.{left_of}
 use Rattle.grow_asked.specs.Left.{phases_of}
 use Rattle.kept_history.specs.Safe.{IsFilledRight}
-use Rattle.history_calls.specs.Reliable.{IsReliable}
+use Rattle.growing.specs.history_calls_Reliable.{IsReliable}
 use Rattle.growing.specs.running_words_Parts.{RunningParts, left_in, still_left}
 use Rattle.growing.specs.running_words_Calls.{IsStatusFor}
 use Rattle.growing.specs.running_words_Still.{IsStillStatus}

@@ -28,3 +28,9 @@ pub use Rattle.growing.specs.still_steps_Resyncing
 pub use Rattle.growing.specs.still_steps_Stepping
 pub use Rattle.growing.specs.turning_Begun
 pub use Rattle.growing.specs.turning_Ended
+pub use Rattle.growing.specs.array_kept_Adopting
+pub use Rattle.growing.specs.array_kept_Calls
+pub use Rattle.growing.specs.array_kept_Kept
+pub use Rattle.growing.specs.history_calls_Reliable
+pub use Rattle.growing.specs.reshape_ends_Begun
+pub use Rattle.growing.specs.reshape_updates_Beginning

@@ -3,5 +3,5 @@
 
 mod state;
 
-pub use growing::{array_state, course_kept, moving, moving_state, still};
+pub use growing::{array_state, course_kept, moving, moving_state, safe_updates, still};
 pub use state::{Next, Running};

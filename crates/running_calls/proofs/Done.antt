@@ -7,8 +7,8 @@ use Rattle.flat_history.specs.declared.events.Event.{Event}
 use Rattle.flat_history.specs.declared.events.Request.{Request}
 use Rattle.flat_history.specs.declared.events.Request.TheVariants.{Read as AsksRead, Write as AsksWrite, Flush as AsksFlush, Fail as AsksFail, Add as AsksAdd, Visible as AsksVisible, Grow as AsksGrow, Steps as AsksSteps, Show as AsksShow}
 use Rattle.call_entries.proofs.PlainLaws.{one}
-use Rattle.running_steps.specs.running_words_Parts.{RunningParts}
-use Rattle.running_steps.specs.running_replies_Replies.{IsAnsweredWith}
+use Rattle.openings.specs.running_words_Parts.{RunningParts}
+use Rattle.openings.specs.running_replies_Replies.{IsAnsweredWith}
 use Rattle.running_calls.specs.Replies.{IsShownBy, IsPerformed}
 
 -- ---- a request was done: a status was shown, or another was answered

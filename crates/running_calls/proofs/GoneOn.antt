@@ -31,11 +31,11 @@ use Rattle.views.specs.Rebuilding.{Held}
 use Rattle.array_kept.specs.Calls.{AreSparesFewer, AreLossesBy, IsAddedFor, IsEntered}
 use Rattle.grow_asked.specs.declared.window.PhasesLeft.{PhasesLeft}
 use Rattle.grow_asked.specs.Left.{phases_of}
-use Rattle.running_steps.specs.running_words_Parts.{RunningParts}
-use Rattle.running_steps.specs.running_words_Calls.{IsSameReshape, IsCalled}
-use Rattle.running_steps.specs.running_words_Adding.{IsAddCalled}
-use Rattle.running_steps.specs.running_replies_Replies.{HasToldBy}
-use Rattle.running_steps.specs.running_replies_Going.{is_begin, IsSameEpoch, HasRunOn}
+use Rattle.openings.specs.running_words_Parts.{RunningParts}
+use Rattle.openings.specs.running_words_Calls.{IsSameReshape, IsCalled}
+use Rattle.openings.specs.running_words_Adding.{IsAddCalled}
+use Rattle.openings.specs.running_replies_Replies.{HasToldBy}
+use Rattle.openings.specs.running_replies_Going.{is_begin, IsSameEpoch, HasRunOn}
 use Rattle.running_replies.proofs.GoneOn.{has-told-wider, told-then}
 use Rattle.running_calls.specs.Going.{is_added, AreLossesSince, HasGoneOn}
 use Rattle.running_calls.proofs.Leaving.{call-leaves}

@@ -17,7 +17,7 @@ use Rattle.flat_history.specs.declared.events.LostCause.TheVariants.{Absent, Rec
 use Rattle.views.specs.Placed.{AreStillHeld}
 use Rattle.views.specs.Rebuilding.{Held}
 use Rattle.array_kept.specs.Calls.{IsRoleLossBy, IsLossBy, AreLossesBy}
-use Rattle.running_steps.specs.running_replies_Going.{is_finish, MayBeDropped, MayHoldBehind, AreHeldBehind, AreLossesAlong}
+use Rattle.openings.specs.running_replies_Going.{is_finish, MayBeDropped, MayHoldBehind, AreHeldBehind, AreLossesAlong}
 use Rattle.running_calls.specs.Going.{is_added, MayBeNewSpare, MayHoldSince, AreHeldSince, AreLossesSince}
 
 -- ---- some entry is of a kind, in one list or in the other

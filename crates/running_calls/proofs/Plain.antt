@@ -24,8 +24,8 @@ use Rattle.call_entries.proofs.PlainLaws.{one}
 use Rattle.call_entries.proofs.LosingLaws.{entries-both}
 use Rattle.array_kept.specs.Calls.{StandsInside, IsReplied, IsAnswered}
 use Rattle.array_kept.proofs.ReplyLaws.{none_before}
-use Rattle.running_steps.specs.moving_laws_Writing.{IsRepliedBehind, IsWriteReplied}
-use Rattle.running_steps.specs.running_replies_Replies.{RunningFits, IsAnsweredWith}
+use Rattle.openings.specs.moving_laws_Writing.{IsRepliedBehind, IsWriteReplied}
+use Rattle.openings.specs.running_replies_Replies.{RunningFits, IsAnsweredWith}
 use Rattle.running_replies.proofs.Fitting.{inside-inner, fits-write}
 use Rattle.running_calls.specs.Replies.{told_by}
 

@@ -12,7 +12,7 @@ use Rattle.flat_history.specs.Fits.{IsReadRefused, IsWriteRefused}
 use Rattle.flat_history.specs.Flat.{length_after, length_of, limit_of, visible_of}
 use Rattle.flat_history.specs.Legal.{call_before}
 use Rattle.flat_history.specs.Transfers.{IsRefusedAt}
-use Rattle.running_steps.specs.running_replies_Replies.{MayRefuseGrow, MayRefuseLimit, RunningAnswers, RunningFits}
+use Rattle.openings.specs.running_replies_Replies.{MayRefuseGrow, MayRefuseLimit, RunningAnswers, RunningFits}
 use Rattle.running_calls.proofs.Leaving.{tells-or-leaves}
 
 -- by a length and by the one that more entries make of it, a history tells the same

@@ -15,9 +15,9 @@ use Rattle.views.specs.Moving.{Grows}
 use Rattle.views.specs.Rebuilding.{Held, MayHold}
 use Rattle.array_kept.specs.Calls.{IsLossBy}
 use Rattle.grow_asked.specs.Left.{phases_of}
-use Rattle.running_steps.specs.running_words_Parts.{RunningParts}
-use Rattle.running_steps.specs.running_replies_Replies.{HasToldBy}
-use Rattle.running_steps.specs.running_replies_Going.{is_begin, MayBeDropped, IsSameEpoch}
+use Rattle.openings.specs.running_words_Parts.{RunningParts}
+use Rattle.openings.specs.running_replies_Replies.{HasToldBy}
+use Rattle.openings.specs.running_replies_Going.{is_begin, MayBeDropped, IsSameEpoch}
 
 -- the event tells that the slot was made a spare
 abbrev pub is_added : ℕ → Event → Bool

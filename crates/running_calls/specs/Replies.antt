@@ -12,10 +12,10 @@ use Rattle.flat_history.specs.declared.events.Event.TheVariants.{Shown, Refused}
 use Rattle.flat_history.specs.declared.events.Request.{Request}
 use Rattle.flat_history.specs.declared.events.Request.TheVariants.{Read as AsksRead, Write as AsksWrite, Flush as AsksFlush, Fail as AsksFail, Add as AsksAdd, Visible as AsksVisible, Grow as AsksGrow, Steps as AsksSteps, Show as AsksShow}
 use Rattle.flat_history.specs.Flat.{length_of, limit_of}
-use Rattle.running_steps.specs.running_words_Parts.{RunningParts}
-use Rattle.running_steps.specs.running_replies_Replies.{IsAnsweredWith}
-use Rattle.running_steps.specs.running_Calls.{running_left, IsShownAs}
-use Rattle.running_steps.specs.Steps.{IsStepCount}
+use Rattle.openings.specs.running_words_Parts.{RunningParts}
+use Rattle.openings.specs.running_replies_Replies.{IsAnsweredWith}
+use Rattle.openings.specs.running_Calls.{running_left, IsShownAs}
+use Rattle.openings.specs.running_steps_Steps.{IsStepCount}
 use Rattle.running_calls.specs.declared.reply.Reply.{Reply}
 use Rattle.running_calls.specs.declared.reply.Reply.TheVariants.{Done, NoMemory as Short}
 

@@ -4,7 +4,7 @@
 mod performing;
 mod reply;
 
+pub use openings::running_steps;
+pub use openings::running_steps::running;
 pub use performing::{perform, tells_sizes};
 pub use reply::Reply;
-pub use running_steps;
-pub use running_steps::running;

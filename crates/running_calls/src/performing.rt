@@ -5,7 +5,7 @@ ghost use Rattle.superblocks.specs.Reading.{list_length};
 ghost use Rattle.flat_history.specs.Flat.{next_number};
 ghost use Rattle.flat_history.specs.declared.events.Request.TheVariants.{Read as AsksRead, Write as AsksWrite, Flush as AsksFlush, Fail as AsksFail, Add as AsksAdd, Visible as AsksVisible, Grow as AsksGrow};
 ghost use Rattle.array_kept.specs.Calls.{IsEndOf};
-ghost use Rattle.running_steps.specs.running_replies_Replies.{IsAnsweredWith};
+ghost use Rattle.openings.specs.running_replies_Replies.{IsAnsweredWith};
 ghost use Rattle.running_calls.specs.Going.{HasGoneOn};
 ghost use Rattle.running_calls.specs.Replies.{IsAskable, TellsSizes, told_by, IsShownBy, IsPerformed, IsRepliedBy, IsCountedBy, OnReply};
 
@@ -13,8 +13,8 @@ use crate::reply::Reply;
 use bank::Bank;
 use flat_history::{Event, Request};
 use md_base::{Fault, NoMemory, Sectors, Who, Wish};
-use running_steps::running::Running;
-use running_steps::steps;
+use openings::running_steps::running::Running;
+use openings::running_steps::steps;
 use std::alloc::Global;
 
 /// It does nothing: its contract says what a running array keeps.

@@ -12,7 +12,7 @@ use Rattle.flat_history.specs.Fits.{IsReadRefused, IsWriteRefused}
 use Rattle.flat_history.specs.Legal.{MayBeInner, call_before}
 use Rattle.flat_history.specs.OneShape.{OneShapeAnswers, OneShapeFits}
 use Rattle.flat_history.specs.Transfers.{IsRefusedAt, IsPastEnd}
-use Rattle.array_kept.specs.Calls.{StandsInside}
+use Rattle.running_words.specs.array_kept_Calls.{StandsInside}
 use Rattle.running_replies.specs.Replies.{MayEndBy, MayTellBy, RunningAnswers, RunningFits}
 
 -- what stands inside a call there may stand in any

@@ -20,7 +20,7 @@ use Rattle.flat_history.specs.declared.events.LostCause.{LostCause}
 use Rattle.flat_history.specs.declared.events.LostCause.TheVariants.{Absent, Recovering, Command, Fault}
 use Rattle.flat_history.specs.Flat.{length_of, length_after}
 use Rattle.flat_history.specs.Reshaped.{is_planned}
-use Rattle.array_kept.specs.Calls.{IsRoleLossBy, IsLossBy}
+use Rattle.running_words.specs.array_kept_Calls.{IsRoleLossBy, IsLossBy}
 use Rattle.running_words.specs.Parts.{RunningParts}
 use Rattle.running_replies.specs.Replies.{IsRefusalBy, IsRefusalToldBy, HasToldBy}
 use Rattle.running_replies.specs.Going.{is_finish, is_begin, MayBeDropped, MayHoldBehind, AreHeldBehind, AreLossesAlong, HasRunOn}

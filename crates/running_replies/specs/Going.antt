@@ -15,7 +15,7 @@ use Rattle.flat_history.specs.Reshaped.{is_planned}
 use Rattle.views.specs.Moving.{Grows}
 use Rattle.views.specs.Rebuilding.{Held, MayHold}
 use Rattle.grow_asked.specs.Left.{phases_of}
-use Rattle.array_kept.specs.Calls.{IsLossBy}
+use Rattle.running_words.specs.array_kept_Calls.{IsLossBy}
 use Rattle.running_words.specs.Parts.{RunningParts}
 use Rattle.running_replies.specs.Replies.{HasToldBy}
 

@@ -37,11 +37,11 @@ use Rattle.shape_views.proofs.Stands.{final-still}
 use Rattle.views.specs.Moving.{Grows}
 use Rattle.views.specs.Placed.{AreStillHeld}
 use Rattle.views.specs.Rebuilding.{Held, MayHold}
-use Rattle.array_kept.specs.Calls.{AreHeldOrSpare, AreSparesFewer, IsLossBy}
-use Rattle.array_kept.proofs.LossLaws.{behind-alone}
-use Rattle.reshape_updates.specs.Beginning.{beginning, goes_back}
-use Rattle.reshape_updates.proofs.NewRoles.{new-or}
-use Rattle.reshape_ends.specs.Begun.{begun_plan}
+use Rattle.running.specs.array_kept_Calls.{AreHeldOrSpare, AreSparesFewer, IsLossBy}
+use Rattle.running.proofs.array_kept_LossLaws.{behind-alone}
+use Rattle.running.specs.reshape_updates_Beginning.{beginning, goes_back}
+use Rattle.running.proofs.reshape_updates_NewRoles.{new-or}
+use Rattle.running.specs.reshape_ends_Begun.{begun_plan}
 use Rattle.grow_asked.specs.declared.window.PhasesLeft.{PhasesLeft}
 use Rattle.grow_asked.specs.Left.{IsAtStartOf, phases_of}
 use Rattle.kept_history.specs.Recorded.{MayGoOn, IsCallGoing}

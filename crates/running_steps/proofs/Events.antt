@@ -22,7 +22,7 @@ use Rattle.flat_history.specs.Reshaped.{is_done}
 use Rattle.call_entries.specs.Losing.{losses_of}
 use Rattle.call_entries.proofs.PlainLaws.{one}
 use Rattle.call_entries.proofs.CallLaws.{AreLossEvents, losses-are}
-use Rattle.array_kept.specs.Calls.{IsRoleLost}
+use Rattle.running.specs.array_kept_Calls.{IsRoleLost}
 use Rattle.kept_history.specs.Recorded.{MayGoOn, IsCallGoing}
 use Rattle.running.specs.turning_Begun.{is_resize, HasKeptLength}
 use Rattle.running.specs.running_replies_Replies.{IsRefusalToldBy}

@@ -11,3 +11,6 @@ mod Replies
 pub use Rattle.running.proofs.running_replies_Fitting
 pub use Rattle.running.proofs.running_replies_GoneOn
 pub use Rattle.running.proofs.still_kept_Whole
+pub use Rattle.running.proofs.array_kept_ReadyLaws
+pub use Rattle.running.proofs.array_kept_ReplyLaws
+pub use Rattle.running.proofs.calls_kept_AdoptingLaws

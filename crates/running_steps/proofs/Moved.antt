@@ -9,7 +9,7 @@ use Rattle.flat_history.specs.declared.events.Event.TheVariants.{Step, Refused}
 use Rattle.call_entries.proofs.PlainLaws.{one}
 use Rattle.views.specs.Lacking.{AreTooMany}
 use Rattle.views.specs.Rebuilding.{Held}
-use Rattle.array_kept.specs.Calls.{IsBehind}
+use Rattle.running.specs.array_kept_Calls.{IsBehind}
 use Rattle.kept_history.specs.Recorded.{IsCallGoing}
 use Rattle.running.specs.moving_state_the_Due.{Due}
 use Rattle.running.specs.moving_state_the_Due_TheVariants.{Finish}

@@ -11,7 +11,7 @@ use Rattle.superblocks.specs.declared.members.Members.{Members}
 use Rattle.superblocks.specs.Reading.{is_reshaping, shape_of, next_window}
 use Rattle.views.specs.declared.work.Work.{Work}
 use Rattle.views.specs.Lacking.{AreTooMany, IsNotResynced}
-use Rattle.array_kept.specs.Calls.{IsRefusedFor, IsUnmendable}
+use Rattle.running.specs.array_kept_Calls.{IsRefusedFor, IsUnmendable}
 use Rattle.grow_asked.specs.declared.window.Window.{Window}
 use Rattle.grow_asked.specs.declared.window.Window.TheVariants.{Closed, Entered, Unsure}
 use Rattle.grow_asked.specs.declared.window.PhasesLeft.{PhasesLeft}

@@ -34,8 +34,8 @@ use Rattle.call_entries.proofs.CallLaws.{torn-reverse}
 use Rattle.views.specs.declared.work.Work.{Work}
 use Rattle.views.specs.Moving.{Grows}
 use Rattle.views.specs.Rebuilding.{Held}
-use Rattle.array_kept.specs.Calls.{IsEntered, IsLossBy, AreStepsFewer, IsBehind, TellNoRoleLoss}
-use Rattle.array_kept.proofs.ReplyLaws.{none_before}
+use Rattle.running.specs.array_kept_Calls.{IsEntered, IsLossBy, AreStepsFewer, IsBehind, TellNoRoleLoss}
+use Rattle.running.proofs.array_kept_ReplyLaws.{none_before}
 use Rattle.grow_asked.specs.Left.{phases_of}
 use Rattle.grow_asked.specs.declared.window.PhasesLeft.{PhasesLeft}
 use Rattle.running.specs.course_kept_the_Course.{Course}

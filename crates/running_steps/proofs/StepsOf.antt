@@ -15,7 +15,7 @@ use Rattle.flat_history.specs.OneShape.{IsOfCall}
 use Rattle.flat_history.specs.Plain.{entries_of}
 use Rattle.call_entries.specs.Losing.{losses_of}
 use Rattle.call_entries.proofs.PlainLaws.{one}
-use Rattle.array_kept.specs.Calls.{IsBehind}
+use Rattle.running.specs.array_kept_Calls.{IsBehind}
 use Rattle.kept_history.specs.Recorded.{MayGoOn}
 use Rattle.running_steps.specs.Steps.{TellOneStep, AreStepsOf}
 use Rattle.running_steps.proofs.Events.{each-behind, count-both, count-none, IsNoStep, refused-own}

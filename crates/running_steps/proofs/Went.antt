@@ -13,7 +13,7 @@ use Rattle.flat_history.specs.declared.events.LostCause.TheVariants.{Fault, Comm
 use Rattle.flat_history.specs.World.{World}
 use Rattle.views.specs.Placed.{AreStillHeld}
 use Rattle.views.specs.Rebuilding.{Held, MayHold}
-use Rattle.array_kept.specs.Calls.{AreHeldOrSpare, AreSparesFewer, IsLossBy, AreLossesBy}
+use Rattle.running.specs.array_kept_Calls.{AreHeldOrSpare, AreSparesFewer, IsLossBy, AreLossesBy}
 use Rattle.running.specs.running_words_Parts.{RunningParts}
 use Rattle.running.specs.running_words_Calls.{IsSameReshape}
 use Rattle.running.specs.turning_Begun.{StaysItself}

@@ -14,7 +14,7 @@ use Rattle.flat_history.specs.declared.events.Event.{Event}
 use Rattle.flat_history.specs.declared.events.Event.TheVariants.{Step, Stepped, Refused}
 use Rattle.flat_history.specs.Fits.{is_step_event, is_lost_event}
 use Rattle.flat_history.specs.OneShape.{IsOfCall}
-use Rattle.array_kept.specs.Calls.{IsBehind, IsEndOf, AreStepsFewer, TellNoLoss}
+use Rattle.running.specs.array_kept_Calls.{IsBehind, IsEndOf, AreStepsFewer, TellNoLoss}
 use Rattle.kept_history.specs.Recorded.{MayGoOn, IsCallGoing}
 use Rattle.running.specs.running_words_Parts.{RunningParts}
 use Rattle.running.specs.running_replies_Replies.{EndsRunningSteps, IsRefusalBy}

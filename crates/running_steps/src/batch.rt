@@ -4,7 +4,7 @@ ghost use Rattle.std.specs.Prelude.{◌≡◌, ◌≢◌, ◌⊎◌, ◌+◌, �
 ghost use Rattle.superblocks.specs.Reading.{is_reshaping, list_length};
 ghost use Rattle.flat_history.specs.Flat.{next_number};
 ghost use Rattle.flat_history.specs.declared.events.Request.TheVariants.{Steps as AsksSteps};
-ghost use Rattle.array_kept.specs.Calls.{IsEndOf, TellNoLoss, TellNoRoleLoss};
+ghost use Rattle.running.specs.array_kept_Calls.{IsEndOf, TellNoLoss, TellNoRoleLoss};
 ghost use Rattle.grow_asked.specs.Left.{phases_of};
 ghost use Rattle.kept_history.specs.Recorded.{IsCallGoing};
 ghost use Rattle.running.specs.still_laws_Steps.{IsClosable};

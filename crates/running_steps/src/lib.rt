@@ -7,5 +7,5 @@ mod turns;
 
 pub use batch::steps;
 pub use running;
-pub use running::{array_state, course_kept, moving, moving_state, still};
+pub use running::{array_state, course_kept, moving, moving_state, safe_updates, still};
 pub use stepping::step;

@@ -2,7 +2,7 @@
 
 ghost use Rattle.std.specs.Prelude.{◌≡◌, ◌≢◌, ◌+◌, ◌<◌, ◌≤◌, false, Err, IfOk};
 ghost use Rattle.md_base.specs.declared.answers.Fault.TheVariants.{NoMemory as WantsMemory};
-ghost use Rattle.array_kept.specs.Calls.{IsEndOf};
+ghost use Rattle.running.specs.array_kept_Calls.{IsEndOf};
 ghost use Rattle.running.specs.running_replies_Going.{HasRunOn};
 ghost use Rattle.running.specs.Calls.{running_left};
 ghost use Rattle.running_steps.specs.Steps.{IsOpenFor, IsStepTaken, IsStepAnswered, IsNothingRight};

@@ -16,9 +16,9 @@ use Rattle.shape_changes.specs.Safety.{IsRisen}
 use Rattle.views.specs.Lacking.{AreTooMany}
 use Rattle.views.specs.Rebuilding.{Held}
 use Rattle.views.specs.Moving.{Grows, IsMoved}
-use Rattle.array_kept.specs.Kept.{scope_in}
-use Rattle.array_kept.specs.Calls.{IsLossBy, AreLossesOf, IsEndOf}
-use Rattle.array_kept.proofs.ReadyLaws.{list-same}
+use Rattle.moving_state.specs.array_kept_Kept.{scope_in}
+use Rattle.moving_state.specs.array_kept_Calls.{IsLossBy, AreLossesOf, IsEndOf}
+use Rattle.moving_state.proofs.array_kept_ReadyLaws.{list-same}
 use Rattle.running_words.specs.Parts.{RunningParts}
 use Rattle.running_words.specs.Calls.{IsCalled}
 

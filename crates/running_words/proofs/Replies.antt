@@ -23,9 +23,9 @@ use Rattle.call_entries.specs.Losing.{losses_of, failure_events}
 use Rattle.call_entries.proofs.PlainLaws.{one}
 use Rattle.call_entries.proofs.LosingLaws.{entries-both}
 use Rattle.call_entries.proofs.CallLaws.{losses-are, length-losses, limit-losses, torn-losses, torn-both}
-use Rattle.array_kept.specs.Calls.{StandsInside, IsReplied, IsRefusedFor}
-use Rattle.array_kept.proofs.NowLaws.{length-more}
-use Rattle.array_kept.proofs.ReplyLaws.{replied, inside-losses, none-inside, IsOfMissing}
+use Rattle.moving_state.specs.array_kept_Calls.{StandsInside, IsReplied, IsRefusedFor}
+use Rattle.moving_state.proofs.array_kept_NowLaws.{length-more}
+use Rattle.moving_state.proofs.array_kept_ReplyLaws.{replied, inside-losses, none-inside, IsOfMissing}
 use Rattle.moving_state.specs.Left.{visible_by}
 use Rattle.running_words.proofs.Visible.{visible-is, limit-kept}
 

@@ -6,7 +6,7 @@ use Rattle.superblocks.specs.declared.members.Members.{Members}
 use Rattle.superblocks.specs.Reads.{has_spare}
 use Rattle.views.specs.Placed.{AreStillHeld}
 use Rattle.views.specs.Moving.{Grows}
-use Rattle.array_kept.specs.Calls.{AreLossesOf, IsEndOf, IsWorkAdded}
+use Rattle.moving_state.specs.array_kept_Calls.{AreLossesOf, IsEndOf, IsWorkAdded}
 use Rattle.running_words.specs.Parts.{RunningParts}
 use Rattle.running_words.specs.Calls.{moving_world, IsSameReshape}
 

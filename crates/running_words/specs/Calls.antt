@@ -25,10 +25,10 @@ use Rattle.flat_history.specs.World.{World}
 use Rattle.views.specs.Placed.{AreStillHeld}
 use Rattle.views.specs.Lacking.{AreTooMany}
 use Rattle.views.specs.Moving.{Grows}
-use Rattle.array_kept.specs.Calls.{world_for, IsBehind, AreSparesFewer, AreLossesOf, IsEndOf, IsSameArray}
-use Rattle.course_kept.specs.Laws.{entered, closed, unsure}
+use Rattle.moving_state.specs.array_kept_Calls.{world_for, IsBehind, AreSparesFewer, AreLossesOf, IsEndOf, IsSameArray}
+use Rattle.moving_state.specs.course_kept_Laws.{entered, closed, unsure}
 use Rattle.running_words.specs.Parts.{RunningParts, visible_in, left_in}
-use Rattle.course_kept.specs.declared.course.Course.{Course}
+use Rattle.moving_state.specs.course_kept_the_Course.{Course}
 
 -- this status tells the array as it is
 pub record IsStatusFor {B : Type 0} (array : RunningParts B) (status : Status) : Type 0 where

@@ -4,9 +4,24 @@ pub mod Adding
 pub mod Still
 pub mod Plans
 pub mod Visible
-pub use Rattle.course_kept.specs.Course as course_kept_Course
-pub use Rattle.course_kept.specs.Laws as course_kept_Laws
-pub use Rattle.course_kept.specs.declared.course.Course as course_kept_the_Course
-pub use Rattle.region_mends.specs.Left as region_mends_Left
-pub use Rattle.region_mends.specs.Mends as region_mends_Mends
-pub use Rattle.region_mends.specs.declared.stripes.Stripe as region_mends_the_Stripe
+pub use Rattle.moving_state.specs.course_kept_Course
+pub use Rattle.moving_state.specs.course_kept_Laws
+pub use Rattle.moving_state.specs.course_kept_the_Course
+pub use Rattle.moving_state.specs.region_mends_Left
+pub use Rattle.moving_state.specs.region_mends_Mends
+pub use Rattle.moving_state.specs.region_mends_the_Stripe
+pub use Rattle.history_calls.specs.Reliable as history_calls_Reliable
+pub use Rattle.moving_state.specs.Due as moving_state_Due
+pub use Rattle.moving_state.specs.First as moving_state_First
+pub use Rattle.moving_state.specs.Left as moving_state_Left
+pub use Rattle.moving_state.specs.array_kept_Adopting
+pub use Rattle.moving_state.specs.array_kept_Calls
+pub use Rattle.moving_state.specs.array_kept_Kept
+pub use Rattle.moving_state.specs.declared.stepping.Due as moving_state_the_Due
+pub use Rattle.moving_state.specs.declared.stepping.Due.TheVariants as moving_state_the_Due_TheVariants
+pub use Rattle.moving_state.specs.region_writes_Runs
+pub use Rattle.moving_state.specs.reshape_ends_Begun
+pub use Rattle.moving_state.specs.reshape_updates_Beginning
+pub use Rattle.moving_state.specs.safe_updates_First
+pub use Rattle.moving_state.specs.safe_updates_Unused
+pub use Rattle.moving_state.specs.window_steps_Zeroing

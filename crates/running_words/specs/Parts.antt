@@ -8,8 +8,8 @@ use Rattle.views.specs.Parts.{Parts}
 use Rattle.views.specs.Status.{left_of}
 use Rattle.grow_asked.specs.declared.window.PhasesLeft.{PhasesLeft}
 use Rattle.grow_asked.specs.Left.{phases_of, grow_left}
-use Rattle.region_mends.specs.Left.{resync_left}
-use Rattle.course_kept.specs.declared.course.Course.{Course}
+use Rattle.moving_state.specs.region_mends_Left.{resync_left}
+use Rattle.moving_state.specs.course_kept_the_Course.{Course}
 use Rattle.moving_state.specs.Left.{visible_by}
 
 -- what is seen of an array of one shape too, how far the reshape has come, the phases of the plan that are ahead, and the limit of the visible size

@@ -8,3 +8,4 @@ pub mod AddedViews
 pub mod SaidReads
 pub mod Planned
 pub mod Ready
+pub use Rattle.safe_updates.proofs.RefusingLaws as safe_updates_RefusingLaws

@@ -5,3 +5,4 @@ pub mod adding;
 pub mod device;
 
 pub use device::device_uuid;
+pub use safe_updates;

@@ -5,3 +5,5 @@ pub mod fetching;
 pub mod filling;
 pub mod mending;
 pub mod putting;
+
+pub use safe_updates;

@@ -12,3 +12,5 @@ pub use Rattle.lanes.specs.running_calls_the_Reply_TheVariants
 pub use Rattle.running_calls.specs.Going as running_calls_Going
 pub use Rattle.running_calls.specs.running_Calls
 pub use Rattle.running_calls.specs.running_words_Parts
+pub use Rattle.lanes.specs.array_kept_Calls
+pub use Rattle.seen_laws.specs.Callers as seen_laws_Callers

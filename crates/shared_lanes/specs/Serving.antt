@@ -5,7 +5,7 @@ use Rattle.bank.specs.Given.{Given}
 use Rattle.superblocks.specs.Reading.{list_length}
 use Rattle.flat_history.specs.declared.events.Request.{Request}
 use Rattle.flat_history.specs.Seen.{Seen}
-use Rattle.array_kept.specs.Calls.{world_for, IsEndOf}
+use Rattle.lanes.specs.array_kept_Calls.{world_for, IsEndOf}
 use Rattle.running_calls.specs.running_words_Parts.{RunningParts}
 use Rattle.running_calls.specs.Going.{HasGoneOn}
 use Rattle.running_calls.specs.Replies.{IsAskable, TellsSizes, IsRepliedBy, IsCountedBy, OnReply}

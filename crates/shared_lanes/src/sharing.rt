@@ -1,6 +1,6 @@
 //! The lock round a running array, and the passes by which callers use it.
 ghost use Rattle.std.specs.Prelude.{◌≡◌, ◌<◌, length, IfOk, IfErr};
-ghost use Rattle.array_kept.specs.Calls.{IsEndOf};
+ghost use Rattle.lanes.specs.array_kept_Calls.{IsEndOf};
 ghost use Rattle.turn_lock.specs.Turns.{AreDistinct, Met};
 ghost use Rattle.turn_lock.specs.Passes.{AreNew, EachPass, Ended};
 ghost use Rattle.shared_lanes.specs.Serving.{array_ways};

@@ -24,3 +24,10 @@ pub use Rattle.still_laws.proofs.still_kept_Refusals
 pub use Rattle.still_laws.proofs.still_kept_Resting
 pub use Rattle.still_laws.proofs.still_kept_Stood
 pub use Rattle.still_laws.proofs.still_kept_Whole
+pub use Rattle.still_laws.proofs.array_kept_KeptLaws
+pub use Rattle.still_laws.proofs.array_kept_NowLaws
+pub use Rattle.still_laws.proofs.array_kept_ReadyLaws
+pub use Rattle.still_laws.proofs.array_kept_StepsLeft
+pub use Rattle.still_laws.proofs.history_calls_Behind
+pub use Rattle.still_laws.proofs.history_calls_Plans
+pub use Rattle.still_laws.proofs.running_words_Visible

@@ -10,3 +10,7 @@ pub use Rattle.still_laws.specs.running_words_Parts
 pub use Rattle.still_laws.specs.running_words_Plans
 pub use Rattle.still_laws.specs.still_kept_Still
 pub use Rattle.still_laws.specs.window_steps_Zeroing
+pub use Rattle.still_laws.specs.array_kept_Calls
+pub use Rattle.still_laws.specs.array_kept_Kept
+pub use Rattle.still_laws.specs.history_calls_Reliable
+pub use Rattle.still_laws.specs.course_kept_Laws as still_kept_course_kept_Laws

@@ -4,4 +4,6 @@
 mod naming;
 mod state;
 
+pub use array_state;
 pub use state::{Opened, Still};
+pub use still_laws::safe_updates;

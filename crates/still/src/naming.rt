@@ -20,14 +20,14 @@ ghost use Rattle.views.specs.Moving.{Grows, IsMoved};
 ghost use Rattle.views.specs.Placed.{is_vacant, IsPlaced};
 ghost use Rattle.views.specs.Rebuilding.{AreSparesFree, with_recovering, with_whole, AreRowsFull, IsFilledAmong};
 ghost use Rattle.views.specs.Status.{stripes_of};
-ghost use Rattle.safe_updates.specs.Named.{AreNamedMissing};
+ghost use Rattle.still_laws.specs.safe_updates_Named.{AreNamedMissing};
 
 use bank::Bank;
 use md_base::Shape;
-use safe_rows::filling::{Filled, fill};
-use safe_updates::giving::{flush_and_record, give_role};
-use safe_updates::naming::name_missing;
-use safe_updates::roles::is_vacant;
+use still_laws::safe_rows::filling::{Filled, fill};
+use still_laws::safe_updates::giving::{flush_and_record, give_role};
+use still_laws::safe_updates::naming::name_missing;
+use still_laws::safe_updates::roles::is_vacant;
 use superblocks::Members;
 
 // Gives a role that no slot holds to a spare, which has nothing of it yet, and names the roles that no slot holds. The other spares

@@ -29,9 +29,9 @@ use array_state::asking::steps_left;
 use bank::Bank;
 use flat_history::Epoch;
 use grow_asked::{PhasesLeft, planned_left};
-use safe_updates::roles::shape_in;
 use std::alloc::Global;
 use std::marker::Model;
+use still_laws::safe_updates::roles::shape_in;
 use superblocks::Members;
 use views::Work;
 
@@ -56,7 +56,7 @@ pub struct Still<B: Bank> {
 
 impl<B: Bank> Model for Still<B> {
     ghost use Rattle.std.specs.Prelude.{vec_capacity, length};
-    ghost use Rattle.array_kept.specs.Kept.{scope_in};
+    ghost use Rattle.still_laws.specs.array_kept_Kept.{scope_in};
     ghost use Rattle.still_laws.specs.course_kept_Laws.{closed};
     ghost use Rattle.still_laws.specs.running_words_Parts.{RunningParts};
     ghost use Rattle.still_laws.specs.Ready.{IsReady};

@@ -28,9 +28,9 @@ use Rattle.kept_history.specs.Recorded.{IsCallGoing}
 use Rattle.kept_history.specs.Safe.{world_in, IsFilledRight}
 use Rattle.kept_history.proofs.Entered.{adds_only, settle-none}
 use Rattle.kept_history.proofs.Ledgers.{unsynced-still, none-ends}
-use Rattle.history_calls.proofs.Behind.{AreFirst, AreLostOrMissing, and-true}
-use Rattle.history_calls.proofs.Quiet.{IsLeftBehind}
-use Rattle.history_calls.proofs.Adding.{IsAdding, ChangesEarly, changing-leaves}
+use Rattle.moving_kept.proofs.history_calls_Behind.{AreFirst, AreLostOrMissing, and-true}
+use Rattle.moving_kept.proofs.history_calls_Quiet.{IsLeftBehind}
+use Rattle.moving_kept.proofs.history_calls_Adding.{IsAdding, ChangesEarly, changing-leaves}
 use Rattle.still_kept.specs.Still.{HasListStood, IsStill}
 use Rattle.still_kept.proofs.Leaving.{safe-over, safe-now, rest-moved, none-taken, leaves-stands}
 use Rattle.still_kept.proofs.Staying.{progress-same}

@@ -38,7 +38,7 @@ use Rattle.views.proofs.LiveLeft.{left-steady, without-left}
 use Rattle.views.proofs.Still.{count-still, without-still, outside-still}
 use Rattle.kept_history.specs.Safe.{world_in, IsSafeHistory, IsNowRight}
 use Rattle.kept_history.proofs.Lengths.{now-drawn}
-use Rattle.history_calls.specs.Reliable.{AreToldGone}
+use Rattle.moving_kept.specs.history_calls_Reliable.{AreToldGone}
 use Rattle.still_kept.specs.Still.{AreAtRest, IsNamedOrClean}
 use Rattle.still_kept.proofs.Named.{missing-named}
 

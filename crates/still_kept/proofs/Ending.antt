@@ -15,11 +15,11 @@ use Rattle.flat_history.specs.declared.events.Entry.{Entry}
 use Rattle.flat_history.specs.declared.events.Event.TheVariants.{Step}
 use Rattle.std.specs.List.{Contains}
 use Rattle.superblocks.proofs.ValidFields.{few-roles}
-use Rattle.array_kept.proofs.DegradedLaws.{count-moved}
-use Rattle.array_kept.proofs.ToldLosses.{role-told}
+use Rattle.moving_kept.proofs.array_kept_DegradedLaws.{count-moved}
+use Rattle.moving_kept.proofs.array_kept_ToldLosses.{role-told}
 use Rattle.calls_kept.proofs.RebuildLaws.{losses-end, some-lost}
 use Rattle.kept_history.specs.Recorded.{IsLegalCall}
-use Rattle.history_calls.proofs.Quiet.{quiet-none, numbers-kept}
+use Rattle.moving_kept.proofs.history_calls_Quiet.{quiet-none, numbers-kept}
 use Rattle.flat_history.specs.Transfers.{last_end_from}
 use Rattle.flat_history.specs.Legal.{told_left}
 use Rattle.still_kept.proofs.Quiet.{tail-stands}
@@ -36,7 +36,7 @@ use Rattle.shape_changes.specs.Marking.{AreOthersPresent}
 use Rattle.shape_changes.specs.Safety.{HasLiveSlot, HasRoomLeft, IsRisen}
 use Rattle.shape_changes.specs.Steady.{IsSafeOver, KeepsSafe, AreGoneTold, IsUncleanTold}
 use Rattle.views.specs.declared.work.Work.{Work}
-use Rattle.safe_updates.specs.Named.{AreNamedMissing}
+use Rattle.moving_kept.specs.safe_updates_Named.{AreNamedMissing}
 use Rattle.views.specs.Lacking.{AreLostSince, RowsStandBelow, mended_rows}
 use Rattle.views.specs.Moving.{Grows, IsMoved}
 use Rattle.views.specs.Numbers.{is_carried}
@@ -48,13 +48,13 @@ use Rattle.views.proofs.LackingLaws.{since-missing}
 use Rattle.views.proofs.LiveLeft.{without-left}
 use Rattle.call_entries.specs.Losing.{losses_of}
 use Rattle.call_entries.proofs.CallLaws.{losses-are}
-use Rattle.array_kept.proofs.DegradedLaws.{count-moved}
-use Rattle.array_kept.proofs.KeptLaws.{left-lost}
+use Rattle.moving_kept.proofs.array_kept_DegradedLaws.{count-moved}
+use Rattle.moving_kept.proofs.array_kept_KeptLaws.{left-lost}
 use Rattle.calls_kept.proofs.RebuildGiven.{few-given, free-then, missing-given, list-given, among-given, rebuilt-given}
 use Rattle.kept_history.specs.Recorded.{IsCallGoing}
 use Rattle.kept_history.specs.Safe.{world_in, IsFilledRight}
-use Rattle.history_calls.proofs.LastStep.{AreWithin, losses-within}
-use Rattle.history_calls.proofs.Behind.{AreLostOrMissing, IsAmong, early-losses, legal-losses}
+use Rattle.moving_kept.proofs.history_calls_LastStep.{AreWithin, losses-within}
+use Rattle.moving_kept.proofs.history_calls_Behind.{AreLostOrMissing, IsAmong, early-losses, legal-losses}
 use Rattle.still_kept.specs.Still.{AreAtRest, HasListStood, IsStill}
 use Rattle.std.proofs.Common.{append_assoc}
 use Rattle.superblocks.specs.Reading.{list_length}
@@ -73,10 +73,10 @@ use Rattle.kept_history.specs.Told.{told_now}
 use Rattle.kept_history.proofs.Lists.{newest-in}
 use Rattle.kept_history.proofs.Reshapes.{call-ends_none}
 use Rattle.kept_history.proofs.Ledgers.{unsynced-still}
-use Rattle.history_calls.specs.Reliable.{IsReliable}
-use Rattle.history_calls.proofs.Behind.{telling-of, first-of}
-use Rattle.history_calls.proofs.Quiet.{IsLeftBehind, EndsRight, quiet-none}
-use Rattle.history_calls.proofs.Giving.{GivesRole, giving-leaves, telling-then}
+use Rattle.moving_kept.specs.history_calls_Reliable.{IsReliable}
+use Rattle.moving_kept.proofs.history_calls_Behind.{telling-of, first-of}
+use Rattle.moving_kept.proofs.history_calls_Quiet.{IsLeftBehind, EndsRight, quiet-none}
+use Rattle.moving_kept.proofs.history_calls_Giving.{GivesRole, giving-leaves, telling-then}
 use Rattle.still_kept.proofs.Leaving.{safe-over, safe-now, leaves-stands}
 use Rattle.still_kept.proofs.Ends.{EndsPlans, ends-right}
 use Rattle.still_kept.proofs.Resync.{step-between}

@@ -32,9 +32,9 @@ use Rattle.kept_history.specs.Safe.{world_in, IsSafeHistory}
 use Rattle.kept_history.proofs.Growing.{alike-before, room-before}
 use Rattle.kept_history.proofs.Reshapes.{call-ends_none, ends-none, reshaped-losses, unplanned}
 use Rattle.kept_history.proofs.Turned.{filled-before}
-use Rattle.history_calls.specs.Reliable.{IsReliable, AreToldGone}
-use Rattle.history_calls.proofs.Quiet.{EndsRight}
-use Rattle.history_calls.proofs.Plans.{ArePlannedTo, behind-all, plans-behind, plans-done}
+use Rattle.moving_kept.specs.history_calls_Reliable.{IsReliable, AreToldGone}
+use Rattle.moving_kept.proofs.history_calls_Quiet.{EndsRight}
+use Rattle.moving_kept.proofs.history_calls_Plans.{ArePlannedTo, behind-all, plans-behind, plans-done}
 use Rattle.still_kept.specs.Still.{AreAtRest, IsNamedOrClean}
 use Rattle.still_kept.proofs.Closing.{closing-consistent}
 

@@ -27,8 +27,8 @@ use Rattle.call_entries.proofs.CallLaws.{losses-are}
 use Rattle.call_entries.proofs.LeftLaws.{left-behind, fold-left}
 use Rattle.kept_history.specs.Recorded.{IsCallGoing}
 use Rattle.kept_history.specs.Safe.{world_in}
-use Rattle.history_calls.proofs.Behind.{AreLostOrMissing}
-use Rattle.history_calls.proofs.Failed.{IsFailedOrAmong, early-failed, legal-failed}
+use Rattle.moving_kept.proofs.history_calls_Behind.{AreLostOrMissing}
+use Rattle.moving_kept.proofs.history_calls_Failed.{IsFailedOrAmong, early-failed, legal-failed}
 use Rattle.still_kept.specs.Still.{IsStill}
 use Rattle.still_kept.proofs.Quiet.{early-stands}
 use Rattle.still_kept.proofs.Staying.{progress-same}

@@ -41,17 +41,17 @@ use Rattle.views.proofs.LackingLaws.{never-both}
 use Rattle.call_entries.specs.Losing.{losses_of}
 use Rattle.call_entries.proofs.CallLaws.{losses-are, ends-losses, values-losses}
 use Rattle.call_entries.proofs.LeftLaws.{TellLeft}
-use Rattle.array_kept.proofs.KeptLaws.{left-lost}
-use Rattle.safe_updates.proofs.Under.{still-under, still-rows-under}
+use Rattle.moving_kept.proofs.array_kept_KeptLaws.{left-lost}
+use Rattle.moving_kept.proofs.safe_updates_Under.{still-under, still-rows-under}
 use Rattle.kept_history.specs.Recorded.{IsCallGoing, entry_of, ends_reshape}
 use Rattle.kept_history.specs.Safe.{world_in, IsFilledRight}
 use Rattle.kept_history.proofs.Entered.{values-more}
 use Rattle.kept_history.proofs.Lists.{newest-in}
-use Rattle.history_calls.proofs.LastStep.{losses-within}
-use Rattle.history_calls.proofs.Behind.{IsAmong, first-of, early-losses, legal-losses}
-use Rattle.history_calls.proofs.Quiet.{IsLeftBehind}
-use Rattle.history_calls.proofs.Adding.{unsettled-last}
-use Rattle.history_calls.proofs.Settling.{IsSettlement, SettlesList, takes-newest, settling-leaves, settled-same}
+use Rattle.moving_kept.proofs.history_calls_LastStep.{losses-within}
+use Rattle.moving_kept.proofs.history_calls_Behind.{IsAmong, first-of, early-losses, legal-losses}
+use Rattle.moving_kept.proofs.history_calls_Quiet.{IsLeftBehind}
+use Rattle.moving_kept.proofs.history_calls_Adding.{unsettled-last}
+use Rattle.moving_kept.proofs.history_calls_Settling.{IsSettlement, SettlesList, takes-newest, settling-leaves, settled-same}
 use Rattle.still_kept.specs.Still.{HasListStood, IsStill}
 use Rattle.still_kept.proofs.Adding.{changing-stands}
 use Rattle.still_kept.proofs.Ends.{EndsPlans, ends-right}

@@ -26,8 +26,8 @@ use Rattle.shape_views.specs.Regions.{DoWithout}
 use Rattle.views.specs.declared.work.Work.{Work}
 use Rattle.views.specs.Status.{left_of}
 use Rattle.views.proofs.Still.{length-still}
-use Rattle.array_kept.specs.Kept.{AreRebuildsRight, IsKept}
-use Rattle.array_kept.proofs.ReadyLaws.{kept-legal}
+use Rattle.moving_kept.specs.array_kept_Kept.{AreRebuildsRight, IsKept}
+use Rattle.moving_kept.proofs.array_kept_ReadyLaws.{kept-legal}
 use Rattle.kept_history.specs.Recorded.{IsHistoryKept}
 use Rattle.kept_history.proofs.Lists.{past-none}
 use Rattle.std.proofs.Common.{◌<◌, append-nil, subst, []}
@@ -37,7 +37,7 @@ use Rattle.kept_history.specs.Safe.{TakesNone, KeepsLevel}
 use Rattle.still_kept.specs.Still.{AreNoneMissing}
 use Rattle.kept_history.specs.Safe.{world_in, IsFilledRight}
 use Rattle.one_shape_history.proofs.Kept.{safe-alike, recorded-alike}
-use Rattle.history_calls.specs.Reliable.{IsReliable, IsNonePast}
+use Rattle.moving_kept.specs.history_calls_Reliable.{IsReliable, IsNonePast}
 use Rattle.still_kept.specs.Still.{HasListStood, IsStill}
 
 -- ---- entries

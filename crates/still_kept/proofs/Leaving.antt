@@ -37,7 +37,7 @@ use Rattle.flat_history.specs.World.{World}
 use Rattle.kept_history.proofs.Tests.{neither, none-before}
 use Rattle.kept_history.proofs.Entered.{lost-taken}
 use Rattle.kept_history.proofs.Growing.{takes-grown}
-use Rattle.history_calls.proofs.Behind.{AreLostOrMissing}
+use Rattle.moving_kept.proofs.history_calls_Behind.{AreLostOrMissing}
 use Rattle.std.proofs.Common.{inl, inr, ◌<◌, ◌++◌, Bool, true, false, arith, refl}
 use Rattle.kept_history.specs.Safe.{TakesNone, KeepsLevel, is_taken_over, IsSafeHistory}
 use Rattle.still_kept.specs.Still.{AreNoneMissing}
@@ -45,8 +45,8 @@ use Rattle.kept_history.specs.Safe.{world_in, IsFilledRight}
 use Rattle.kept_history.specs.Told.{told_now}
 use Rattle.kept_history.proofs.Calls.{now-live}
 use Rattle.kept_history.proofs.Growing.{opening-grown, unsynced-grown}
-use Rattle.history_calls.specs.Reliable.{IsNonePast}
-use Rattle.history_calls.proofs.Quiet.{IsLeftBehind, fit-later}
+use Rattle.moving_kept.specs.history_calls_Reliable.{IsNonePast}
+use Rattle.moving_kept.proofs.history_calls_Quiet.{IsLeftBehind, fit-later}
 use Rattle.still_kept.specs.Still.{AreAtRest, HasListStood, IsStill}
 
 -- ---- what a stop may leave now

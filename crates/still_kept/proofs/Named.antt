@@ -23,7 +23,7 @@ use Rattle.views.specs.Placed.{IsPlaced}
 use Rattle.shape_views.specs.Views.{Ledger}
 use Rattle.shape_changes.specs.Steady.{IsSteady, IsNamedNow}
 use Rattle.views.proofs.PlacedLaws.{kept-roles}
-use Rattle.safe_updates.specs.Named.{AreNamedMissing}
+use Rattle.moving_kept.specs.safe_updates_Named.{AreNamedMissing}
 use Rattle.shape_changes.proofs.Without.{state-without}
 
 -- a slot's superblock that holds a role has the role's entry

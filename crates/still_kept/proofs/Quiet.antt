@@ -35,8 +35,8 @@ use Rattle.kept_history.specs.Recorded.{IsCallGoing, ends_reshape}
 use Rattle.kept_history.specs.Safe.{world_in, IsFilledRight}
 use Rattle.kept_history.proofs.Entered.{settle-none}
 use Rattle.kept_history.proofs.Ledgers.{unsynced-still, none-ends}
-use Rattle.history_calls.proofs.Behind.{or-false, AreEarly, AreLostOrMissing}
-use Rattle.history_calls.proofs.Quiet.{IsQuiet, AreQuietLast, quiet-last, LeavesNumbers, LeavesList, IsLeftBehind, EndsRight, numbers-leaves, numbers-of, last-now}
+use Rattle.moving_kept.proofs.history_calls_Behind.{or-false, AreEarly, AreLostOrMissing}
+use Rattle.moving_kept.proofs.history_calls_Quiet.{IsQuiet, AreQuietLast, quiet-last, LeavesNumbers, LeavesList, IsLeftBehind, EndsRight, numbers-leaves, numbers-of, last-now}
 use Rattle.still_kept.specs.Still.{AreAtRest, HasListStood, IsStill}
 use Rattle.still_kept.proofs.Leaving.{safe-over, safe-now, rest-moved, none-taken, leaves-stands}
 

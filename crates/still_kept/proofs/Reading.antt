@@ -40,12 +40,12 @@ use Rattle.views.proofs.LackingLists.{row-sector}
 use Rattle.views.proofs.LiveLeft.{without-left}
 use Rattle.call_entries.specs.Losing.{losses_of}
 use Rattle.call_entries.proofs.CallLaws.{losses-are, length-losses, limit-losses, values-losses}
-use Rattle.array_kept.proofs.NowLaws.{sectors_of-at}
+use Rattle.moving_kept.proofs.array_kept_NowLaws.{sectors_of-at}
 use Rattle.moving_kept.specs.region_rows_Stretches.{relied_rows, IsListUnread}
 use Rattle.kept_history.specs.Recorded.{IsCallGoing}
 use Rattle.kept_history.specs.Safe.{world_in}
 use Rattle.kept_history.proofs.Entered.{values-more, length-more}
-use Rattle.history_calls.specs.Reliable.{IsReliable, AreToldGone}
+use Rattle.moving_kept.specs.history_calls_Reliable.{IsReliable, AreToldGone}
 use Rattle.still_kept.specs.Still.{AreAtRest, relied_list, HasListStood, IsStill}
 use Rattle.still_kept.proofs.Leaving.{list-later, fit-earlier, rest-moved}
 use Rattle.still_kept.proofs.Refusals.{IsRefusedStill, too-many-refused}

@@ -20,13 +20,13 @@ use Rattle.flat_history.specs.declared.events.Event.TheVariants.{Step, Refused}
 use Rattle.flat_history.specs.declared.events.StepKind.TheVariants.{RebuildTaken, RebuildStripe}
 use Rattle.std.specs.List.{Contains}
 use Rattle.superblocks.proofs.ValidFields.{few-roles}
-use Rattle.array_kept.proofs.DegradedLaws.{count-moved}
-use Rattle.array_kept.proofs.ToldLosses.{role-told}
+use Rattle.moving_kept.proofs.array_kept_DegradedLaws.{count-moved}
+use Rattle.moving_kept.proofs.array_kept_ToldLosses.{role-told}
 use Rattle.call_entries.proofs.CallLaws.{last_end-behind}
 use Rattle.calls_kept.proofs.RebuildLaws.{losses-end, some-lost}
 use Rattle.calls_kept.proofs.RebuildFilled.{not-vacant}
 use Rattle.kept_history.specs.Recorded.{IsLegalCall}
-use Rattle.history_calls.proofs.Quiet.{AreQuietLast, quiet-none, numbers-kept, numbers-of}
+use Rattle.moving_kept.proofs.history_calls_Quiet.{AreQuietLast, quiet-none, numbers-kept, numbers-of}
 use Rattle.flat_history.specs.Transfers.{last_end_from}
 use Rattle.kept_history.specs.Recorded.{ends_reshape}
 use Rattle.std.specs.List.{list_any}
@@ -49,7 +49,7 @@ use Rattle.shape_changes.specs.Marking.{AreOthersPresent}
 use Rattle.shape_changes.specs.Safety.{HasLiveSlot, HasRoomLeft, IsRisen}
 use Rattle.shape_changes.specs.Steady.{IsSafeOver, KeepsSafe, AreGoneTold, IsUncleanTold}
 use Rattle.views.specs.declared.work.Work.{Work}
-use Rattle.safe_updates.specs.Named.{AreNamedMissing}
+use Rattle.moving_kept.specs.safe_updates_Named.{AreNamedMissing}
 use Rattle.views.specs.Lacking.{AreLostSince, LacksTooMany, AreTooMany, RowsStandBelow, RowsStandAmong, DataStandsAmong, IsOfStripe, mended_rows}
 use Rattle.views.specs.Moving.{Grows, IsMoved}
 use Rattle.views.specs.Numbers.{is_carried}
@@ -64,15 +64,15 @@ use Rattle.views.proofs.LackingLists.{list-moved, among-moved}
 use Rattle.views.proofs.LiveLeft.{without-left}
 use Rattle.call_entries.specs.Losing.{losses_of}
 use Rattle.call_entries.proofs.CallLaws.{losses-are}
-use Rattle.array_kept.specs.Calls.{with_rebuilt}
-use Rattle.array_kept.proofs.DegradedLaws.{count-moved, rebuilt-moved}
-use Rattle.array_kept.proofs.KeptLaws.{left-lost}
+use Rattle.moving_kept.specs.array_kept_Calls.{with_rebuilt}
+use Rattle.moving_kept.proofs.array_kept_DegradedLaws.{count-moved, rebuilt-moved}
+use Rattle.moving_kept.proofs.array_kept_KeptLaws.{left-lost}
 use Rattle.calls_kept.proofs.RebuildFilled.{rebuilt-here, rebuilt-other, good-filled, list-filled, rebuilt-filled}
 use Rattle.calls_kept.proofs.RebuildGiven.{receiver-spare, few-given, free-then, missing-given, list-given, among-given, rebuilt-given, none-recovered}
 use Rattle.calls_kept.proofs.TouchedLaws.{full-filled}
 use Rattle.kept_history.specs.Recorded.{IsCallGoing}
 use Rattle.kept_history.specs.Safe.{world_in, IsFilledRight}
-use Rattle.history_calls.proofs.Behind.{or-false, AreLostOrMissing, IsAmong, early-losses, legal-losses}
+use Rattle.moving_kept.proofs.history_calls_Behind.{or-false, AreLostOrMissing, IsAmong, early-losses, legal-losses}
 use Rattle.still_kept.specs.Still.{AreAtRest, HasListStood, IsStill}
 use Rattle.still_kept.proofs.Quiet.{early-stands}
 use Rattle.still_kept.proofs.Refusals.{quiet-refusal, too-many-refused, refused-right, unsynced-behind}

@@ -30,8 +30,8 @@ use Rattle.call_entries.specs.Losing.{losses_of}
 use Rattle.call_entries.proofs.CallLaws.{losses-are, ends-losses}
 use Rattle.kept_history.specs.Safe.{world_in}
 use Rattle.kept_history.proofs.Ledgers.{unsynced-still}
-use Rattle.history_calls.specs.Reliable.{AreToldGone}
-use Rattle.history_calls.proofs.Quiet.{IsQuiet}
+use Rattle.moving_kept.specs.history_calls_Reliable.{AreToldGone}
+use Rattle.moving_kept.proofs.history_calls_Quiet.{IsQuiet}
 use Rattle.still_kept.proofs.Leaving.{unsynced-later}
 
 -- a refusal is quiet

@@ -31,9 +31,9 @@ use Rattle.kept_history.proofs.Entered.{adds_only, AreAdding, values-more, lengt
 use Rattle.kept_history.proofs.Idle.{now-adding, idle-call}
 use Rattle.kept_history.proofs.KeptCalls.{kept-call}
 use Rattle.kept_history.proofs.Ledgers.{unsynced-still, none-ends}
-use Rattle.history_calls.specs.Reliable.{IsReliable, AreToldGone}
-use Rattle.history_calls.proofs.Quiet.{EndsRight}
-use Rattle.history_calls.proofs.Behind.{first-of, IsBehind, is-behind, and-true, or-false, early-none, telling-of}
+use Rattle.moving_kept.specs.history_calls_Reliable.{IsReliable, AreToldGone}
+use Rattle.moving_kept.proofs.history_calls_Quiet.{EndsRight}
+use Rattle.moving_kept.proofs.history_calls_Behind.{first-of, IsBehind, is-behind, and-true, or-false, early-none, telling-of}
 use Rattle.still_kept.specs.Still.{HasListStood, IsStill}
 use Rattle.still_kept.proofs.Ends.{EndsPlans, ends-right}
 

@@ -47,14 +47,14 @@ use Rattle.views.proofs.Stripes.{stripes-whole}
 use Rattle.call_entries.specs.Losing.{losses_of}
 use Rattle.call_entries.proofs.CallLaws.{losses-are}
 use Rattle.call_entries.proofs.StepLaws.{left-stepped}
-use Rattle.array_kept.proofs.DegradedLaws.{rows-same}
-use Rattle.array_kept.proofs.KeptLaws.{left-lost}
+use Rattle.moving_kept.proofs.array_kept_DegradedLaws.{rows-same}
+use Rattle.moving_kept.proofs.array_kept_KeptLaws.{left-lost}
 use Rattle.calls_kept.proofs.TouchedLaws.{safe-mend, rows-mended, list-mended, rows-stay, rebuilt-stays}
 use Rattle.kept_history.specs.Recorded.{IsCallGoing, entry_of}
 use Rattle.kept_history.specs.Safe.{world_in, IsFilledRight}
 use Rattle.kept_history.specs.Told.{told_now}
 use Rattle.kept_history.proofs.Lists.{newest-in}
-use Rattle.history_calls.proofs.Behind.{IsAmong, early-losses, legal-losses}
+use Rattle.moving_kept.proofs.history_calls_Behind.{IsAmong, early-losses, legal-losses}
 use Rattle.still_kept.specs.Still.{AreAtRest, HasListStood, IsStill}
 use Rattle.still_kept.proofs.Ends.{EndsPlans}
 use Rattle.still_kept.proofs.Flushing.{IsFlushedStill, IsSettledStill, settled-stands}

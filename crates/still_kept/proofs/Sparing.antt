@@ -45,15 +45,15 @@ use Rattle.views.proofs.MovedLaws.{grows-then}
 use Rattle.views.proofs.SafeStretch.{safe-then}
 use Rattle.call_entries.specs.Losing.{losses_of}
 use Rattle.call_entries.proofs.CallLaws.{losses-are}
-use Rattle.array_kept.proofs.DegradedLaws.{count-moved}
-use Rattle.array_kept.proofs.KeptLaws.{left-lost}
+use Rattle.moving_kept.proofs.array_kept_DegradedLaws.{count-moved}
+use Rattle.moving_kept.proofs.array_kept_KeptLaws.{left-lost}
 use Rattle.calls_kept.proofs.AddedKept.{with_carried, carries-number, AddsSafe}
 use Rattle.calls_kept.proofs.AddedLosses.{IsAddDone, with-placed, stays-added, does-added, left-added}
 use Rattle.kept_history.specs.Recorded.{IsCallGoing, entry_of}
 use Rattle.kept_history.specs.Safe.{world_in, IsFilledRight}
 use Rattle.kept_history.proofs.Seen.{now-more}
-use Rattle.history_calls.proofs.Behind.{AreLostOrMissing, IsAmong, early-losses, legal-losses}
-use Rattle.history_calls.proofs.Quiet.{IsQuiet, LeavesNumbers}
+use Rattle.moving_kept.proofs.history_calls_Behind.{AreLostOrMissing, IsAmong, early-losses, legal-losses}
+use Rattle.moving_kept.proofs.history_calls_Quiet.{IsQuiet, LeavesNumbers}
 use Rattle.still_kept.specs.Still.{AreAtRest, HasListStood, IsStill}
 use Rattle.still_kept.proofs.Quiet.{placed-stands}
 use Rattle.still_kept.proofs.Stood.{stood-moved}

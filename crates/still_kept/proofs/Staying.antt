@@ -31,12 +31,12 @@ use Rattle.views.proofs.LackingLaws.{since-missing}
 use Rattle.call_entries.specs.Losing.{losses_of}
 use Rattle.call_entries.proofs.CallLaws.{losses-are}
 use Rattle.call_entries.proofs.LeftLaws.{TellLeft}
-use Rattle.array_kept.proofs.KeptLaws.{left-lost}
+use Rattle.moving_kept.proofs.array_kept_KeptLaws.{left-lost}
 use Rattle.kept_history.specs.Recorded.{IsCallGoing, entry_of}
 use Rattle.kept_history.specs.Safe.{world_in}
-use Rattle.history_calls.specs.Reliable.{IsReliable, AreToldGone}
-use Rattle.history_calls.proofs.Behind.{AreLostOrMissing, IsAmong, early-losses, legal-losses}
-use Rattle.history_calls.proofs.Quiet.{IsQuiet}
+use Rattle.moving_kept.specs.history_calls_Reliable.{IsReliable, AreToldGone}
+use Rattle.moving_kept.proofs.history_calls_Behind.{AreLostOrMissing, IsAmong, early-losses, legal-losses}
+use Rattle.moving_kept.proofs.history_calls_Quiet.{IsQuiet}
 use Rattle.still_kept.specs.Still.{IsStill}
 use Rattle.still_kept.proofs.Stood.{stood-moved}
 use Rattle.still_kept.proofs.Quiet.{early-stands}

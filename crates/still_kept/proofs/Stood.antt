@@ -26,7 +26,7 @@ use Rattle.views.proofs.Fit.{valid, multiple, list-alike, force-disks}
 use Rattle.views.proofs.LackingLists.{list-moved, among-moved}
 use Rattle.views.proofs.Still.{placed-two, backup-still}
 use Rattle.views.proofs.Stripes.{stripes-multiple}
-use Rattle.array_kept.proofs.DegradedLaws.{rebuilt-moved}
+use Rattle.moving_kept.proofs.array_kept_DegradedLaws.{rebuilt-moved}
 use Rattle.moving_kept.specs.region_rows_Stretches.{RowsStandTo}
 use Rattle.still_kept.specs.Still.{AreAtRest, HasListStood, relied_list}
 

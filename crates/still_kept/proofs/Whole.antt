@@ -14,7 +14,7 @@ use Rattle.call_entries.proofs.LosingLaws.{entries-both}
 use Rattle.kept_history.specs.Safe.{TakesNone}
 use Rattle.kept_history.proofs.Ledgers.{gone-any}
 use Rattle.kept_history.proofs.Tests.{none-before}
-use Rattle.history_calls.specs.Reliable.{AreToldGone}
+use Rattle.moving_kept.specs.history_calls_Reliable.{AreToldGone}
 
 -- what is gone was taken
 taken-by : (world : World) (role : ℕ) (xs : List Entry) → is_gone_after world xs role ≡ true → list_any (loses world role) xs ≡ true

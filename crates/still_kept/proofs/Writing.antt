@@ -47,19 +47,19 @@ use Rattle.views.proofs.LiveLeft.{without-left}
 use Rattle.call_entries.specs.Losing.{losses_of}
 use Rattle.call_entries.proofs.CallLaws.{losses-are, values-losses, ends-losses}
 use Rattle.call_entries.proofs.LosingLaws.{entries-both}
-use Rattle.array_kept.proofs.DegradedLaws.{written-whole, rows-same}
-use Rattle.array_kept.proofs.KeptLaws.{left-lost}
-use Rattle.array_kept.proofs.LedgerLaws.{torn-adds, written-allowed, torn-in}
-use Rattle.array_kept.proofs.NowLaws.{wrote-is}
+use Rattle.moving_kept.proofs.array_kept_DegradedLaws.{written-whole, rows-same}
+use Rattle.moving_kept.proofs.array_kept_KeptLaws.{left-lost}
+use Rattle.moving_kept.proofs.array_kept_LedgerLaws.{torn-adds, written-allowed, torn-in}
+use Rattle.moving_kept.proofs.array_kept_NowLaws.{wrote-is}
 use Rattle.kept_history.specs.Recorded.{IsCallGoing, IsLegalCall, entry_of, ends_reshape, gives_some}
 use Rattle.kept_history.specs.Safe.{world_in, IsFilledRight}
 use Rattle.kept_history.proofs.Entered.{AreAdding, values-more, length-adding}
 use Rattle.kept_history.proofs.Ledgers.{unsynced-still}
 use Rattle.kept_history.proofs.Lists.{newest-in}
-use Rattle.history_calls.specs.Reliable.{IsReliable, AreToldGone}
-use Rattle.history_calls.proofs.LastStep.{AreWithin, losses-within}
-use Rattle.history_calls.proofs.Behind.{AreFirst, IsAmong, first-of, early-losses, legal-losses, inner-of}
-use Rattle.history_calls.proofs.Adding.{unsettled-last}
+use Rattle.moving_kept.specs.history_calls_Reliable.{IsReliable, AreToldGone}
+use Rattle.moving_kept.proofs.history_calls_LastStep.{AreWithin, losses-within}
+use Rattle.moving_kept.proofs.history_calls_Behind.{AreFirst, IsAmong, first-of, early-losses, legal-losses, inner-of}
+use Rattle.moving_kept.proofs.history_calls_Adding.{unsettled-last}
 use Rattle.still_kept.specs.Still.{HasListStood, IsStill}
 use Rattle.still_kept.proofs.Adding.{changing-stands}
 use Rattle.still_kept.proofs.Leaving.{list-later, unsynced-later, fit-earlier}

@@ -25,11 +25,11 @@ use Rattle.views.specs.Numbers.{is_carried}
 use Rattle.views.specs.Placed.{IsPlaced}
 use Rattle.views.specs.Rebuilding.{AreSparesFree, AreRebuilt}
 use Rattle.views.specs.Status.{stripes_of}
-use Rattle.safe_updates.specs.Named.{AreNamedMissing}
-use Rattle.array_kept.specs.Kept.{AreSectorsWhole}
+use Rattle.moving_kept.specs.safe_updates_Named.{AreNamedMissing}
+use Rattle.moving_kept.specs.array_kept_Kept.{AreSectorsWhole}
 use Rattle.kept_history.specs.Recorded.{IsHistoryKept}
 use Rattle.kept_history.specs.Safe.{world_in, TakesNone, KeepsLevel, IsFilledRight, IsSafeHistory}
-use Rattle.history_calls.specs.Reliable.{IsReliable, AreToldGone, IsNonePast}
+use Rattle.moving_kept.specs.history_calls_Reliable.{IsReliable, AreToldGone, IsNonePast}
 
 -- The members of an array without an active reshape: each has its place, no slot that holds a role was lost, and each spare is free.
 pub record AreAtRest (given : Given) (members : Members) : Type 0 where

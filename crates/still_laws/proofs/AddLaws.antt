@@ -32,10 +32,10 @@ use Rattle.views.proofs.MarkedSafe.{added-longer, flushed-safe}
 use Rattle.views.proofs.MovedLaws.{moved-same}
 use Rattle.call_entries.specs.Losing.{losses_of}
 use Rattle.call_entries.proofs.LosingLaws.{no-losses}
-use Rattle.array_kept.specs.Kept.{scope_in}
-use Rattle.array_kept.specs.Calls.{IsUnaddable}
-use Rattle.calls_kept.proofs.AddedKept.{with_carried, AddsSafe}
-use Rattle.calls_kept.proofs.AddedLosses.{IsAddDone, left-carried, left-refused}
+use Rattle.still_kept.specs.array_kept_Kept.{scope_in}
+use Rattle.still_kept.specs.array_kept_Calls.{IsUnaddable}
+use Rattle.still_kept.proofs.calls_kept_AddedKept.{with_carried, AddsSafe}
+use Rattle.still_kept.proofs.calls_kept_AddedLosses.{IsAddDone, left-carried, left-refused}
 use Rattle.grow_asked.specs.declared.window.PhasesLeft.{PhasesLeft}
 use Rattle.kept_history.specs.Safe.{world_in, IsFilledRight, IsSafeHistory}
 use Rattle.kept_history.proofs.Records.{begins-going}

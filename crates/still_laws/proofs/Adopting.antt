@@ -17,10 +17,10 @@ use Rattle.views.specs.declared.work.Work.{Work}
 use Rattle.views.specs.Status.{left_of}
 use Rattle.views.proofs.Still.{length-still}
 use Rattle.call_entries.proofs.PlainLaws.{one}
-use Rattle.array_kept.specs.Adopting.{opener, found_losses}
-use Rattle.array_kept.specs.Kept as kept
-use Rattle.array_kept.proofs.ReadyLaws.{kept-legal}
-use Rattle.calls_kept.proofs.AbsentLaws.{AreAbsent, absents-are}
+use Rattle.still_kept.specs.array_kept_Adopting.{opener, found_losses}
+use Rattle.still_kept.specs.array_kept_Kept as kept
+use Rattle.still_kept.proofs.array_kept_ReadyLaws.{kept-legal}
+use Rattle.still_kept.proofs.calls_kept_AbsentLaws.{AreAbsent, absents-are}
 use Rattle.grow_asked.specs.declared.window.PhasesLeft.{PhasesLeft}
 use Rattle.still_kept.specs.Still.{IsStill}
 use Rattle.still_kept.proofs.KeptStands.{kept-stands}

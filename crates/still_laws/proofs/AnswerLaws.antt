@@ -20,11 +20,11 @@ use Rattle.views.specs.Status.{left_of}
 use Rattle.grow_asked.specs.Left.{phases_of}
 use Rattle.views.proofs.LackingLaws.{never-both}
 use Rattle.call_entries.proofs.LeftLaws.{left-more, keeps-left}
-use Rattle.array_kept.specs.Calls.{IsLossBy}
+use Rattle.still_kept.specs.array_kept_Calls.{IsLossBy}
 use Rattle.grow_asked.specs.declared.window.PhasesLeft.{PhasesLeft}
 use Rattle.kept_history.specs.Recorded.{IsCallGoing, entry_of}
 use Rattle.kept_history.specs.Safe.{world_in}
-use Rattle.history_calls.specs.Reliable.{IsReliable}
+use Rattle.still_kept.specs.history_calls_Reliable.{IsReliable}
 use Rattle.still_kept.specs.Still.{IsStill}
 use Rattle.still_kept.proofs.Ends.{EndsPlans}
 use Rattle.still_kept.proofs.Refusals.{refused-right}

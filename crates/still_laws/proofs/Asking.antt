@@ -19,11 +19,11 @@ use Rattle.history_laws.proofs.NumberLaws.{safe-throughout}
 use Rattle.views.specs.declared.work.Work.{Work}
 use Rattle.views.specs.Lacking.{AreTooMany}
 use Rattle.call_entries.proofs.LeftLaws.{left-more, keeps-left}
-use Rattle.array_kept.specs.Kept.{scope_in}
+use Rattle.still_kept.specs.array_kept_Kept.{scope_in}
 use Rattle.kept_history.specs.Recorded.{entry_of}
 use Rattle.kept_history.specs.Safe.{world_in}
 use Rattle.kept_history.proofs.Records.{begins-going}
-use Rattle.history_calls.specs.Reliable.{IsReliable}
+use Rattle.still_kept.specs.history_calls_Reliable.{IsReliable}
 use Rattle.still_kept.specs.Still.{IsStill}
 use Rattle.still_kept.proofs.Refusals.{too-many-refused, refused-right}
 use Rattle.still_kept.proofs.Resting.{resting-stands}

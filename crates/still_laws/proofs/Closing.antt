@@ -20,8 +20,8 @@ use Rattle.views.specs.Status.{stripes_of, vacant_count, spare_count, resync_lef
 use Rattle.grow_asked.specs.declared.window.PhasesLeft.{PhasesLeft}
 use Rattle.grow_asked.specs.Left.{phases_of}
 use Rattle.kept_history.specs.Recorded.{ends_reshape}
-use Rattle.history_calls.specs.Reliable.{IsReliable}
-use Rattle.history_calls.proofs.Plans.{ArePlannedTo}
+use Rattle.still_kept.specs.history_calls_Reliable.{IsReliable}
+use Rattle.still_kept.proofs.history_calls_Plans.{ArePlannedTo}
 use Rattle.still_kept.specs.Still.{IsNamedOrClean}
 use Rattle.still_kept.proofs.Ends.{is_finish, EndsPlans}
 use Rattle.running_words.specs.Parts.{still_left}

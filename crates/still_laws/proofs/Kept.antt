@@ -14,7 +14,7 @@ use Rattle.flat_history.specs.Flat.{length_of}
 use Rattle.views.specs.declared.work.Work.{Work}
 use Rattle.views.specs.Moving.{IsMoved}
 use Rattle.views.proofs.Fit.{list-alike}
-use Rattle.array_kept.proofs.NowLaws.{length-more}
+use Rattle.still_kept.proofs.array_kept_NowLaws.{length-more}
 use Rattle.grow_asked.specs.declared.window.PhasesLeft.{PhasesLeft}
 use Rattle.grow_asked.specs.Left.{phases_of}
 use Rattle.kept_history.proofs.Tests.{none-before}

@@ -18,7 +18,7 @@ use Rattle.views.specs.Moving.{IsMoved}
 use Rattle.views.specs.Placed.{is_vacant}
 use Rattle.views.specs.Status.{stripes_of, rebuilt_of, vacant_count, spare_count, resync_left, role_left, recovery_left, left_of}
 use Rattle.call_entries.specs.Losing.{losses_of}
-use Rattle.array_kept.proofs.StepsLeft.{left-moved}
+use Rattle.still_kept.proofs.array_kept_StepsLeft.{left-moved}
 use Rattle.grow_asked.specs.declared.window.PhasesLeft.{PhasesLeft}
 use Rattle.grow_asked.specs.Left.{phases_of}
 use Rattle.running_words.specs.Parts.{still_left}

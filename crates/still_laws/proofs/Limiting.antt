@@ -25,8 +25,8 @@ use Rattle.flat_history.specs.World.{World, until, opening_list}
 use Rattle.views.specs.declared.work.Work.{Work}
 use Rattle.views.specs.Moving.{Grows}
 use Rattle.call_entries.proofs.LeftLaws.{left-more}
-use Rattle.array_kept.proofs.NowLaws.{length-more}
-use Rattle.array_kept.proofs.ReplyLaws.{none_before}
+use Rattle.still_kept.proofs.array_kept_NowLaws.{length-more}
+use Rattle.still_kept.proofs.array_kept_ReplyLaws.{none_before}
 use Rattle.grow_asked.specs.declared.window.PhasesLeft.{PhasesLeft}
 use Rattle.kept_history.specs.Recorded.{IsCallGoing, entry_of}
 use Rattle.kept_history.specs.Safe.{world_in}

@@ -21,8 +21,8 @@ use Rattle.views.specs.Lacking.{AreTooMany, IsUnwritten, IsOfStripe, DataStandsA
 use Rattle.views.specs.Status.{stripes_of, vacant_count, spare_count, recovery_left, left_of}
 use Rattle.views.proofs.LiveLeft.{without-left}
 use Rattle.call_entries.specs.Losing.{losses_of}
-use Rattle.array_kept.proofs.StepsLeft.{left-mended, left-ended}
-use Rattle.calls_kept.proofs.EndLaws.{enough-mended}
+use Rattle.still_kept.proofs.array_kept_StepsLeft.{left-mended, left-ended}
+use Rattle.still_kept.proofs.calls_kept_EndLaws.{enough-mended}
 use Rattle.grow_asked.specs.declared.window.PhasesLeft.{PhasesLeft}
 use Rattle.grow_asked.specs.Left.{phases_of}
 use Rattle.kept_history.specs.Recorded.{IsCallGoing}

@@ -27,14 +27,14 @@ use Rattle.history_laws.proofs.OneShapeGrowing.{IsOneShapeCall}
 use Rattle.views.specs.declared.work.Work.{Work}
 use Rattle.views.specs.Moving.{Grows}
 use Rattle.call_entries.proofs.StepLaws.{call-goes_on, used-more}
-use Rattle.array_kept.specs.Kept.{scope_in, AreTold}
-use Rattle.array_kept.proofs.LedgerLaws.{none-lost-before}
-use Rattle.array_kept.proofs.OnlyLaws.{TellsOnly}
+use Rattle.still_kept.specs.array_kept_Kept.{scope_in, AreTold}
+use Rattle.still_kept.proofs.array_kept_LedgerLaws.{none-lost-before}
+use Rattle.still_kept.proofs.array_kept_OnlyLaws.{TellsOnly}
 use Rattle.kept_history.specs.Recorded.{IsCallGoing, MayGoOn}
 use Rattle.kept_history.specs.Safe.{world_in, IsReshapeFit, OpensOnCourse, IsFilledRight}
 use Rattle.kept_history.proofs.Growing.{reading-grown}
 use Rattle.kept_history.proofs.Tests.{neither, none-before, or-left, or-right}
-use Rattle.one_shape_history.proofs.Kept.{filled-alike}
+use Rattle.still_kept.proofs.one_shape_history_Kept.{filled-alike}
 use Rattle.still_kept.specs.Still.{IsStill}
 use Rattle.still_kept.proofs.Leaving.{fit-earlier}
 use Rattle.running_words.specs.Plans.{turns_shape, KeepsShape}

@@ -39,13 +39,13 @@ use Rattle.call_entries.proofs.CallLaws.{GivesNone, losses-are, gives-losses, to
 use Rattle.call_entries.proofs.LosingLaws.{entries-both}
 use Rattle.call_entries.proofs.PlainLaws.{one}
 use Rattle.call_entries.proofs.StepLaws.{faults-are}
-use Rattle.array_kept.specs.Calls.{IsTaken, IsUnaddable}
-use Rattle.array_kept.specs.Kept.{AreTold, AreOnlyTold}
-use Rattle.array_kept.proofs.DegradedLaws.{count-moved, too-many-here}
-use Rattle.array_kept.proofs.OnlyLaws.{MakeSpares, TellsOnly, either, lost-among, gone-or, spare-both, moved-held, gone-behind-losses, spares-behind-losses, added-makes}
-use Rattle.array_kept.proofs.RecordLaws.{told-more, gone-lately}
-use Rattle.calls_kept.proofs.AddedLosses.{IsAddDone, told-added, spares-added}
-use Rattle.calls_kept.proofs.AddLaws.{lowest}
+use Rattle.still_kept.specs.array_kept_Calls.{IsTaken, IsUnaddable}
+use Rattle.still_kept.specs.array_kept_Kept.{AreTold, AreOnlyTold}
+use Rattle.still_kept.proofs.array_kept_DegradedLaws.{count-moved, too-many-here}
+use Rattle.still_kept.proofs.array_kept_OnlyLaws.{MakeSpares, TellsOnly, either, lost-among, gone-or, spare-both, moved-held, gone-behind-losses, spares-behind-losses, added-makes}
+use Rattle.still_kept.proofs.array_kept_RecordLaws.{told-more, gone-lately}
+use Rattle.still_kept.proofs.calls_kept_AddedLosses.{IsAddDone, told-added, spares-added}
+use Rattle.still_kept.proofs.calls_kept_AddLaws.{lowest}
 use Rattle.grow_asked.specs.declared.window.PhasesLeft.{PhasesLeft}
 use Rattle.kept_history.specs.Recorded.{IsCallGoing}
 use Rattle.kept_history.specs.Safe.{world_in}

@@ -52,14 +52,14 @@ use Rattle.call_entries.proofs.CallLaws.{GivesNone, losses-are, all-losses, ends
 use Rattle.call_entries.proofs.LeftLaws.{keeps-left}
 use Rattle.call_entries.proofs.PlainLaws.{one}
 use Rattle.call_entries.proofs.StepLaws.{faults-are, call-stepped}
-use Rattle.array_kept.specs.Calls.{IsSettling, IsRefusedHere, IsRefusedFor, IsUnmendable}
-use Rattle.array_kept.specs.Kept.{AreTold}
-use Rattle.array_kept.proofs.DegradedLaws.{told-since, refusal-right, too-many-here, unread-here, unwritten-here, refused-here, pending-of}
-use Rattle.array_kept.proofs.KeptLaws.{left-lost}
-use Rattle.array_kept.proofs.NowLaws.{sectors_of-at}
-use Rattle.array_kept.proofs.OnlyLaws.{MakeSpares, only-more, only-since}
-use Rattle.array_kept.proofs.ReadyLaws.{settles-of}
-use Rattle.array_kept.proofs.RecordLaws.{told-more}
+use Rattle.still_kept.specs.array_kept_Calls.{IsSettling, IsRefusedHere, IsRefusedFor, IsUnmendable}
+use Rattle.still_kept.specs.array_kept_Kept.{AreTold}
+use Rattle.still_kept.proofs.array_kept_DegradedLaws.{told-since, refusal-right, too-many-here, unread-here, unwritten-here, refused-here, pending-of}
+use Rattle.still_kept.proofs.array_kept_KeptLaws.{left-lost}
+use Rattle.still_kept.proofs.array_kept_NowLaws.{sectors_of-at}
+use Rattle.still_kept.proofs.array_kept_OnlyLaws.{MakeSpares, only-more, only-since}
+use Rattle.still_kept.proofs.array_kept_ReadyLaws.{settles-of}
+use Rattle.still_kept.proofs.array_kept_RecordLaws.{told-more}
 use Rattle.grow_asked.specs.declared.window.PhasesLeft.{PhasesLeft}
 use Rattle.grow_asked.specs.Left.{phases_of}
 use Rattle.kept_history.specs.Recorded.{IsCallGoing}

@@ -39,16 +39,16 @@ use Rattle.call_entries.proofs.CallLaws.{losses-are, gives-losses, told-losses, 
 use Rattle.call_entries.proofs.LosingLaws.{entries-both}
 use Rattle.call_entries.proofs.PlainLaws.{one}
 use Rattle.call_entries.proofs.StepLaws.{call-stepped}
-use Rattle.array_kept.specs.Calls.{with_rebuilt}
-use Rattle.array_kept.specs.Kept.{AreTold, AreOnlyTold}
-use Rattle.array_kept.proofs.DegradedLaws.{count-moved}
-use Rattle.array_kept.proofs.KeptLaws.{left-lost}
-use Rattle.array_kept.proofs.OnlyLaws.{lost-among, gone-or, spare-both, gone-behind-losses, spares-behind-losses, taken-spares, TellsOnly}
-use Rattle.array_kept.proofs.RecordLaws.{told-more, gone-lately}
-use Rattle.array_kept.proofs.StepsLeft.{left-mended, left-ended, left-filled}
-use Rattle.calls_kept.proofs.RebuildEnded.{holder-before, holder-still, spare-still, moved-vacant}
-use Rattle.calls_kept.proofs.RebuildGiven.{receiver-spare, receiver-recovering, missing-given}
-use Rattle.calls_kept.proofs.RebuildLaws.{call-stepped_on}
+use Rattle.still_kept.specs.array_kept_Calls.{with_rebuilt}
+use Rattle.still_kept.specs.array_kept_Kept.{AreTold, AreOnlyTold}
+use Rattle.still_kept.proofs.array_kept_DegradedLaws.{count-moved}
+use Rattle.still_kept.proofs.array_kept_KeptLaws.{left-lost}
+use Rattle.still_kept.proofs.array_kept_OnlyLaws.{lost-among, gone-or, spare-both, gone-behind-losses, spares-behind-losses, taken-spares, TellsOnly}
+use Rattle.still_kept.proofs.array_kept_RecordLaws.{told-more, gone-lately}
+use Rattle.still_kept.proofs.array_kept_StepsLeft.{left-mended, left-ended, left-filled}
+use Rattle.still_kept.proofs.calls_kept_RebuildEnded.{holder-before, holder-still, spare-still, moved-vacant}
+use Rattle.still_kept.proofs.calls_kept_RebuildGiven.{receiver-spare, receiver-recovering, missing-given}
+use Rattle.still_kept.proofs.calls_kept_RebuildLaws.{call-stepped_on}
 use Rattle.grow_asked.specs.declared.window.PhasesLeft.{PhasesLeft}
 use Rattle.kept_history.specs.Recorded.{IsCallGoing}
 use Rattle.kept_history.specs.Safe.{world_in}

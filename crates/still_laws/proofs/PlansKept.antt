@@ -29,16 +29,16 @@ use Rattle.views.specs.Moving.{Grows}
 use Rattle.call_entries.specs.Losing.{losses_of}
 use Rattle.call_entries.proofs.CallLaws.{AreLossEvents, losses-are}
 use Rattle.call_entries.proofs.LosingLaws.{entries-both}
-use Rattle.array_kept.specs.Kept.{scope_in}
-use Rattle.array_kept.specs.Calls.{IsEntered, StandsInside, IsReplied, IsAnswered, IsBehind, IsBehindAll}
+use Rattle.still_kept.specs.array_kept_Kept.{scope_in}
+use Rattle.still_kept.specs.array_kept_Calls.{IsEntered, StandsInside, IsReplied, IsAnswered, IsBehind, IsBehindAll}
 use Rattle.grow_asked.specs.Left.{phases_of}
 use Rattle.kept_history.specs.Recorded.{entry_of}
 use Rattle.kept_history.specs.Safe.{world_in}
 use Rattle.kept_history.proofs.Growing.{alike-before, room-before}
 use Rattle.kept_history.proofs.Turned.{filled-before}
 use Rattle.kept_history.proofs.Tests.{neither}
-use Rattle.history_calls.specs.Reliable.{IsReliable}
-use Rattle.history_calls.proofs.Plans.{planned-grown}
+use Rattle.still_kept.specs.history_calls_Reliable.{IsReliable}
+use Rattle.still_kept.proofs.history_calls_Plans.{planned-grown}
 use Rattle.running_words.specs.Parts.{RunningParts}
 use Rattle.running_words.specs.Calls.{moving_world, IsSameReshape, IsStepTaken}
 use Rattle.running_words.specs.Plans.{GoTo, aim_of, ArePlansKept}

@@ -30,18 +30,18 @@ use Rattle.views.specs.Placed.{AreWhole, places_of}
 use Rattle.views.specs.Whole.{list_size}
 use Rattle.views.proofs.MovedLaws.{grows-none}
 use Rattle.call_entries.specs.Losing.{losses_of}
-use Rattle.array_kept.specs.Calls.{IsRefusedHere, IsRefusedFor}
-use Rattle.array_kept.proofs.DegradedLaws.{unread-here, unwritten-here, pending-of}
-use Rattle.calls_kept.proofs.TouchedLaws.{holds-fetched}
+use Rattle.still_kept.specs.array_kept_Calls.{IsRefusedHere, IsRefusedFor}
+use Rattle.still_kept.proofs.array_kept_DegradedLaws.{unread-here, unwritten-here, pending-of}
+use Rattle.still_kept.proofs.calls_kept_TouchedLaws.{holds-fetched}
 use Rattle.kept_history.specs.Safe.{world_in, is_taken_over, IsFilledRight}
 use Rattle.kept_history.proofs.Tests.{none-before}
-use Rattle.history_calls.specs.Reliable.{IsReliable}
-use Rattle.history_calls.proofs.Behind.{IsAmong, early-losses}
+use Rattle.still_kept.specs.history_calls_Reliable.{IsReliable}
+use Rattle.still_kept.proofs.history_calls_Behind.{IsAmong, early-losses}
 use Rattle.still_kept.specs.Still.{AreAtRest, IsStill}
 use Rattle.still_kept.proofs.Leaving.{none-taken}
 use Rattle.still_kept.proofs.Refusals.{IsRefusedStill, too-many-refused, refused-right}
 use Rattle.still_kept.proofs.Staying.{missing-since}
-use Rattle.moving_state.specs.Left.{visible_by}
+use Rattle.running_words.specs.moving_state_Left.{visible_by}
 use Rattle.running_words.specs.Parts.{visible_size}
 use Rattle.running_words.proofs.Visible.{visible-is, visible-within}
 

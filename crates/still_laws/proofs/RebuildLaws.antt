@@ -36,12 +36,12 @@ use Rattle.views.proofs.Still.{count-still}
 use Rattle.call_entries.specs.Losing.{losses_of}
 use Rattle.call_entries.proofs.LosingLaws.{entries-both}
 use Rattle.call_entries.proofs.PlainLaws.{one}
-use Rattle.array_kept.specs.Calls.{with_rebuilt}
-use Rattle.array_kept.proofs.DegradedLaws.{count-moved}
-use Rattle.array_kept.proofs.ToldLosses.{role-told}
-use Rattle.array_kept.proofs.StepsLeft.{left-taken, left-filled, left-whole}
-use Rattle.calls_kept.proofs.RebuildEnded.{whole-spare}
-use Rattle.calls_kept.proofs.RebuildGiven.{receiver-spare}
+use Rattle.still_kept.specs.array_kept_Calls.{with_rebuilt}
+use Rattle.still_kept.proofs.array_kept_DegradedLaws.{count-moved}
+use Rattle.still_kept.proofs.array_kept_ToldLosses.{role-told}
+use Rattle.still_kept.proofs.array_kept_StepsLeft.{left-taken, left-filled, left-whole}
+use Rattle.still_kept.proofs.calls_kept_RebuildEnded.{whole-spare}
+use Rattle.still_kept.proofs.calls_kept_RebuildGiven.{receiver-spare}
 use Rattle.grow_asked.specs.declared.window.PhasesLeft.{PhasesLeft}
 use Rattle.grow_asked.specs.Left.{phases_of}
 use Rattle.kept_history.specs.Recorded.{IsCallGoing, IsLengthKept, IsOpenBehind}
@@ -49,7 +49,7 @@ use Rattle.kept_history.specs.Safe.{world_in}
 use Rattle.kept_history.proofs.Growing.{alike-before, room-before}
 use Rattle.kept_history.proofs.Lengths.{open-more}
 use Rattle.kept_history.proofs.Turned.{filled-before}
-use Rattle.history_calls.specs.Reliable.{IsReliable}
+use Rattle.still_kept.specs.history_calls_Reliable.{IsReliable}
 use Rattle.still_kept.specs.Still.{IsStill}
 use Rattle.still_kept.proofs.Ending.{IsMadeWhole, whole-stands, ended-stands}
 use Rattle.still_kept.proofs.Rebuilding.{IsTaken, IsFillingStill, taken-stands, filled-stands, gone-stands, unfilled-stands}

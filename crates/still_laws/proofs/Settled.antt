@@ -25,7 +25,7 @@ use Rattle.views.specs.Placed.{IsPlaced}
 use Rattle.views.proofs.Fit.{count-alike}
 use Rattle.call_entries.specs.Losing.{losses_of}
 use Rattle.call_entries.proofs.CallLaws.{told-losses}
-use Rattle.array_kept.specs.Calls.{IsSettling}
+use Rattle.still_kept.specs.array_kept_Calls.{IsSettling}
 use Rattle.kept_history.specs.Recorded.{IsCallGoing}
 use Rattle.still_kept.specs.Still.{IsStill}
 use Rattle.still_kept.proofs.Flushing.{IsFlushedStill, IsSettledStill, all-mended, flushed-stands, stopped-stands}

@@ -22,11 +22,11 @@ use Rattle.views.specs.Moving.{Grows, IsMoved}
 use Rattle.views.specs.Placed.{IsPlaced}
 use Rattle.views.specs.Status.{left_of}
 use Rattle.call_entries.specs.Losing.{losses_of}
-use Rattle.array_kept.specs.Kept.{scope_in}
-use Rattle.array_kept.specs.Calls.{IsLossBy, AreLossesBy, AreStepsFewer, AreStepsKept, IsEndOf, IsUnmendable}
-use Rattle.array_kept.proofs.KeptLaws.{left-lost}
-use Rattle.array_kept.proofs.ReadyLaws.{list-same}
-use Rattle.array_kept.proofs.StepsLeft.{left-moved}
+use Rattle.still_kept.specs.array_kept_Kept.{scope_in}
+use Rattle.still_kept.specs.array_kept_Calls.{IsLossBy, AreLossesBy, AreStepsFewer, AreStepsKept, IsEndOf, IsUnmendable}
+use Rattle.still_kept.proofs.array_kept_KeptLaws.{left-lost}
+use Rattle.still_kept.proofs.array_kept_ReadyLaws.{list-same}
+use Rattle.still_kept.proofs.array_kept_StepsLeft.{left-moved}
 use Rattle.grow_asked.specs.declared.window.PhasesLeft.{PhasesLeft}
 use Rattle.grow_asked.specs.Left.{phases_of}
 use Rattle.kept_history.specs.Recorded.{IsCallGoing}

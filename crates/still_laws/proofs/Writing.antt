@@ -38,8 +38,8 @@ use Rattle.views.specs.Moving.{Grows, IsMoved}
 use Rattle.views.specs.Placed.{AreWhole}
 use Rattle.views.proofs.Fit.{valid, list-alike}
 use Rattle.call_entries.specs.Losing.{losses_of, failure_events}
-use Rattle.array_kept.proofs.DegradedLaws.{pending-of}
-use Rattle.calls_kept.proofs.TouchedLaws.{safe-put, list-written, rows-written, rebuilt-written}
+use Rattle.still_kept.proofs.array_kept_DegradedLaws.{pending-of}
+use Rattle.still_kept.proofs.calls_kept_TouchedLaws.{safe-put, list-written, rows-written, rebuilt-written}
 use Rattle.kept_history.specs.Recorded.{IsCallGoing}
 use Rattle.kept_history.specs.Safe.{world_in}
 use Rattle.still_kept.specs.Still.{AreAtRest, IsStill}

@@ -13,3 +13,10 @@ pub use Rattle.still_kept.specs.course_kept_the_Course
 pub use Rattle.still_kept.specs.moving_kept_Moving
 pub use Rattle.still_kept.specs.region_mends_Mends
 pub use Rattle.still_kept.specs.window_steps_Zeroing
+pub use Rattle.running_words.specs.moving_state_Left
+pub use Rattle.still_kept.specs.array_kept_Adopting
+pub use Rattle.still_kept.specs.array_kept_Calls
+pub use Rattle.still_kept.specs.array_kept_Kept
+pub use Rattle.still_kept.specs.history_calls_Reliable
+pub use Rattle.still_kept.specs.safe_updates_First
+pub use Rattle.still_kept.specs.safe_updates_Named

@@ -15,7 +15,7 @@ use Rattle.flat_history.specs.Epochs.{world_of}
 use Rattle.flat_history.specs.OneShape.{opening_in, IsOneShapeLegal, EndsIdleSteps}
 use Rattle.flat_history.specs.Sound.{FillsRight}
 use Rattle.flat_history.specs.World.{World}
-use Rattle.array_kept.specs.Kept.{AreTold, AreOnlyTold, AreUsed}
+use Rattle.still_kept.specs.array_kept_Kept.{AreTold, AreOnlyTold, AreUsed}
 
 -- The event tells nothing that a reshape alone can: no other length of the list, no refusal for a backup that failed, and no end of steps but for what is missing or not synced.
 abbrev pub MayTellPlainly : Event → Type 0

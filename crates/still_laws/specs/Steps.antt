@@ -16,9 +16,9 @@ use Rattle.views.specs.Lacking.{AreTooMany, HaveRolesFailed}
 use Rattle.views.specs.Moving.{Grows}
 use Rattle.grow_asked.specs.declared.window.PhasesLeft.{PhasesLeft}
 use Rattle.grow_asked.specs.Left.{phases_of}
-use Rattle.array_kept.specs.Calls.{AreLossesBy, IsEndOf, IsUnmendable}
+use Rattle.still_kept.specs.array_kept_Calls.{AreLossesBy, IsEndOf, IsUnmendable}
 use Rattle.kept_history.specs.Recorded.{IsCallGoing, IsOpenBehind}
-use Rattle.history_calls.specs.Reliable.{IsReliable}
+use Rattle.still_kept.specs.history_calls_Reliable.{IsReliable}
 use Rattle.still_kept.specs.Still.{IsNamedOrClean}
 use Rattle.running_words.specs.Parts.{RunningParts, still_left}
 use Rattle.running_words.specs.Calls.{moving_world, IsSameReshape}

@@ -11,3 +11,14 @@ pub use Rattle.still.proofs.still_laws_Plain
 pub use Rattle.still.proofs.still_laws_PlainBehind
 pub use Rattle.still.proofs.still_laws_PlansKept
 pub use Rattle.still.proofs.still_laws_StepLaws
+pub use Rattle.still.proofs.array_kept_KeptLaws
+pub use Rattle.still.proofs.array_kept_NowLaws
+pub use Rattle.still.proofs.array_kept_ReadyLaws
+pub use Rattle.still.proofs.array_kept_StepsLeft
+pub use Rattle.still.proofs.history_calls_Behind
+pub use Rattle.still.proofs.history_calls_Plans
+pub use Rattle.still.proofs.running_words_Called
+pub use Rattle.still.proofs.running_words_Lengths
+pub use Rattle.still.proofs.running_words_Visible
+pub use Rattle.still.proofs.still_kept_Refusals
+pub use Rattle.still.proofs.still_kept_Resting

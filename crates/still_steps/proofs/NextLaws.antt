@@ -19,7 +19,7 @@ use Rattle.views.specs.declared.work.Work.{Work}
 use Rattle.views.specs.Placed.{is_vacant}
 use Rattle.views.specs.Status.{stripes_of, rebuilt_of, vacant_count, spare_count, resync_left, role_left, recovery_left, left_of}
 use Rattle.views.specs.Lacking.{AreTooMany}
-use Rattle.array_kept.specs.Calls.{IsCausedBy, IsUnmendable}
+use Rattle.still.specs.array_kept_Calls.{IsCausedBy, IsUnmendable}
 use Rattle.views.specs.Rebuilding.{MayHold}
 use Rattle.still.specs.running_words_Parts.{RunningParts}
 use Rattle.still.specs.still_laws_Steps.{IsStepped}

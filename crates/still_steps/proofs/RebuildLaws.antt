@@ -28,9 +28,9 @@ use Rattle.views.specs.declared.work.Work.{Work}
 use Rattle.call_entries.specs.Losing.{losses_of}
 use Rattle.views.specs.Placed.{is_vacant}
 use Rattle.views.specs.Status.{stripes_of, rebuilt_of}
-use Rattle.array_kept.specs.Calls.{IsRecovered, IsRecoveredOrLost, IsRebuildStepped, AreValuesKept, IsRoleLossBy, IsLossBy, AreLossesBy}
+use Rattle.still.specs.array_kept_Calls.{IsRecovered, IsRecoveredOrLost, IsRebuildStepped, AreValuesKept, IsRoleLossBy, IsLossBy, AreLossesBy}
 use Rattle.call_entries.proofs.CallLaws.{losses-are, values-losses}
-use Rattle.array_kept.proofs.NowLaws.{values-more}
+use Rattle.still.proofs.array_kept_NowLaws.{values-more}
 use Rattle.still_steps.specs.Rebuilding.{recovers, first_recovering, first_vacant, first_spare, IsRebuildNext, rebuilt_role, rebuild_kind, rebuild_events, IsGivenToSpare}
 use Rattle.still_steps.proofs.Lowest.{lowest-found}
 

@@ -14,9 +14,9 @@ use Rattle.flat_history.specs.Flat.{values_after, values_of}
 use Rattle.flat_history.specs.Plain.{entries_of}
 use Rattle.call_entries.specs.Losing.{losses_of}
 use Rattle.views.specs.Status.{stripes_of}
-use Rattle.array_kept.specs.Calls.{IsBehind, IsCausedBy, AreValuesKept}
+use Rattle.still.specs.array_kept_Calls.{IsBehind, IsCausedBy, AreValuesKept}
 use Rattle.call_entries.proofs.CallLaws.{losses-are, values-losses}
-use Rattle.array_kept.proofs.NowLaws.{values-more}
+use Rattle.still.proofs.array_kept_NowLaws.{values-more}
 use Rattle.still.specs.running_words_Calls.{IsStepTaken}
 use Rattle.still_steps.specs.Resyncing.{is_at_end, IsUnmended}
 

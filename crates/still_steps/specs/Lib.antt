@@ -4,3 +4,11 @@ pub mod Stepping
 pub use Rattle.still.specs.still_laws_Plain
 pub use Rattle.still.specs.still_laws_Ready
 pub use Rattle.still.specs.still_laws_Steps
+pub use Rattle.still.specs.array_kept_Calls
+pub use Rattle.still.specs.array_kept_Kept
+pub use Rattle.still.specs.history_calls_Reliable
+pub use Rattle.still.specs.running_words_Calls
+pub use Rattle.still.specs.running_words_Parts
+pub use Rattle.still.specs.running_words_Plans
+pub use Rattle.still.specs.still_kept_Still
+pub use Rattle.still.specs.still_kept_course_kept_Laws

@@ -15,7 +15,7 @@ use Rattle.flat_history.specs.declared.events.StepKind.TheVariants.{RebuildTaken
 use Rattle.views.specs.declared.work.Work.{Work}
 use Rattle.views.specs.Placed.{is_vacant}
 use Rattle.views.specs.Status.{stripes_of, rebuilt_of}
-use Rattle.array_kept.specs.Calls.{IsRecoveredOrLost, with_rebuilt}
+use Rattle.still.specs.array_kept_Calls.{IsRecoveredOrLost, with_rebuilt}
 use Rattle.views.specs.Rebuilding.{Held}
 
 -- a slot recovers the role

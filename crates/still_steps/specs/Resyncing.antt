@@ -6,7 +6,7 @@ use Rattle.flat_history.specs.declared.events.StepKind.{StepKind}
 use Rattle.flat_history.specs.declared.events.StepKind.TheVariants.{ResyncStripe, ResyncEnded}
 use Rattle.views.specs.Status.{stripes_of}
 use Rattle.views.specs.Lacking.{AreTooMany}
-use Rattle.array_kept.specs.Calls.{one_more, IsUnmendable}
+use Rattle.still.specs.array_kept_Calls.{one_more, IsUnmendable}
 
 -- a resync is pending, and has mended every stripe: its next step is its last
 abbrev pub is_at_end : Option ℕ → Members → Bool

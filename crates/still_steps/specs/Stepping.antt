@@ -11,7 +11,7 @@ use Rattle.flat_history.specs.declared.events.StepKind.TheVariants.{ResyncEnded,
 use Rattle.views.specs.declared.work.Work.{Work}
 use Rattle.views.specs.Lacking.{AreTooMany}
 use Rattle.views.specs.Rebuilding.{Held}
-use Rattle.array_kept.specs.Calls.{IsRebuildStepped}
+use Rattle.still.specs.array_kept_Calls.{IsRebuildStepped}
 use Rattle.still.specs.running_words_Calls.{IsStepTaken}
 use Rattle.still_steps.specs.Resyncing.{is_at_end, IsUnmended}
 use Rattle.still_steps.specs.Resyncing as resync

@@ -9,3 +9,4 @@ mod stepping;
 pub use choosing::first_spare;
 pub use stepping::still_step;
 pub use still;
+pub use still::{array_state, safe_updates};

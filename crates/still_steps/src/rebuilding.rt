@@ -10,7 +10,7 @@ ghost use Rattle.flat_history.specs.Sound.{OpensFit};
 ghost use Rattle.flat_history.specs.declared.events.StepKind.TheVariants.{RebuildTaken as TakesRole, RebuildEnded as EndsRebuild};
 ghost use Rattle.views.specs.Lacking.{AreTooMany, RowsStand};
 ghost use Rattle.shape_views.specs.Regions.{DoWithout};
-ghost use Rattle.array_kept.specs.Calls.{AreHeldOrSpare, IsWholeOrLost, by_answer, AreStepsFewer, AreStepsKept, AreValuesKept, IsRebuildStepped, IsCausedBy};
+ghost use Rattle.still.specs.array_kept_Calls.{AreHeldOrSpare, IsWholeOrLost, by_answer, AreStepsFewer, AreStepsKept, AreValuesKept, IsRebuildStepped, IsCausedBy};
 ghost use Rattle.kept_history.specs.Recorded.{IsCallGoing};
 ghost use Rattle.still.specs.running_words_Parts.{still_left};
 ghost use Rattle.still.specs.running_words_Calls.{moving_world};

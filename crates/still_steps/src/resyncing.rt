@@ -10,7 +10,7 @@ ghost use Rattle.views.specs.Placed.{AreStillHeld};
 ghost use Rattle.views.specs.Lacking.{AreHoldersFlushed, RowsStand};
 ghost use Rattle.views.specs.Rebuilding.{Held};
 ghost use Rattle.shape_views.specs.Regions.{DoWithout};
-ghost use Rattle.array_kept.specs.Calls.{AreSparesFewer, by_answer, AreStepsFewer, AreStepsKept, AreValuesKept, IsCausedBy};
+ghost use Rattle.still.specs.array_kept_Calls.{AreSparesFewer, by_answer, AreStepsFewer, AreStepsKept, AreValuesKept, IsCausedBy};
 ghost use Rattle.kept_history.specs.Recorded.{IsCallGoing};
 ghost use Rattle.still.specs.running_words_Parts.{still_left};
 ghost use Rattle.still.specs.running_words_Calls.{moving_world, IsStepTaken};

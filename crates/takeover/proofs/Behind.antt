@@ -34,10 +34,10 @@ use Rattle.views.proofs.Fit.{roles-still}
 use Rattle.views.proofs.LiveLeft.{holder-left}
 use Rattle.views.proofs.MarkLaws.{role_from-found}
 use Rattle.views.proofs.Still.{count-still}
-use Rattle.history_calls.proofs.Behind.{IsAmong}
+use Rattle.still_steps.proofs.history_calls_Behind.{IsAmong}
 use Rattle.takeover_updates.specs.TakingOver.{CanTakeUp, CanTakeOver, taking_over, taken_plan}
 use Rattle.takeover_updates.proofs.TakenPlan.{count, gives-or, live, one-holder}
-use Rattle.still_kept.specs.Still.{AreNoneMissing}
+use Rattle.still_steps.specs.still_kept_Still.{AreNoneMissing}
 use Rattle.takeover.proofs.Chosen.{whole-slot}
 
 same-slot : (a b : ℕ) → a ≡ b → (a == b) ≡ true

@@ -24,8 +24,8 @@ use Rattle.views.specs.Placed.{is_vacant}
 use Rattle.views.specs.Status.{stripes_of, rebuilt_of, vacant_count, spare_count, resync_left, role_left, recovery_left, left_of}
 use Rattle.views.proofs.Still.{count-still}
 use Rattle.call_entries.specs.Losing.{role_loss, role_losses, spare_losses, losses_of}
-use Rattle.array_kept.proofs.StepsLeft.{recovery-more}
-use Rattle.still_kept.specs.Still.{AreNoneMissing}
+use Rattle.still_steps.proofs.array_kept_StepsLeft.{recovery-more}
+use Rattle.still_steps.specs.still_kept_Still.{AreNoneMissing}
 use Rattle.still_steps.proofs.Lowest.{none-counted}
 
 -- no role is missing, so none too many are

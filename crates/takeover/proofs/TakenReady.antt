@@ -49,23 +49,23 @@ use Rattle.views.proofs.MarkLaws.{few-planned}
 use Rattle.call_entries.specs.Losing.{losses_of}
 use Rattle.call_entries.proofs.CallLaws.{all-losses}
 use Rattle.call_entries.proofs.PlainLaws.{one}
-use Rattle.array_kept.specs.Calls.{AreLossesOf, IsLossBy, with_rebuilt}
-use Rattle.array_kept.proofs.NowLaws.{length-more}
+use Rattle.still_steps.specs.array_kept_Calls.{AreLossesOf, IsLossBy, with_rebuilt}
+use Rattle.still_steps.proofs.array_kept_NowLaws.{length-more}
 use Rattle.grow_asked.specs.declared.window.PhasesLeft.{PhasesLeft}
 use Rattle.grow_asked.specs.Left.{phases_of}
 use Rattle.kept_history.specs.Recorded.{IsCallGoing}
 use Rattle.kept_history.specs.Safe.{world_in}
-use Rattle.history_calls.specs.Reliable.{IsReliable}
-use Rattle.history_calls.proofs.Plans.{ArePlannedTo}
-use Rattle.running_words.specs.Parts.{still_left}
-use Rattle.running_words.specs.Plans.{GoTo, turns_shape}
-use Rattle.running_words.proofs.Called.{not_254}
-use Rattle.running_words.proofs.Lengths.{IsLengthKept, behind-keeps}
-use Rattle.running_words.proofs.Visible.{limit-kept}
-use Rattle.still_kept.specs.Still.{AreNoneMissing}
-use Rattle.still_laws.specs.Ready.{IsReady}
-use Rattle.still_laws.proofs.Closing.{LeadTo, plans-of, ahead-none}
-use Rattle.still_laws.proofs.Plain.{IsLeftPlain, turned-plain, turns-behind}
+use Rattle.still_steps.specs.history_calls_Reliable.{IsReliable}
+use Rattle.still_steps.proofs.history_calls_Plans.{ArePlannedTo}
+use Rattle.still_steps.specs.running_words_Parts.{still_left}
+use Rattle.still_steps.specs.running_words_Plans.{GoTo, turns_shape}
+use Rattle.still_steps.proofs.running_words_Called.{not_254}
+use Rattle.still_steps.proofs.running_words_Lengths.{IsLengthKept, behind-keeps}
+use Rattle.still_steps.proofs.running_words_Visible.{limit-kept}
+use Rattle.still_steps.specs.still_kept_Still.{AreNoneMissing}
+use Rattle.still_steps.specs.still_laws_Ready.{IsReady}
+use Rattle.still_steps.proofs.still_laws_Closing.{LeadTo, plans-of, ahead-none}
+use Rattle.still_steps.proofs.still_laws_Plain.{IsLeftPlain, turned-plain, turns-behind}
 use Rattle.takeover.specs.TakenOver.{IsTakeoverNext, IsTakenSlot, work_then}
 use Rattle.takeover.proofs.Chosen.{IsSoundNext, sound-next, can-take}
 use Rattle.takeover.proofs.Behind.{live-old, count-new, vacant-told, lost-since, lost-few, recovers-then, missing-then}

@@ -11,13 +11,13 @@ use Rattle.flat_history.specs.declared.events.Entry.{Entry}
 use Rattle.flat_history.specs.declared.events.Event.TheVariants.{Refused}
 use Rattle.flat_history.specs.Plain.{entries_of}
 use Rattle.views.specs.declared.work.Work.{Work}
-use Rattle.array_kept.proofs.KeptLaws.{left-lost}
+use Rattle.still_steps.proofs.array_kept_KeptLaws.{left-lost}
 use Rattle.kept_history.specs.Recorded.{IsCallGoing}
 use Rattle.kept_history.specs.Safe.{world_in}
-use Rattle.running_words.proofs.Called.{not_254}
-use Rattle.still_kept.specs.Still.{IsStill}
-use Rattle.still_kept.proofs.Refusals.{IsRefusedStill, refused-right}
-use Rattle.still_kept.proofs.Resting.{resting-stands}
+use Rattle.still_steps.proofs.running_words_Called.{not_254}
+use Rattle.still_steps.specs.still_kept_Still.{IsStill}
+use Rattle.still_steps.proofs.still_kept_Refusals.{IsRefusedStill, refused-right}
+use Rattle.still_steps.proofs.still_kept_Resting.{resting-stands}
 use Rattle.takeover.specs.TakenOver.{IsUntaken}
 
 -- the refusal is right by any history

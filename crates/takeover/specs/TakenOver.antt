@@ -25,12 +25,12 @@ use Rattle.views.specs.Lacking.{HaveRolesFailed}
 use Rattle.views.specs.Moving.{Grows}
 use Rattle.views.specs.Placed.{is_vacant, AreStillHeld}
 use Rattle.call_entries.specs.Losing.{losses_of}
-use Rattle.array_kept.specs.Calls.{AreLossesOf, AreSparesFewer, IsEndOf, with_rebuilt}
+use Rattle.still_steps.specs.array_kept_Calls.{AreLossesOf, AreSparesFewer, IsEndOf, with_rebuilt}
 use Rattle.grow_asked.specs.declared.window.PhasesLeft.{PhasesLeft}
 use Rattle.grow_asked.specs.Asked.{lowest_missing}
-use Rattle.running_words.specs.Parts.{RunningParts, still_left}
-use Rattle.still_kept.specs.Still.{AreNoneMissing}
-use Rattle.still_kept.specs.course_kept_Laws.{closed}
+use Rattle.still_steps.specs.running_words_Parts.{RunningParts, still_left}
+use Rattle.still_steps.specs.still_kept_Still.{AreNoneMissing}
+use Rattle.still_steps.specs.still_kept_course_kept_Laws.{closed}
 use Rattle.still_steps.specs.Rebuilding.{first_spare}
 
 -- ---- when

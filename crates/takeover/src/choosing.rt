@@ -4,7 +4,7 @@ ghost use Rattle.std.specs.Prelude.{◌≡◌, ◌⊎◌, ◌<◌, ◌≤◌, le
 ghost use Rattle.superblocks.specs.Reading.{role_count, role_state};
 ghost use Rattle.row_io.specs.Rows.{reading_of};
 ghost use Rattle.grow_asked.specs.Asked.{lowest_missing};
-ghost use Rattle.still_kept.specs.Still.{AreNoneMissing};
+ghost use Rattle.still_steps.specs.still_kept_Still.{AreNoneMissing};
 ghost use Rattle.takeover.specs.TakenOver.{IsTakenSlot, IsUntaken};
 
 use md_base::{Refusal, Role, Shape};

@@ -20,7 +20,7 @@ use Rattle.shape_ends.specs.Takeovers.{IsTakenUp, IsTakenDown}
 use Rattle.shape_ends.proofs.EndLaws.{places-alike-stand}
 use Rattle.shape_ends.proofs.TakenShapes.{taken-over}
 use Rattle.shape_ends.proofs.Takeovers.{place-alike}
-use Rattle.safe_updates.proofs.Under.{shown-moved, shown-rows-moved}
+use Rattle.moving_ends.proofs.safe_updates_Under.{shown-moved, shown-rows-moved}
 use Rattle.views.specs.Moving.{IsMoved}
 use Rattle.views.specs.Placed.{IsPlaced}
 use Rattle.views.proofs.HeldRows.{held-moved, missing-moved}

@@ -42,10 +42,10 @@ use Rattle.call_entries.proofs.CallLaws.{losses-are}
 use Rattle.call_entries.proofs.LeftLaws.{left-behind, fold-left}
 use Rattle.kept_history.specs.Recorded.{IsCallGoing}
 use Rattle.kept_history.specs.Safe.{world_in, is_taken_over, IsFilledRight, IsSafeHistory}
-use Rattle.history_calls.specs.Reliable.{IsReliable}
-use Rattle.history_calls.proofs.Behind.{IsAmong}
-use Rattle.history_calls.proofs.Plans.{ArePlannedTo}
-use Rattle.moving_kept.specs.Moving.{IsStillKept}
+use Rattle.moving_ends.specs.history_calls_Reliable.{IsReliable}
+use Rattle.moving_ends.proofs.history_calls_Behind.{IsAmong}
+use Rattle.moving_ends.proofs.history_calls_Plans.{ArePlannedTo}
+use Rattle.moving_ends.specs.moving_kept_Moving.{IsStillKept}
 use Rattle.still_kept.specs.Still.{AreAtRest, HasListStood, IsStill}
 use Rattle.still_kept.proofs.Bridges.{stands-kept}
 use Rattle.still_kept.proofs.Stood.{shown-list, shown-rows, sector-inside}

@@ -65,11 +65,11 @@ use Rattle.kept_history.proofs.Reshapes.{call-ends_none}
 use Rattle.kept_history.proofs.Tests.{or-left, or-right}
 use Rattle.kept_history.proofs.Turned.{filled-before}
 use Rattle.kept_history.proofs.Turns.{either-call}
-use Rattle.history_calls.specs.Reliable.{IsReliable, AreToldGone, IsNonePast}
-use Rattle.history_calls.proofs.Behind.{IsAmong, early-losses, inner-of, legal-losses}
-use Rattle.history_calls.proofs.Plans.{behind-all, ArePlannedTo, plans-done}
-use Rattle.moving_kept.specs.Moving.{HasListStill, IsStillKept}
-use Rattle.moving_kept.proofs.Beginning.{safe-over}
+use Rattle.moving_ends.specs.history_calls_Reliable.{IsReliable, AreToldGone, IsNonePast}
+use Rattle.moving_ends.proofs.history_calls_Behind.{IsAmong, early-losses, inner-of, legal-losses}
+use Rattle.moving_ends.proofs.history_calls_Plans.{behind-all, ArePlannedTo, plans-done}
+use Rattle.moving_ends.specs.moving_kept_Moving.{HasListStill, IsStillKept}
+use Rattle.moving_ends.proofs.moving_kept_Beginning.{safe-over}
 use Rattle.moving_ends.proofs.Consistent.{consistent-at}
 use Rattle.takeover_kept.proofs.TakenMembers.{IsTaken, still-then, taken-then, taken-long, stands-then, rows-then}
 

@@ -43,7 +43,7 @@ use Rattle.shape_changes.proofs.Without.{any-held}
 use Rattle.shape_ends.specs.Takeovers.{IsTakenUp, IsTakenDown}
 use Rattle.shape_ends.proofs.PlanPlaced.{planned-placed}
 use Rattle.shape_ends.proofs.PlanRoles.{planned-up, planned-down}
-use Rattle.reshape_updates.proofs.Taken.{taking-more}
+use Rattle.reshape_ends.proofs.reshape_updates_Taken.{taking-more}
 use Rattle.views.specs.Placed.{IsPlaced}
 use Rattle.views.specs.Rebuilding.{AreSparesFree}
 use Rattle.views.proofs.Fit.{roles-still}

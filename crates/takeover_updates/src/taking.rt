@@ -19,12 +19,12 @@ ghost use Rattle.views.specs.Placed.{IsPlaced};
 ghost use Rattle.views.specs.Moving.{Grows, IsMoved};
 ghost use Rattle.views.specs.Lacking.{HaveFailedSince};
 ghost use Rattle.views.specs.Rebuilding.{AreSparesFree};
-ghost use Rattle.safe_updates.specs.Named.{AreNamedMissing};
+ghost use Rattle.reshape_ends.specs.safe_updates_Named.{AreNamedMissing};
 ghost use Rattle.takeover_updates.specs.TakingOver.{with_level, IsTakenTo, CanTakeOver, level_give, taking_over, taken_plan};
 
 use bank::Bank;
 use md_base::Shape;
-use safe_updates::flushes::holders;
+use reshape_ends::safe_updates::flushes::holders;
 use sb1::Sb;
 use superblock_updates::update;
 use superblocks::sets::{with, without};

@@ -42,9 +42,9 @@ use Rattle.shape_changes.specs.Changing.{IsSafeChange}
 use Rattle.shape_changes.specs.Safety.{HasLiveSlot, HasRoomLeft, IsRisen}
 use Rattle.shape_changes.specs.Steady.{IsSafeOver, AreGoneTold}
 use Rattle.shape_ends.specs.Ends.{IsCleared, IsToldWith}
-use Rattle.reshape_updates.specs.Beginning.{HasBegun, goes_back, with_reshape, beginning}
-use Rattle.reshape_updates.proofs.BegunNewest.{has-begun}
-use Rattle.reshape_ends.specs.Begun.{IsBackupOf, IsBegunBehind, begun_plan}
+use Rattle.moving_steps.specs.reshape_updates_Beginning.{HasBegun, goes_back, with_reshape, beginning}
+use Rattle.moving_steps.proofs.reshape_updates_BegunNewest.{has-begun}
+use Rattle.moving_steps.specs.reshape_ends_Begun.{IsBackupOf, IsBegunBehind, begun_plan}
 use Rattle.views.specs.declared.work.Work.{Work}
 use Rattle.views.specs.Lacking.{AreLostSince, HaveFailedSince}
 use Rattle.views.specs.Moving.{Grows, IsMoved}
@@ -57,9 +57,9 @@ use Rattle.views.proofs.Still.{placed-two, backup-still}
 use Rattle.call_entries.specs.Losing.{losses_of}
 use Rattle.call_entries.proofs.CallLaws.{all-losses}
 use Rattle.call_entries.proofs.PlainLaws.{one}
-use Rattle.array_kept.specs.Calls.{AreLossesOf, IsLossBy}
-use Rattle.array_kept.specs.Kept.{scope_in}
-use Rattle.array_kept.proofs.NowLaws.{length-more}
+use Rattle.moving_steps.specs.array_kept_Calls.{AreLossesOf, IsLossBy}
+use Rattle.moving_steps.specs.array_kept_Kept.{scope_in}
+use Rattle.moving_steps.proofs.array_kept_NowLaws.{length-more}
 use Rattle.grow_asked.specs.declared.window.PhasesLeft.{PhasesLeft}
 use Rattle.grow_asked.specs.declared.window.Window.TheVariants.{Closed}
 use Rattle.grow_asked.specs.Left.{IsAtStartOf, IsReshapeUnderWay, phases_of, grow_left, reshape_left, steps_from}
@@ -68,7 +68,7 @@ use Rattle.kept_history.specs.Recorded.{IsOpenBehind, IsLengthKept as IsResizeKe
 use Rattle.kept_history.specs.Safe.{world_in, TakesNone}
 use Rattle.kept_history.proofs.Entered.{lost-taken}
 use Rattle.kept_history.proofs.Tests.{neither}
-use Rattle.history_calls.proofs.Behind.{IsAmong, early-losses}
+use Rattle.moving_steps.proofs.history_calls_Behind.{IsAmong, early-losses}
 use Rattle.moving_steps.specs.course_kept_Laws.{closed}
 use Rattle.moving_steps.specs.moving_kept_Moving.{IsMoving}
 use Rattle.moving_steps.proofs.moving_kept_BegunCall.{IsBegunBy}

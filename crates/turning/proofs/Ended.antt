@@ -22,7 +22,7 @@ use Rattle.flat_history.specs.Losses.{is_unsynced}
 use Rattle.flat_history.specs.Plain.{entries_of}
 use Rattle.flat_history.specs.Reshaped.{open_plans}
 use Rattle.shape_changes.specs.Updates.{IsAtEnd}
-use Rattle.reshape_ends.specs.Finished.{AreLostInEnd}
+use Rattle.moving_steps.specs.reshape_ends_Finished.{AreLostInEnd}
 use Rattle.views.specs.declared.work.Work.{Work}
 use Rattle.views.specs.Numbers.{is_carried}
 use Rattle.views.specs.Placed.{is_vacant}
@@ -31,7 +31,7 @@ use Rattle.call_entries.specs.Losing.{losses_of}
 use Rattle.call_entries.proofs.CallLaws.{all-losses}
 use Rattle.call_entries.proofs.LosingLaws.{entries-both}
 use Rattle.call_entries.proofs.PlainLaws.{one}
-use Rattle.array_kept.specs.Calls.{AreLossesOf, IsLossBy}
+use Rattle.moving_steps.specs.array_kept_Calls.{AreLossesOf, IsLossBy}
 use Rattle.grow_asked.specs.declared.window.PhasesLeft.{PhasesLeft}
 use Rattle.grow_asked.specs.Left.{phases_of, zeroed_by}
 use Rattle.kept_history.specs.Recorded.{IsCallGoing}

@@ -18,7 +18,7 @@ use Rattle.flat_history.specs.Legal.{disturbs}
 use Rattle.flat_history.specs.Plain.{entries_of, loses_role}
 use Rattle.shape_views.proofs.Stands.{final-still}
 use Rattle.shape_ends.specs.Plans.{HasNoneRecovering}
-use Rattle.reshape_ends.specs.Finished.{IsOver}
+use Rattle.moving_steps.specs.reshape_ends_Finished.{IsOver}
 use Rattle.views.specs.declared.work.Work.{Work}
 use Rattle.views.specs.Placed.{is_vacant, AreWhole}
 use Rattle.views.specs.Status.{left_of, resync_left, recovery_left, role_left, rebuilt_of, stripes_of, spare_count, vacant_count}
@@ -28,7 +28,7 @@ use Rattle.grow_asked.specs.declared.window.PhasesLeft.{PhasesLeft}
 use Rattle.grow_asked.specs.declared.window.Window.TheVariants.{Closed}
 use Rattle.grow_asked.specs.Left.{IsReshapeUnderWay, phases_of, grow_left, reshape_left, zeroed_by}
 use Rattle.grow_asked.proofs.LeftLaws.{ending as ending-left}
-use Rattle.history_calls.proofs.Behind.{IsAmong}
+use Rattle.moving_steps.proofs.history_calls_Behind.{IsAmong}
 use Rattle.moving_steps.specs.course_kept_Laws.{closed}
 use Rattle.moving_ends.proofs.Ended.{IsStepped}
 use Rattle.moving_ends.proofs.Ending.{only-lost}

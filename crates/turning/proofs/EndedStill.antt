@@ -37,8 +37,8 @@ use Rattle.shape_changes.specs.Safety.{HasRoomLeft, IsRisen}
 use Rattle.shape_changes.specs.Steady.{AreUnlost, IsSafeOver, AreGoneTold, IsUncleanTold}
 use Rattle.shape_changes.specs.Updates.{IsAtEnd}
 use Rattle.shape_ends.specs.Plans.{HasNoneRecovering}
-use Rattle.reshape_updates.specs.Ending.{ending}
-use Rattle.reshape_ends.specs.Finished.{IsOver, IsEndedBehind, AreLostInEnd, IsFinishable}
+use Rattle.moving_steps.specs.reshape_updates_Ending.{ending}
+use Rattle.moving_steps.specs.reshape_ends_Finished.{IsOver, IsEndedBehind, AreLostInEnd, IsFinishable}
 use Rattle.views.specs.declared.work.Work.{Work}
 use Rattle.views.specs.Moving.{Grows}
 use Rattle.views.specs.Numbers.{is_carried}
@@ -55,7 +55,7 @@ use Rattle.kept_history.specs.Safe.{world_in, TakesNone, KeepsLevel}
 use Rattle.kept_history.proofs.Entered.{lost-taken}
 use Rattle.kept_history.proofs.Ledgers.{unsynced-still}
 use Rattle.kept_history.proofs.Tests.{neither}
-use Rattle.history_calls.proofs.Behind.{IsAmong}
+use Rattle.moving_steps.proofs.history_calls_Behind.{IsAmong}
 use Rattle.moving_steps.specs.course_kept_Laws.{closed}
 use Rattle.moving_steps.specs.moving_kept_Moving.{IsMoving, IsStillKept}
 use Rattle.moving_ends.proofs.Ended.{IsPlannedTo, IsStepped}

@@ -40,26 +40,26 @@ use Rattle.shape_changes.specs.Safety.{HasRoomLeft, IsRisen}
 use Rattle.shape_changes.specs.Steady.{IsSafeOver, KeepsSafe, AreGoneTold, IsUncleanTold}
 use Rattle.shape_ends.specs.Plans.{HasNoneRecovering}
 use Rattle.shape_changes.proofs.Without.{any-holds}
-use Rattle.reshape_updates.specs.Ending.{holds_from, dropped_give, ending}
-use Rattle.reshape_updates.proofs.EndedPlan.{disks-are}
-use Rattle.reshape_ends.specs.Finished.{AreLostInEnd, IsEndedBehind, IsOver}
-use Rattle.reshape_ends.proofs.Made.{spare-planned}
+use Rattle.moving_steps.specs.reshape_updates_Ending.{holds_from, dropped_give, ending}
+use Rattle.moving_steps.proofs.reshape_updates_EndedPlan.{disks-are}
+use Rattle.moving_steps.specs.reshape_ends_Finished.{AreLostInEnd, IsEndedBehind, IsOver}
+use Rattle.moving_steps.proofs.reshape_ends_Made.{spare-planned}
 use Rattle.views.specs.declared.work.Work.{Work}
 use Rattle.views.specs.Lacking.{AreLostSince, AreTooMany, HaveFailedSince}
 use Rattle.views.specs.Moving.{Grows, IsMoved}
 use Rattle.views.specs.Placed.{is_vacant, AreWhole, IsPlaced}
 use Rattle.views.specs.Rebuilding.{AreSparesFree}
 use Rattle.views.proofs.Still.{count-still}
-use Rattle.safe_updates.specs.Unused.{IsUnusedKept}
+use Rattle.moving_steps.specs.safe_updates_Unused.{IsUnusedKept}
 use Rattle.moving_steps.specs.window_steps_Zeroing.{IsThrough}
 use Rattle.moving_steps.specs.region_mends_Mends.{mend_stripes}
 use Rattle.call_entries.specs.Losing.{losses_of}
-use Rattle.array_kept.specs.Calls.{TellNoLoss}
+use Rattle.moving_steps.specs.array_kept_Calls.{TellNoLoss}
 use Rattle.grow_asked.specs.declared.window.PhasesLeft.{PhasesLeft}
 use Rattle.grow_asked.specs.Left.{zeroed_by}
 use Rattle.kept_history.specs.Recorded.{IsCallGoing}
 use Rattle.kept_history.specs.Safe.{world_in}
-use Rattle.history_calls.proofs.Behind.{IsAmong}
+use Rattle.moving_steps.proofs.history_calls_Behind.{IsAmong}
 use Rattle.moving_steps.specs.course_kept_the_Course.{Course}
 use Rattle.moving_steps.specs.course_kept_Course.{IsCourseOf}
 use Rattle.moving_steps.specs.course_kept_Laws.{closed}

@@ -27,10 +27,10 @@ use Rattle.shape_ends.specs.Plans.{HasNoneRecovering}
 use Rattle.views.specs.declared.work.Work.{Work}
 use Rattle.views.specs.Moving.{Grows}
 use Rattle.views.proofs.MovedLaws.{moved-same}
-use Rattle.array_kept.proofs.KeptLaws.{left-lost}
+use Rattle.moving_steps.proofs.array_kept_KeptLaws.{left-lost}
 use Rattle.kept_history.specs.Recorded.{IsCallGoing}
 use Rattle.kept_history.specs.Safe.{world_in}
-use Rattle.history_calls.proofs.Behind.{AreEarly}
+use Rattle.moving_steps.proofs.history_calls_Behind.{AreEarly}
 use Rattle.moving_steps.specs.still_kept_Still.{HasListStood, IsStill}
 use Rattle.moving_steps.proofs.still_kept_Quiet.{early-stands}
 use Rattle.moving_steps.proofs.still_kept_Refusals.{quiet-refusal, IsRefusedStill, refused-right}

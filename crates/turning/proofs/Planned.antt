@@ -27,11 +27,11 @@ use Rattle.shape_changes.specs.Steady.{AreUnlost}
 use Rattle.shape_changes.specs.Updates.{HasOneHolder}
 use Rattle.shape_changes.proofs.PlannedRoles.{count-planned, planned-held}
 use Rattle.shape_ends.specs.Plans.{HasNoneRecovering}
-use Rattle.reshape_updates.specs.Beginning.{beginning}
-use Rattle.reshape_updates.proofs.BegunPlan.{new-count, taking}
-use Rattle.reshape_updates.proofs.NewRoles.{new-or, new-taken}
-use Rattle.reshape_updates.proofs.Taken.{taking-one}
-use Rattle.reshape_ends.specs.Begun.{begun_plan}
+use Rattle.moving_steps.specs.reshape_updates_Beginning.{beginning}
+use Rattle.moving_steps.proofs.reshape_updates_BegunPlan.{new-count, taking}
+use Rattle.moving_steps.proofs.reshape_updates_NewRoles.{new-or, new-taken}
+use Rattle.moving_steps.proofs.reshape_updates_Taken.{taking-one}
+use Rattle.moving_steps.specs.reshape_ends_Begun.{begun_plan}
 use Rattle.views.specs.Lacking.{AreLostSince, HaveFailedSince}
 use Rattle.views.specs.Moving.{IsMoved}
 use Rattle.views.specs.Placed.{is_vacant, IsPlaced}
@@ -40,7 +40,7 @@ use Rattle.views.proofs.Fit.{count-alike, roles-still}
 use Rattle.views.proofs.LackingLaws.{since-missing}
 use Rattle.views.proofs.LiveLeft.{holder-left}
 use Rattle.views.proofs.MarkLaws.{role_from-found}
-use Rattle.history_calls.proofs.Behind.{IsAmong}
+use Rattle.moving_steps.proofs.history_calls_Behind.{IsAmong}
 use Rattle.moving_steps.specs.still_kept_Still.{AreNoneMissing}
 use Rattle.moving_steps.proofs.still_kept_Stood.{within-count}
 use Rattle.turning.specs.Begun.{CanBegin}

@@ -27,9 +27,9 @@ use Rattle.views.specs.Placed.{is_vacant, AreStillHeld}
 use Rattle.views.specs.Lacking.{HaveRolesFailed}
 use Rattle.views.specs.Moving.{Grows}
 use Rattle.views.specs.Status.{spare_count}
-use Rattle.array_kept.specs.Calls.{AreSparesFewer, AreLossesOf, IsEndOf}
-use Rattle.reshape_updates.specs.Beginning.{goes_back}
-use Rattle.reshape_ends.specs.Begun.{begun_plan}
+use Rattle.moving_steps.specs.array_kept_Calls.{AreSparesFewer, AreLossesOf, IsEndOf}
+use Rattle.moving_steps.specs.reshape_updates_Beginning.{goes_back}
+use Rattle.moving_steps.specs.reshape_ends_Begun.{begun_plan}
 use Rattle.grow_asked.specs.declared.window.PhasesLeft.{PhasesLeft}
 use Rattle.grow_asked.specs.Left.{IsAtStartOf}
 use Rattle.grow_asked.specs.Asked.{lowest_missing}

@@ -16,11 +16,11 @@ use Rattle.flat_history.specs.declared.events.StepKind.TheVariants.{Finished}
 use Rattle.flat_history.specs.Plain.{entries_of}
 use Rattle.call_entries.specs.Losing.{losses_of}
 use Rattle.shape_changes.specs.Marking.{AreOthersPresent}
-use Rattle.reshape_ends.specs.Finished.{IsOver}
+use Rattle.moving_steps.specs.reshape_ends_Finished.{IsOver}
 use Rattle.views.specs.Lacking.{AreTooMany}
 use Rattle.views.specs.Moving.{Grows}
 use Rattle.views.specs.Placed.{is_vacant, AreStillHeld, AreWhole}
-use Rattle.array_kept.specs.Calls.{AreLossesOf, IsEndOf, TellNoLoss}
+use Rattle.moving_steps.specs.array_kept_Calls.{AreLossesOf, IsEndOf, TellNoLoss}
 use Rattle.moving_steps.specs.course_kept_Laws.{closed}
 use Rattle.moving_steps.specs.running_words_Parts.{RunningParts, left_in, still_left}
 use Rattle.turning.specs.Begun.{StaysItself, AreSparesKeptOrFailed}

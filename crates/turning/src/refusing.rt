@@ -9,8 +9,8 @@ ghost use Rattle.moving_steps.specs.still_kept_Still.{AreNoneMissing};
 ghost use Rattle.turning.specs.Begun.{CanBegin, IsUnbegun};
 
 use md_base::{Refusal, Shape};
+use moving_steps::safe_updates::roles::{is_spare, shape_in};
 use row_io::is_missing;
-use safe_updates::roles::{is_spare, shape_in};
 use superblocks::Members;
 
 // The lowest role that isn't whole.

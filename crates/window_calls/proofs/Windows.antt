@@ -36,7 +36,7 @@ use Rattle.views.proofs.HeldRows.{held-moved, without-before}
 use Rattle.views.proofs.LackingLists.{row-moved}
 use Rattle.views.proofs.LackingWrites.{others-then}
 use Rattle.views.proofs.SafeStretch.{allowed-later, zeros-later, gone-before}
-use Rattle.safe_updates.proofs.Under.{shown-moved, shown-rows-moved}
+use Rattle.window_steps.proofs.safe_updates_Under.{shown-moved, shown-rows-moved}
 use Rattle.window_steps.specs.Copying.{AreHeadersKept}
 use Rattle.window_steps.specs.Recording.{AreOthersFewer, IsCopiedWindow}
 use Rattle.window_steps.proofs.CopyLaws.{row-later, tail-alike, copyable-later}

@@ -13,7 +13,7 @@ ghost use Rattle.shape_views.specs.Views.{Ledger};
 ghost use Rattle.shape_changes.specs.Steady.{AreUnlost, IsSafeOver, KeepsSafe, AreGoneTold, IsUncleanTold};
 ghost use Rattle.shape_changes.specs.Marking.{AreOthersPresent};
 ghost use Rattle.shape_changes.specs.Safety.{HasRoomLeft, IsRisen};
-ghost use Rattle.safe_updates.specs.Unused.{IsUnusedKept};
+ghost use Rattle.window_steps.specs.safe_updates_Unused.{IsUnusedKept};
 ghost use Rattle.views.specs.Placed.{AreWhole, IsPlaced};
 ghost use Rattle.views.specs.Rebuilding.{AreSparesFree};
 ghost use Rattle.views.specs.Moving.{Grows, IsMoved};
@@ -25,9 +25,9 @@ ghost use Rattle.window_calls.specs.Fetching.{IsShapeBeside, IsUnreadBeside};
 use bank::Bank;
 use md_base::{Refusal, Span};
 use region_rows::fetching::{fetch_list, read_regions};
-use safe_rows::fetching::Fetched;
-use safe_updates::naming::name_missing;
+use region_rows::safe_rows::fetching::Fetched;
 use superblocks::Members;
+use window_steps::safe_updates::naming::name_missing;
 
 // The window's part of the sectors from `first` up to `to`, which may be empty.
 fn part_of(span: &Span, first: u64, to: u64) -> Span

@@ -22,7 +22,7 @@ use Rattle.shape_views.proofs.Headers.{backup-is, own-header}
 use Rattle.shape_views.proofs.Stands.{alone}
 use Rattle.views.specs.Moving.{IsMoved}
 use Rattle.views.proofs.LackingLists.{row-sector}
-use Rattle.safe_updates.specs.Unused.{IsUnused, IsUnusedKept}
+use Rattle.course_kept.specs.safe_updates_Unused.{IsUnused, IsUnusedKept}
 use Rattle.window_rows.specs.Copies.{IsRoomFor}
 use Rattle.grow_asked.specs.declared.window.Window.TheVariants.{Closed, Entered}
 use Rattle.course_kept.specs.Course.{IsStored}

@@ -24,8 +24,8 @@ use Rattle.views.specs.Lacking.{AreOtherRowsKept, AreTooMany}
 use Rattle.views.specs.Moving.{IsMoved}
 use Rattle.views.specs.Placed.{IsPlaced}
 use Rattle.views.proofs.LackingWrites.{others-same}
-use Rattle.safe_updates.specs.Unused.{IsUnused, IsUnusedKept}
-use Rattle.safe_updates.proofs.Unused.{unused-moved, unused-role}
+use Rattle.course_kept.specs.safe_updates_Unused.{IsUnused, IsUnusedKept}
+use Rattle.course_kept.proofs.safe_updates_Unused.{unused-moved, unused-role}
 use Rattle.window_rows.specs.Copies.{HasWindow, IsRoomFor}
 use Rattle.course_kept.proofs.window_steps_CopyLaws.{open-alike}
 use Rattle.grow_asked.specs.declared.window.Window.{Window}

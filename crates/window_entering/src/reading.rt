@@ -18,15 +18,15 @@ ghost use Rattle.views.specs.Placed.{AreWhole, IsPlaced};
 ghost use Rattle.views.specs.Moving.{Grows, IsMoved};
 ghost use Rattle.views.specs.Rebuilding.{AreSparesFree};
 ghost use Rattle.views.specs.Lacking.{AreLostSince, AreTooMany};
-ghost use Rattle.safe_updates.specs.Unused.{IsUnusedKept};
+ghost use Rattle.course_kept.specs.safe_updates_Unused.{IsUnusedKept};
 ghost use Rattle.window_rows.specs.Copies.{HasWindow, IsRoomFor};
 
 use bank::Bank;
+use course_kept::safe_updates::naming::newly_vacant;
+use course_kept::safe_updates::refusing::too_many;
+use course_kept::safe_updates::roles::vacant_roles;
 use md_base::{Refusal, Span};
 use region_rows::fetching::fetch_list;
-use safe_updates::naming::newly_vacant;
-use safe_updates::refusing::too_many;
-use safe_updates::roles::vacant_roles;
 use superblocks::Members;
 
 /// The roles and the spares that were lost as a window was read, and why it can't be entered.

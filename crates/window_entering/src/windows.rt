@@ -19,7 +19,7 @@ ghost use Rattle.views.specs.Placed.{AreWhole, IsPlaced};
 ghost use Rattle.views.specs.Moving.{Grows, IsMoved};
 ghost use Rattle.views.specs.Rebuilding.{AreSparesFree};
 ghost use Rattle.views.specs.Lacking.{AreLostSince, AreOtherRowsKept, AreTooMany};
-ghost use Rattle.safe_updates.specs.Unused.{IsUnused};
+ghost use Rattle.course_kept.specs.safe_updates_Unused.{IsUnused};
 ghost use Rattle.window_rows.specs.Copies.{IsRoomFor};
 ghost use Rattle.grow_asked.specs.declared.window.Window.TheVariants.{Closed as NoWindow, Entered as IsEnteredWindow, Unsure as IsUnsureWindow};
 ghost use Rattle.course_kept.specs.Course.{HasWindowIn, IsStored};

@@ -10,4 +10,5 @@ mod zeroing;
 pub use copying::{Stepped, copy};
 pub use entering::{Entered, NotEntered, enter_window};
 pub use recording::record;
+pub use safe_updates;
 pub use zeroing::zero;

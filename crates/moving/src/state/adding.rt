@@ -11,19 +11,19 @@ ghost use Rattle.flat_history.specs.declared.events.Request.TheVariants.{Add as 
 ghost use Rattle.shape_changes.specs.Marking.{AreOthersPresent};
 ghost use Rattle.views.specs.Lacking.{HaveRolesFailed, AreUnnamed};
 ghost use Rattle.views.specs.Numbers.{free_number};
-ghost use Rattle.array_kept.specs.Calls.{IsUnaddable, IsAddedFor, IsAddedAs, IsAnswered, OnNoMemory};
+ghost use Rattle.moving_laws.specs.array_kept_Calls.{IsUnaddable, IsAddedFor, IsAddedAs, IsAnswered, OnNoMemory};
 ghost use Rattle.moving_laws.specs.running_words_Adding.{IsAddCalled};
 
 use crate::state::Moving;
 use array_state::adding::{spare_for, unaddable};
+use array_state::safe_additions::adding::{add_member, look_at};
+use array_state::safe_additions::device::free_number;
 use bank::Bank;
 use call_entries::calls::{check_number, enter, enter_behind};
 use flat_history::Event;
 use md_base::{Fault, Refusal, Who};
-use safe_additions::adding::{add_member, look_at};
-use safe_additions::device::free_number;
-use safe_updates::naming::{has_unnamed, newly_vacant};
-use safe_updates::roles::vacant_roles;
+use moving_laws::safe_updates::naming::{has_unnamed, newly_vacant};
+use moving_laws::safe_updates::roles::vacant_roles;
 use superblocks::sets::{contains, with, without};
 
 impl<B: Bank> Moving<B> {

@@ -4,7 +4,7 @@ ghost use Rattle.std.specs.Prelude.{◌≡◌, ◌≢◌, ◌≤◌, [], ◌∷�
 ghost use Rattle.superblocks.specs.Reading.{list_length};
 ghost use Rattle.flat_history.specs.Flat.{next_number};
 ghost use Rattle.flat_history.specs.declared.events.Event.TheVariants.{Shown};
-ghost use Rattle.array_kept.specs.Calls.{IsEntered, IsEndOf};
+ghost use Rattle.moving_laws.specs.array_kept_Calls.{IsEntered, IsEndOf};
 ghost use Rattle.moving_laws.specs.running_words_Calls.{moving_world, IsStatusFor, IsSameReshape};
 ghost use Rattle.moving_laws.specs.running_words_Parts.{visible_in};
 
@@ -16,7 +16,7 @@ use flat_history::Event;
 use geometry::list_end;
 use md_base::{NoMemory, Status, Who};
 use moving_laws::moving_state::asking::visible;
-use safe_updates::roles::{final_in, shape_in};
+use moving_laws::safe_updates::roles::{final_in, shape_in};
 use superblocks::says::is_clean;
 
 impl<B: Bank> Moving<B> {

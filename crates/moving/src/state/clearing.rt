@@ -9,7 +9,7 @@ ghost use Rattle.bank.specs.Given.{IsFaulted};
 ghost use Rattle.superblocks.specs.Reading.{list_length};
 ghost use Rattle.flat_history.specs.Flat.{next_number};
 ghost use Rattle.views.specs.Lacking.{HaveRolesFailed};
-ghost use Rattle.array_kept.specs.Calls.{IsCausedBy, OnNoMemory};
+ghost use Rattle.moving_laws.specs.array_kept_Calls.{IsCausedBy, OnNoMemory};
 ghost use Rattle.grow_asked.specs.declared.window.Window.TheVariants.{Unsure as IsUnsureWindow};
 ghost use Rattle.kept_history.specs.Recorded.{IsCallGoing};
 ghost use Rattle.moving_laws.specs.region_mends_Mends.{relied_sector};

@@ -10,8 +10,8 @@ ghost use Rattle.md_base.specs.declared.answers.Refusal.{Refusal};
 ghost use Rattle.superblocks.specs.Reading.{list_length};
 ghost use Rattle.views.specs.Moving.{Grows};
 ghost use Rattle.views.specs.Lacking.{AreTooMany, HaveRolesFailed};
-ghost use Rattle.array_kept.specs.Calls.{IsEntered, IsBehind, IsUnsettled, IsFaultFor, AreLossesOf, IsEndOf};
-ghost use Rattle.history_calls.specs.Reliable.{IsReliable};
+ghost use Rattle.moving_laws.specs.array_kept_Calls.{IsEntered, IsBehind, IsUnsettled, IsFaultFor, AreLossesOf, IsEndOf};
+ghost use Rattle.moving_laws.specs.history_calls_Reliable.{IsReliable};
 ghost use Rattle.moving_laws.specs.running_words_Calls.{IsCalled, IsEpochKept};
 
 use crate::state::Moving;

@@ -22,8 +22,8 @@ use grow_asked::Window;
 use md_base::{Fault, Who};
 use moving_laws::course_kept::Course;
 use moving_laws::moving_state::reshape::{is_window_critical, list_sectors, next_window_of};
+use moving_laws::safe_updates::refusing::too_many;
 use moving_laws::window_entering::enter_next;
-use safe_updates::refusing::too_many;
 use superblocks::Members;
 
 // Whether a window is unsure, and no more roles are missing than the shapes in force tolerate.

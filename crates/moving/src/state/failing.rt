@@ -7,7 +7,7 @@ ghost use Rattle.flat_history.specs.Flat.{next_number};
 ghost use Rattle.flat_history.specs.declared.events.Event.TheVariants.{Failed};
 ghost use Rattle.flat_history.specs.declared.events.Request.TheVariants.{Fail as AsksFail};
 ghost use Rattle.shape_changes.specs.Marking.{AreOthersPresent};
-ghost use Rattle.array_kept.specs.Calls.{HasRole, IsAnswered, IsFailedFor, OnNoMemory};
+ghost use Rattle.moving_laws.specs.array_kept_Calls.{HasRole, IsAnswered, IsFailedFor, OnNoMemory};
 ghost use Rattle.moving_laws.specs.running_words_Calls.{IsCalled};
 
 use crate::state::Moving;
@@ -15,9 +15,9 @@ use bank::Bank;
 use call_entries::calls::{check_number, enter, enter_behind};
 use flat_history::{Event, LostCause};
 use md_base::{Fault, Refusal, Role, Who};
+use moving_laws::safe_updates::naming::{name_missing, newly_vacant};
+use moving_laws::safe_updates::roles::vacant_roles;
 use row_io::lose_slot;
-use safe_updates::naming::{name_missing, newly_vacant};
-use safe_updates::roles::vacant_roles;
 use superblocks::Members;
 
 // The slot that holds a role, whole or in part.

@@ -19,10 +19,10 @@ ghost use Rattle.views.specs.Placed.{IsPlaced};
 ghost use Rattle.views.specs.Moving.{Grows, IsMoved};
 ghost use Rattle.views.specs.Rebuilding.{AreSparesFree};
 ghost use Rattle.views.specs.Lacking.{HaveFailedSince, HaveRolesFailed, AreLostSince, AreTooMany, AreOtherRowsKept};
-ghost use Rattle.safe_updates.specs.Unused.{IsUnusedKept};
+ghost use Rattle.moving_laws.specs.safe_updates_Unused.{IsUnusedKept};
 ghost use Rattle.window_rows.specs.Copies.{tail_of, IsCopied};
 ghost use Rattle.moving_laws.specs.window_calls_Finishing.{IsOfRest, AreStripesCopied, IsOpenWindow};
-ghost use Rattle.array_kept.specs.Calls.{IsCausedBy};
+ghost use Rattle.moving_laws.specs.array_kept_Calls.{IsCausedBy};
 ghost use Rattle.kept_history.specs.Recorded.{IsCallGoing};
 ghost use Rattle.moving_laws.specs.region_mends_Mends.{relied_sector};
 ghost use Rattle.moving_laws.specs.course_kept_Laws.{closed};
@@ -40,10 +40,10 @@ use flat_history::{Event, StepKind};
 use grow_asked::Window;
 use md_base::{Fault, Refusal, Span, Who};
 use moving_laws::course_kept::Course;
+use moving_laws::safe_updates::naming::newly_vacant;
+use moving_laws::safe_updates::refusing::too_many;
+use moving_laws::safe_updates::roles::{final_in, vacant_roles};
 use moving_laws::window_calls::finish_window;
-use safe_updates::naming::newly_vacant;
-use safe_updates::refusing::too_many;
-use safe_updates::roles::{final_in, vacant_roles};
 use superblocks::Members;
 
 // The roles and the spares that were lost as a window was finished, how many of its stripes are copied, and why it isn't.

@@ -8,9 +8,9 @@ ghost use Rattle.flat_history.specs.Sound.{OpensFit};
 ghost use Rattle.flat_history.specs.World.{opening_list};
 ghost use Rattle.flat_history.specs.declared.events.StepKind.TheVariants.{ResyncStripe as MendsStripe, ResyncEnded as EndsResync};
 ghost use Rattle.views.specs.Lacking.{AreHoldersFlushed, AreTooMany};
-ghost use Rattle.safe_updates.specs.First.{IsFirstRefused};
+ghost use Rattle.moving_laws.specs.safe_updates_First.{IsFirstRefused};
 ghost use Rattle.moving_laws.specs.region_mends_Mends.{mend_shape, mend_refusal, IsNotMended};
-ghost use Rattle.array_kept.specs.Calls.{one_more, by_answer, IsCausedBy};
+ghost use Rattle.moving_laws.specs.array_kept_Calls.{one_more, by_answer, IsCausedBy};
 ghost use Rattle.kept_history.specs.Recorded.{IsCallGoing};
 ghost use Rattle.moving_laws.specs.running_words_Parts.{left_in};
 ghost use Rattle.moving_laws.specs.running_words_Calls.{moving_world, IsStepTaken};
@@ -23,10 +23,10 @@ use call_entries::calls::{enter, enter_behind};
 use flat_history::{Event, StepKind};
 use md_base::{Fault, Who};
 use moving_laws::region_mends::mending::{mend_list, unmended};
-use safe_updates::naming::newly_vacant;
-use safe_updates::refusing::too_many;
-use safe_updates::roles::vacant_roles;
-use safe_updates::settles::settle;
+use moving_laws::safe_updates::naming::newly_vacant;
+use moving_laws::safe_updates::refusing::too_many;
+use moving_laws::safe_updates::roles::vacant_roles;
+use moving_laws::safe_updates::settles::settle;
 
 impl<B: Bank> Moving<B> {
     /// A step of the pending resync, while no window is entered: makes the parity of its next stripe fit the data, by the shape of its

@@ -18,11 +18,11 @@ ghost use Rattle.views.specs.Placed.{IsPlaced};
 ghost use Rattle.views.specs.Moving.{Grows, IsMoved};
 ghost use Rattle.views.specs.Rebuilding.{AreSparesFree};
 ghost use Rattle.views.specs.Lacking.{AreLostSince, AreTooMany, AreOtherRowsKept, IsOfStripe};
-ghost use Rattle.safe_updates.specs.Unused.{IsUnusedKept};
+ghost use Rattle.moving_laws.specs.safe_updates_Unused.{IsUnusedKept};
 ghost use Rattle.grow_asked.specs.Left.{stripes_in};
 ghost use Rattle.window_rows.specs.Copies.{tail_of, IsCopied};
 ghost use Rattle.moving_laws.specs.course_kept_Laws.{entered, next_stripe};
-ghost use Rattle.array_kept.specs.Calls.{IsCausedBy};
+ghost use Rattle.moving_laws.specs.array_kept_Calls.{IsCausedBy};
 ghost use Rattle.kept_history.specs.Recorded.{IsCallGoing};
 ghost use Rattle.moving_laws.specs.running_words_Parts.{left_in};
 ghost use Rattle.moving_laws.specs.running_words_Calls.{IsCalled, IsStepTaken, IsCopyDue};
@@ -34,11 +34,11 @@ use flat_history::{Entries, Event, StepKind};
 use grow_asked::Window;
 use md_base::{Fault, Refusal, Span, Who};
 use moving_laws::moving_state::reshape::stripe_to_copy;
-use safe_updates::naming::newly_vacant;
-use safe_updates::refusing::too_many;
-use safe_updates::roles::{final_in, vacant_roles};
+use moving_laws::safe_updates::naming::newly_vacant;
+use moving_laws::safe_updates::refusing::too_many;
+use moving_laws::safe_updates::roles::{final_in, vacant_roles};
+use moving_laws::window_steps::copy;
 use superblocks::Members;
-use window_steps::copy;
 
 // The number of a call that goes on is at most the number of entries.
 pub(crate) fn check_going(entries: &Entries, who: Who)

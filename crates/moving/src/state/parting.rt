@@ -1,7 +1,7 @@
 //! An array in a reshape is taken apart, and put together again.
 
 ghost use Rattle.std.specs.Prelude.{◌≡◌, Some, length, vec_capacity};
-ghost use Rattle.array_kept.specs.Kept.{scope_in};
+ghost use Rattle.moving_laws.specs.array_kept_Kept.{scope_in};
 ghost use Rattle.moving_laws.specs.Ready.{IsReady};
 
 use super::Moving;

@@ -11,11 +11,11 @@ ghost use Rattle.flat_history.specs.declared.events.Event.TheVariants.{Read};
 ghost use Rattle.flat_history.specs.declared.events.Request.TheVariants.{Read as AsksRead};
 ghost use Rattle.shape_changes.specs.Marking.{AreOthersPresent};
 ghost use Rattle.views.specs.Lacking.{HaveRolesFailed};
-ghost use Rattle.array_kept.specs.Calls.{IsAnswered, IsCausedBy, IsRefusalOf, OnNoMemory};
+ghost use Rattle.moving_laws.specs.array_kept_Calls.{IsAnswered, IsCausedBy, IsRefusalOf, OnNoMemory};
 ghost use Rattle.moving_laws.specs.region_mends_Mends.{relied_sector};
 ghost use Rattle.moving_laws.specs.course_kept_Course.{hidden_in};
 ghost use Rattle.moving_laws.specs.moving_state_First.{IsUnreadAround};
-ghost use Rattle.history_calls.specs.Reliable.{IsReliable};
+ghost use Rattle.moving_laws.specs.history_calls_Reliable.{IsReliable};
 ghost use Rattle.moving_laws.specs.running_words_Calls.{moving_world, IsCalled};
 ghost use Rattle.moving_laws.specs.running_words_Parts.{visible_in};
 ghost use Rattle.moving_laws.specs.Refusing.{first_refusal, IsFirstFor};
@@ -30,9 +30,9 @@ use moving_laws::moving_state::asking::visible;
 use moving_laws::moving_state::refusing::unread_from;
 use moving_laws::moving_state::windows::hidden_span;
 use moving_laws::region_mends::stripes::relied_sector;
+use moving_laws::safe_updates::naming::newly_vacant;
+use moving_laws::safe_updates::roles::vacant_roles;
 use moving_laws::window_calls::fetch_beside;
-use safe_updates::naming::newly_vacant;
-use safe_updates::roles::vacant_roles;
 
 // How many bytes the sectors of this window have; none where there is none.
 fn bytes_of(hidden: Option<Span>, most: usize) -> usize

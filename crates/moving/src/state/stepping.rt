@@ -1,7 +1,7 @@
 //! The step that is due.
 
 ghost use Rattle.std.specs.Prelude.{◌≡◌, ◌≢◌, ◌⊎◌, ◌+◌, ◌≤◌, OnOk, OnErr};
-ghost use Rattle.array_kept.specs.Calls.{by_answer};
+ghost use Rattle.moving_laws.specs.array_kept_Calls.{by_answer};
 ghost use Rattle.kept_history.specs.Recorded.{IsCallGoing};
 ghost use Rattle.moving_laws.specs.moving_state_Due.{due_of};
 ghost use Rattle.moving_laws.specs.moving_state_the_Due_TheVariants.{Finish as EndsReshape};

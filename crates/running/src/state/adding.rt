@@ -8,7 +8,7 @@ ghost use Rattle.flat_history.specs.declared.events.Event.TheVariants.{Added};
 ghost use Rattle.flat_history.specs.declared.events.Request.TheVariants.{Add as AsksAdd};
 ghost use Rattle.shape_changes.specs.Marking.{AreOthersPresent};
 ghost use Rattle.views.specs.Lacking.{HaveRolesFailed};
-ghost use Rattle.array_kept.specs.Calls.{IsAddedFor, IsAddedAs, IsAnswered, OnNoMemory};
+ghost use Rattle.growing.specs.array_kept_Calls.{IsAddedFor, IsAddedAs, IsAnswered, OnNoMemory};
 ghost use Rattle.growing.specs.running_words_Adding.{IsAddCalled};
 
 use crate::state::{Running, State, check_moving, check_still};

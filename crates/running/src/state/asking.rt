@@ -4,7 +4,7 @@ ghost use Rattle.std.specs.Prelude.{◌≡◌, ◌≢◌, ◌≤◌, [], ◌∷�
 ghost use Rattle.superblocks.specs.Reading.{is_reshaping, list_length};
 ghost use Rattle.flat_history.specs.Flat.{next_number, length_of, limit_of};
 ghost use Rattle.flat_history.specs.declared.events.Event.TheVariants.{Shown};
-ghost use Rattle.array_kept.specs.Calls.{IsEntered, IsEndOf};
+ghost use Rattle.growing.specs.array_kept_Calls.{IsEntered, IsEndOf};
 ghost use Rattle.growing.specs.running_words_Parts.{visible_in};
 ghost use Rattle.growing.specs.running_words_Calls.{moving_world, IsSameReshape};
 ghost use Rattle.running.specs.Calls.{running_left, IsShownAs};

@@ -7,7 +7,7 @@ ghost use Rattle.flat_history.specs.Flat.{next_number};
 ghost use Rattle.flat_history.specs.declared.events.Event.TheVariants.{Failed};
 ghost use Rattle.flat_history.specs.declared.events.Request.TheVariants.{Fail as AsksFail};
 ghost use Rattle.shape_changes.specs.Marking.{AreOthersPresent};
-ghost use Rattle.array_kept.specs.Calls.{IsAnswered, IsFailedFor, OnNoMemory};
+ghost use Rattle.growing.specs.array_kept_Calls.{IsAnswered, IsFailedFor, OnNoMemory};
 ghost use Rattle.growing.specs.running_words_Calls.{IsCalled};
 
 use crate::state::{Running, State, check_moving, check_still};

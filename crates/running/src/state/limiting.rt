@@ -7,7 +7,7 @@ ghost use Rattle.superblocks.specs.Reading.{list_length};
 ghost use Rattle.flat_history.specs.Flat.{next_number};
 ghost use Rattle.flat_history.specs.declared.events.Event.TheVariants.{Visible, Refused};
 ghost use Rattle.flat_history.specs.declared.events.Request.TheVariants.{Visible as AsksVisible};
-ghost use Rattle.array_kept.specs.Calls.{OnNoMemory, IsEndOf, by_answer};
+ghost use Rattle.growing.specs.array_kept_Calls.{OnNoMemory, IsEndOf, by_answer};
 ghost use Rattle.grow_asked.specs.Left.{phases_of};
 ghost use Rattle.growing.specs.running_words_Parts.{visible_in};
 ghost use Rattle.growing.specs.running_words_Calls.{moving_world};

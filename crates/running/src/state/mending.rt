@@ -11,7 +11,7 @@ ghost use Rattle.flat_history.specs.declared.events.StepKind.TheVariants.{Rebuil
 ghost use Rattle.views.specs.Status.{left_of};
 ghost use Rattle.views.specs.Lacking.{AreHoldersFlushed, RowsStand};
 ghost use Rattle.shape_views.specs.Regions.{DoWithout};
-ghost use Rattle.array_kept.specs.Calls.{AreHeldOrSpare, IsWholeOrLost, by_answer, AreStepsFewer, AreStepsKept, AreValuesKept, IsCausedBy};
+ghost use Rattle.growing.specs.array_kept_Calls.{AreHeldOrSpare, IsWholeOrLost, by_answer, AreStepsFewer, AreStepsKept, AreValuesKept, IsCausedBy};
 ghost use Rattle.kept_history.specs.Recorded.{IsCallGoing};
 ghost use Rattle.growing.specs.running_words_Parts.{still_left};
 ghost use Rattle.growing.specs.running_words_Calls.{moving_world};

@@ -7,7 +7,7 @@ ghost use Rattle.grow_plan.specs.Plans.{largest_window};
 ghost use Rattle.superblocks.specs.Reading.{shape_of, list_length};
 ghost use Rattle.flat_history.specs.Flat.{next_number, visible_of};
 ghost use Rattle.flat_history.specs.declared.events.Event.TheVariants.{Planned, Refused};
-ghost use Rattle.array_kept.specs.Calls.{OnNoMemory, IsEndOf};
+ghost use Rattle.growing.specs.array_kept_Calls.{OnNoMemory, IsEndOf};
 ghost use Rattle.grow_asked.specs.Left.{phases_of};
 ghost use Rattle.growing.specs.running_words_Parts.{visible_in, still_left};
 ghost use Rattle.growing.specs.running_words_Calls.{moving_world};

@@ -12,8 +12,8 @@ ghost use Rattle.flat_history.specs.declared.events.Request.TheVariants.{Read as
 ghost use Rattle.shape_changes.specs.Marking.{AreOthersPresent};
 ghost use Rattle.views.specs.Lacking.{HaveRolesFailed, mended_rows};
 ghost use Rattle.views.specs.Placed.{AreWhole};
-ghost use Rattle.safe_updates.specs.First.{read_refusal, call_refusal, IsFirstRefused};
-ghost use Rattle.array_kept.specs.Calls.{IsAnswered, IsCausedBy, OnNoMemory};
+ghost use Rattle.growing.specs.safe_updates_First.{read_refusal, call_refusal, IsFirstRefused};
+ghost use Rattle.growing.specs.array_kept_Calls.{IsAnswered, IsCausedBy, OnNoMemory};
 ghost use Rattle.growing.specs.running_words_Parts.{visible_in};
 ghost use Rattle.growing.specs.running_words_Calls.{moving_world, IsCalled};
 ghost use Rattle.running.specs.Calls.{IsReadRight, IsReadLacked};

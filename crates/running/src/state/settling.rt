@@ -8,7 +8,7 @@ ghost use Rattle.flat_history.specs.declared.events.Event.TheVariants.{Flushed};
 ghost use Rattle.flat_history.specs.declared.events.Request.TheVariants.{Flush as AsksFlush};
 ghost use Rattle.shape_changes.specs.Marking.{AreOthersPresent};
 ghost use Rattle.views.specs.Lacking.{HaveRolesFailed, AreHoldersFlushed, AreTooMany};
-ghost use Rattle.array_kept.specs.Calls.{IsAnswered, IsCausedBy, OnNoMemory};
+ghost use Rattle.growing.specs.array_kept_Calls.{IsAnswered, IsCausedBy, OnNoMemory};
 ghost use Rattle.growing.specs.running_words_Calls.{IsCalled};
 
 use crate::state::{Running, State, check_moving, check_still};

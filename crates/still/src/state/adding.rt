@@ -14,19 +14,19 @@ ghost use Rattle.views.specs.Lacking.{AreUnnamed};
 ghost use Rattle.views.specs.Numbers.{free_number};
 ghost use Rattle.views.specs.Placed.{AreWhole, AreStillHeld};
 ghost use Rattle.views.specs.Rebuilding.{Held};
-ghost use Rattle.array_kept.specs.Calls.{IsUnaddable, IsAddedFor, IsAddedAs, IsWorkAdded, IsAnswered, OnNoMemory};
+ghost use Rattle.still_laws.specs.array_kept_Calls.{IsUnaddable, IsAddedFor, IsAddedAs, IsWorkAdded, IsAnswered, OnNoMemory};
 ghost use Rattle.still_laws.specs.Steps.{IsStepped};
 
 use crate::state::Still;
 use array_state::adding::{spare_for, unaddable};
+use array_state::safe_additions::adding::{add_member, look_at};
+use array_state::safe_additions::device::free_number;
 use bank::Bank;
 use call_entries::calls::{check_number, enter, enter_behind};
 use flat_history::Event;
 use md_base::{Fault, Refusal, Who};
-use safe_additions::adding::{add_member, look_at};
-use safe_additions::device::free_number;
-use safe_updates::naming::{has_unnamed, newly_vacant};
-use safe_updates::roles::{shape_in, vacant_roles};
+use still_laws::safe_updates::naming::{has_unnamed, newly_vacant};
+use still_laws::safe_updates::roles::{shape_in, vacant_roles};
 use superblocks::sets::{contains, with, without};
 
 impl<B: Bank> Still<B> {

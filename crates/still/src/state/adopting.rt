@@ -2,8 +2,8 @@
 
 ghost use Rattle.std.specs.Prelude.{◌≡◌, ◌<◌, ℕ, [], false, None, IfOk, IfErr};
 ghost use Rattle.md_base.specs.Shapes.{has_slot};
-ghost use Rattle.array_kept.specs.Kept.{scope_in};
-ghost use Rattle.array_kept.specs.Adopting.{IsAdoptable, IsAdopted};
+ghost use Rattle.still_laws.specs.array_kept_Kept.{scope_in};
+ghost use Rattle.still_laws.specs.array_kept_Adopting.{IsAdoptable, IsAdopted};
 ghost use Rattle.grow_asked.specs.Left.{phases_of};
 
 use crate::state::Still;
@@ -14,8 +14,8 @@ use bank::Bank;
 use flat_history::Epoch;
 use grow_asked::PhasesLeft;
 use md_base::NoMemory;
-use safe_updates::roles::shape_in;
 use std::alloc::Global;
+use still_laws::safe_updates::roles::shape_in;
 use superblocks::Members;
 
 /// What an opening found: the backup slot, the members, and a bit for each slot that was looked at.

@@ -5,7 +5,7 @@ ghost use Rattle.superblocks.specs.Reading.{shape_of, list_length};
 ghost use Rattle.flat_history.specs.Flat.{next_number};
 ghost use Rattle.flat_history.specs.declared.events.Event.TheVariants.{Shown};
 ghost use Rattle.views.specs.Status.{stripes_of, rebuilt_of};
-ghost use Rattle.array_kept.specs.Calls.{IsEntered, IsEndOf};
+ghost use Rattle.still_laws.specs.array_kept_Calls.{IsEntered, IsEndOf};
 ghost use Rattle.still_laws.specs.running_words_Calls.{moving_world, IsSameReshape};
 ghost use Rattle.still_laws.specs.running_words_Still.{IsStillStatus};
 
@@ -15,8 +15,8 @@ use bank::Bank;
 use call_entries::calls::{check_number, enter};
 use flat_history::Event;
 use md_base::{NoMemory, Status, Who};
-use safe_rows::mending::stripes;
-use safe_updates::roles::shape_in;
+use still_laws::safe_rows::mending::stripes;
+use still_laws::safe_updates::roles::shape_in;
 use superblocks::says::is_clean;
 
 impl<B: Bank> Still<B> {

@@ -15,9 +15,9 @@ ghost use Rattle.flat_history.specs.declared.events.Event.TheVariants.{Halted, S
 ghost use Rattle.shape_views.specs.Regions.{DoWithout};
 ghost use Rattle.views.specs.Moving.{Grows};
 ghost use Rattle.views.specs.Lacking.{AreTooMany, HaveRolesFailed};
-ghost use Rattle.array_kept.specs.Calls.{IsEntered, IsBehind, IsUnsettled, IsFaultFor, AreLossesOf, IsEndOf};
+ghost use Rattle.still_laws.specs.array_kept_Calls.{IsEntered, IsBehind, IsUnsettled, IsFaultFor, AreLossesOf, IsEndOf};
 ghost use Rattle.kept_history.specs.Safe.{IsFilledRight};
-ghost use Rattle.history_calls.specs.Reliable.{IsReliable};
+ghost use Rattle.still_laws.specs.history_calls_Reliable.{IsReliable};
 ghost use Rattle.still_laws.specs.still_kept_Still.{HasListStood};
 ghost use Rattle.still_laws.specs.running_words_Calls.{moving_world, IsCalled, IsEpochKept};
 ghost use Rattle.still_laws.specs.running_words_Plans.{turns_shape, KeepsShape};

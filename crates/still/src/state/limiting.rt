@@ -3,7 +3,7 @@
 ghost use Rattle.std.specs.Prelude.{◌≡◌, ◌≢◌, ◌^◌, ◌<◌, nat_lt, length};
 ghost use Rattle.flat_history.specs.Flat.{next_number};
 ghost use Rattle.flat_history.specs.declared.events.Event.TheVariants.{Visible};
-ghost use Rattle.array_kept.specs.Calls.{IsEndOf, OnNoMemory, by_answer};
+ghost use Rattle.still_laws.specs.array_kept_Calls.{IsEndOf, OnNoMemory, by_answer};
 ghost use Rattle.grow_asked.specs.Left.{phases_of};
 ghost use Rattle.still_laws.specs.running_words_Calls.{moving_world};
 ghost use Rattle.still_laws.specs.running_words_Parts.{visible_in};
@@ -15,7 +15,7 @@ use call_entries::calls::{check_number, enter};
 use flat_history::Event;
 use grow_asked::PhasesLeft;
 use md_base::{BusyKind, Fault, Refusal, Who};
-use moving_state::asking::visible_of;
+use still_laws::moving_state::asking::visible_of;
 
 // Whether a phase of a plan hasn't begun.
 fn is_planned(ahead: &PhasesLeft) -> bool

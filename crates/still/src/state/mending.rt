@@ -11,8 +11,8 @@ ghost use Rattle.views.specs.Lacking.{AreHoldersFlushed, AreTooMany, RowsStand};
 ghost use Rattle.shape_views.specs.Regions.{DoWithout};
 ghost use Rattle.views.specs.Placed.{AreStillHeld};
 ghost use Rattle.views.specs.Rebuilding.{Held};
-ghost use Rattle.safe_updates.specs.First.{write_refusal, IsFirstRefused};
-ghost use Rattle.array_kept.specs.Calls.{AreSparesFewer, HasStripeLeft, IsAllMended, one_more, AreStepsFewer, AreStepsKept, by_answer, IsCausedBy, IsUnmendable};
+ghost use Rattle.still_laws.specs.safe_updates_First.{write_refusal, IsFirstRefused};
+ghost use Rattle.still_laws.specs.array_kept_Calls.{AreSparesFewer, HasStripeLeft, IsAllMended, one_more, AreStepsFewer, AreStepsKept, by_answer, IsCausedBy, IsUnmendable};
 ghost use Rattle.kept_history.specs.Recorded.{IsCallGoing};
 ghost use Rattle.still_laws.specs.running_words_Parts.{still_left};
 ghost use Rattle.still_laws.specs.running_words_Calls.{moving_world, IsStepTaken};
@@ -26,11 +26,11 @@ use bank::Bank;
 use call_entries::calls::enter_behind;
 use flat_history::{Event, StepKind};
 use md_base::{Fault, Who};
-use safe_rows::mending::mend;
-use safe_updates::naming::newly_vacant;
-use safe_updates::refusing::too_many;
-use safe_updates::roles::{shape_in, vacant_roles};
-use safe_updates::settles::settle;
+use still_laws::safe_rows::mending::mend;
+use still_laws::safe_updates::naming::newly_vacant;
+use still_laws::safe_updates::refusing::too_many;
+use still_laws::safe_updates::roles::{shape_in, vacant_roles};
+use still_laws::safe_updates::settles::settle;
 
 impl<B: Bank> Still<B> {
     /// A step of the pending resync: makes the parity of its next stripe fit the data. Every role that has data must be there.

@@ -1,7 +1,7 @@
 //! An array without an active reshape is taken apart, and put together again.
 
 ghost use Rattle.std.specs.Prelude.{◌≡◌, length, vec_capacity};
-ghost use Rattle.array_kept.specs.Kept.{scope_in};
+ghost use Rattle.still_laws.specs.array_kept_Kept.{scope_in};
 ghost use Rattle.still_laws.specs.course_kept_Laws.{closed};
 ghost use Rattle.still_laws.specs.Ready.{IsReady};
 

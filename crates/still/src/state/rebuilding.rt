@@ -15,7 +15,7 @@ ghost use Rattle.views.specs.Lacking.{AreTooMany, RowsStand};
 ghost use Rattle.views.specs.Placed.{is_vacant, AreStillHeld};
 ghost use Rattle.views.specs.Rebuilding.{Held};
 ghost use Rattle.views.specs.Status.{rebuilt_of};
-ghost use Rattle.array_kept.specs.Calls.{AreSparesFewer, IsHeldOrGiven, AreHeldOrSpare, HasStripeUnbuilt, AreStripesRebuilt, IsWholeOrLost, IsRecoveredOrLost, with_rebuilt, by_answer, AreStepsFewer, AreStepsKept, IsRebuildStepped, IsCausedBy};
+ghost use Rattle.still_laws.specs.array_kept_Calls.{AreSparesFewer, IsHeldOrGiven, AreHeldOrSpare, HasStripeUnbuilt, AreStripesRebuilt, IsWholeOrLost, IsRecoveredOrLost, with_rebuilt, by_answer, AreStepsFewer, AreStepsKept, IsRebuildStepped, IsCausedBy};
 ghost use Rattle.kept_history.specs.Recorded.{IsCallGoing};
 ghost use Rattle.still_laws.specs.running_words_Parts.{still_left};
 ghost use Rattle.still_laws.specs.running_words_Calls.{moving_world};
@@ -30,10 +30,10 @@ use bank::Bank;
 use call_entries::calls::{enter, enter_behind, enter_lost};
 use flat_history::{Event, StepKind};
 use md_base::{Fault, Who};
-use safe_rows::filling::recovering_slot;
-use safe_updates::naming::newly_vacant;
-use safe_updates::refusing::too_many;
-use safe_updates::roles::{is_vacant, shape_in, vacant_roles};
+use still_laws::safe_rows::filling::recovering_slot;
+use still_laws::safe_updates::naming::newly_vacant;
+use still_laws::safe_updates::refusing::too_many;
+use still_laws::safe_updates::roles::{is_vacant, shape_in, vacant_roles};
 use superblocks::sets::{with, without};
 
 impl<B: Bank> Still<B> {

@@ -9,7 +9,7 @@ ghost use Rattle.flat_history.specs.declared.events.Request.TheVariants.{Flush a
 ghost use Rattle.shape_changes.specs.Marking.{AreOthersPresent};
 ghost use Rattle.views.specs.Lacking.{HaveRolesFailed, AreHoldersFlushed, AreTooMany};
 ghost use Rattle.views.specs.Placed.{AreWhole};
-ghost use Rattle.array_kept.specs.Calls.{IsSettled, IsSettling, IsAnswered, IsCausedBy, OnNoMemory};
+ghost use Rattle.still_laws.specs.array_kept_Calls.{IsSettled, IsSettling, IsAnswered, IsCausedBy, OnNoMemory};
 ghost use Rattle.still_laws.specs.running_words_Calls.{IsCalled};
 ghost use Rattle.still_laws.specs.running_words_Still.{AreLeftSettled};
 
@@ -18,10 +18,10 @@ use bank::Bank;
 use call_entries::calls::{check_number, enter, enter_behind};
 use flat_history::Event;
 use md_base::{Fault, Who};
-use safe_updates::naming::newly_vacant;
-use safe_updates::refusing::too_many;
-use safe_updates::roles::vacant_roles;
-use safe_updates::settles::settle;
+use still_laws::safe_updates::naming::newly_vacant;
+use still_laws::safe_updates::refusing::too_many;
+use still_laws::safe_updates::roles::vacant_roles;
+use still_laws::safe_updates::settles::settle;
 
 impl<B: Bank> Still<B> {
     // Flushes the members, marks the array clean, and enters this event, `Flushed` or `Stopped`.

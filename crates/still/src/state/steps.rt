@@ -5,7 +5,7 @@ ghost use Rattle.flat_history.specs.declared.events.Event.TheVariants.{Refused};
 ghost use Rattle.views.specs.Placed.{AreStillHeld};
 ghost use Rattle.views.specs.Rebuilding.{Held};
 ghost use Rattle.views.specs.Lacking.{AreTooMany};
-ghost use Rattle.array_kept.specs.Calls.{IsBehind, IsEntered, IsUnmendable, AreSparesFewer, AreStepsKept};
+ghost use Rattle.still_laws.specs.array_kept_Calls.{IsBehind, IsEntered, IsUnmendable, AreSparesFewer, AreStepsKept};
 ghost use Rattle.kept_history.specs.Recorded.{IsCallGoing};
 ghost use Rattle.still_laws.specs.running_words_Parts.{still_left};
 ghost use Rattle.still_laws.specs.running_words_Calls.{moving_world};

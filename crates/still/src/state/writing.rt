@@ -12,8 +12,8 @@ ghost use Rattle.shape_changes.specs.Marking.{AreOthersPresent};
 ghost use Rattle.views.specs.Lacking.{HaveRolesFailed, IsUnwritten, are_mended, mended_rows};
 ghost use Rattle.views.specs.Placed.{AreWhole};
 ghost use Rattle.views.specs.Status.{stripes_of};
-ghost use Rattle.safe_updates.specs.First.{write_refusal, call_refusal, IsFirstRefused};
-ghost use Rattle.array_kept.specs.Calls.{IsAnswered, IsCausedBy, IsRefusalOf, OnNoMemory, has_torn};
+ghost use Rattle.still_laws.specs.safe_updates_First.{write_refusal, call_refusal, IsFirstRefused};
+ghost use Rattle.still_laws.specs.array_kept_Calls.{IsAnswered, IsCausedBy, IsRefusalOf, OnNoMemory, has_torn};
 ghost use Rattle.still_laws.specs.running_words_Calls.{IsCalled};
 ghost use Rattle.still_laws.specs.running_words_Parts.{visible_size, visible_in};
 
@@ -24,11 +24,11 @@ use bank::Bank;
 use call_entries::calls::{check_number, enter, enter_behind, enter_failure};
 use flat_history::Event;
 use md_base::{Fault, Refusal, Sectors, Who};
-use moving_state::asking::visible_of;
-use safe_rows::putting::put;
-use safe_updates::naming::newly_vacant;
-use safe_updates::refusing::unwritten;
-use safe_updates::roles::{shape_in, vacant_roles};
+use still_laws::moving_state::asking::visible_of;
+use still_laws::safe_rows::putting::put;
+use still_laws::safe_updates::naming::newly_vacant;
+use still_laws::safe_updates::refusing::unwritten;
+use still_laws::safe_updates::roles::{shape_in, vacant_roles};
 use superblocks::Members;
 
 // Why so many sectors from one on aren't written, before any row is read: the first of `PastEnd`, `TooManyMissing` and `NotResynced`.

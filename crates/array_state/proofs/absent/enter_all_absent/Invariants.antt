@@ -2,7 +2,7 @@ use Rattle.std.proofs.Common.{◌≡◌, ◌+◌, ◌≤◌, ◌++◌}
 use Rattle.row_io.specs.Rows.{reading_of}
 use Rattle.flat_history.specs.Plain.{entries_of}
 use Rattle.call_entries.specs.Losing.{IsSameEpoch}
-use Rattle.array_kept.specs.Adopting.{opener, absent_losses}
+use Rattle.calls_kept.specs.array_kept_Adopting.{opener, absent_losses}
 use Rattle.array_state.proofs.absent.enter_all_absent.Given as goal
 
 abbrev pub invariant-loop-role : goal.invariant-loop-role

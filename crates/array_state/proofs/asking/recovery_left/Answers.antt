@@ -5,7 +5,7 @@ use Rattle.md_base.specs.declared.status.Role.TheVariants.{Whole, Recovering, Mi
 use Rattle.superblocks.specs.Reading.{shape_of, role_state}
 use Rattle.row_io.specs.Rows.{reading_of}
 use Rattle.views.specs.Status.{stripes_of, rebuilt_of, role_left}
-use Rattle.array_kept.proofs.StepsLeft.{recovery-none, recovery-more}
+use Rattle.calls_kept.proofs.array_kept_StepsLeft.{recovery-none, recovery-more}
 use Rattle.array_state.proofs.asking.recovery_left.Goals.{in-Recovering, in_default}
 use Rattle.array_state.proofs.asking.recovery_left.Goals as goal
 

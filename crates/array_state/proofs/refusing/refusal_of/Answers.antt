@@ -4,8 +4,8 @@ use Rattle.superblocks.specs.declared.members.Members.{Members}
 use Rattle.shape_views.specs.Regions.{DoWithout}
 use Rattle.views.specs.Lacking.{AreTooMany}
 use Rattle.views.proofs.LackingLaws.{never-both}
-use Rattle.array_kept.specs.Calls.{IsRefusalOf}
-use Rattle.array_kept.proofs.ReplyLaws.{too-many-of, refused-for}
+use Rattle.calls_kept.specs.array_kept_Calls.{IsRefusalOf}
+use Rattle.calls_kept.proofs.array_kept_ReplyLaws.{too-many-of, refused-for}
 use Rattle.array_state.proofs.refusing.refusal_of.Goals as goal
 
 by-missing : (visible to : ℕ) (m : Members) (found : Option Refusal) → to ≤ visible → MatchOption found (DoWithout m) (AreTooMany m) → IsRefusalOf visible to AreTooMany m found

@@ -1,7 +1,7 @@
 use Rattle.std.proofs.Common.{false, ◌∙◌, ap}
 use Rattle.md_base.specs.declared.places.Shape.{Shape}
 use Rattle.superblocks.specs.Reading.{shape_of}
-use Rattle.safe_updates.specs.First.{write_refusal}
+use Rattle.safe_additions.specs.safe_updates_First.{write_refusal}
 use Rattle.array_state.proofs.FirstLaws.{write-told}
 use Rattle.array_state.proofs.UnmendableLaws.{unmended-told}
 use Rattle.array_state.proofs.refusing.unmended.Goals as goal

@@ -5,7 +5,7 @@ use Rattle.superblocks.specs.Reading.{shape_of}
 use Rattle.views.specs.Whole.{list_size}
 use Rattle.views.specs.Placed.{places_of}
 use Rattle.views.specs.Lacking.{mended_rows}
-use Rattle.safe_updates.specs.First.{read_refusal}
+use Rattle.safe_additions.specs.safe_updates_First.{read_refusal}
 use Rattle.array_state.proofs.FirstLaws.{short-list, past-is, within-is, read-judged}
 use Rattle.array_state.proofs.refusing.unread_from.Goals as goal
 

@@ -4,7 +4,7 @@ use Rattle.superblocks.specs.Reading.{shape_of}
 use Rattle.views.specs.Whole.{list_size}
 use Rattle.views.specs.Placed.{places_of}
 use Rattle.views.specs.Lacking.{are_mended, mended_rows}
-use Rattle.safe_updates.specs.First.{write_refusal}
+use Rattle.safe_additions.specs.safe_updates_First.{write_refusal}
 use Rattle.array_state.proofs.FirstLaws.{past-is, within-is, write-judged}
 use Rattle.array_state.proofs.refusing.unwritten_from.Goals as goal
 

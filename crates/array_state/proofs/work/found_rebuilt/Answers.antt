@@ -4,8 +4,8 @@ use Rattle.md_base.specs.declared.status.Role.{Role}
 use Rattle.md_base.specs.declared.status.Role.TheVariants.{Whole, Recovering, Missing}
 use Rattle.superblocks.specs.Reading.{holder}
 use Rattle.row_io.specs.Rows.{reading_of}
-use Rattle.array_kept.specs.Adopting.{stripes_held}
-use Rattle.array_kept.proofs.FoundLaws.{AreStripesFound, no-stripes, stripes-set, stripes-none, stripes-all}
+use Rattle.calls_kept.specs.array_kept_Adopting.{stripes_held}
+use Rattle.calls_kept.proofs.array_kept_FoundLaws.{AreStripesFound, no-stripes, stripes-set, stripes-none, stripes-all}
 use Rattle.array_state.proofs.work.found_rebuilt.Goals.{in-Recovering, in_default}
 use Rattle.array_state.proofs.work.found_rebuilt.Goals as goal
 

@@ -1,5 +1,5 @@
 use Rattle.row_io.specs.Rows.{reading_of}
-use Rattle.array_kept.proofs.FoundLaws.{AreStripesFound}
+use Rattle.calls_kept.proofs.array_kept_FoundLaws.{AreStripesFound}
 use Rattle.array_state.proofs.work.found_rebuilt.Given as goal
 
 -- those of the roles before this one

@@ -2,7 +2,7 @@ use Rattle.std.proofs.Common.{◌==◌, false, sym, ◌∙◌}
 use Rattle.std.specs.Option.{option_map_or}
 use Rattle.superblocks.specs.Update.{own_in}
 use Rattle.superblocks.proofs.Searches.{any_below-some}
-use Rattle.array_kept.proofs.FoundLaws.{none-below, none-more}
+use Rattle.calls_kept.proofs.array_kept_FoundLaws.{none-below, none-more}
 use Rattle.array_state.proofs.work.is_number.Goals as goal
 
 pub loop-slot-init : goal.loop-slot-init

@@ -11,13 +11,13 @@ use Rattle.flat_history.specs.Fits.{phases_left}
 use Rattle.flat_history.specs.Flat.{next_number}
 use Rattle.flat_history.specs.Plain.{entries_of}
 use Rattle.flat_history.specs.World.{World}
-use Rattle.array_kept.specs.Kept.{scope_in, world_in}
-use Rattle.array_kept.proofs.LossLaws.{ended-behind}
-use Rattle.array_kept.proofs.ReadyLaws.{scope-same}
+use Rattle.running_replies.specs.array_kept_Kept.{scope_in, world_in}
+use Rattle.running_replies.proofs.array_kept_LossLaws.{ended-behind}
+use Rattle.running_replies.proofs.array_kept_ReadyLaws.{scope-same}
 use Rattle.grow_asked.specs.Asked.{asked_of, grow_refusal}
 use Rattle.grow_asked.specs.Left.{phases_of}
 use Rattle.grow_asked.proofs.FirstLaws.{unrefused-plan}
-use Rattle.history_calls.specs.Reliable.{IsReliable}
+use Rattle.running_replies.specs.history_calls_Reliable.{IsReliable}
 use Rattle.turning.specs.running_words_Parts.{visible_size}
 use Rattle.turning.specs.running_words_Plans.{GoTo}
 use Rattle.turning.proofs.still_kept_Stood.{within-count}

@@ -6,8 +6,8 @@ use Rattle.flat_history.specs.Flat.{next_number}
 use Rattle.flat_history.specs.OneShape.{opening_in}
 use Rattle.flat_history.specs.Plain.{entries_of}
 use Rattle.views.proofs.MovedLaws.{grows-none}
-use Rattle.array_kept.specs.Kept.{scope_in, world_in}
-use Rattle.array_kept.proofs.ReadyLaws.{scope-same}
+use Rattle.running_replies.specs.array_kept_Kept.{scope_in, world_in}
+use Rattle.running_replies.proofs.array_kept_ReadyLaws.{scope-same}
 use Rattle.grow_asked.specs.Asked.{asked_of, grow_refusal}
 use Rattle.grow_asked.specs.Left.{phases_of}
 use Rattle.kept_history.proofs.Records.{begins-going}

@@ -7,9 +7,9 @@ use Rattle.flat_history.specs.declared.events.Event.TheVariants.{Refused}
 use Rattle.flat_history.specs.Flat.{next_number}
 use Rattle.flat_history.specs.Plain.{entries_of}
 use Rattle.views.proofs.MovedLaws.{grows-none}
-use Rattle.array_kept.specs.Kept.{scope_in, world_in}
-use Rattle.array_kept.proofs.LossLaws.{ended-behind}
-use Rattle.array_kept.proofs.ReadyLaws.{scope-same}
+use Rattle.running_replies.specs.array_kept_Kept.{scope_in, world_in}
+use Rattle.running_replies.proofs.array_kept_LossLaws.{ended-behind}
+use Rattle.running_replies.proofs.array_kept_ReadyLaws.{scope-same}
 use Rattle.turning.proofs.moving_laws_Kept.{ready, roomier, shapes-same, alone-keeps}
 use Rattle.turning.proofs.running_words_Visible.{visible-is}
 use Rattle.growing.proofs.Busy.{busy-fits, busy-moves}

@@ -8,7 +8,7 @@ use Rattle.md_base.specs.declared.answers.Who.{Who}
 use Rattle.flat_history.specs.declared.events.Event.TheVariants.{Shown}
 use Rattle.flat_history.specs.Flat.{next_number}
 use Rattle.flat_history.specs.Plain.{entries_of}
-use Rattle.array_kept.specs.Calls.{IsEntered, IsEndOf}
+use Rattle.run_laws.specs.array_kept_Calls.{IsEntered, IsEndOf}
 use Rattle.run_laws.specs.running_words_Parts.{RunningParts}
 use Rattle.run_laws.specs.assemble_Opening.{HasFoundNone}
 use Rattle.script.specs.declared.lines.Line.TheVariants.{Assemble as AsksAssemble}

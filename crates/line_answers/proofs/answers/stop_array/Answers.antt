@@ -5,7 +5,7 @@ use Rattle.flat_history.specs.declared.events.Event.{Event}
 use Rattle.run_laws.specs.Histories.{history_of, is_end}
 use Rattle.superblocks.specs.Reading.{list_length}
 use Rattle.views.specs.Lacking.{AreTooMany}
-use Rattle.array_kept.specs.Calls.{IsUnsettled, IsFaultFor}
+use Rattle.run_laws.specs.array_kept_Calls.{IsUnsettled, IsFaultFor}
 use Rattle.script.specs.declared.lines.Line.TheVariants.{Stop as AsksStop}
 use Rattle.run_laws.specs.Making.{setting_of}
 use Rattle.run_laws.specs.States.{running_history, IsTurn}

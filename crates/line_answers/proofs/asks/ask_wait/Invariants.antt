@@ -1,7 +1,7 @@
 -- Each call so far left more to do.
 use Rattle.std.proofs.Common.{ℕ, ◌-◌, ◌^◌, List, length}
 use Rattle.superblocks.specs.Reading.{is_reshaping, list_length}
-use Rattle.array_kept.specs.Calls.{IsEndOf}
+use Rattle.run_laws.specs.array_kept_Calls.{IsEndOf}
 use Rattle.grow_asked.specs.Left.{phases_of}
 use Rattle.run_laws.specs.running_replies_Going.{HasRunOn}
 use Rattle.run_laws.specs.Asked.{IsStillWaiting}

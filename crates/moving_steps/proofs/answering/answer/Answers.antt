@@ -1,8 +1,8 @@
 use Rattle.std.proofs.Common.{◌≤◌, [], ◌∷◌, refl, subst, arith}
 use Rattle.views.proofs.MovedLaws.{grows-none, moved-same}
 use Rattle.flat_history.specs.Plain.{entries_of}
-use Rattle.array_kept.proofs.LossLaws.{ended-behind}
-use Rattle.array_kept.proofs.ReadyLaws.{scope-same}
+use Rattle.still_kept.proofs.array_kept_LossLaws.{ended-behind}
+use Rattle.still_kept.proofs.array_kept_ReadyLaws.{scope-same}
 use Rattle.views.specs.Rebuilding.{Held}
 use Rattle.kept_history.specs.Recorded.{IsCallGoing}
 use Rattle.moving.proofs.running_words_Called.{called, alone-lossless}

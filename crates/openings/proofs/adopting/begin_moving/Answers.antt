@@ -8,8 +8,8 @@ use Rattle.flat_history.specs.declared.events.Entry.{Entry}
 use Rattle.flat_history.specs.Plain.{entries_of}
 use Rattle.views.specs.Placed.{IsPlaced}
 use Rattle.views.proofs.Fit.{few as few-placed}
-use Rattle.array_kept.specs.Adopting.{opener, absent_losses}
-use Rattle.array_kept.proofs.ReadyLaws.{scope-same}
+use Rattle.running_steps.specs.array_kept_Adopting.{opener, absent_losses}
+use Rattle.running_steps.proofs.array_kept_ReadyLaws.{scope-same}
 use Rattle.moving_opens.specs.Opening.{AreOpenedMoving, opening_entries}
 use Rattle.moving_opens.proofs.Members.{placed-here}
 use Rattle.openings.specs.Adopted.{moving_work}

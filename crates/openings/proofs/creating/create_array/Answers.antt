@@ -1,7 +1,7 @@
 use Rattle.std.proofs.Common.{List, ap, subst, sym, arith}
 use Rattle.bank.specs.declared.bank.Operation.{Operation}
 use Rattle.bank.specs.Given.{Given}
-use Rattle.array_kept.specs.Adopting.{IsAdoptable, IsAdopted}
+use Rattle.running_steps.specs.array_kept_Adopting.{IsAdoptable, IsAdopted}
 use Rattle.assemble.specs.declared.opening.Opened.{Opened}
 use Rattle.assemble.specs.Opening.{scope_of}
 use Rattle.assemble.specs.Running.{IsCreated}

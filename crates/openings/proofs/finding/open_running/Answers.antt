@@ -5,7 +5,7 @@ use Rattle.bank.specs.Tape.{contents}
 use Rattle.superblocks.specs.Reading.{is_reshaping}
 use Rattle.row_io.specs.Rows.{present}
 use Rattle.views.specs.Flushing.{OnlyItsSlotsFail}
-use Rattle.array_kept.specs.Adopting.{IsAdoptable, IsAdopted}
+use Rattle.running_steps.specs.array_kept_Adopting.{IsAdoptable, IsAdopted}
 use Rattle.grow_asked.specs.Left.{phases_of}
 use Rattle.assemble.specs.declared.opening.Opened.{Opened}
 use Rattle.assemble.specs.Opening.{scope_of, HasFoundNone}

@@ -20,7 +20,7 @@ use Rattle.views.specs.Moving.{IsMoved}
 use Rattle.views.proofs.MovedLaws.{moved-same, moved-lost, moved-then, lost-none}
 use Rattle.views.proofs.LackingLaws.{since-same, since-lost, since-then, in-second}
 use Rattle.views.proofs.LackingWrites.{lost-of}
-use Rattle.safe_updates.proofs.RefusingLaws.{not-err}
+use Rattle.safe_rows.proofs.safe_updates_RefusingLaws.{not-err}
 use Rattle.region_rows.specs.Stretches.{IsStretch, IsShapeOf, relied_rows}
 use Rattle.region_rows.proofs.StretchLaws.{list-short, data-few}
 use Rattle.region_rows.proofs.UnreadLaws.{answer-lacked}

@@ -16,7 +16,7 @@ use Rattle.views.proofs.SafeStretch.{safe-then, safe-lost, over-at, keeps-from}
 use Rattle.flat_history.specs.Sound.{OpensFit}
 use Rattle.shape_changes.specs.Marking.{AreOthersPresent}
 use Rattle.shape_changes.proofs.Risen.{risen-then, risen-lost, room-then}
-use Rattle.safe_rows.proofs.UnusedReads.{read-unused, named-unused}
+use Rattle.region_rows.proofs.safe_rows_UnusedReads.{read-unused, named-unused}
 use Rattle.region_writes.proofs.RunLaws.{told-as, told-never, told-no}
 use Rattle.region_writes.proofs.writing.prepare_runs.Goals as goal
 

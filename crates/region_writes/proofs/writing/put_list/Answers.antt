@@ -28,8 +28,8 @@ use Rattle.region_writes.specs.Runs.{AreRowsOf, AreFull, StayRebuilt, IsListTouc
 use Rattle.region_writes.proofs.RunLaws.{told-as, told-always, never-does, low-torn, torn-low, torn-high, high-sector, each-does, runs-apart, runs-torn, runs-unwritten, touched-low, touched-high, run-region}
 use Rattle.region_writes.proofs.RunLists.{list-in-one, rows-in-one, tails-in-one, others-kept, list-written, tails-written, rows-written, rebuilt-written, choose, chosen-allowed, ends-written}
 use Rattle.region_writes.proofs.WriteLaws.{some-none, rows-in, runs-alike}
-use Rattle.safe_updates.specs.Unused.{IsUnusedKept}
-use Rattle.safe_updates.proofs.Unused.{unused-then}
+use Rattle.region_rows.specs.safe_updates_Unused.{IsUnusedKept}
+use Rattle.region_rows.proofs.safe_updates_Unused.{unused-then}
 use Rattle.region_writes.proofs.writing.put_list.Goals as goal
 
 pub overflow_add-to : goal.overflow_add-to

@@ -17,7 +17,7 @@ use Rattle.views.proofs.Fit.{has-rows}
 use Rattle.views.proofs.LackingLaws.{since-lost, since-then, in-second}
 use Rattle.views.proofs.LackingLists.{data-among-moved, among-moved}
 use Rattle.views.proofs.LackingWrites.{lost-of, standing-later}
-use Rattle.safe_updates.proofs.RefusingLaws.{write-told, not-err}
+use Rattle.region_rows.proofs.safe_updates_RefusingLaws.{write-told, not-err}
 use Rattle.region_writes.specs.Runs.{IsRun}
 use Rattle.region_writes.proofs.RunLaws.{run-within, run-short, ok-err, err-ok}
 use Rattle.region_writes.proofs.writing.read_runs.Goals as goal

@@ -18,8 +18,8 @@ use Rattle.flat_history.specs.Sound.{OpensFit}
 use Rattle.shape_changes.proofs.Risen.{risen-then, room-first, room-then}
 use Rattle.region_writes.proofs.RunLaws.{told-as}
 use Rattle.region_writes.proofs.WriteLaws.{some-none, row-apart, rows-apart, standing-apart, full-done, full-kept, rebuilt-kept}
-use Rattle.safe_updates.specs.Unused.{IsUnusedKept}
-use Rattle.safe_updates.proofs.Unused.{unused-then}
+use Rattle.region_rows.specs.safe_updates_Unused.{IsUnusedKept}
+use Rattle.region_rows.proofs.safe_updates_Unused.{unused-then}
 use Rattle.region_writes.proofs.writing.write_runs.Goals as goal
 
 pub put_rows-near-requires-clause-below : goal.put_rows-near-requires-clause-below

@@ -1,4 +1,4 @@
-use Rattle.array_kept.specs.Kept.{scope_in}
+use Rattle.growing.specs.array_kept_Kept.{scope_in}
 use Rattle.growing.proofs.moving_laws_MendLaws.{left-some}
 use Rattle.running.proofs.Checked.{some-of, aside-moving}
 use Rattle.running.proofs.state.moving_again.Goals as goal

@@ -2,7 +2,7 @@ use Rattle.std.proofs.Common.{ℕ, sym, subst}
 use Rattle.superblocks.specs.Reading.{list_length}
 use Rattle.flat_history.specs.declared.events.Event.TheVariants.{Visible}
 use Rattle.flat_history.specs.declared.events.Request.TheVariants.{Visible as AsksVisible}
-use Rattle.running_steps.specs.running_replies_Replies.{IsAnsweredWith}
+use Rattle.openings.specs.running_replies_Replies.{IsAnsweredWith}
 use Rattle.running_calls.proofs.GoneOn.{gone-run}
 use Rattle.running_calls.proofs.performing.set_limit.Goals as goal
 

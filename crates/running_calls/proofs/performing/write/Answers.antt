@@ -14,9 +14,9 @@ use Rattle.flat_history.specs.declared.events.Event.TheVariants.{Wrote}
 use Rattle.flat_history.specs.declared.events.Request.TheVariants.{Write as AsksWrite}
 use Rattle.flat_history.specs.Flat.{length_of, limit_of, visible_of}
 use Rattle.array_kept.specs.Calls.{IsCausedBy}
-use Rattle.running_steps.specs.running_words_Parts.{visible_in}
-use Rattle.running_steps.specs.running_Calls.{IsWriteLackedIn}
-use Rattle.running_steps.specs.moving_laws_Writing.{IsWriteReplied}
+use Rattle.openings.specs.running_words_Parts.{visible_in}
+use Rattle.openings.specs.running_Calls.{IsWriteLackedIn}
+use Rattle.openings.specs.moving_laws_Writing.{IsWriteReplied}
 use Rattle.running_calls.proofs.Plain.{IsCallAnswered, answered-written, told-answer}
 use Rattle.running_calls.proofs.Told.{told-answered, write-told, backup-failed}
 use Rattle.running_calls.proofs.GoneOn.{plain-called, gone-answered}

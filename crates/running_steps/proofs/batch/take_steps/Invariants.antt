@@ -1,6 +1,6 @@
 use Rattle.std.proofs.Common.{◌≡◌, ◌≢◌, ◌+◌, ◌<◌, ◌≤◌, false}
 use Rattle.superblocks.specs.Reading.{is_reshaping}
-use Rattle.array_kept.specs.Calls.{IsEndOf, TellNoLoss, TellNoRoleLoss}
+use Rattle.running.specs.array_kept_Calls.{IsEndOf, TellNoLoss, TellNoRoleLoss}
 use Rattle.kept_history.specs.Recorded.{IsCallGoing}
 use Rattle.running.specs.still_laws_Steps.{IsClosable}
 use Rattle.running.specs.running_replies_Going.{HasRunOn}

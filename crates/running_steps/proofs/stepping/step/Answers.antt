@@ -1,6 +1,6 @@
 use Rattle.md_base.specs.declared.answers.Refusal.TheVariants.{Nothing}
 use Rattle.flat_history.specs.declared.events.Event.TheVariants.{Refused}
-use Rattle.array_kept.proofs.LossLaws.{behind-alone}
+use Rattle.running.proofs.array_kept_LossLaws.{behind-alone}
 use Rattle.running.proofs.running_replies_GoneOn.{gone-none}
 use Rattle.std.proofs.Common.{refl, ap}
 use Rattle.running_steps.proofs.Went.{epoch-of}

@@ -9,7 +9,7 @@ use Rattle.views.specs.Rebuilding.{AreSparesFree, with_recovering}
 use Rattle.views.proofs.LackingLaws.{since-then, in-either}
 use Rattle.views.proofs.MovedLaws.{grows-then, moved-then, moved-from}
 use Rattle.views.proofs.SafeStretch.{gone-before, safe-then, grows-longer, over-at, keeps-from}
-use Rattle.calls_kept.proofs.RebuildGiven.{receiver-spare, free-then}
+use Rattle.still_laws.proofs.calls_kept_RebuildGiven.{receiver-spare, free-then}
 use Rattle.still.proofs.naming.give_and_name.Goals as goal
 
 pub name_missing-others-requires-clause-placed : goal.name_missing-others-requires-clause-placed

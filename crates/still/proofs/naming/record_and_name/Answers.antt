@@ -19,7 +19,7 @@ use Rattle.views.specs.Rebuilding.{AreSparesFree, with_whole}
 use Rattle.views.proofs.LackingLaws.{since-then, in-either}
 use Rattle.views.proofs.MovedLaws.{grows-then, moved-then, moved-from}
 use Rattle.views.proofs.SafeStretch.{gone-before, safe-then, grows-longer, over-at, keeps-from}
-use Rattle.calls_kept.proofs.RebuildGiven.{receiver-recovering, free-then}
+use Rattle.still_laws.proofs.calls_kept_RebuildGiven.{receiver-recovering, free-then}
 use Rattle.still.proofs.naming.record_and_name.Given.{Over}
 use Rattle.still.proofs.naming.record_and_name.Goals.{After-name_missing-others}
 use Rattle.still.proofs.naming.record_and_name.Goals as goal

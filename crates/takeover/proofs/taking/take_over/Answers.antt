@@ -13,16 +13,16 @@ use Rattle.views.specs.Status.{left_of, stripes_of}
 use Rattle.views.proofs.Fit.{fit-short}
 use Rattle.call_entries.specs.Losing.{losses_of}
 use Rattle.call_entries.proofs.PlainLaws.{last_end-call}
-use Rattle.array_kept.specs.Kept.{scope_in}
-use Rattle.array_kept.proofs.ReadyLaws.{scope-same}
+use Rattle.still_steps.specs.array_kept_Kept.{scope_in}
+use Rattle.still_steps.proofs.array_kept_ReadyLaws.{scope-same}
 use Rattle.grow_asked.specs.Left.{phases_of}
 use Rattle.kept_history.specs.Recorded.{IsCallGoing}
 use Rattle.kept_history.specs.Safe.{world_in}
-use Rattle.running_words.specs.Calls.{moving_world}
-use Rattle.running_words.specs.Parts.{still_left}
-use Rattle.running_words.specs.Plans.{ArePlansKept}
-use Rattle.still_laws.specs.Ready.{IsReady}
-use Rattle.still_laws.proofs.Closing.{LeadTo}
+use Rattle.still_steps.specs.running_words_Calls.{moving_world}
+use Rattle.still_steps.specs.running_words_Parts.{still_left}
+use Rattle.still_steps.specs.running_words_Plans.{ArePlansKept}
+use Rattle.still_steps.specs.still_laws_Ready.{IsReady}
+use Rattle.still_steps.proofs.still_laws_Closing.{LeadTo}
 use Rattle.takeover.specs.TakenOver.{IsTakeoverNext, work_then}
 use Rattle.takeover.proofs.Chosen.{sound-next, can-take, told-ahead}
 use Rattle.takeover.proofs.TakenReady.{IsUpdated, synced-then, taken-ready, taken-longer, taken-losses, taken-told}

@@ -29,7 +29,7 @@ use Rattle.shape_changes.proofs.PlannedRoles.{live-before}
 use Rattle.shape_changes.proofs.PlansLose.{plans-lose}
 use Rattle.shape_changes.proofs.Stretch.{seen-own}
 use Rattle.shape_ends.proofs.Takeovers.{takeovers}
-use Rattle.reshape_updates.proofs.MoreLess.{less-then}
+use Rattle.reshape_ends.proofs.reshape_updates_MoreLess.{less-then}
 use Rattle.views.proofs.MarkedLaws.{grows-marks, others-updated}
 use Rattle.reshape_ends.proofs.Made.{IsMade, new-moved, new-free}
 use Rattle.reshape_ends.proofs.Named.{names-all}

@@ -17,15 +17,15 @@ use Rattle.flat_history.specs.Plain.{entries_of}
 use Rattle.flat_history.specs.Transfers.{last_end_from}
 use Rattle.shape_changes.specs.Safety.{IsRisen}
 use Rattle.shape_changes.specs.Steady.{KeepsSafe}
-use Rattle.reshape_updates.specs.Beginning.{goes_back}
-use Rattle.reshape_ends.specs.Begun.{begun_plan}
+use Rattle.moving_steps.specs.reshape_updates_Beginning.{goes_back}
+use Rattle.moving_steps.specs.reshape_ends_Begun.{begun_plan}
 use Rattle.views.specs.Status.{left_of}
 use Rattle.views.proofs.MovedLaws.{grows-none}
 use Rattle.call_entries.specs.Losing.{losses_of}
 use Rattle.call_entries.proofs.PlainLaws.{last_end-call}
-use Rattle.array_kept.specs.Kept.{scope_in}
-use Rattle.array_kept.proofs.LossLaws.{ended-behind}
-use Rattle.array_kept.proofs.ReadyLaws.{scope-same}
+use Rattle.moving_steps.specs.array_kept_Kept.{scope_in}
+use Rattle.moving_steps.proofs.array_kept_LossLaws.{ended-behind}
+use Rattle.moving_steps.proofs.array_kept_ReadyLaws.{scope-same}
 use Rattle.grow_asked.specs.declared.window.Window.TheVariants.{Closed}
 use Rattle.grow_asked.specs.Left.{phases_of, grow_left}
 use Rattle.moving_steps.specs.course_kept_Laws.{closed}

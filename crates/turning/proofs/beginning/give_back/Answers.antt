@@ -1,8 +1,8 @@
 use Rattle.std.proofs.Common.{[], ◌∷◌, refl, arith}
 use Rattle.flat_history.specs.declared.events.Event.TheVariants.{Refused}
 use Rattle.flat_history.specs.Plain.{entries_of}
-use Rattle.array_kept.specs.Kept.{scope_in}
-use Rattle.array_kept.proofs.ReadyLaws.{scope-same}
+use Rattle.moving_steps.specs.array_kept_Kept.{scope_in}
+use Rattle.moving_steps.proofs.array_kept_ReadyLaws.{scope-same}
 use Rattle.moving_steps.proofs.running_words_Lengths.{alone-keeps}
 use Rattle.still_steps.proofs.still_laws_Kept.{ready, rows-same}
 use Rattle.still_steps.proofs.still_laws_Plain.{turned-plain, turns-first}

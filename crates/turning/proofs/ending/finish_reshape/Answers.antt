@@ -12,7 +12,7 @@ use Rattle.flat_history.specs.declared.events.Event.TheVariants.{Step, Refused}
 use Rattle.flat_history.specs.declared.events.StepKind.TheVariants.{Finished}
 use Rattle.flat_history.specs.Plain.{entries_of}
 use Rattle.flat_history.specs.Transfers.{last_end_from}
-use Rattle.reshape_ends.specs.Finished.{IsOver}
+use Rattle.moving_steps.specs.reshape_ends_Finished.{IsOver}
 use Rattle.views.specs.Lacking.{AreTooMany}
 use Rattle.views.specs.Numbers.{is_carried}
 use Rattle.views.specs.Placed.{is_vacant}
@@ -21,9 +21,9 @@ use Rattle.views.proofs.Fit.{count-alike, fit-short}
 use Rattle.views.proofs.LackingLaws.{lost-since, never-both}
 use Rattle.views.proofs.MovedLaws.{grows-none, moved-same}
 use Rattle.call_entries.specs.Losing.{losses_of}
-use Rattle.array_kept.specs.Kept.{scope_in}
-use Rattle.array_kept.proofs.LossLaws.{losses-behind, ended-behind, behind-alone}
-use Rattle.array_kept.proofs.ReadyLaws.{scope-same}
+use Rattle.moving_steps.specs.array_kept_Kept.{scope_in}
+use Rattle.moving_steps.proofs.array_kept_LossLaws.{losses-behind, ended-behind, behind-alone}
+use Rattle.moving_steps.proofs.array_kept_ReadyLaws.{scope-same}
 use Rattle.kept_history.specs.Recorded.{IsCallGoing}
 use Rattle.kept_history.specs.Safe.{world_in}
 use Rattle.moving_steps.proofs.moving_kept_Refusals.{quiet-refusal, refused-right}

@@ -13,7 +13,7 @@ use Rattle.views.proofs.MovedLaws.{moved-then, moved-from, grows-none, grows-the
 use Rattle.views.proofs.LackingLaws.{since-then, in-second}
 use Rattle.views.proofs.SafeStretch.{safe-then, safe-lost, over-at, keeps-from}
 use Rattle.views.proofs.LackingLists.{none-of}
-use Rattle.safe_rows.proofs.UnusedReads.{read-unused, named-unused}
+use Rattle.region_rows.proofs.safe_rows_UnusedReads.{read-unused, named-unused}
 use Rattle.window_calls.proofs.fetching.fetch_around.Goals as goal
 
 -- the reads make no operation

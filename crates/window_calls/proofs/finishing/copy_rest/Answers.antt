@@ -19,8 +19,8 @@ use Rattle.views.proofs.LackingLaws.{since-same, since-then, in-either}
 use Rattle.views.proofs.LackingLists.{none-of}
 use Rattle.views.proofs.SafeStretch.{safe-none}
 use Rattle.views.proofs.MendedParts.{safe-part}
-use Rattle.safe_updates.specs.Unused.{IsUnusedKept}
-use Rattle.safe_updates.proofs.Unused.{unused-then}
+use Rattle.window_steps.specs.safe_updates_Unused.{IsUnusedKept}
+use Rattle.window_steps.proofs.safe_updates_Unused.{unused-then}
 use Rattle.window_steps.specs.Copying.{AreHeadersKept}
 use Rattle.window_steps.proofs.CopyLaws.{window-alike, tail-alike}
 use Rattle.window_calls.specs.Finishing.{AreStripesCopied}

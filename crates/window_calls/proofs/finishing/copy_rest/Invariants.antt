@@ -13,7 +13,7 @@ use Rattle.shape_changes.specs.Steady.{IsSafeOver, KeepsSafe, AreGoneTold, IsUnc
 use Rattle.views.specs.Moving.{Grows, IsMoved}
 use Rattle.views.specs.Lacking.{HaveFailedSince, AreOtherRowsKept}
 use Rattle.window_rows.specs.Copies.{tail_of, IsCopied}
-use Rattle.safe_updates.specs.Unused.{IsUnusedKept}
+use Rattle.window_steps.specs.safe_updates_Unused.{IsUnusedKept}
 use Rattle.window_steps.specs.Copying.{AreHeadersKept}
 use Rattle.window_calls.specs.Finishing.{IsOfRest, AreStripesCopied}
 use Rattle.window_calls.proofs.finishing.copy_rest.Given as goal

@@ -26,8 +26,8 @@ use Rattle.views.proofs.LackingLaws.{since-then, in-either, holders-at}
 use Rattle.views.proofs.LackingLists.{none-of}
 use Rattle.views.proofs.MovedLaws.{moved-then, grows-then}
 use Rattle.views.proofs.SafeStretch.{safe-then, over-at, keeps-from, grows-longer}
-use Rattle.safe_updates.specs.Unused.{IsUnusedKept}
-use Rattle.safe_updates.proofs.Unused.{unused-then}
+use Rattle.window_steps.specs.safe_updates_Unused.{IsUnusedKept}
+use Rattle.window_steps.proofs.safe_updates_Unused.{unused-then}
 use Rattle.window_steps.specs.Recording.{AreOthersFewer, IsCopiedWindow, IsRecorded}
 use Rattle.window_steps.proofs.PastLaws.{past-moved, next-moved}
 use Rattle.window_calls.specs.Finishing.{IsOfRest, AreStripesCopied, IsOpenWindow}

@@ -12,11 +12,11 @@ use Rattle.flat_history.specs.Flat.{next_number}
 use Rattle.flat_history.specs.Plain.{entries_of}
 use Rattle.views.specs.Numbers.{is_carried}
 use Rattle.views.proofs.MovedLaws.{grows-none, moved-same}
-use Rattle.array_kept.specs.Kept.{scope_in}
-use Rattle.array_kept.specs.Calls.{IsUnaddable, IsAddedFor}
-use Rattle.array_kept.proofs.LossLaws.{ended-behind}
-use Rattle.array_kept.proofs.ReadyLaws.{scope-same}
-use Rattle.calls_kept.proofs.AddLaws.{slot-there, unadded_reply}
+use Rattle.moving_laws.specs.array_kept_Kept.{scope_in}
+use Rattle.moving_laws.specs.array_kept_Calls.{IsUnaddable, IsAddedFor}
+use Rattle.moving_laws.proofs.array_kept_LossLaws.{ended-behind}
+use Rattle.moving_laws.proofs.array_kept_ReadyLaws.{scope-same}
+use Rattle.moving_laws.proofs.calls_kept_AddLaws.{slot-there, unadded_reply}
 use Rattle.kept_history.proofs.Records.{begins-going}
 use Rattle.moving_laws.proofs.moving_kept_AddedSpare.{unadded-moves}
 use Rattle.moving_laws.specs.running_words_Parts.{left_in}

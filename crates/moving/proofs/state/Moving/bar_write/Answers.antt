@@ -8,7 +8,7 @@ use Rattle.flat_history.specs.Flat.{length_of, limit_of}
 use Rattle.flat_history.specs.Transfers.{last_end_from}
 use Rattle.views.specs.Rebuilding.{Held}
 use Rattle.views.proofs.MovedLaws.{grows-none, moved-same}
-use Rattle.array_kept.specs.Calls.{IsLossBy}
+use Rattle.moving_laws.specs.array_kept_Calls.{IsLossBy}
 use Rattle.moving_laws.specs.region_mends_Mends.{relied_sector}
 use Rattle.moving_laws.specs.running_words_Parts.{left_in}
 use Rattle.moving_laws.proofs.running_words_Called.{called}

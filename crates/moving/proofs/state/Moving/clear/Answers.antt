@@ -7,9 +7,9 @@ use Rattle.flat_history.specs.declared.events.Event.TheVariants.{Refused}
 use Rattle.flat_history.specs.Plain.{entries_of}
 use Rattle.views.specs.Numbers.{is_carried}
 use Rattle.views.proofs.MovedLaws.{grows-none, moved-same}
-use Rattle.array_kept.specs.Kept.{scope_in}
-use Rattle.array_kept.proofs.LossLaws.{ended-behind}
-use Rattle.array_kept.proofs.ReadyLaws.{scope-same}
+use Rattle.moving_laws.specs.array_kept_Kept.{scope_in}
+use Rattle.moving_laws.proofs.array_kept_LossLaws.{ended-behind}
+use Rattle.moving_laws.proofs.array_kept_ReadyLaws.{scope-same}
 use Rattle.grow_asked.specs.declared.window.Window.{Window}
 use Rattle.grow_asked.specs.declared.window.Window.TheVariants.{Unsure}
 use Rattle.kept_history.specs.Recorded.{IsCallGoing}

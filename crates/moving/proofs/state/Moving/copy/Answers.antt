@@ -6,16 +6,16 @@ use Rattle.geometry.proofs.Valid.{bounded}
 use Rattle.superblocks.specs.Reading.{final_shape, list_length}
 use Rattle.shape_views.proofs.Stands.{window-inside}
 use Rattle.views.specs.Lacking.{AreTooMany}
-use Rattle.array_kept.proofs.ReplyLaws.{too-many-of, refused-for}
+use Rattle.moving_laws.proofs.array_kept_ReplyLaws.{too-many-of, refused-for}
 use Rattle.flat_history.specs.declared.events.Event.TheVariants.{Refused, Step}
 use Rattle.flat_history.specs.declared.events.StepKind.TheVariants.{Copied as CopiesStripe}
 use Rattle.flat_history.specs.Plain.{entries_of}
 use Rattle.views.specs.Numbers.{is_carried}
 use Rattle.views.proofs.MovedLaws.{grows-none, moved-same}
 use Rattle.call_entries.specs.Losing.{losses_of}
-use Rattle.array_kept.specs.Kept.{scope_in}
-use Rattle.array_kept.proofs.LossLaws.{losses-behind, ended-behind, behind-alone}
-use Rattle.array_kept.proofs.ReadyLaws.{scope-same}
+use Rattle.moving_laws.specs.array_kept_Kept.{scope_in}
+use Rattle.moving_laws.proofs.array_kept_LossLaws.{losses-behind, ended-behind, behind-alone}
+use Rattle.moving_laws.proofs.array_kept_ReadyLaws.{scope-same}
 use Rattle.views.proofs.LackingLaws.{never-both}
 use Rattle.window_rows.specs.Copies.{tail_of, IsCopied}
 use Rattle.kept_history.specs.Recorded.{IsCallGoing}

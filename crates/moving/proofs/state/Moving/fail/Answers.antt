@@ -15,11 +15,11 @@ use Rattle.views.proofs.HeldRows.{vacant-moved}
 use Rattle.views.proofs.MovedLaws.{grows-none, moved-same}
 use Rattle.call_entries.specs.Losing.{losses_of}
 use Rattle.call_entries.proofs.PlainLaws.{one}
-use Rattle.array_kept.specs.Kept.{scope_in}
-use Rattle.array_kept.proofs.ReadyLaws.{scope-same}
-use Rattle.array_kept.proofs.ReplyLaws.{fail_reply, no_role_reply}
-use Rattle.array_kept.proofs.LossLaws.{losses-failed, ended-behind}
-use Rattle.calls_kept.proofs.FailedLaws.{placed-out, unlost-out, moved-out, out-vacant}
+use Rattle.moving_laws.specs.array_kept_Kept.{scope_in}
+use Rattle.moving_laws.proofs.array_kept_ReadyLaws.{scope-same}
+use Rattle.moving_laws.proofs.array_kept_ReplyLaws.{fail_reply, no_role_reply}
+use Rattle.moving_laws.proofs.array_kept_LossLaws.{losses-failed, ended-behind}
+use Rattle.moving_laws.proofs.calls_kept_FailedLaws.{placed-out, unlost-out, moved-out, out-vacant}
 use Rattle.kept_history.specs.Safe.{world_in}
 use Rattle.kept_history.proofs.Records.{begins-going}
 use Rattle.moving_laws.specs.moving_kept_Moving.{IsMoving}

@@ -6,11 +6,11 @@ use Rattle.flat_history.specs.declared.events.Event.TheVariants.{Refused}
 use Rattle.flat_history.specs.Plain.{entries_of}
 use Rattle.views.specs.Numbers.{is_carried}
 use Rattle.views.proofs.MovedLaws.{grows-none, moved-same}
-use Rattle.array_kept.specs.Kept.{scope_in}
-use Rattle.array_kept.specs.Calls.{IsRefusedFor}
-use Rattle.array_kept.proofs.LossLaws.{ended-behind, behind-alone}
-use Rattle.array_kept.proofs.ReadyLaws.{scope-same}
-use Rattle.region_writes.specs.Runs.{IsListUnwritten}
+use Rattle.moving_laws.specs.array_kept_Kept.{scope_in}
+use Rattle.moving_laws.specs.array_kept_Calls.{IsRefusedFor}
+use Rattle.moving_laws.proofs.array_kept_LossLaws.{ended-behind, behind-alone}
+use Rattle.moving_laws.proofs.array_kept_ReadyLaws.{scope-same}
+use Rattle.moving_laws.specs.region_writes_Runs.{IsListUnwritten}
 use Rattle.moving_laws.specs.moving_state_Due.{open_in}
 use Rattle.moving_laws.specs.region_mends_Mends.{relied_sector}
 use Rattle.kept_history.specs.Recorded.{IsCallGoing}

@@ -11,10 +11,10 @@ use Rattle.views.specs.Numbers.{is_carried}
 use Rattle.views.proofs.LackingLaws.{never-both}
 use Rattle.views.proofs.MovedLaws.{grows-none, moved-same}
 use Rattle.call_entries.specs.Losing.{losses_of}
-use Rattle.array_kept.specs.Kept.{scope_in}
-use Rattle.array_kept.proofs.LossLaws.{losses-behind, ended-behind, behind-alone}
-use Rattle.array_kept.proofs.ReadyLaws.{scope-same, list-same}
-use Rattle.array_kept.proofs.ReplyLaws.{too-many-of, refused-for}
+use Rattle.moving_laws.specs.array_kept_Kept.{scope_in}
+use Rattle.moving_laws.proofs.array_kept_LossLaws.{losses-behind, ended-behind, behind-alone}
+use Rattle.moving_laws.proofs.array_kept_ReadyLaws.{scope-same, list-same}
+use Rattle.moving_laws.proofs.array_kept_ReplyLaws.{too-many-of, refused-for}
 use Rattle.kept_history.specs.Recorded.{IsCallGoing}
 use Rattle.kept_history.specs.Safe.{world_in}
 use Rattle.moving_laws.specs.course_kept_the_Course.{Course}

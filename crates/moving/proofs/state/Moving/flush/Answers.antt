@@ -1,5 +1,5 @@
 use Rattle.superblocks.specs.Reading.{list_length}
-use Rattle.array_kept.proofs.ReplyLaws.{flush_answer}
+use Rattle.moving_laws.proofs.array_kept_ReplyLaws.{flush_answer}
 use Rattle.moving.proofs.state.Moving.flush.Goals as goal
 
 pub returns-clause-answered : goal.returns-clause-answered

@@ -5,8 +5,8 @@ use Rattle.flat_history.specs.declared.events.Event.TheVariants.{Halted}
 use Rattle.flat_history.specs.Flat.{next_number}
 use Rattle.flat_history.specs.Plain.{entries_of}
 use Rattle.views.specs.Numbers.{is_carried}
-use Rattle.array_kept.specs.Kept.{scope_in}
-use Rattle.array_kept.proofs.ReadyLaws.{scope-same}
+use Rattle.moving_laws.specs.array_kept_Kept.{scope_in}
+use Rattle.moving_laws.proofs.array_kept_ReadyLaws.{scope-same}
 use Rattle.moving_laws.specs.moving_kept_Moving.{IsMoving}
 use Rattle.moving_laws.specs.running_words_Parts.{left_in}
 use Rattle.moving_laws.specs.Ready.{bytes_in}

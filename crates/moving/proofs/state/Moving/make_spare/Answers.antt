@@ -19,13 +19,13 @@ use Rattle.views.proofs.Flushed.{contents-added}
 use Rattle.views.proofs.MovedLaws.{grows-then, moved-same}
 use Rattle.call_entries.specs.Losing.{losses_of}
 use Rattle.call_entries.proofs.CallLaws.{losses-are}
-use Rattle.array_kept.specs.Kept.{scope_in}
-use Rattle.array_kept.specs.Calls.{IsFirstOffset, IsUnaddable}
-use Rattle.array_kept.proofs.LossLaws.{losses-behind, ended-behind}
-use Rattle.array_kept.proofs.ReadyLaws.{scope-same}
-use Rattle.calls_kept.proofs.AddLaws.{slot-there, slot-free, slot-does, slot-unspare, slot-fits, slot-room, slot-of-scope, is-free, second-half, stored-as, added_reply, faulted_reply}
-use Rattle.calls_kept.proofs.AddedKept.{AddsSafe, with_carried}
-use Rattle.calls_kept.proofs.AddedLosses.{add-done, others-lost, since-added}
+use Rattle.moving_laws.specs.array_kept_Kept.{scope_in}
+use Rattle.moving_laws.specs.array_kept_Calls.{IsFirstOffset, IsUnaddable}
+use Rattle.moving_laws.proofs.array_kept_LossLaws.{losses-behind, ended-behind}
+use Rattle.moving_laws.proofs.array_kept_ReadyLaws.{scope-same}
+use Rattle.moving_laws.proofs.calls_kept_AddLaws.{slot-there, slot-free, slot-does, slot-unspare, slot-fits, slot-room, slot-of-scope, is-free, second-half, stored-as, added_reply, faulted_reply}
+use Rattle.moving_laws.proofs.calls_kept_AddedKept.{AddsSafe, with_carried}
+use Rattle.moving_laws.proofs.calls_kept_AddedLosses.{add-done, others-lost, since-added}
 use Rattle.kept_history.proofs.Records.{begins-going}
 use Rattle.moving_laws.specs.moving_kept_Moving.{IsMoving}
 use Rattle.moving_laws.proofs.moving_kept_AddedSpare.{looked-moves, added-moves, added-lost-moves}

@@ -9,9 +9,9 @@ use Rattle.views.proofs.LackingLaws.{lost-since}
 use Rattle.views.proofs.MovedLaws.{grows-none, moved-same}
 use Rattle.views.specs.Numbers.{is_carried}
 use Rattle.call_entries.specs.Losing.{losses_of}
-use Rattle.array_kept.specs.Kept.{scope_in}
-use Rattle.array_kept.proofs.LossLaws.{losses-behind, ended-behind, behind-alone}
-use Rattle.array_kept.proofs.ReadyLaws.{scope-same}
+use Rattle.moving_laws.specs.array_kept_Kept.{scope_in}
+use Rattle.moving_laws.proofs.array_kept_LossLaws.{losses-behind, ended-behind, behind-alone}
+use Rattle.moving_laws.proofs.array_kept_ReadyLaws.{scope-same}
 use Rattle.kept_history.specs.Recorded.{IsCallGoing}
 use Rattle.moving_laws.specs.region_mends_Mends.{mend_shape, mend_refusal, IsNotMended}
 use Rattle.moving_laws.proofs.moving_kept_Steps.{missing-since}

@@ -16,17 +16,17 @@ use Rattle.views.specs.Rebuilding.{Held}
 use Rattle.views.specs.Numbers.{is_carried}
 use Rattle.views.proofs.MovedLaws.{grows-none, moved-same}
 use Rattle.call_entries.proofs.CallLaws.{torn-losses}
-use Rattle.array_kept.specs.Kept.{scope_in}
-use Rattle.array_kept.specs.Calls.{IsLossBy, IsRefusedFor}
-use Rattle.array_kept.proofs.LossLaws.{ended-behind}
-use Rattle.array_kept.proofs.ReadyLaws.{scope-same, list-same}
-use Rattle.array_kept.proofs.ReplyLaws.{inside-losses, replied}
+use Rattle.moving_laws.specs.array_kept_Kept.{scope_in}
+use Rattle.moving_laws.specs.array_kept_Calls.{IsLossBy, IsRefusedFor}
+use Rattle.moving_laws.proofs.array_kept_LossLaws.{ended-behind}
+use Rattle.moving_laws.proofs.array_kept_ReadyLaws.{scope-same, list-same}
+use Rattle.moving_laws.proofs.array_kept_ReplyLaws.{inside-losses, replied}
 use Rattle.moving_laws.specs.region_mends_Mends.{relied_sector}
 use Rattle.moving_laws.specs.course_kept_Course.{hidden_in}
 use Rattle.moving_laws.specs.moving_state_First.{IsUnreadAround}
 use Rattle.kept_history.specs.Safe.{world_in}
 use Rattle.kept_history.proofs.Records.{begins-going}
-use Rattle.history_calls.specs.Reliable.{IsReliable}
+use Rattle.moving_laws.specs.history_calls_Reliable.{IsReliable}
 use Rattle.moving_laws.proofs.moving_kept_Refusals.{quiet-refusal}
 use Rattle.moving_laws.proofs.moving_kept_Resting.{resting-moves}
 use Rattle.moving_laws.specs.running_words_Parts.{visible_size, left_in}
@@ -38,7 +38,7 @@ use Rattle.moving_laws.proofs.Reading.{none-read, read-quiet, no-sectors, first-
 use Rattle.md_base.specs.declared.answers.Fault.{Fault as AnyFault}
 use Rattle.md_base.specs.declared.answers.Fault.TheVariants.{Refused as IsRefusedWith, NoMemory}
 use Rattle.bank.specs.Tape.{AreSectors}
-use Rattle.array_kept.specs.Calls.{IsAnswered, OnNoMemory}
+use Rattle.moving_laws.specs.array_kept_Calls.{IsAnswered, OnNoMemory}
 use Rattle.moving_laws.proofs.WriteLaws.{roomed, called-roomed}
 use Rattle.moving_laws.proofs.FirstLaws.{first-short, first-told, first-none, first-seen}
 use Rattle.moving.proofs.state.Moving.read.Goals as goal

@@ -20,19 +20,19 @@ use Rattle.views.proofs.LackingLaws.{lost-since}
 use Rattle.views.proofs.LackingLists.{row-sector}
 use Rattle.call_entries.specs.Losing.{losses_of}
 use Rattle.call_entries.proofs.CallLaws.{losses-are, torn-losses}
-use Rattle.array_kept.specs.Kept.{scope_in}
-use Rattle.array_kept.specs.Calls.{IsRefusedFor, IsRefusalOf}
-use Rattle.array_kept.proofs.LossLaws.{losses-behind, ended-behind}
-use Rattle.array_kept.proofs.ReadyLaws.{scope-same}
-use Rattle.array_kept.proofs.ReplyLaws.{inside-losses, replied, refused-for}
-use Rattle.calls_kept.proofs.ReadLaws.{some-of}
+use Rattle.moving_laws.specs.array_kept_Kept.{scope_in}
+use Rattle.moving_laws.specs.array_kept_Calls.{IsRefusedFor, IsRefusalOf}
+use Rattle.moving_laws.proofs.array_kept_LossLaws.{losses-behind, ended-behind}
+use Rattle.moving_laws.proofs.array_kept_ReadyLaws.{scope-same}
+use Rattle.moving_laws.proofs.array_kept_ReplyLaws.{inside-losses, replied, refused-for}
+use Rattle.moving_laws.proofs.calls_kept_ReadLaws.{some-of}
 use Rattle.moving_laws.specs.region_mends_Mends.{relied_sector}
 use Rattle.moving_laws.specs.course_kept_Course.{hidden_in}
 use Rattle.moving_laws.specs.moving_state_First.{IsUnreadAround}
 use Rattle.moving_laws.specs.window_calls_Fetching.{IsUnreadBeside}
 use Rattle.kept_history.specs.Safe.{world_in}
 use Rattle.kept_history.proofs.Records.{begins-going}
-use Rattle.history_calls.specs.Reliable.{IsReliable}
+use Rattle.moving_laws.specs.history_calls_Reliable.{IsReliable}
 use Rattle.moving_laws.specs.moving_kept_Moving.{IsMoving}
 use Rattle.moving_laws.proofs.moving_kept_Steps.{missing-since}
 use Rattle.moving_laws.specs.Ready.{bytes_in}

@@ -6,8 +6,8 @@ use Rattle.flat_history.specs.Plain.{entries_of}
 use Rattle.flat_history.specs.declared.events.Entry.{Entry}
 use Rattle.flat_history.specs.declared.events.Event.TheVariants.{Shown}
 use Rattle.views.proofs.MovedLaws.{grows-none}
-use Rattle.array_kept.proofs.LossLaws.{ended-behind}
-use Rattle.array_kept.proofs.ReadyLaws.{scope-same}
+use Rattle.moving_laws.proofs.array_kept_LossLaws.{ended-behind}
+use Rattle.moving_laws.proofs.array_kept_ReadyLaws.{scope-same}
 use Rattle.moving_laws.specs.running_words_Parts.{left_in}
 use Rattle.moving_laws.proofs.Kept.{ready, roomier, shapes-same, alone-keeps}
 use Rattle.moving_laws.proofs.Asking.{status-same, shown-moves}

@@ -2,8 +2,8 @@ use Rattle.std.proofs.Common.{◌≤◌, ℕ, Option, List, length, sym, subst}
 use Rattle.flat_history.specs.declared.events.Entry.{Entry}
 use Rattle.flat_history.specs.Epochs.{world_of}
 use Rattle.flat_history.specs.Growing.{EndBy}
-use Rattle.array_kept.specs.Calls.{IsEndOf}
-use Rattle.history_calls.specs.Reliable.{IsReliable}
+use Rattle.moving_laws.specs.array_kept_Calls.{IsEndOf}
+use Rattle.moving_laws.specs.history_calls_Reliable.{IsReliable}
 use Rattle.moving_laws.specs.running_words_Calls.{IsEpochKept}
 use Rattle.moving.proofs.state.Moving.stop.Goals as goal
 

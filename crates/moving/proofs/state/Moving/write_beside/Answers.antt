@@ -14,14 +14,14 @@ use Rattle.views.proofs.LackingLaws.{lost-since}
 use Rattle.views.proofs.MovedLaws.{grows-none, moved-same}
 use Rattle.call_entries.specs.Losing.{losses_of, failure_events}
 use Rattle.call_entries.proofs.LosingLaws.{no-losses}
-use Rattle.array_kept.specs.Kept.{scope_in}
-use Rattle.array_kept.specs.Calls.{IsRefusedFor}
-use Rattle.array_kept.proofs.LossLaws.{losses-behind, losses-failure, ended-behind, ended-failure}
-use Rattle.array_kept.proofs.ReadyLaws.{scope-same}
-use Rattle.array_kept.proofs.ReplyLaws.{refused-for}
-use Rattle.calls_kept.proofs.ReadLaws.{some-of}
+use Rattle.moving_laws.specs.array_kept_Kept.{scope_in}
+use Rattle.moving_laws.specs.array_kept_Calls.{IsRefusedFor}
+use Rattle.moving_laws.proofs.array_kept_LossLaws.{losses-behind, losses-failure, ended-behind, ended-failure}
+use Rattle.moving_laws.proofs.array_kept_ReadyLaws.{scope-same}
+use Rattle.moving_laws.proofs.array_kept_ReplyLaws.{refused-for}
+use Rattle.moving_laws.proofs.calls_kept_ReadLaws.{some-of}
 use Rattle.moving_laws.specs.region_mends_Mends.{relied_sector}
-use Rattle.region_writes.specs.Runs.{IsTornTouched, IsListTorn, IsListUnwritten}
+use Rattle.moving_laws.specs.region_writes_Runs.{IsTornTouched, IsListTorn, IsListUnwritten}
 use Rattle.kept_history.specs.Recorded.{IsCallGoing}
 use Rattle.moving_laws.specs.course_kept_Course.{span_in}
 use Rattle.moving_laws.specs.moving_kept_Moving.{IsWindowStanding}

@@ -13,8 +13,8 @@ use Rattle.flat_history.specs.Stands.{covers}
 use Rattle.flat_history.specs.Transfers.{last_end_from}
 use Rattle.views.specs.Rebuilding.{Held}
 use Rattle.views.proofs.MovedLaws.{grows-none, moved-same}
-use Rattle.array_kept.specs.Calls.{IsLossBy, IsBehind, IsCausedBy}
-use Rattle.region_writes.specs.Runs.{IsListUnwritten}
+use Rattle.moving_laws.specs.array_kept_Calls.{IsLossBy, IsBehind, IsCausedBy}
+use Rattle.moving_laws.specs.region_writes_Runs.{IsListUnwritten}
 use Rattle.moving_laws.specs.course_kept_Laws.{closed}
 use Rattle.moving_laws.specs.moving_kept_Moving.{IsWindowStanding}
 use Rattle.moving_laws.specs.moving_state_Due.{open_in, unsure_in}

@@ -11,10 +11,10 @@ use Rattle.views.proofs.Fit.{fit-short}
 use Rattle.views.proofs.LackingLaws.{lost-since}
 use Rattle.views.proofs.MovedLaws.{grows-none, moved-same}
 use Rattle.call_entries.specs.Losing.{losses_of}
-use Rattle.array_kept.specs.Kept.{scope_in}
-use Rattle.array_kept.proofs.LossLaws.{losses-behind, ended-behind, behind-alone}
-use Rattle.array_kept.proofs.ReadyLaws.{scope-same}
-use Rattle.array_kept.proofs.ReplyLaws.{refused-for, too-many-of}
+use Rattle.moving_laws.specs.array_kept_Kept.{scope_in}
+use Rattle.moving_laws.proofs.array_kept_LossLaws.{losses-behind, ended-behind, behind-alone}
+use Rattle.moving_laws.proofs.array_kept_ReadyLaws.{scope-same}
+use Rattle.moving_laws.proofs.array_kept_ReplyLaws.{refused-for, too-many-of}
 use Rattle.grow_asked.specs.Left.{zeroed_by}
 use Rattle.moving_laws.specs.course_kept_the_Course.{Course}
 use Rattle.kept_history.specs.Recorded.{IsCallGoing}

@@ -11,10 +11,10 @@ use Rattle.flat_history.specs.declared.events.Event.TheVariants.{Refused}
 use Rattle.flat_history.specs.Flat.{next_number}
 use Rattle.flat_history.specs.Plain.{entries_of}
 use Rattle.views.proofs.MovedLaws.{grows-none}
-use Rattle.array_kept.specs.Calls.{IsUnaddable, IsAddedFor}
-use Rattle.array_kept.proofs.LossLaws.{ended-behind}
-use Rattle.array_kept.proofs.ReadyLaws.{scope-same}
-use Rattle.calls_kept.proofs.AddLaws.{slot-there, unadded_reply}
+use Rattle.still_laws.specs.array_kept_Calls.{IsUnaddable, IsAddedFor}
+use Rattle.still_laws.proofs.array_kept_LossLaws.{ended-behind}
+use Rattle.still_laws.proofs.array_kept_ReadyLaws.{scope-same}
+use Rattle.still_laws.proofs.calls_kept_AddLaws.{slot-there, unadded_reply}
 use Rattle.kept_history.proofs.Records.{begins-going}
 use Rattle.still_laws.proofs.running_words_Called.{alone-lossless}
 use Rattle.still_laws.proofs.running_words_Lengths.{alone-keeps}

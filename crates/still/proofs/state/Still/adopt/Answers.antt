@@ -5,10 +5,10 @@ use Rattle.superblocks.specs.Reading.{Scope}
 use Rattle.row_io.specs.Rows.{reading_of}
 use Rattle.flat_history.specs.declared.events.Entry.{Entry}
 use Rattle.flat_history.specs.Plain.{entries_of}
-use Rattle.array_kept.specs.Kept.{scope_in}
-use Rattle.array_kept.specs.Adopting.{opener, absent_losses, found_losses, IsAdoptable}
-use Rattle.array_kept.proofs.ReadyLaws.{scope-same}
-use Rattle.calls_kept.proofs.AdoptingLaws.{ready_adopted}
+use Rattle.still_laws.specs.array_kept_Kept.{scope_in}
+use Rattle.still_laws.specs.array_kept_Adopting.{opener, absent_losses, found_losses, IsAdoptable}
+use Rattle.still_laws.proofs.array_kept_ReadyLaws.{scope-same}
+use Rattle.still_laws.proofs.calls_kept_AdoptingLaws.{ready_adopted}
 use Rattle.views.proofs.Fit.{valid, roles-still}
 use Rattle.still_laws.proofs.Adopting.{begins-ready, found-plainly}
 use Rattle.still_laws.specs.Plain.{AreToldPlainly}

@@ -2,8 +2,8 @@ use Rattle.std.proofs.Common.{◌≤◌, [], ◌∷◌, inl, refl, sym, subst, a
 use Rattle.flat_history.specs.Plain.{entries_of}
 use Rattle.views.specs.Rebuilding.{Held}
 use Rattle.views.proofs.MovedLaws.{grows-none}
-use Rattle.array_kept.proofs.LossLaws.{ended-behind}
-use Rattle.array_kept.proofs.ReadyLaws.{scope-same}
+use Rattle.still_laws.proofs.array_kept_LossLaws.{ended-behind}
+use Rattle.still_laws.proofs.array_kept_ReadyLaws.{scope-same}
 use Rattle.kept_history.specs.Recorded.{IsCallGoing}
 use Rattle.still_laws.proofs.running_words_Called.{alone-lossless}
 use Rattle.still_laws.specs.running_words_Calls.{moving_world}

@@ -21,15 +21,15 @@ use Rattle.views.proofs.Still.{count-still}
 use Rattle.call_entries.specs.Losing.{losses_of}
 use Rattle.call_entries.proofs.CallLaws.{losses-are}
 use Rattle.call_entries.proofs.PlainLaws.{one}
-use Rattle.array_kept.specs.Kept.{scope_in}
-use Rattle.array_kept.specs.Calls.{IsLossBy, AreStripesRebuilt}
-use Rattle.array_kept.proofs.LossLaws.{losses-tail, ended-behind}
-use Rattle.array_kept.proofs.ReadyLaws.{scope-same}
-use Rattle.array_kept.proofs.ReplyLaws.{too-many-of, refused-for}
-use Rattle.array_kept.proofs.StepsLeft.{steps-fewer}
-use Rattle.calls_kept.proofs.RebuildEnded.{whole-vacant, whole-after, failed-still, holder-before}
-use Rattle.calls_kept.proofs.RebuildGiven.{receiver-recovering}
-use Rattle.calls_kept.proofs.RebuildLaws.{losses-open, losses-end}
+use Rattle.still_laws.specs.array_kept_Kept.{scope_in}
+use Rattle.still_laws.specs.array_kept_Calls.{IsLossBy, AreStripesRebuilt}
+use Rattle.still_laws.proofs.array_kept_LossLaws.{losses-tail, ended-behind}
+use Rattle.still_laws.proofs.array_kept_ReadyLaws.{scope-same}
+use Rattle.still_laws.proofs.array_kept_ReplyLaws.{too-many-of, refused-for}
+use Rattle.still_laws.proofs.array_kept_StepsLeft.{steps-fewer}
+use Rattle.still_laws.proofs.calls_kept_RebuildEnded.{whole-vacant, whole-after, failed-still, holder-before}
+use Rattle.still_laws.proofs.calls_kept_RebuildGiven.{receiver-recovering}
+use Rattle.still_laws.proofs.calls_kept_RebuildLaws.{losses-open, losses-end}
 use Rattle.kept_history.specs.Safe.{world_in}
 use Rattle.still_laws.proofs.still_kept_Ending.{IsMadeWhole}
 use Rattle.still_laws.specs.running_words_Calls.{moving_world}

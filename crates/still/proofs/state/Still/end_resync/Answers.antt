@@ -9,11 +9,11 @@ use Rattle.views.specs.Status.{left_of}
 use Rattle.views.proofs.LackingLaws.{lost-since, never-both}
 use Rattle.views.proofs.Still.{count-still}
 use Rattle.call_entries.specs.Losing.{losses_of}
-use Rattle.array_kept.specs.Calls.{IsAllMended}
-use Rattle.array_kept.proofs.LossLaws.{losses-behind, ended-behind}
-use Rattle.array_kept.proofs.ReadyLaws.{scope-same}
-use Rattle.array_kept.proofs.ReplyLaws.{too-many-of, refused-for}
-use Rattle.array_kept.proofs.StepsLeft.{left-ended, steps-fewer, steps-kept}
+use Rattle.still_laws.specs.array_kept_Calls.{IsAllMended}
+use Rattle.still_laws.proofs.array_kept_LossLaws.{losses-behind, ended-behind}
+use Rattle.still_laws.proofs.array_kept_ReadyLaws.{scope-same}
+use Rattle.still_laws.proofs.array_kept_ReplyLaws.{too-many-of, refused-for}
+use Rattle.still_laws.proofs.array_kept_StepsLeft.{left-ended, steps-fewer, steps-kept}
 use Rattle.kept_history.specs.Recorded.{IsCallGoing}
 use Rattle.still_laws.specs.running_words_Parts.{visible_size}
 use Rattle.still_laws.proofs.still_kept_Flushing.{IsFlushedStill, IsSettledStill}
@@ -25,7 +25,7 @@ use Rattle.still_laws.proofs.Kept.{ready, rows-moved}
 use Rattle.still_laws.proofs.Going.{step-going}
 use Rattle.still_laws.proofs.StepLaws.{refused-of, shapes-moved, planned-same, stepped, fewer-more, kept-more}
 use Rattle.still_laws.proofs.MendLaws.{resync-done, resync-refused}
-use Rattle.array_kept.proofs.DegradedLaws.{too-many-here}
+use Rattle.still_laws.proofs.array_kept_DegradedLaws.{too-many-here}
 use Rattle.still_laws.proofs.PlainBehind.{plain-refused}
 use Rattle.still_laws.proofs.PlainSteps.{resynced-plain}
 use Rattle.still.proofs.state.Still.end_resync.Goals as goal

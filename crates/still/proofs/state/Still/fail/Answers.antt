@@ -12,11 +12,11 @@ use Rattle.views.proofs.HeldRows.{vacant-moved}
 use Rattle.views.proofs.LiveLeft.{holder-left}
 use Rattle.views.proofs.MovedLaws.{grows-none, moved-same}
 use Rattle.call_entries.specs.Losing.{losses_of}
-use Rattle.array_kept.specs.Kept.{scope_in}
-use Rattle.array_kept.proofs.ReadyLaws.{scope-same}
-use Rattle.array_kept.proofs.ReplyLaws.{fail_reply, no_role_reply}
-use Rattle.array_kept.proofs.LossLaws.{losses-failed, ended-behind}
-use Rattle.calls_kept.proofs.FailedLaws.{placed-out, unlost-out, moved-out, out-vacant, clean-out, rise-out, named-out, out-only, out-spares}
+use Rattle.still_laws.specs.array_kept_Kept.{scope_in}
+use Rattle.still_laws.proofs.array_kept_ReadyLaws.{scope-same}
+use Rattle.still_laws.proofs.array_kept_ReplyLaws.{fail_reply, no_role_reply}
+use Rattle.still_laws.proofs.array_kept_LossLaws.{losses-failed, ended-behind}
+use Rattle.still_laws.proofs.calls_kept_FailedLaws.{placed-out, unlost-out, moved-out, out-vacant, clean-out, rise-out, named-out, out-only, out-spares}
 use Rattle.kept_history.proofs.Records.{begins-going}
 use Rattle.still_laws.proofs.still_kept_Failing.{IsTakenOut, failed-stands}
 use Rattle.still_laws.specs.running_words_Parts.{still_left}

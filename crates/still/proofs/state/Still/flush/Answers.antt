@@ -1,5 +1,5 @@
 use Rattle.superblocks.specs.Reading.{list_length}
-use Rattle.array_kept.proofs.ReplyLaws.{flush_answer}
+use Rattle.still_laws.proofs.array_kept_ReplyLaws.{flush_answer}
 use Rattle.still.proofs.state.Still.flush.Goals as goal
 
 pub returns-clause-answered : goal.returns-clause-answered

@@ -7,8 +7,8 @@ use Rattle.flat_history.specs.Flat.{next_number}
 use Rattle.flat_history.specs.Growing.{EndBy}
 use Rattle.flat_history.specs.Plain.{entries_of}
 use Rattle.views.proofs.MovedLaws.{grows-none}
-use Rattle.array_kept.specs.Kept.{scope_in}
-use Rattle.array_kept.proofs.ReadyLaws.{scope-same}
+use Rattle.still_laws.specs.array_kept_Kept.{scope_in}
+use Rattle.still_laws.proofs.array_kept_ReadyLaws.{scope-same}
 use Rattle.kept_history.proofs.Records.{begins-going}
 use Rattle.still_laws.specs.still_kept_Still.{IsStill}
 use Rattle.still_laws.specs.running_words_Parts.{still_left}

@@ -19,13 +19,13 @@ use Rattle.views.proofs.MovedLaws.{grows-then}
 use Rattle.views.proofs.Still.{count-still}
 use Rattle.call_entries.specs.Losing.{losses_of}
 use Rattle.call_entries.proofs.CallLaws.{losses-are}
-use Rattle.array_kept.specs.Kept.{scope_in}
-use Rattle.array_kept.specs.Calls.{IsFirstOffset, IsUnaddable}
-use Rattle.array_kept.proofs.LossLaws.{losses-behind, ended-behind}
-use Rattle.array_kept.proofs.ReadyLaws.{scope-same}
-use Rattle.calls_kept.proofs.AddLaws.{slot-there, slot-free, slot-does, slot-unspare, slot-fits, slot-room, slot-of-scope, is-free, second-half, stored-as, added_reply, faulted_reply}
-use Rattle.calls_kept.proofs.AddedKept.{AddsSafe, with_carried, carries-number, carries-only}
-use Rattle.calls_kept.proofs.AddedLosses.{add-done, others-lost, since-added, spares-added}
+use Rattle.still_laws.specs.array_kept_Kept.{scope_in}
+use Rattle.still_laws.specs.array_kept_Calls.{IsFirstOffset, IsUnaddable}
+use Rattle.still_laws.proofs.array_kept_LossLaws.{losses-behind, ended-behind}
+use Rattle.still_laws.proofs.array_kept_ReadyLaws.{scope-same}
+use Rattle.still_laws.proofs.calls_kept_AddLaws.{slot-there, slot-free, slot-does, slot-unspare, slot-fits, slot-room, slot-of-scope, is-free, second-half, stored-as, added_reply, faulted_reply}
+use Rattle.still_laws.proofs.calls_kept_AddedKept.{AddsSafe, with_carried, carries-number, carries-only}
+use Rattle.still_laws.proofs.calls_kept_AddedLosses.{add-done, others-lost, since-added, spares-added}
 use Rattle.still_laws.specs.still_kept_Still.{IsStill}
 use Rattle.still_laws.specs.running_words_Parts.{still_left}
 use Rattle.still_laws.proofs.running_words_Called.{alone-lossless}

@@ -9,14 +9,14 @@ use Rattle.views.specs.Status.{left_of}
 use Rattle.views.proofs.LackingLaws.{lost-since, does-without}
 use Rattle.views.proofs.Still.{count-still}
 use Rattle.call_entries.specs.Losing.{losses_of}
-use Rattle.safe_updates.specs.First.{write_refusal}
-use Rattle.array_kept.specs.Calls.{HasStripeLeft, IsUnmendable}
-use Rattle.array_kept.proofs.LossLaws.{losses-behind, ended-behind}
-use Rattle.array_kept.proofs.ReadyLaws.{scope-same}
-use Rattle.array_kept.proofs.ReplyLaws.{unwritten-of, refused-for}
-use Rattle.array_kept.proofs.StepsLeft.{left-mended, steps-fewer, steps-kept}
+use Rattle.still_laws.specs.safe_updates_First.{write_refusal}
+use Rattle.still_laws.specs.array_kept_Calls.{HasStripeLeft, IsUnmendable}
+use Rattle.still_laws.proofs.array_kept_LossLaws.{losses-behind, ended-behind}
+use Rattle.still_laws.proofs.array_kept_ReadyLaws.{scope-same}
+use Rattle.still_laws.proofs.array_kept_ReplyLaws.{unwritten-of, refused-for}
+use Rattle.still_laws.proofs.array_kept_StepsLeft.{left-mended, steps-fewer, steps-kept}
 use Rattle.array_state.proofs.UnmendableLaws.{unmendable-of, unwritten-then}
-use Rattle.calls_kept.proofs.MendLaws.{is-pending, next-stripe}
+use Rattle.still_laws.proofs.calls_kept_MendLaws.{is-pending, next-stripe}
 use Rattle.kept_history.specs.Recorded.{IsCallGoing}
 use Rattle.still_laws.specs.running_words_Parts.{visible_size}
 use Rattle.still_laws.proofs.still_kept_Resync.{IsMendingStill}

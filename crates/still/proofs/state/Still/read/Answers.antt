@@ -26,14 +26,14 @@ use Rattle.views.proofs.LackingLists.{row-sector}
 use Rattle.views.proofs.MemberLaws.{list-few}
 use Rattle.views.proofs.MovedLaws.{grows-none, moved-same}
 use Rattle.views.proofs.Still.{count-still, without-still}
-use Rattle.safe_updates.specs.First.{read_refusal}
+use Rattle.still_laws.specs.safe_updates_First.{read_refusal}
 use Rattle.call_entries.specs.Losing.{losses_of}
 use Rattle.call_entries.proofs.CallLaws.{losses-are, torn-losses}
-use Rattle.array_kept.specs.Kept.{scope_in}
-use Rattle.array_kept.proofs.LossLaws.{losses-behind, ended-behind}
-use Rattle.array_kept.proofs.ReadyLaws.{scope-same}
-use Rattle.array_kept.proofs.ReplyLaws.{inside-losses, replied, unread-of, refused-for}
-use Rattle.calls_kept.proofs.ReadLaws.{some-of}
+use Rattle.still_laws.specs.array_kept_Kept.{scope_in}
+use Rattle.still_laws.proofs.array_kept_LossLaws.{losses-behind, ended-behind}
+use Rattle.still_laws.proofs.array_kept_ReadyLaws.{scope-same}
+use Rattle.still_laws.proofs.array_kept_ReplyLaws.{inside-losses, replied, unread-of, refused-for}
+use Rattle.still_laws.proofs.calls_kept_ReadLaws.{some-of}
 use Rattle.array_state.proofs.FirstLaws.{call-within}
 use Rattle.kept_history.specs.Safe.{world_in, IsFilledRight}
 use Rattle.kept_history.proofs.Records.{begins-going}

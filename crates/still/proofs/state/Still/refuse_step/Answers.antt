@@ -3,9 +3,9 @@ use Rattle.flat_history.specs.declared.events.Event.TheVariants.{Refused}
 use Rattle.flat_history.specs.Plain.{entries_of}
 use Rattle.views.specs.Lacking.{AreTooMany}
 use Rattle.views.proofs.MovedLaws.{grows-none}
-use Rattle.array_kept.specs.Calls.{IsUnmendable}
-use Rattle.array_kept.proofs.LossLaws.{ended-behind, behind-alone}
-use Rattle.array_kept.proofs.ReadyLaws.{scope-same}
+use Rattle.still_laws.specs.array_kept_Calls.{IsUnmendable}
+use Rattle.still_laws.proofs.array_kept_LossLaws.{ended-behind, behind-alone}
+use Rattle.still_laws.proofs.array_kept_ReadyLaws.{scope-same}
 use Rattle.kept_history.specs.Recorded.{IsCallGoing}
 use Rattle.still_laws.specs.running_words_Parts.{visible_size}
 use Rattle.still_laws.proofs.running_words_Called.{alone-lossless}

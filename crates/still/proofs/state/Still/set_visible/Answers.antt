@@ -5,11 +5,11 @@ use Rattle.flat_history.specs.Plain.{entries_of}
 use Rattle.flat_history.specs.declared.events.Entry.{Entry}
 use Rattle.flat_history.specs.declared.events.Event.TheVariants.{Visible, Refused}
 use Rattle.views.proofs.MovedLaws.{grows-none}
-use Rattle.array_kept.proofs.LossLaws.{ended-behind}
-use Rattle.array_kept.proofs.ReadyLaws.{scope-same}
+use Rattle.still_laws.proofs.array_kept_LossLaws.{ended-behind}
+use Rattle.still_laws.proofs.array_kept_ReadyLaws.{scope-same}
 use Rattle.grow_asked.specs.Left.{phases_of}
 use Rattle.kept_history.proofs.Records.{begins-going}
-use Rattle.moving_state.specs.Left.{visible_by}
+use Rattle.still_laws.specs.moving_state_Left.{visible_by}
 use Rattle.still_laws.specs.running_words_Parts.{visible_size}
 use Rattle.still_laws.specs.running_words_Visible.{visible_refusal}
 use Rattle.still_laws.proofs.running_words_Lengths.{alone-keeps}

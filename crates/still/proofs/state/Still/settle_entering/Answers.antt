@@ -7,9 +7,9 @@ use Rattle.views.proofs.LackingLaws.{lost-since, never-both}
 use Rattle.views.proofs.LiveLeft.{without-left}
 use Rattle.views.proofs.MovedLaws.{grows-none, moved-same}
 use Rattle.call_entries.specs.Losing.{losses_of}
-use Rattle.array_kept.specs.Kept.{scope_in}
-use Rattle.array_kept.proofs.LossLaws.{losses-behind, ended-behind, behind-alone, settling-no-loss}
-use Rattle.array_kept.proofs.ReadyLaws.{scope-same}
+use Rattle.still_laws.specs.array_kept_Kept.{scope_in}
+use Rattle.still_laws.proofs.array_kept_LossLaws.{losses-behind, ended-behind, behind-alone, settling-no-loss}
+use Rattle.still_laws.proofs.array_kept_ReadyLaws.{scope-same}
 use Rattle.kept_history.proofs.Records.{begins-going}
 use Rattle.still_laws.proofs.still_kept_Flushing.{IsFlushedStill, all-mended, unflushed-stands}
 use Rattle.still_laws.specs.running_words_Parts.{visible_size, still_left}
@@ -19,7 +19,7 @@ use Rattle.still_laws.proofs.Asking.{many-alone}
 use Rattle.still_laws.proofs.Kept.{ready, rows-same, rows-moved}
 use Rattle.still_laws.proofs.Left.{left-alike}
 use Rattle.still_laws.proofs.Settled.{settled-stands, left-settled, settling-keeps}
-use Rattle.array_kept.proofs.DegradedLaws.{too-many-here}
+use Rattle.still_laws.proofs.array_kept_DegradedLaws.{too-many-here}
 use Rattle.still_laws.proofs.PlainBehind.{plain-refused, plain-settled, here-plain}
 use Rattle.still.proofs.state.Still.settle_entering.Goals as goal
 

@@ -5,8 +5,8 @@ use Rattle.flat_history.specs.Flat.{next_number}
 use Rattle.flat_history.specs.Plain.{entries_of}
 use Rattle.flat_history.specs.declared.events.Entry.{Entry}
 use Rattle.flat_history.specs.declared.events.Event.TheVariants.{Shown}
-use Rattle.array_kept.proofs.LossLaws.{ended-behind}
-use Rattle.array_kept.proofs.ReadyLaws.{scope-same}
+use Rattle.still_laws.proofs.array_kept_LossLaws.{ended-behind}
+use Rattle.still_laws.proofs.array_kept_ReadyLaws.{scope-same}
 use Rattle.still_laws.specs.running_words_Parts.{still_left}
 use Rattle.still_laws.proofs.running_words_Lengths.{alone-keeps}
 use Rattle.still_laws.proofs.Kept.{ready, rows-same, roomier}

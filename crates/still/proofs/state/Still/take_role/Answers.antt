@@ -17,13 +17,13 @@ use Rattle.views.proofs.GivenMembers.{placed-given, spare-before}
 use Rattle.views.proofs.LackingLaws.{lost-since, never-both}
 use Rattle.views.proofs.Still.{count-still}
 use Rattle.call_entries.specs.Losing.{losses_of}
-use Rattle.array_kept.specs.Kept.{scope_in}
-use Rattle.array_kept.specs.Calls.{IsHeldOrGiven, AreStepsFewer, with_rebuilt}
-use Rattle.array_kept.proofs.LossLaws.{losses-before, ended-behind}
-use Rattle.array_kept.proofs.ReadyLaws.{scope-same}
-use Rattle.array_kept.proofs.ReplyLaws.{too-many-of, refused-for}
-use Rattle.array_kept.proofs.StepsLeft.{steps-fewer}
-use Rattle.calls_kept.proofs.RebuildGiven.{receiver-spare, taken-vacant, taken-held, taken-by, taken-before, taken-after}
+use Rattle.still_laws.specs.array_kept_Kept.{scope_in}
+use Rattle.still_laws.specs.array_kept_Calls.{IsHeldOrGiven, AreStepsFewer, with_rebuilt}
+use Rattle.still_laws.proofs.array_kept_LossLaws.{losses-before, ended-behind}
+use Rattle.still_laws.proofs.array_kept_ReadyLaws.{scope-same}
+use Rattle.still_laws.proofs.array_kept_ReplyLaws.{too-many-of, refused-for}
+use Rattle.still_laws.proofs.array_kept_StepsLeft.{steps-fewer}
+use Rattle.still_laws.proofs.calls_kept_RebuildGiven.{receiver-spare, taken-vacant, taken-held, taken-by, taken-before, taken-after}
 use Rattle.kept_history.specs.Recorded.{IsCallGoing}
 use Rattle.still_laws.specs.still_kept_Still.{IsStill}
 use Rattle.still_laws.proofs.still_kept_Rebuilding.{IsTaken}

@@ -1,6 +1,6 @@
 use Rattle.std.proofs.Common.{ℕ, sym, ◌∙◌, ap, arith}
 use Rattle.superblocks.specs.Reading.{list_length}
-use Rattle.moving_state.specs.Left.{visible_by}
+use Rattle.still_laws.specs.moving_state_Left.{visible_by}
 use Rattle.still.proofs.state.Still.visible.Goals as goal
 
 pub returns-clause-visible : goal.returns-clause-visible

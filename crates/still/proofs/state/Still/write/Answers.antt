@@ -18,15 +18,15 @@ use Rattle.views.proofs.LackingLaws.{lost-since, shape-without}
 use Rattle.views.proofs.MemberLaws.{list-few}
 use Rattle.views.proofs.MovedLaws.{grows-none, moved-same}
 use Rattle.views.proofs.Still.{count-still, without-still}
-use Rattle.safe_updates.specs.First.{write_refusal}
+use Rattle.still_laws.specs.safe_updates_First.{write_refusal}
 use Rattle.call_entries.specs.Losing.{losses_of, failure_events}
 use Rattle.call_entries.proofs.CallLaws.{losses-are, torn-losses}
-use Rattle.array_kept.specs.Calls.{IsRefusedFor}
-use Rattle.array_kept.specs.Kept.{scope_in}
-use Rattle.array_kept.proofs.LossLaws.{losses-behind, losses-failure, ended-behind, ended-failure, torn-told}
-use Rattle.array_kept.proofs.ReadyLaws.{scope-same}
-use Rattle.array_kept.proofs.ReplyLaws.{inside-losses, replied, unwritten-of, refused-for}
-use Rattle.calls_kept.proofs.ReadLaws.{some-of}
+use Rattle.still_laws.specs.array_kept_Calls.{IsRefusedFor}
+use Rattle.still_laws.specs.array_kept_Kept.{scope_in}
+use Rattle.still_laws.proofs.array_kept_LossLaws.{losses-behind, losses-failure, ended-behind, ended-failure, torn-told}
+use Rattle.still_laws.proofs.array_kept_ReadyLaws.{scope-same}
+use Rattle.still_laws.proofs.array_kept_ReplyLaws.{inside-losses, replied, unwritten-of, refused-for}
+use Rattle.still_laws.proofs.calls_kept_ReadLaws.{some-of}
 use Rattle.array_state.proofs.FirstLaws.{call-within}
 use Rattle.kept_history.proofs.Records.{begins-going}
 use Rattle.still_laws.proofs.still_kept_Writing.{wrote-stands}

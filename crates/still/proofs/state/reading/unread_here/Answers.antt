@@ -3,7 +3,7 @@ use Rattle.md_base.specs.declared.places.Shape.{Shape}
 use Rattle.md_base.specs.Shapes.{data_disks}
 use Rattle.superblocks.specs.Reading.{shape_of}
 use Rattle.views.specs.Lacking.{mended_rows}
-use Rattle.safe_updates.specs.First.{read_refusal}
+use Rattle.still_laws.specs.safe_updates_First.{read_refusal}
 use Rattle.array_state.proofs.FirstLaws.{short-list, past-is, within-is, read-judged}
 use Rattle.still_laws.specs.running_words_Parts.{visible_size}
 use Rattle.still_laws.proofs.Reading.{visible-still}

@@ -2,7 +2,7 @@ use Rattle.std.proofs.Common.{◌≤◌, ◌+◌, Bool, refl, ◌∙◌, ap, ap�
 use Rattle.md_base.specs.declared.places.Shape.{Shape}
 use Rattle.superblocks.specs.Reading.{shape_of}
 use Rattle.views.specs.Lacking.{are_mended, mended_rows}
-use Rattle.safe_updates.specs.First.{write_refusal}
+use Rattle.still_laws.specs.safe_updates_First.{write_refusal}
 use Rattle.array_state.proofs.FirstLaws.{past-is, within-is, write-judged}
 use Rattle.still_laws.specs.running_words_Parts.{visible_size}
 use Rattle.still_laws.proofs.Reading.{visible-still}
