@@ -1,9 +1,9 @@
 pub mod Going
 pub mod Replies
-pub use Rattle.openings.specs.running_Calls as running_steps_running_Calls
-pub use Rattle.openings.specs.running_replies_Going as running_steps_running_replies_Going
-pub use Rattle.openings.specs.running_replies_Replies as running_steps_running_replies_Replies
-pub use Rattle.openings.specs.running_words_Calls as running_steps_running_words_Calls
-pub use Rattle.openings.specs.running_words_Parts as running_steps_running_words_Parts
-pub use Rattle.openings.specs.running_words_Still as running_steps_running_words_Still
+pub use Rattle.openings.specs.running_Calls
+pub use Rattle.openings.specs.running_replies_Going
+pub use Rattle.openings.specs.running_replies_Replies
+pub use Rattle.openings.specs.running_words_Calls
+pub use Rattle.openings.specs.running_words_Parts
+pub use Rattle.openings.specs.running_words_Still
 pub use Rattle.array_kept.specs.Calls as array_kept_Calls
