@@ -1,10 +1,12 @@
 -- The answer to a request for steps, by the state, and what is next to do.
-use Rattle.std.proofs.Common.{◌≡◌, ◌≢◌, ℕ, ◌<◌, Bool, true, false, cond, Option, Some, None, List, [], ◌∷◌, refl, sym, ◌∙◌, ap, subst, arith}
+use Rattle.std.proofs.Common.{◌≡◌, ◌≢◌, inl, inr, ℕ, ◌<◌, Bool, true, false, cond, Option, Some, None, List, [], ◌∷◌, refl, sym, ◌∙◌, ap, subst, arith}
 use Rattle.std.specs.Prelude.{MatchBool, MatchOption, ⊤}
 use Rattle.md_base.specs.declared.answers.Refusal.{Refusal}
 use Rattle.md_base.specs.declared.answers.Refusal.TheVariants.{Nothing}
 use Rattle.md_base.specs.declared.answers.Who.{Who}
+use Rattle.md_base.specs.declared.places.Shape.{Shape}
 use Rattle.md_base.specs.declared.wishes.Phase.{Phase}
+use Rattle.md_base.specs.declared.wishes.Phase.TheVariants.{Reshape, UpTo6, DownTo5}
 use Rattle.grow_plan.specs.Plans.{phases_steps}
 use Rattle.bank.specs.declared.bank.Operation.{Operation}
 use Rattle.bank.specs.Given.{Given}
@@ -26,7 +28,9 @@ use Rattle.growing.specs.running_replies_Going.{HasNoReshape}
 use Rattle.growing.specs.still_laws_Steps.{IsStepped, MayEndNow, IsStepsReplyNow}
 use Rattle.growing.proofs.still_laws_PlansKept.{PlanNone}
 use Rattle.growing.specs.moving_steps_Replies.{IsEndedInReshape, IsReplyInReshape}
-use Rattle.running.specs.Calls.{running_left, MayEndSteps, IsReplyNow}
+use Rattle.running.specs.Calls.{running_left, IsNext, MayEndSteps, IsReplyNow}
+use Rattle.running.specs.declared.state.choosing.Next.{Next}
+use Rattle.running.specs.declared.state.choosing.Next.TheVariants as next
 use Rattle.running.proofs.Checked.{some-of}
 
 -- ---- by the state
@@ -116,3 +120,26 @@ pub nothing-left : {B : Type 0} (array : RunningParts B) → is_reshaping array.
 nothing-left array still own none =
     let planned : phases_steps (shape_of array.parts.members.newest) array.parts.members.newest.size (phases_of array.ahead) ≡ 0 = ap (λ (l : List Phase). phases_steps (shape_of array.parts.members.newest) array.parts.members.newest.size l) none in
     left-still array still ∙ omega (arith, own, planned)
+
+-- so it is told
+module _ {B : Type 0} (array : RunningParts B) (still : is_reshaping array.parts.members.newest ≡ false) where
+  pub next-own : 0 < left_of array.parts.work array.parts.members → (n : Next) → n ≡ next.Own → IsNext array n
+  next-own some n is = subst (λ (x : Next). IsNext array x) (sym is) (still, some)
+
+  pub next-none : left_of array.parts.work array.parts.members ≡ 0 → phases_of array.ahead ≡ [] → (n : Next) → n ≡ next.Nothing → IsNext array n
+  next-none own none n is = subst (λ (x : Next). IsNext array x) (sym is) (nothing-left array still own none)
+
+  pub next-begin : left_of array.parts.work array.parts.members ≡ 0 → (to : Shape) (phase : Phase) (more : List Phase) → phases_of array.ahead ≡ phase ∷ more → phase ≡ Reshape to → (n : Next) → n ≡ next.Begin to → IsNext array n
+  next-begin own to phase more ahead first n is = subst (λ (x : Next). IsNext array x) (sym is) ((still, own), more, ahead ∙ ap (λ (p : Phase). p ∷ more) first)
+
+  pub next-up : left_of array.parts.work array.parts.members ≡ 0 → (to : Shape) (phase : Phase) (more : List Phase) → phases_of array.ahead ≡ phase ∷ more → phase ≡ UpTo6 to → (n : Next) → n ≡ next.Take to → IsNext array n
+  next-up own to phase more ahead first n is = subst (λ (x : Next). IsNext array x) (sym is) ((still, own), more, inl (ahead ∙ ap (λ (p : Phase). p ∷ more) first))
+
+  pub next-down : left_of array.parts.work array.parts.members ≡ 0 → (to : Shape) (phase : Phase) (more : List Phase) → phases_of array.ahead ≡ phase ∷ more → phase ≡ DownTo5 to → (n : Next) → n ≡ next.Take to → IsNext array n
+  next-down own to phase more ahead first n is = subst (λ (x : Next). IsNext array x) (sym is) ((still, own), more, inr (ahead ∙ ap (λ (p : Phase). p ∷ more) first))
+
+  pub some-own : 0 < left_of array.parts.work array.parts.members → 0 < running_left array
+  some-own some = still-some array still (own-some array.parts.work array.parts.members array.ahead some)
+
+  pub some-ahead : (phase : Phase) (more : List Phase) → phases_of array.ahead ≡ phase ∷ more → 0 < running_left array
+  some-ahead phase more ahead = still-some array still (ahead-some array.parts.work array.parts.members array.ahead phase more ahead)

@@ -79,7 +79,8 @@ fn next_still<B: Bank>(still: Still<B>, _none: ()) -> (Still<B>, Next)
         match first_phase(&pieces.ahead) {
             None => Next::Nothing,
             Some((Phase::Reshape(to), _)) => Next::Begin(to),
-            Some((Phase::UpTo6(to), _)) | Some((Phase::DownTo5(to), _)) => Next::Take(to),
+            Some((Phase::UpTo6(to), _)) => Next::Take(to),
+            Some((Phase::DownTo5(to), _)) => Next::Take(to),
         }
     };
     (Still::of_pieces(pieces), next)

@@ -11,7 +11,7 @@ use Rattle.running.proofs.state.Running.begin.Goals as goal
 pub phases_behind-still-requires : goal.phases_behind-still-requires
 phases_behind-still-requires g c =
     let next = subst (λ p. (behind : List Phase) × (phases_of p.ahead ≡ Reshape c.args.to ∷ behind)) (sym c.self.view_is ∙ ap (λ s. parts_in s) c.in-Still.is) c.requires.next in
-    (Reshape c.args.to, next.0, next.1)
+    record { some = (Reshape c.args.to, next.0, next.1) }
 
 pub begin_reshape-requires-clause-next : goal.begin_reshape-requires-clause-next
 begin_reshape-requires-clause-next g c =

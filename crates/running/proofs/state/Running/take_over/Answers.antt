@@ -10,7 +10,7 @@ use Rattle.running.proofs.state.Running.take_over.Goals as goal
 pub phases_behind-still-requires : goal.phases_behind-still-requires
 phases_behind-still-requires g c =
     let next = subst (λ p. (behind : List Phase) × IsTakeoverNext (phases_of p.ahead) c.args.to behind) (sym c.self.view_is ∙ ap (λ s. parts_in s) c.in-Still.is) c.requires.next in
-    first-of c.args.to next.1
+    record { some = first-of c.args.to next.1 }
 
 pub take_over-requires-clause-next : goal.take_over-requires-clause-next
 take_over-requires-clause-next g c =
