@@ -47,7 +47,8 @@ fn go_on_behind<B: Bank>(array: &mut Running<B>, who: Who, count: u64, done: u64
         return Batch { done, ended: None };
     };
     match replace_with(array, (who, to), take) {
-        Ok(_) => {
+        Ok(true) => unreachable!(),
+        Ok(false) => {
             let done = done + 1;
             Batch { done, ended: None }
         }

@@ -1,5 +1,6 @@
 use Rattle.std.proofs.Common.{◌≡◌, ◌⊎◌, inr, true, false, Option, Some, None, MatchOption, refl, sym, ◌∙◌, arith}
 use Rattle.std.specs.Prelude.{⊤}
+use Rattle.md_base.specs.declared.answers.Refusal.{Refusal}
 use Rattle.flat_history.specs.Fits.{is_lost_event}
 use Rattle.flat_history.specs.Legal.{disturbs}
 use Rattle.running.proofs.running_replies_GoneOn.{gone-then, gone-none}
@@ -37,7 +38,7 @@ returns-in-Ok-true-clause-all g c =
     (rw c.in-Ok-true.field-0-test at c.in-Ok-true.ensures.taken) c.go_on_behind.new.array c.go_on_behind.result.done c.go_on_behind.result.ended c.go_on_behind.ensures.gone in
     by c.go_on_behind.result.ended o.over c.go_on_behind.ensures.fewer
   where
-    by : {X Y Z : Type 0} (ended : Option Refusal) → Z → MatchOption ended ⊤ (λ refusal. Y) → MatchOption ended (X ⊎ X ⊎ Z) (λ refusal. Y)
+    by : {W X Y Z : Type 0} (ended : Option Refusal) → Z → MatchOption ended ⊤ (λ refusal. Y) → MatchOption ended (W ⊎ X ⊎ Z) (λ refusal. Y)
     by None over fewer = inr (inr over)
     by (Some refusal) over fewer = fewer
 
