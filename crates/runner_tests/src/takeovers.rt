@@ -18,7 +18,7 @@ const TAKEN: [Row; 7] = [
         output: b"created\nadded 4\nwrote 0 3\nflushed\nplanned 7\nstepped 2 left 5\nwrote 0 1\nhalted\nassembled level 6 disks 5 chunk 8 size 40 layout left-symmetric-6 visible 120 left 12\n",
         ..LARGE
     },
-    // the same, but a role with data is lost before: what was written since the flush is lost with it
+    // the same, but a role with data is lost before the halt, behind a write: it is not assembled any more
     Row {
         lines: "create 6ba7b810-9dad-11d1-80b4-00c04fd430c8 level=5 disks=4 chunk=8 size=40 offset=16\nadd 4\nwrite 0 3 1\nflush\ngrow level=6 disks=5 layout=preserve\nstep 2\nwrite 0 1 2\nfail 0\nhalt\nassemble\n",
         status: 1,
@@ -51,7 +51,7 @@ const TAKEN: [Row; 7] = [
         output: b"created\nadded 4\nwrote 0 3\nplanned 7\nfailed 1\nstepped 1 left 13\nwaited left 7 refused 15 NeedSpares 0 1\nread 0 3: seed 1 x3\nlevel 5\nlayout left-symmetric\nchunk 8\ndisks 4\nsize 40\nvisible 120\nstate dirty\nevents 6\nrole 0 slot 0 whole\nrole 1 slot 4 whole\nrole 2 slot 2 whole\nrole 3 slot 3 whole\nleft 7\nadded 5\nwaited left 0\nmd: raid6 [5/5] [UUUUU] 120 sectors\n",
         ..LARGE
     },
-    // one without a backup, which it needs none of
+    // without a backup: a takeover alone needs none
     Row {
         words: &["run", "s", "a", "b", "c", "d", "e"],
         lines: "create 6ba7b810-9dad-11d1-80b4-00c04fd430c8 level=5 disks=4 chunk=8 size=40 offset=16\nadd 4\ngrow level=6\ngrow level=6 layout=preserve\nwait\n",
