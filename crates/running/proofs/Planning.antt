@@ -1,5 +1,5 @@
 -- A running array keeps what it keeps over a request to grow, planned or refused.
-use Rattle.std.proofs.Common.{◌≡◌, inl, ◌*◌, ◌≤◌, ◌+◌, ◌==◌, ℕ, Bool, true, false, cond, Option, None, Ok, Err, List, [], ◌∷◌, ◌++◌, refl, sym, ◌∙◌, ap, subst, arith}
+use Rattle.std.proofs.Common.{◌≡◌, inl, ◌*◌, ◌≤◌, ◌==◌, ℕ, Bool, true, false, cond, Option, None, Ok, Err, List, [], ◌∷◌, ◌++◌, refl, sym, ◌∙◌, ap, subst, arith}
 use Rattle.std.specs.Prelude.{if◌then◌else◌}
 use Rattle.md_base.specs.declared.answers.Fault.{Fault}
 use Rattle.md_base.specs.declared.answers.Fault.TheVariants.{Refused as IsRefusedWith, NoMemory}

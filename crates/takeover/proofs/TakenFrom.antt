@@ -13,12 +13,11 @@ use Rattle.superblocks.specs.declared.change.Give.TheVariants.{Same, Spare}
 use Rattle.superblocks.specs.declared.change.Give.TheVariants as give
 use Rattle.superblocks.specs.declared.members.Members.{Members}
 use Rattle.superblocks.specs.Outcome.{planned_state}
-use Rattle.superblocks.specs.Reading.{role_count, holder, role_state}
+use Rattle.superblocks.specs.Reading.{role_count, holder}
 use Rattle.superblocks.specs.Reads.{has_spare}
 use Rattle.superblocks.specs.Update.{give_of, planned_role, is_planned_spare}
 use Rattle.superblock_reads.proofs.SaidLists.{role-holder}
 use Rattle.superblock_reads.proofs.SaidSlots.{has-slots_below}
-use Rattle.row_io.specs.Rows.{reading_of}
 use Rattle.shape_changes.proofs.Kept.{give_of-same}
 use Rattle.shape_changes.proofs.PlannedRoles.{planned-holds}
 use Rattle.takeover_updates.specs.TakingOver.{level_give, taking_over, taken_plan}

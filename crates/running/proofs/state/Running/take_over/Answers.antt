@@ -1,4 +1,4 @@
-use Rattle.std.proofs.Common.{◌≡◌, ◌∷◌, List, length, refl, sym, ◌∙◌, ap, subst}
+use Rattle.std.proofs.Common.{List, length, sym, ◌∙◌, ap, subst}
 use Rattle.md_base.specs.declared.wishes.Phase.{Phase}
 use Rattle.grow_asked.specs.Left.{phases_of}
 use Rattle.takeover.specs.TakenOver.{IsTakeoverNext}
