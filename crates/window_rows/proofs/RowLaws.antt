@@ -36,29 +36,3 @@ zero_here shape valid span buffer tail list role row x own copied at outside = e
 pub new_full : (shape : Shape) → is_valid_shape shape ≡ true → (list : ℕ → Sector) (row : ℕ) (bytes : List ℕ) → HasFullData shape list row bytes
     → (role : ℕ) → role < shape.disks → new_sector shape row bytes role ≡ full_sector shape list row role
 new_full shape valid list row bytes has = new-full shape list row bytes valid (λ role x lt at. has role lt (data_here shape role row x valid at) ∙ full-data shape list role row x valid at)
-
--- each role of a row is written
-pub all_due : (shape : Shape) → is_valid_shape shape ≡ true → (row role : ℕ) → role < shape.disks → is_due shape row 65535 role ≡ true
-all_due shape valid row role lt =
-    let few : shape.disks ≤ 16 = (limited shape valid).most in
-    let one : bit_at 65535 role ≡ 1 = bit_at_ones 16 role (omega (arith, lt, few)) in
-    ap (λ (n : ℕ). (n == 1) || is_parity (row_roles shape row) role) one
-
-pub all_others_stand : (r : Reading) (c : Contents) (shape : Shape) → is_valid_shape shape ≡ true → (row : ℕ) (bytes : List ℕ) → OthersStand c r shape row bytes 65535
-all_others_stand r c shape valid row bytes role slot lt kept held = absurd (let due = all_due shape valid row role lt in cc)
-
--- only places of the row are written
-pub row_changed : (r : Reading) (shape : Shape) (row : ℕ) (bytes : List ℕ) (changed : ℕ) (d e : ℕ → ℕ → List Sector) → IsWriting r shape row bytes changed d e → IsChangedAt (IsRowsPlace r row (row + 1)) d e
-row_changed r shape row bytes changed d e writing s k = at (writing s k)
-  where
-    at : (e s k ≡ d s k) ⊎ HasNew shape.disks (due_slot r shape row changed) (place_on r row) (new_sector shape row bytes) s k (d s k) (e s k)
-        → (e s k ≡ d s k) ⊎ IsRowsPlace r row (row + 1) s k
-    at (inl same) = inl same
-    at (inr has) = inr (record {
-      role = has.role;
-      row = row;
-      held = some_slot (is_due shape row changed has.role) (holder (role_state r has.role)) s has.slot;
-      low = omega arith;
-      high = omega arith;
-      place = has.place;
-    })
