@@ -58,7 +58,7 @@ along_writes P d e t j (suc n) (suc m) bytes places so_far =
 past_writes : (s p n j : ℕ) (bytes : List ℕ) (vs : List Sector) → p < j → choices s p vs (writes s j n bytes) ≡ vs
 past_writes s p zero j bytes vs lt = refl
 past_writes s p (suc n) j bytes vs lt =
-    ap (λ (l : List Sector). choices s p l (writes s (j + 1) n (drop 512 bytes))) (choices_after-write_other s p s j (take 512 bytes) vs (inr (omega (arith, lt))))
+    ap (λ (l : List Sector). choices s p l (writes s (j + 1) n (drop 512 bytes))) (choices_after-write_other s p s j (take 512 bytes) vs (inr (λ same. omega (arith, lt, same))))
     ∙ past_writes s p n (j + 1) (drop 512 bytes) vs (omega (arith, lt))
 
 -- and all of them leave each sector in its place
@@ -71,7 +71,7 @@ here_writes s p (suc n) j zero bytes vs is lt =
     ∙ past_writes s p n (j + 1) (drop 512 bytes) (take 512 bytes ∷ vs) (omega (arith, is))
 here_writes s p (suc n) j (suc i) bytes vs is lt =
     let far : 512 + 512 * i ≡ 512 * suc i = omega arith in
-    ap (λ (l : List Sector). choices s p l (writes s (j + 1) n (drop 512 bytes))) (choices_after-write_other s p s j (take 512 bytes) vs (inr (omega (arith, is))))
+    ap (λ (l : List Sector). choices s p l (writes s (j + 1) n (drop 512 bytes))) (choices_after-write_other s p s j (take 512 bytes) vs (inr (λ same. omega (arith, is, same))))
     ∙ here_writes s p n (j + 1) i (drop 512 bytes) vs (omega (arith, is)) (omega (arith, lt))
     ∙ ap (λ (l : List ℕ). take 512 l ∷ vs) (drop-drop (512 * i) 512 bytes ∙ ap (λ (m : ℕ). drop m bytes) far)
 

@@ -191,7 +191,8 @@ fn write_parts<B: Bank>(
     let mut lost = 0;
     for role in 0..shape.disks {
         let some = reach(lost, count);
-        lost |= write_part(members, bank, shape, from, some, role, rows, scratch);
+        let more = write_part(members, bank, shape, from, some, role, rows, scratch);
+        lost |= more;
     }
     lost
 }
@@ -226,6 +227,7 @@ pub fn copy_run<B: Bank>(
     ensures given { B.given bank.new ≡ B.given bank.old }
 {
     let mut room = [0u8; MOST];
-    make_rows(shape, span, buffer, from, count, &mut room);
-    write_parts(members, bank, shape, from, count, &room, scratch)
+    let rows = &mut room[..ROW_BYTES * count];
+    make_rows(shape, span, buffer, from, count, rows);
+    write_parts(members, bank, shape, from, count, rows, scratch)
 }

@@ -20,36 +20,36 @@ loop-role-init g c = record {
   given = refl;
 }
 
-pub write_part-requires-clause-rows : goal.write_part-requires-clause-rows
-write_part-requires-clause-rows g c = let was = c.loop-role.invariant in rows_by c.args.members.now c.loop-role.lost was.given was.lost.members c.requires.rows
+pub write_part-more-requires-clause-rows : goal.write_part-more-requires-clause-rows
+write_part-more-requires-clause-rows g c = let was = c.loop-role.invariant in rows_by c.args.members.now c.loop-role.lost was.given was.lost.members c.requires.rows
 
-pub write_part-requires-clause-small : goal.write_part-requires-clause-small
-write_part-requires-clause-small g c = let few = (limited c.args.shape.now c.requires.rows.valid).most in omega (arith, few, c.loop-role-test.true)
+pub write_part-more-requires-clause-small : goal.write_part-more-requires-clause-small
+write_part-more-requires-clause-small g c = let few = (limited c.args.shape.now c.requires.rows.valid).most in omega (arith, few, c.loop-role-test.true)
 
-pub write_part-requires-clause-some : goal.write_part-requires-clause-some
-write_part-requires-clause-some g c = let some = (reach_within c.loop-role.lost c.args.count c.requires.some).0 in omega (arith, some, c.reach-some.ensures)
+pub write_part-more-requires-clause-some : goal.write_part-more-requires-clause-some
+write_part-more-requires-clause-some g c = let some = (reach_within c.loop-role.lost c.args.count c.requires.some).0 in omega (arith, some, c.reach-some.ensures)
 
-pub write_part-requires-clause-few : goal.write_part-requires-clause-few
-write_part-requires-clause-few g c = let le = (reach_within c.loop-role.lost c.args.count c.requires.some).1 in omega (arith, le, c.reach-some.ensures, c.requires.few)
+pub write_part-more-requires-clause-few : goal.write_part-more-requires-clause-few
+write_part-more-requires-clause-few g c = let le = (reach_within c.loop-role.lost c.args.count c.requires.some).1 in omega (arith, le, c.reach-some.ensures, c.requires.few)
 
-pub write_part-requires-clause-below : goal.write_part-requires-clause-below
-write_part-requires-clause-below g c =
+pub write_part-more-requires-clause-below : goal.write_part-more-requires-clause-below
+write_part-more-requires-clause-below g c =
     let le = (reach_within c.loop-role.lost c.args.count c.requires.some).1 in
     let size = ap (λ (m : Members). m.newest.size) c.loop-role.invariant.lost.members in
     omega (arith, le, size, c.reach-some.ensures, c.requires.below)
 
-pub write_part-requires-clause-room : goal.write_part-requires-clause-room
-write_part-requires-clause-room g c = let le = (reach_within c.loop-role.lost c.args.count c.requires.some).1 in omega (arith, le, c.reach-some.ensures, c.requires.room)
+pub write_part-more-requires-clause-room : goal.write_part-more-requires-clause-room
+write_part-more-requires-clause-room g c = let le = (reach_within c.loop-role.lost c.args.count c.requires.some).1 in omega (arith, le, c.reach-some.ensures, c.requires.room)
 
 pub loop-role-preserved : goal.loop-role-preserved
 loop-role-preserved g c =
     let was = c.loop-role.invariant in
-    let did = c.write_part.ensures in
+    let did = c.write_part-more.ensures in
     let old = c.args.members.now in
     let mid = c.loop-role.members in
-    let new = c.write_part.new.members in
+    let new = c.write_part-more.new.members in
     let a = c.loop-role.lost in
-    let b = c.write_part.result in
+    let b = c.write_part-more.result in
     let from = c.args.from in
     let count = c.args.count in
     let role = c.loop-role.role in
@@ -57,9 +57,9 @@ loop-role-preserved g c =
     let rows = c.args.rows.now in
     let given0 = g.B.Bank.given c.args.bank.now in
     let given1 = g.B.Bank.given c.loop-role.bank in
-    let given2 = g.B.Bank.given c.write_part.new.bank in
+    let given2 = g.B.Bank.given c.write_part-more.new.bank in
     let tape1 = g.B.Bank.tape c.loop-role.bank in
-    let tape2 = g.B.Bank.tape c.write_part.new.bank in
+    let tape2 = g.B.Bank.tape c.write_part-more.new.bank in
     let is : n ≡ reach a count = c.reach-some.ensures in
     let le : n ≤ count = (let most = (reach_within a count c.requires.some).1 in omega (arith, most, is)) in
     let falls : reach (bit_or a b) count ≤ reach a count = reach_falls a b count c.requires.some in

@@ -85,3 +85,8 @@ pub returns-clause-full : goal.returns-clause-full
 returns-clause-full g c = λ tail list copied told row low high.
     let within = c.loop-row.invariant.within in
     c.loop-row.invariant.full tail list copied told row low (omega (arith, high, c.loop-row-test.false))
+
+pub returns-clause-others : goal.returns-clause-others
+returns-clause-others g c = λ told row apart.
+    let within = c.loop-row.invariant.within in
+    c.loop-row.invariant.others told row (elim apart [ inl below ↦ inl below | inr above ↦ inr (omega (arith, above, within)) ])
