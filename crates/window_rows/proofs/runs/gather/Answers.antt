@@ -13,3 +13,6 @@ loop-i-preserved c =
         | inr ne ↦ did.others j ne ∙ c.loop-i.invariant.gathered j (omega (arith, lt, ne))
       ];
     }
+
+pub returns : goal.returns
+returns c = λ i lt. c.loop-i.invariant.gathered i (omega (arith, lt, c.loop-i-test.false))
