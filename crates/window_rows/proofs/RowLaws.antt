@@ -1,23 +1,17 @@
 -- One row of a window: what its bytes have, and what its write leaves.
-use Rattle.std.proofs.Common.{◌≡◌, ◌⊎◌, inl, inr, ℕ, ◌+◌, ◌-◌, ◌<◌, ◌≤◌, ◌==◌, true, ◌||◌, List, sym, ◌∙◌, ap, arith}
-use Rattle.std.specs.Int.{bit_at}
-use Rattle.std.proofs.lemmas.Nat.Bits.{bit_at_ones}
+use Rattle.std.proofs.Common.{◌≡◌, inl, inr, ℕ, ◌-◌, ◌<◌, true, List, sym, ◌∙◌, ap}
 use Rattle.md_base.specs.declared.places.Shape.{Shape}
 use Rattle.md_base.specs.declared.places.Place.{Place}
 use Rattle.md_base.specs.declared.places.Span.{Span}
 use Rattle.md_base.specs.Sectors.{Sector, zero_sector}
 use Rattle.md_base.specs.Shapes.{is_valid_shape}
-use Rattle.bank.specs.Tape.{Contents}
-use Rattle.layout.specs.Layout.{place, row_roles}
-use Rattle.layout.proofs.Limits.{limited}
+use Rattle.layout.specs.Layout.{place}
 use Rattle.geometry.specs.Geometry as geometry
 use Rattle.parity.specs.Rows.{sector_of}
-use Rattle.superblocks.specs.Reading.{Reading, role_state, holder}
-use Rattle.row_io.specs.Writes.{is_parity, is_due, due_slot, new_sector, place_on, HasNew, IsWriting, OthersStand}
-use Rattle.row_io.proofs.Losses.{some_slot}
+use Rattle.row_io.specs.Writes.{new_sector}
 use Rattle.list_io.specs.Full.{full_sector}
 use Rattle.list_io.proofs.FullLaws.{data_here, full-data, new-full}
-use Rattle.window_rows.specs.Copies.{IsCopied, IsOwnRow, HasFullData, IsChangedAt, IsRowsPlace}
+use Rattle.window_rows.specs.Copies.{IsCopied, IsOwnRow, HasFullData}
 
 -- a sector of the window that lies in the buffer is the full one of its place
 pub copied_here : (shape : Shape) → is_valid_shape shape ≡ true → (span : Span) (buffer : List ℕ) (tail : Span) (list : ℕ → Sector) (role row x : ℕ) → IsCopied span buffer tail list

@@ -16,7 +16,7 @@ use Rattle.bank.proofs.Marks.{Along, each_mark-along, each_mark-map, each_mark-t
 use Rattle.parity.specs.Rows.{sector_of}
 use Rattle.superblocks.specs.declared.members.Members.{Members}
 use Rattle.superblocks.specs.Reading.{Reading, role_state, holder, data_offset_of}
-use Rattle.row_io.specs.Rows.{present, reading_of, held_slot, members_without}
+use Rattle.row_io.specs.Rows.{present, reading_of, members_without}
 use Rattle.row_io.specs.Writes.{AreApart}
 use Rattle.row_io.proofs.Losses.{holder-of, holder-after, state_after, state_kept}
 use Rattle.row_io.proofs.Turns.{marks_last}
@@ -47,12 +47,11 @@ along_writes P d e t j zero zero bytes places so_far = so_far
 along_writes P d e t j zero (suc m) bytes places so_far = so_far
 along_writes P d e t j (suc n) zero bytes places so_far = so_far
 along_writes P d e t j (suc n) (suc m) bytes places so_far =
-    let first : j + 0 ≡ j = omega arith in
-    (
+    let first : j + 0 ≡ j = omega arith in (
       so_far,
       along_writes P d (run e (Write t j (take 512 bytes) ∷ [])) t (j + 1) n m (drop 512 bytes)
-      (λ i lt. let next : j + suc i ≡ (j + 1) + i = omega arith in subst (λ (k : ℕ). P t k) next (places (suc i) (omega (arith, lt))))
-      (changed_write P d e t j (take 512 bytes) (subst (λ (k : ℕ). P t k) first (places 0 (omega arith))) so_far),
+          (λ i lt. let next : j + suc i ≡ (j + 1) + i = omega arith in subst (λ (k : ℕ). P t k) next (places (suc i) (omega (arith, lt))))
+          (changed_write P d e t j (take 512 bytes) (subst (λ (k : ℕ). P t k) first (places 0 (omega arith))) so_far),
     )
 
 past_writes : (s p n j : ℕ) (bytes : List ℕ) (vs : List Sector) → p < j → choices s p vs (writes s j n bytes) ≡ vs

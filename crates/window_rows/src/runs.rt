@@ -227,7 +227,6 @@ pub fn copy_run<B: Bank>(
     ensures given { B.given bank.new ≡ B.given bank.old }
 {
     let mut room = [0u8; MOST];
-    let rows = &mut room[..ROW_BYTES * count];
-    make_rows(shape, span, buffer, from, count, rows);
-    write_parts(members, bank, shape, from, count, rows, scratch)
+    make_rows(shape, span, buffer, from, count, &mut room);
+    write_parts(members, bank, shape, from, count, &room, scratch)
 }

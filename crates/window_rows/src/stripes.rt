@@ -70,7 +70,16 @@ fn copy_rows<B: Bank>(
     let mut row = from;
     while row < to {
         let count = (to - row).min(MOST_ROWS);
-        let lost = copy_run(members, bank, shape, span, row, count as usize, buffer, scratch);
+        let lost = copy_run(
+            members,
+            bank,
+            shape,
+            span,
+            row,
+            count as usize,
+            buffer,
+            scratch,
+        );
         if lost != 0 {
             return Stretch {
                 lost,

@@ -70,3 +70,6 @@ returns-clause-sectors g c =
       | inl whole ↦ inl whole
       | inr stood ↦ inr (subst (λ (k : Contents). RowStands (reading_of mid) k shape list row) (sym same) (row_by c0 shape list row m lost mid members stood))
     ])) c.read_parts-rest.ensures.sectors
+
+pub returns-in_default-clause-sectors : goal.returns-in_default-clause-sectors
+returns-in_default-clause-sectors g c = λ told list i lt stands fills. c.read_run.ensures.read c.in_default.is told list i lt stands

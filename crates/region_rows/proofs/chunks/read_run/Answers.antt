@@ -1,12 +1,13 @@
-use Rattle.std.proofs.Common.{◌≡◌, ℕ, ◌+◌, ◌*◌, ◌/◌, ◌<◌, ◌≤◌, length, Some, refl, sym, ◌∙◌, ap, subst, arith}
+use Rattle.std.proofs.Common.{◌≡◌, ℕ, ◌+◌, ◌/◌, length, sym, ◌∙◌, ap, subst, arith}
+use Rattle.std.specs.Prelude.{is_err}
 use Rattle.bank.specs.Tape.{AreSectors}
 use Rattle.md_base.specs.declared.places.Place.{Place}
 use Rattle.md_base.specs.declared.status.Role.TheVariants.{Whole}
 use Rattle.layout.specs.Layout.{place}
 use Rattle.superblocks.specs.Reading.{role_state, holder, data_offset_of}
 use Rattle.row_io.specs.Rows.{reading_of, present}
-use Rattle.list_io.proofs.LossLaws.{none_lost}
-use Rattle.views.proofs.Fit.{force-valid, force-multiple, disks-within}
+use Rattle.list_io.proofs.LossLaws.{none_lost, slot_lost}
+use Rattle.views.proofs.Fit.{force-valid, force-multiple, disks-within, few}
 use Rattle.region_rows.proofs.ChunkReads.{run-listed, run-within}
 use Rattle.region_rows.proofs.chunks.read_run.Goals as goal
 
@@ -55,8 +56,16 @@ lose_slot-requires-clause-slot g c = (c.requires.placed.holders c.place-at.resul
 pub lose_slot-requires-clause-small : goal.lose_slot-requires-clause-small
 lose_slot-requires-clause-small g c = λ role slot is. (c.requires.placed.holders role slot is).small
 
+pub lose_slot-requires-clause-few : goal.lose_slot-requires-clause-few
+lose_slot-requires-clause-few g c = let roles = few (g.B.Bank.given c.args.bank.now) c.args.members.now c.requires.placed in omega (arith, roles)
+
+pub returns-in-Err-clause-lost : goal.returns-in-Err-clause-lost
+returns-in-Err-clause-lost g c =
+    slot_lost c.args.shape.now c.args.members.now c.lose_slot.new.members c.lose_slot.result c.in-Whole.slot c.place-at.result.role (g.B.Bank.faults_of c.args.bank.now) (g.B.Bank.faults_of c.read.new.self)
+    c.lose_slot.ensures.members c.lose_slot.ensures.alone (let low = c.place-at.ensures.role in omega (arith, low)) (ap holder (sym c.get.ensures ∙ c.in-Whole.is)) (c.read.ensures.cause.failed (ap is_err c.in-Err.is)) c.read.ensures.cause.never_falls
+
 pub returns-in-Ok-clause-lost : goal.returns-in-Ok-clause-lost
-returns-in-Ok-clause-lost g c = none_lost c.args.shape.now c.args.members.now (g.B.Bank.faults_of c.args.bank.now) (g.B.Bank.faults_of c.read.new.bank) c.read.ensures.cause.never_falls
+returns-in-Ok-clause-lost g c = none_lost c.args.shape.now c.args.members.now (g.B.Bank.faults_of c.args.bank.now) (g.B.Bank.faults_of c.read.new.self) c.read.ensures.cause.never_falls
 
 pub returns-in-Ok-clause-read : goal.returns-in-Ok-clause-read
 returns-in-Ok-clause-read g c = λ none told list i lt stands.

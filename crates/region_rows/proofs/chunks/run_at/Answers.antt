@@ -1,5 +1,4 @@
-use Rattle.std.proofs.Common.{◌+◌, ◌-◌, ◌*◌, ◌/◌, ◌≤◌, ℕ, arith}
-use Rattle.layout.proofs.Places.{chunk_some}
+use Rattle.std.proofs.Common.{arith}
 use Rattle.views.proofs.Fit.{force-valid}
 use Rattle.region_rows.proofs.ChunkReads.{chunk-run}
 use Rattle.region_rows.proofs.chunks.run_at.Goals as goal

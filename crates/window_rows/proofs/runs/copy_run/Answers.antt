@@ -1,4 +1,4 @@
-use Rattle.std.proofs.Common.{◌≡◌, ◌+◌, ◌-◌, ◌<◌, ◌≤◌, ℕ, sym, subst, arith}
+use Rattle.std.proofs.Common.{◌≡◌, ◌+◌, ◌-◌, ℕ, sym, subst, arith}
 use Rattle.bank.specs.Tape.{disk}
 use Rattle.row_io.specs.Rows.{present, reading_of}
 use Rattle.row_io.proofs.Turns.{marks_last}
