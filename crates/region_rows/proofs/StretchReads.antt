@@ -31,7 +31,7 @@ use Rattle.region_rows.proofs.StretchLaws.{relied-below}
 -- ---- the bytes
 
 -- a sector in as few words
-plain : (bytes : List ℕ) (i : ℕ) → sector_of bytes i ≡ take 512 (drop (512 * i) bytes)
+pub plain : (bytes : List ℕ) (i : ℕ) → sector_of bytes i ≡ take 512 (drop (512 * i) bytes)
 plain bytes i =
     let n : 512 * i + 512 - 512 * i ≡ 512 = omega arith in
     ap (λ (m : ℕ). take m (drop (512 * i) bytes)) n

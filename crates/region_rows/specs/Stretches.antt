@@ -8,6 +8,7 @@ use Rattle.md_base.specs.Sectors.{Sector}
 use Rattle.md_base.specs.Shapes.{stripe_sectors, tolerance}
 use Rattle.sb1.specs.declared.sb.Sb.{Sb}
 use Rattle.bank.specs.Tape.{Contents}
+use Rattle.layout.specs.Layout.{place}
 use Rattle.superblocks.specs.declared.members.Members.{Members}
 use Rattle.superblocks.specs.Reading.{list_length, data_offset_of}
 use Rattle.row_io.specs.Rows.{reading_of, is_missing, held_slot}
@@ -20,6 +21,10 @@ use Rattle.views.specs.Lacking.{lacking, LacksTooMany}
 -- each sector from this one up to that one is placed by this shape
 abbrev pub IsStretch : Sb → Shape → ℕ → ℕ → Type 0
 IsStretch newest shape from to = (x : ℕ) → from ≤ x → x < to → shape_for newest x ≡ shape
+
+-- so many sectors from this one on stand on one role, in rows one behind the other
+abbrev pub IsOneRun : Shape → ℕ → ℕ → Type 0
+IsOneRun shape first count = (i : ℕ) → i < count → ((place shape (first + i)).role ≡ (place shape first).role) × ((place shape (first + i)).row ≡ (place shape first).row + i)
 
 -- the rows of this shape whose parity is to be relied on, where it is up to this sector of the list: those of the stripes below it, or all
 abbrev pub relied_rows : Sb → ℕ → Shape → ℕ

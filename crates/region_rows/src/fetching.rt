@@ -23,10 +23,11 @@ ghost use Rattle.views.specs.Moving.{Grows, IsMoved};
 ghost use Rattle.views.specs.Lacking.{HaveFailedSince, DoesWithout, LacksTooMany};
 ghost use Rattle.region_rows.specs.Stretches.{IsShapeOf, ListStandsIn, RowsStandIn, IsLacked, IsListUnread};
 
+use crate::chunks::{read_chunk, run_at};
 use crate::stretches::{relied_rows, stretch_at};
 use bank::Bank;
 use md_base::Refusal;
-use safe_rows::fetching::{Fetched, read_parts};
+use safe_rows::fetching::Fetched;
 use safe_rows::safe_updates::naming::name_missing;
 use safe_rows::safe_updates::refusing::{too_many_of, unread};
 use superblocks::Members;
@@ -75,8 +76,7 @@ pub fn unread_list(members: &Members, from: u64, to: u64, relied: u64) -> Option
     None
 }
 
-// Reads sectors of the list, from `first` on, stretch by stretch, up to the first stretch that can't be read. Up to which sector
-// they are read.
+// Reads sectors of the list, from `first` on, chunk by chunk, up to the first chunk that can't be read. Up to which sector they are read.
 fn read_stretches<B: Bank>(
     members: &mut Members,
     bank: &mut B,
@@ -107,10 +107,10 @@ fn read_stretches<B: Bank>(
     let to = first + (into.len() / 512) as u64;
     let mut at = first;
     while at < to {
-        let stretch = stretch_at(members, at, to);
+        let stretch = run_at(members, at, to);
         let rows = relied_rows(members, relied, &stretch.shape);
         let part = &mut into[512 * (at - first) as usize..512 * (stretch.end - first) as usize];
-        let read = read_parts(members, bank, &stretch.shape, at, part, scratch, rows);
+        let read = read_chunk(members, bank, &stretch.shape, at, part, scratch, rows);
         if read.answer.is_err() {
             return at;
         }

@@ -1,6 +1,7 @@
 //! Reads of the list of an array in a reshape, split by region.
 #![tactic(auto)]
 
+pub mod chunks;
 pub mod fetching;
 pub mod stretches;
 

@@ -1,23 +1,17 @@
 -- One row of a window: what its bytes have, and what its write leaves.
-use Rattle.std.proofs.Common.{◌≡◌, ◌⊎◌, inl, inr, ℕ, ◌+◌, ◌-◌, ◌<◌, ◌≤◌, ◌==◌, true, ◌||◌, List, sym, ◌∙◌, ap, arith}
-use Rattle.std.specs.Int.{bit_at}
-use Rattle.std.proofs.lemmas.Nat.Bits.{bit_at_ones}
+use Rattle.std.proofs.Common.{◌≡◌, inl, inr, ℕ, ◌-◌, ◌<◌, true, List, sym, ◌∙◌, ap}
 use Rattle.md_base.specs.declared.places.Shape.{Shape}
 use Rattle.md_base.specs.declared.places.Place.{Place}
 use Rattle.md_base.specs.declared.places.Span.{Span}
 use Rattle.md_base.specs.Sectors.{Sector, zero_sector}
 use Rattle.md_base.specs.Shapes.{is_valid_shape}
-use Rattle.bank.specs.Tape.{Contents}
-use Rattle.layout.specs.Layout.{place, row_roles}
-use Rattle.layout.proofs.Limits.{limited}
+use Rattle.layout.specs.Layout.{place}
 use Rattle.geometry.specs.Geometry as geometry
 use Rattle.parity.specs.Rows.{sector_of}
-use Rattle.superblocks.specs.Reading.{Reading, role_state, holder}
-use Rattle.row_io.specs.Writes.{is_parity, is_due, due_slot, new_sector, place_on, HasNew, IsWriting, OthersStand}
-use Rattle.row_io.proofs.Losses.{some_slot}
+use Rattle.row_io.specs.Writes.{new_sector}
 use Rattle.list_io.specs.Full.{full_sector}
 use Rattle.list_io.proofs.FullLaws.{data_here, full-data, new-full}
-use Rattle.window_rows.specs.Copies.{IsCopied, IsOwnRow, HasFullData, IsChangedAt, IsRowsPlace}
+use Rattle.window_rows.specs.Copies.{IsCopied, IsOwnRow, HasFullData}
 
 -- a sector of the window that lies in the buffer is the full one of its place
 pub copied_here : (shape : Shape) → is_valid_shape shape ≡ true → (span : Span) (buffer : List ℕ) (tail : Span) (list : ℕ → Sector) (role row x : ℕ) → IsCopied span buffer tail list
@@ -36,29 +30,3 @@ zero_here shape valid span buffer tail list role row x own copied at outside = e
 pub new_full : (shape : Shape) → is_valid_shape shape ≡ true → (list : ℕ → Sector) (row : ℕ) (bytes : List ℕ) → HasFullData shape list row bytes
     → (role : ℕ) → role < shape.disks → new_sector shape row bytes role ≡ full_sector shape list row role
 new_full shape valid list row bytes has = new-full shape list row bytes valid (λ role x lt at. has role lt (data_here shape role row x valid at) ∙ full-data shape list role row x valid at)
-
--- each role of a row is written
-pub all_due : (shape : Shape) → is_valid_shape shape ≡ true → (row role : ℕ) → role < shape.disks → is_due shape row 65535 role ≡ true
-all_due shape valid row role lt =
-    let few : shape.disks ≤ 16 = (limited shape valid).most in
-    let one : bit_at 65535 role ≡ 1 = bit_at_ones 16 role (omega (arith, lt, few)) in
-    ap (λ (n : ℕ). (n == 1) || is_parity (row_roles shape row) role) one
-
-pub all_others_stand : (r : Reading) (c : Contents) (shape : Shape) → is_valid_shape shape ≡ true → (row : ℕ) (bytes : List ℕ) → OthersStand c r shape row bytes 65535
-all_others_stand r c shape valid row bytes role slot lt kept held = absurd (let due = all_due shape valid row role lt in cc)
-
--- only places of the row are written
-pub row_changed : (r : Reading) (shape : Shape) (row : ℕ) (bytes : List ℕ) (changed : ℕ) (d e : ℕ → ℕ → List Sector) → IsWriting r shape row bytes changed d e → IsChangedAt (IsRowsPlace r row (row + 1)) d e
-row_changed r shape row bytes changed d e writing s k = at (writing s k)
-  where
-    at : (e s k ≡ d s k) ⊎ HasNew shape.disks (due_slot r shape row changed) (place_on r row) (new_sector shape row bytes) s k (d s k) (e s k)
-        → (e s k ≡ d s k) ⊎ IsRowsPlace r row (row + 1) s k
-    at (inl same) = inl same
-    at (inr has) = inr (record {
-      role = has.role;
-      row = row;
-      held = some_slot (is_due shape row changed has.role) (holder (role_state r has.role)) s has.slot;
-      low = omega arith;
-      high = omega arith;
-      place = has.place;
-    })

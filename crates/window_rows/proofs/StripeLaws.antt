@@ -1,6 +1,6 @@
 -- Rows one after another, and the rows of a stripe.
-use Rattle.std.proofs.Common.{◌≡◌, ◌≢◌, ◌⊎◌, inl, inr, ℕ, ◌+◌, ◌-◌, ◌*◌, ◌/◌, ◌<◌, ◌≤◌, true, List, get_or, Some, sym, ◌∙◌, subst, arith}
-use Rattle.std.proofs.lemmas.Bool.{cases_lt, cases_eq}
+use Rattle.std.proofs.Common.{◌≡◌, ◌⊎◌, inl, inr, ℕ, ◌+◌, ◌-◌, ◌*◌, ◌/◌, ◌<◌, ◌≤◌, true, List, get_or, Some, sym, subst, arith}
+use Rattle.std.proofs.lemmas.Bool.{cases_lt}
 use Rattle.std.proofs.lemmas.List.{length-replicate, get_or-replicate, get_or_past}
 use Rattle.md_base.specs.declared.places.Shape.{Shape}
 use Rattle.md_base.specs.declared.places.Span.{Span}
@@ -9,7 +9,6 @@ use Rattle.md_base.specs.Shapes.{is_valid_shape, is_multiple, data_disks, stripe
 use Rattle.bank.specs.Given.{Given}
 use Rattle.bank.specs.declared.bank.Operation.{Operation}
 use Rattle.bank.specs.Tape.{Contents, EachMark, IsIn, disk}
-use Rattle.bank.proofs.Marks.{each_mark-map, each_mark-then}
 use Rattle.layout.specs.Layout.{place}
 use Rattle.layout.proofs.Places.{chunk_some, place-sector_below}
 use Rattle.geometry.specs.Geometry.{ceiling, rows}
@@ -20,7 +19,6 @@ use Rattle.std.proofs.Math.Nat.{mul-le-mul_right}
 use Rattle.superblocks.specs.declared.members.Members.{Members}
 use Rattle.superblocks.specs.Reading.{Reading, final_shape, list_length, next_window}
 use Rattle.row_io.specs.Rows.{reading_of, members_without}
-use Rattle.row_io.proofs.Turns.{marks_last}
 use Rattle.row_io.proofs.NewRow.{whole_sector}
 use Rattle.list_io.specs.Full.{AreWholeIn, RowStands}
 use Rattle.list_io.specs.Writing.{IsFull, IsRowKept, AreBehind, AreSuperblocksKept}
@@ -29,50 +27,38 @@ use Rattle.shape_views.specs.Regions.{AreShapesFit}
 use Rattle.shape_views.specs.Windows.{IsLess, IsWrittenAt, IsWindowPlace, IsCopying}
 use Rattle.shape_views.proofs.UnderWay.{window-row}
 use Rattle.shape_changes.specs.Updates.{IsPastPlace}
+use Rattle.window_rows.proofs.RunLaws.{marks_then}
 use Rattle.window_rows.specs.Copies.{IsRoomFor, tail_of, IsCopied, IsZeroIn, IsOwnRow, IsStripeOf, IsPastStripe, IsChangedAt, IsRowsPlace}
 
 -- ---- rows one after another
 
-changed_then : (P Q : ℕ → ℕ → Type 0) (d e f : ℕ → ℕ → List Sector) → ((s k : ℕ) → Q s k → P s k) → IsChangedAt P d e → IsChangedAt Q e f → IsChangedAt P d f
-changed_then P Q d e f wider one two s k = at (one s k) (two s k)
-  where
-    at : (e s k ≡ d s k) ⊎ P s k → (f s k ≡ e s k) ⊎ Q s k → (f s k ≡ d s k) ⊎ P s k
-    at (inl same) (inl still) = inl (still ∙ same)
-    at (inr place) there = inr place
-    at (inl same) (inr place) = inr (wider s k place)
-
--- one row more, at each mark
-pub marks_more : {tells : Type 0} (start start' : Given) (m m' : Members) (from to row : ℕ) (old mid new : List Operation) → start' ≡ start → m' ≡ m → from ≤ row → row < to
+-- a run of rows more, at each mark
+pub marks_more : {tells : Type 0} (start start' : Given) (m m' : Members) (from to row end : ℕ) (old mid new : List Operation) → start' ≡ start → m' ≡ m → from ≤ row → end ≤ to
     → EachMark tells start.start old mid (IsChangedAt (IsRowsPlace (reading_of m) from to) (disk start.start old))
-    → EachMark tells start'.start mid new (IsChangedAt (IsRowsPlace (reading_of m') row (row + 1)) (disk start'.start mid))
+    → EachMark tells start'.start mid new (IsChangedAt (IsRowsPlace (reading_of m') row end) (disk start'.start mid))
     → EachMark tells start.start old new (IsChangedAt (IsRowsPlace (reading_of m) from to) (disk start.start old))
-marks_more {tells = tells} start start' m m' from to row old mid new same is low high marks more =
-    let P = IsRowsPlace (reading_of m) from to in
-    let Q = IsRowsPlace (reading_of m) row (row + 1) in
-    each_mark-then marks (each_mark-map (IsChangedAt P (disk start.start old))
-    (λ told e next. changed_then P Q (disk start.start old) (disk start.start mid) e
-    (λ s k there. record { role = there.role; row = there.row; held = there.held; low = omega (arith, low, there.low); high = omega (arith, high, there.high); place = there.place })
-    (marks_last {P = IsChangedAt P (disk start.start old)} marks told) next)
-    (subst (λ (n : Members). EachMark tells start.start mid new (IsChangedAt (IsRowsPlace (reading_of n) row (row + 1)) (disk start.start mid))) is
-    (subst (λ (s : Given). EachMark tells s.start mid new (IsChangedAt (IsRowsPlace (reading_of m') row (row + 1)) (disk s.start mid))) same more)))
+marks_more start start' m m' from to row end old mid new same is low high marks more =
+    marks_then start start' (IsRowsPlace (reading_of m) from to) (IsRowsPlace (reading_of m') row end) old mid new same (λ s k place.
+    let there : IsRowsPlace (reading_of m) row end s k = subst (λ (n : Members). IsRowsPlace (reading_of n) row end s k) is place in
+    record { role = there.role; row = there.row; held = there.held; low = omega (arith, low, there.low); high = omega (arith, high, there.high); place = there.place }) marks more
 
-module _ (mid new : Members) (lost : ℕ) (is : new ≡ members_without lost mid) (before between after : Contents) (shape : Shape) (from row : ℕ) (low : from ≤ row)
-    (others : (other : ℕ) → other ≢ row → IsRowKept (reading_of mid) between after other) where
-  -- one row more is full
-  pub full_more : (span : Span) (tail : Span) (list : ℕ → Sector)
+module _ (mid new : Members) (lost : ℕ) (is : new ≡ members_without lost mid) (before between after : Contents) (shape : Shape) (from row end : ℕ) (low : from ≤ row)
+    (others : (other : ℕ) → (other < row) ⊎ (end ≤ other) → IsRowKept (reading_of mid) between after other) where
+  -- more rows are full
+  pub full_more : (span : Span) (tail : Span) (list : ℕ → Sector) (next : ℕ)
       → ((r : ℕ) → from ≤ r → r < row → IsOwnRow shape span tail r → IsFull (reading_of mid) between shape list r)
-      → (IsOwnRow shape span tail row → IsFull (reading_of new) after shape list row)
-      → (r : ℕ) → from ≤ r → r < row + 1 → IsOwnRow shape span tail r → IsFull (reading_of new) after shape list r
-  full_more span tail list was here r above lt own = elim (cases_eq r row) [
-    | inl same ↦ subst (λ (n : ℕ). IsFull (reading_of new) after shape list n) (sym same) (here (subst (λ (n : ℕ). IsOwnRow shape span tail n) same own))
-    | inr ne ↦ full_later mid new lost between after shape list r is (others r ne) (was r above (omega (arith, lt, ne)) own)
+      → ((r : ℕ) → row ≤ r → r < next → IsOwnRow shape span tail r → IsFull (reading_of new) after shape list r)
+      → (r : ℕ) → from ≤ r → r < next → IsOwnRow shape span tail r → IsFull (reading_of new) after shape list r
+  full_more span tail list next was here r above lt own = elim (cases_lt r row) [
+    | inl below ↦ full_later mid new lost between after shape list r is (others r (inl below)) (was r above below own)
+    | inr high ↦ here r high lt own
   ]
 
   -- and each other one is as it was
-  pub kept_more : ((r : ℕ) → (r < from) ⊎ (row ≤ r) → IsRowKept (reading_of mid) before between r)
-      → (r : ℕ) → (r < from) ⊎ (row + 1 ≤ r) → IsRowKept (reading_of new) before after r
-  kept_more was r (inl below) = kept_then mid new lost before between after r is (was r (inl below)) (others r (λ same. omega (arith, below, same, low)))
-  kept_more was r (inr above) = kept_then mid new lost before between after r is (was r (inr (omega (arith, above)))) (others r (λ same. omega (arith, above, same)))
+  pub kept_more : row ≤ end → ((r : ℕ) → (r < from) ⊎ (row ≤ r) → IsRowKept (reading_of mid) before between r)
+      → (r : ℕ) → (r < from) ⊎ (end ≤ r) → IsRowKept (reading_of new) before after r
+  kept_more up was r (inl below) = kept_then mid new lost before between after r is (was r (inl below)) (others r (inl (omega (arith, below, low))))
+  kept_more up was r (inr above) = kept_then mid new lost before between after r is (was r (inr (omega (arith, above, up)))) (others r (inr above))
 
 -- ---- what a row that is full stands for
 

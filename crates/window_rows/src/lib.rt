@@ -4,6 +4,7 @@
 pub mod laws;
 mod reads;
 mod rows;
+mod runs;
 mod stripes;
 
 pub use reads::read_window;

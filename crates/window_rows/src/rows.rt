@@ -1,28 +1,18 @@
-//! One row of the new shape, made of the window's sectors and written.
+//! One row of the new shape, made of the window's sectors.
 
 ghost use Rattle.std.specs.Prelude.{◌≡◌, ◌≢◌, ◌+◌, ◌-◌, ◌*◌, ◌^◌, ◌<◌, ◌≤◌, ℕ, true, false, length, IsTrue};
-ghost use Rattle.bank.specs.Tape.{EachMark, disk};
 ghost use Rattle.md_base.specs.declared.places.Span.{Span};
 ghost use Rattle.md_base.specs.Sectors.{Sector, zero_sector};
 ghost use Rattle.md_base.specs.Shapes.{is_valid_shape};
 ghost use Rattle.layout.specs.Layout.{row_roles};
 ghost use Rattle.geometry.specs.Geometry.{IsIn};
 ghost use Rattle.parity.specs.Rows.{IsRowOf, sector_of};
-ghost use Rattle.row_io.specs.Rows.{present, reading_of, lost_of, IsRow, IsTolerated};
-ghost use Rattle.row_io.specs.Writes.{is_parity, AreApart};
-ghost use Rattle.list_io.specs.Calls.{AreLost};
+ghost use Rattle.row_io.specs.Writes.{is_parity};
 ghost use Rattle.list_io.specs.Full.{full_sector};
-ghost use Rattle.list_io.specs.Writing.{IsFull, IsRowKept};
-ghost use Rattle.window_rows.specs.Copies.{IsRoomFor, IsCopied, IsOwnRow, HasFullData, IsChangedAt, IsRowsPlace};
+ghost use Rattle.window_rows.specs.Copies.{IsRoomFor, IsCopied, IsOwnRow, HasFullData};
 
-use bank::Bank;
 use layout::at;
 use md_base::{Shape, Span};
-use row_io::write_row;
-use superblocks::Members;
-
-/// A bit for each of sixteen roles.
-const ALL_ROLES: u32 = 0xffff;
 
 // Whether the sector is one of the window.
 fn contains(span: &Span, x: u64) -> bool
@@ -32,8 +22,8 @@ fn contains(span: &Span, x: u64) -> bool
     span.lo <= x && x < span.hi
 }
 
-// Copies one sector of many into its place in others.
-fn copy_sector(from: &[u8], at: usize, into: &mut [u8], index: usize)
+/// Copies one sector of many into its place in others.
+pub fn copy_sector(from: &[u8], at: usize, into: &mut [u8], index: usize)
     requires at { 512 * at + 512 ≤ length from.now }
     requires index { 512 * index + 512 ≤ length into.old }
     ensures here { sector_of into.new index ≡ sector_of from.now at }
@@ -86,41 +76,4 @@ pub fn window_row(shape: &Shape, span: &Span, buffer: &[u8], row: u64, into: &mu
     for role in 0..shape.disks {
         put_role(shape, span, buffer, row, role, into);
     }
-}
-
-// The set of the slots that a row's call lost.
-fn lost_of(answer: Result<u32, u32>) -> u32
-    ensures { result ≡ lost_of answer }
-{
-    match answer {
-        Ok(lost) | Err(lost) => lost,
-    }
-}
-
-/// Writes a row of the shape with its parity, made of the window's sectors. The answer is the set of the slots that were lost.
-pub fn copy_row<B: Bank>(
-    members: &mut Members,
-    bank: &mut B,
-    shape: &Shape,
-    span: &Span,
-    row: u64,
-    buffer: &[u8],
-    into: &mut [u8],
-) -> u32
-    requires row { IsRow (B.given bank.old) (reading_of members.old) shape.now row }
-    requires apart { AreApart (reading_of members.old) }
-    requires tolerated { IsTolerated (reading_of members.old) shape.now }
-    requires buffer { IsRoomFor span.now buffer.now }
-    requires whole { IsRowOf shape.now.disks into.old }
-    ensures lost { AreLost shape.now members.old members.new result (B.faults_of bank.old) (B.faults_of bank.new) }
-    ensures each_mark { let start = (B.given bank.old).start in EachMark B.tells start (B.tape bank.old) (B.tape bank.new)
-        (IsChangedAt (IsRowsPlace (reading_of members.old) row (row + 1)) (disk start (B.tape bank.old))) }
-    ensures full { (tail : Span) (list : ℕ → Sector) → IsOwnRow shape.now span.now tail row → IsCopied span.now buffer.now tail list → B.tells
-        → IsFull (reading_of members.new) (present (B.given bank.new) (B.tape bank.new)) shape.now list row }
-    ensures others { B.tells → (other : ℕ) → other ≢ row → IsRowKept (reading_of members.old)
-        (present (B.given bank.old) (B.tape bank.old)) (present (B.given bank.new) (B.tape bank.new)) other }
-    ensures given { B.given bank.new ≡ B.given bank.old }
-{
-    window_row(shape, span, buffer, row, into);
-    lost_of(write_row(members, bank, shape, row, into, ALL_ROLES))
 }

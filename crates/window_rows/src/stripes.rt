@@ -5,7 +5,7 @@ ghost use Rattle.bank.specs.Tape.{EachMark, disk};
 ghost use Rattle.md_base.specs.declared.places.Span.{Span};
 ghost use Rattle.md_base.specs.Sectors.{Sector};
 ghost use Rattle.superblocks.specs.Reading.{final_shape, list_length, next_window};
-ghost use Rattle.row_io.specs.Rows.{present, reading_of, IsTolerated};
+ghost use Rattle.row_io.specs.Rows.{present, reading_of};
 ghost use Rattle.row_io.specs.Writes.{AreApart};
 ghost use Rattle.list_io.specs.Calls.{HasRows, AreLost, IsAnswer};
 ghost use Rattle.list_io.specs.Full.{RowStands};
@@ -15,7 +15,7 @@ ghost use Rattle.shape_views.specs.Windows.{IsWrittenAt, IsCopying};
 ghost use Rattle.shape_changes.specs.Updates.{IsPastPlace};
 ghost use Rattle.window_rows.specs.Copies.{IsRoomFor, tail_of, IsCopied, IsZeroIn, IsOwnRow, IsStripeOf, IsPastStripe, IsChangedAt, IsRowsPlace};
 
-use crate::rows::copy_row;
+use crate::runs::{MOST_ROWS, copy_run};
 use bank::Bank;
 use list_io::{Unavailable, are_too_many};
 use md_base::{Shape, Span};
@@ -35,7 +35,8 @@ struct Stretch {
     next: u64,
 }
 
-// Writes rows of the shape from one up to another, made of the window's sectors, up to the first in which a slot is lost.
+// Writes rows of the shape from one up to another, made of the window's sectors, a run of them at a time, up to the first in which a
+// slot is lost. Rows behind that one may be written in part.
 fn copy_rows<B: Bank>(
     members: &mut Members,
     bank: &mut B,
@@ -48,7 +49,6 @@ fn copy_rows<B: Bank>(
 ) -> Stretch
     requires rows { HasRows (B.given bank.old) (reading_of members.old) shape.now }
     requires apart { AreApart (reading_of members.old) }
-    requires tolerated { IsTolerated (reading_of members.old) shape.now }
     requires order { from ≤ to }
     requires below { to ≤ members.old.newest.size }
     requires buffer { IsRoomFor span.now buffer.now }
@@ -59,7 +59,7 @@ fn copy_rows<B: Bank>(
     ensures full { (tail : Span) (list : ℕ → Sector) → IsCopied span.now buffer.now tail list → B.tells
         → (row : ℕ) → from ≤ row → row < result.next → IsOwnRow shape.now span.now tail row
         → IsFull (reading_of members.new) (present (B.given bank.new) (B.tape bank.new)) shape.now list row }
-    ensures others { B.tells → (row : ℕ) → (row < from) ⊎ (result.next ≤ row) → IsRowKept (reading_of members.new)
+    ensures others { B.tells → (row : ℕ) → (row < from) ⊎ (to ≤ row) → IsRowKept (reading_of members.new)
         (present (B.given bank.old) (B.tape bank.old)) (present (B.given bank.new) (B.tape bank.new)) row }
     ensures reached { from ≤ result.next }
     ensures within { result.next ≤ to }
@@ -67,15 +67,26 @@ fn copy_rows<B: Bank>(
     ensures all { result.lost ≡ 0 → result.next ≡ to }
     ensures given { B.given bank.new ≡ B.given bank.old }
 {
-    let len = 512 * shape.disks as usize;
-    for row in from..to {
-        let lost = copy_row(members, bank, shape, span, row, buffer, &mut scratch[..len]);
+    let mut row = from;
+    while row < to {
+        let count = (to - row).min(MOST_ROWS);
+        let lost = copy_run(
+            members,
+            bank,
+            shape,
+            span,
+            row,
+            count as usize,
+            buffer,
+            scratch,
+        );
         if lost != 0 {
             return Stretch {
                 lost,
                 next: row + 1,
             };
         }
+        row += count;
     }
     Stretch { lost: 0, next: to }
 }
@@ -115,7 +126,7 @@ fn put_stripe<B: Bank>(
     ensures full { (tail : Span) (list : ℕ → Sector) → IsCopied span.now buffer.now tail list → B.tells
         → (i : ℕ) → done ≤ i → i < result.done → IsOwnRow shape.now span.now tail (stripe * shape.now.chunk + i)
         → IsFull (reading_of members.new) (present (B.given bank.new) (B.tape bank.new)) shape.now list (stripe * shape.now.chunk + i) }
-    ensures others { B.tells → (row : ℕ) → (row < stripe * shape.now.chunk + done) ⊎ (stripe * shape.now.chunk + result.done ≤ row)
+    ensures others { B.tells → (row : ℕ) → (row < stripe * shape.now.chunk + done) ⊎ (stripe * shape.now.chunk + shape.now.chunk ≤ row)
         → IsRowKept (reading_of members.new) (present (B.given bank.old) (B.tape bank.old)) (present (B.given bank.new) (B.tape bank.new)) row }
     ensures reached { done ≤ result.done }
     ensures within { result.done ≤ shape.now.chunk }
@@ -178,7 +189,7 @@ pub fn copy_stripe<B: Bank>(
         (λ e. IsCopying members.old span.now (disk start (B.tape bank.old)) e × AreSuperblocksKept (disk start (B.tape bank.old)) e) }
     ensures stands { B.tells → (list : ℕ → Sector) → IsCopied span.now buffer.now (tail_of members.old.newest) list → (i : ℕ) → done ≤ i → i < result.done
         → RowStands (reading_of members.new) (present (B.given bank.new) (B.tape bank.new)) shape.now list (stripe * shape.now.chunk + i) }
-    ensures others { B.tells → (row : ℕ) → (row < stripe * shape.now.chunk + done) ⊎ (stripe * shape.now.chunk + result.done ≤ row)
+    ensures others { B.tells → (row : ℕ) → (row < stripe * shape.now.chunk + done) ⊎ (stripe * shape.now.chunk + shape.now.chunk ≤ row)
         → IsRowKept (reading_of members.new) (present (B.given bank.old) (B.tape bank.old)) (present (B.given bank.new) (B.tape bank.new)) row }
     ensures reached { done ≤ result.done }
     ensures within { result.done ≤ shape.now.chunk }
@@ -212,7 +223,7 @@ pub fn zero_stripe<B: Bank>(
         (λ e. IsWrittenAt (IsPastPlace members.old) (disk start (B.tape bank.old)) e × AreSuperblocksKept (disk start (B.tape bank.old)) e) }
     ensures stands { B.tells → (list : ℕ → Sector) → IsZeroIn (tail_of members.old.newest) list → (i : ℕ) → done ≤ i → i < result.done
         → RowStands (reading_of members.new) (present (B.given bank.new) (B.tape bank.new)) shape.now list (stripe * shape.now.chunk + i) }
-    ensures others { B.tells → (row : ℕ) → (row < stripe * shape.now.chunk + done) ⊎ (stripe * shape.now.chunk + result.done ≤ row)
+    ensures others { B.tells → (row : ℕ) → (row < stripe * shape.now.chunk + done) ⊎ (stripe * shape.now.chunk + shape.now.chunk ≤ row)
         → IsRowKept (reading_of members.new) (present (B.given bank.old) (B.tape bank.old)) (present (B.given bank.new) (B.tape bank.new)) row }
     ensures reached { done ≤ result.done }
     ensures within { result.done ≤ shape.now.chunk }

@@ -61,13 +61,13 @@ out-of first from to row out = elim (cases_lt row (first + from)) [
 ]
 
 -- rows that aren't of both parts are kept by both
-pub others-join : (given : Given) (shape : Shape) (stripe a b c : ℕ) → a ≤ b → b ≤ c → (mid new : Members) (before between after : Contents) → IsMoved given mid new
-    → AreOtherRowsKept (IsOfStripeFrom shape stripe a b) (reading_of mid) before between → AreOtherRowsKept (IsOfStripeFrom shape stripe b c) (reading_of new) between after
-    → AreOtherRowsKept (IsOfStripeFrom shape stripe a c) (reading_of new) before after
-others-join given shape stripe a b c ab bc mid new before between after moved one two row out role slot held =
-    two row (λ at. out (let low = at.0 in omega (arith, low, ab), at.1)) role slot held
+pub others-join : (given : Given) (shape : Shape) (stripe a b c d : ℕ) → a ≤ c → b ≤ d → (mid new : Members) (before between after : Contents) → IsMoved given mid new
+    → AreOtherRowsKept (IsOfStripeFrom shape stripe a b) (reading_of mid) before between → AreOtherRowsKept (IsOfStripeFrom shape stripe c d) (reading_of new) between after
+    → AreOtherRowsKept (IsOfStripeFrom shape stripe a d) (reading_of new) before after
+others-join given shape stripe a b c d ac bd mid new before between after moved one two row out role slot held =
+    two row (λ at. out (let low = at.0 in omega (arith, low, ac), at.1)) role slot held
     ∙ ap (λ (n : ℕ). between slot (n + row)) (moved.offsets slot)
-    ∙ one row (λ at. out (at.0, (let high = at.1 in omega (arith, high, bc)))) role slot (moved.held role slot held)
+    ∙ one row (λ at. out (at.0, (let high = at.1 in omega (arith, high, bd)))) role slot (moved.held role slot held)
     ∙ ap (λ (n : ℕ). before slot (n + row)) (sym (moved.offsets slot))
 
 -- ---- the window

@@ -82,7 +82,7 @@ fn copy_stretch<B: Bank>(
     ensures stands { B.tells → (list : ℕ → Sector) → IsCopied span.now buffer.now (tail_of members.old.newest) list
         → (row : ℕ) → IsOfStripeFrom shape.now stripe done result.done row
         → RowStands (reading_of members.new) (present (B.given bank.old) (B.tape bank.new)) shape.now list row }
-    ensures others { B.tells → AreOtherRowsKept (IsOfStripeFrom shape.now stripe done result.done) (reading_of members.new)
+    ensures others { B.tells → AreOtherRowsKept (IsOfStripeFrom shape.now stripe done shape.now.chunk) (reading_of members.new)
         (present (B.given bank.old) (B.tape bank.old)) (present (B.given bank.old) (B.tape bank.new)) }
     ensures rise { IsRisen B.tells members.old members.new (B.tape bank.old) (B.tape bank.new) }
     ensures safe { B.tells → (world : World) → (told : Ledger) → IsCopyable world.scope members.old span.now (disk (B.given bank.old).start (B.tape bank.old))
@@ -134,7 +134,7 @@ fn copy_part<B: Bank>(
     ensures stands { B.tells → (list : ℕ → Sector) → IsCopied span.now buffer.now (tail_of members.old.newest) list
         → (row : ℕ) → IsOfStripeFrom shape.now stripe done result.done row
         → RowStands (reading_of members.new) (present (B.given bank.old) (B.tape bank.new)) shape.now list row }
-    ensures others { B.tells → AreOtherRowsKept (IsOfStripeFrom shape.now stripe done result.done) (reading_of members.new)
+    ensures others { B.tells → AreOtherRowsKept (IsOfStripeFrom shape.now stripe done shape.now.chunk) (reading_of members.new)
         (present (B.given bank.old) (B.tape bank.old)) (present (B.given bank.old) (B.tape bank.new)) }
     ensures named { HasLiveSlot members.new → AreNamedMissing members.new }
     ensures rise { IsRisen B.tells members.old members.new (B.tape bank.old) (B.tape bank.new) }

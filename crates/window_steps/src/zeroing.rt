@@ -58,7 +58,7 @@ fn zero_stretch<B: Bank>(
     ensures stands { B.tells → (list : ℕ → Sector) → IsZeroIn (tail_of members.old.newest) list
         → (row : ℕ) → IsOfStripeFrom shape.now stripe done result.done row
         → RowStands (reading_of members.new) (present (B.given bank.old) (B.tape bank.new)) shape.now list row }
-    ensures others { B.tells → AreOtherRowsKept (IsOfStripeFrom shape.now stripe done result.done) (reading_of members.new)
+    ensures others { B.tells → AreOtherRowsKept (IsOfStripeFrom shape.now stripe done shape.now.chunk) (reading_of members.new)
         (present (B.given bank.old) (B.tape bank.old)) (present (B.given bank.old) (B.tape bank.new)) }
     ensures headers { B.tells → AreHeadersKept (disk (B.given bank.old).start (B.tape bank.old)) (disk (B.given bank.old).start (B.tape bank.new)) }
     ensures unused { B.tells → IsUnusedKept members.old (disk (B.given bank.old).start (B.tape bank.old)) (disk (B.given bank.old).start (B.tape bank.new)) }
@@ -105,7 +105,7 @@ fn zero_part<B: Bank>(
     ensures stands { B.tells → (list : ℕ → Sector) → IsZeroIn (tail_of members.old.newest) list
         → (row : ℕ) → IsOfStripeFrom shape.now stripe done result.done row
         → RowStands (reading_of members.new) (present (B.given bank.old) (B.tape bank.new)) shape.now list row }
-    ensures others { B.tells → AreOtherRowsKept (IsOfStripeFrom shape.now stripe done result.done) (reading_of members.new)
+    ensures others { B.tells → AreOtherRowsKept (IsOfStripeFrom shape.now stripe done shape.now.chunk) (reading_of members.new)
         (present (B.given bank.old) (B.tape bank.old)) (present (B.given bank.old) (B.tape bank.new)) }
     ensures named { HasLiveSlot members.new → AreNamedMissing members.new }
     ensures headers { B.tells → AreHeadersKept (disk (B.given bank.old).start (B.tape bank.old)) (disk (B.given bank.old).start (B.tape bank.new)) }

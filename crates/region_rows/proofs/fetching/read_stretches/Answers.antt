@@ -21,7 +21,7 @@ use Rattle.views.proofs.MovedLaws.{moved-same, moved-lost, moved-then, lost-none
 use Rattle.views.proofs.LackingLaws.{since-same, since-lost, since-then, in-second}
 use Rattle.views.proofs.LackingWrites.{lost-of}
 use Rattle.safe_rows.proofs.safe_updates_RefusingLaws.{not-err}
-use Rattle.region_rows.specs.Stretches.{IsStretch, IsShapeOf, relied_rows}
+use Rattle.region_rows.specs.Stretches.{IsStretch, IsOneRun, IsShapeOf, relied_rows}
 use Rattle.region_rows.proofs.StretchLaws.{list-short, data-few}
 use Rattle.region_rows.proofs.UnreadLaws.{answer-lacked}
 use Rattle.region_rows.proofs.StretchReads.{part-count, part-long, sector-here, sector-before, sector-read}
@@ -56,12 +56,47 @@ loop-at-init g c =
       counts = λ s. omega arith;
     }
 
-pub read_parts-read-requires-clause-within : goal.read_parts-read-requires-clause-within
-read_parts-read-requires-clause-within g c =
+pub run_at-stretch-requires-clause-short : goal.run_at-stretch-requires-clause-short
+run_at-stretch-requires-clause-short g c =
+    let newest = c.args.members.now.newest in
+    let few = data-few newest c.requires.placed.fit _ (inl refl) in
+    let short = list-short newest _ (inl refl) in
+    omega (arith, few, short, c.requires.within)
+
+pub read_chunk-read-requires-clause-some : goal.read_chunk-read-requires-clause-some
+read_chunk-read-requires-clause-some g c =
     let was = c.loop-at.invariant in
-    let stretch = c.stretch_at-stretch.ensures in
+    let stretch = c.run_at-stretch.ensures in
+    let d = c.loop-at.at - c.args.first in
+    let e = c.run_at-stretch.result.end - c.args.first in
+    let some : d ≤ e = (let more = stretch.some in let from = was.from in omega (arith, more, from)) in
+    let within : 512 * e ≤ length c.loop-at.into = (let last = stretch.within in let size = c.loop-at.auto.into in omega (arith, last, size)) in
+    let count = part-count c.loop-at.into [] d e within some in
+    let more = stretch.some in
+    let from = was.from in
+    omega (arith, count, more, from)
+
+pub read_chunk-read-requires-clause-run : goal.read_chunk-read-requires-clause-run
+read_chunk-read-requires-clause-run g c =
+    let was = c.loop-at.invariant in
+    let stretch = c.run_at-stretch.ensures in
     let at = c.loop-at.at in
-    let end = c.stretch_at-stretch.result.end in
+    let end = c.run_at-stretch.result.end in
+    let d = at - c.args.first in
+    let e = end - c.args.first in
+    let some : d ≤ e = (let more = stretch.some in let from = was.from in omega (arith, more, from)) in
+    let within : 512 * e ≤ length c.loop-at.into = (let last = stretch.within in let size = c.loop-at.auto.into in omega (arith, last, size)) in
+    let count = part-count c.loop-at.into [] d e within some in
+    let more = stretch.some in
+    let from = was.from in
+    subst (λ (n : ℕ). IsOneRun c.run_at-stretch.result.shape at n) (omega (arith, count, more, from)) stretch.run
+
+pub read_chunk-read-requires-clause-within : goal.read_chunk-read-requires-clause-within
+read_chunk-read-requires-clause-within g c =
+    let was = c.loop-at.invariant in
+    let stretch = c.run_at-stretch.ensures in
+    let at = c.loop-at.at in
+    let end = c.run_at-stretch.result.end in
     let d = at - c.args.first in
     let e = end - c.args.first in
     let some : d ≤ e = (let more = stretch.some in let from = was.from in omega (arith, more, from)) in
@@ -69,20 +104,20 @@ read_parts-read-requires-clause-within g c =
     let count = part-count c.loop-at.into [] d e within some in
     let size = was.moved.size in
     let newest = c.loop-at.members.newest in
-    let short = list-short c.args.members.now.newest c.stretch_at-stretch.result.shape (force-old c.args.members.now c.loop-at.members was.lost.0 was.lost.1 c.stretch_at-stretch.result.shape stretch.force) in
-    let few = data-few newest was.moved.placed.fit c.stretch_at-stretch.result.shape stretch.force in
-    let same = ap (λ (k : ℕ). data_disks c.stretch_at-stretch.result.shape * k) size in
+    let short = list-short c.args.members.now.newest c.run_at-stretch.result.shape (force-old c.args.members.now c.loop-at.members was.lost.0 was.lost.1 c.run_at-stretch.result.shape stretch.force) in
+    let few = data-few newest was.moved.placed.fit c.run_at-stretch.result.shape stretch.force in
+    let same = ap (λ (k : ℕ). data_disks c.run_at-stretch.result.shape * k) size in
     let last = stretch.within in
     let more = stretch.some in
     let from = was.from in
     omega (arith, count, short, few, same, last, more, from, c.requires.within)
 
-pub read_parts-read-requires-clause-short : goal.read_parts-read-requires-clause-short
-read_parts-read-requires-clause-short g c =
+pub read_chunk-read-requires-clause-short : goal.read_chunk-read-requires-clause-short
+read_chunk-read-requires-clause-short g c =
     let was = c.loop-at.invariant in
-    let stretch = c.stretch_at-stretch.ensures in
+    let stretch = c.run_at-stretch.ensures in
     let at = c.loop-at.at in
-    let end = c.stretch_at-stretch.result.end in
+    let end = c.run_at-stretch.result.end in
     let d = at - c.args.first in
     let e = end - c.args.first in
     let some : d ≤ e = (let more = stretch.some in let from = was.from in omega (arith, more, from)) in
@@ -90,9 +125,9 @@ read_parts-read-requires-clause-short g c =
     let count = part-count c.loop-at.into [] d e within some in
     let size = was.moved.size in
     let newest = c.loop-at.members.newest in
-    let short = list-short c.args.members.now.newest c.stretch_at-stretch.result.shape (force-old c.args.members.now c.loop-at.members was.lost.0 was.lost.1 c.stretch_at-stretch.result.shape stretch.force) in
-    let few = data-few newest was.moved.placed.fit c.stretch_at-stretch.result.shape stretch.force in
-    let same = ap (λ (k : ℕ). data_disks c.stretch_at-stretch.result.shape * k) size in
+    let short = list-short c.args.members.now.newest c.run_at-stretch.result.shape (force-old c.args.members.now c.loop-at.members was.lost.0 was.lost.1 c.run_at-stretch.result.shape stretch.force) in
+    let few = data-few newest was.moved.placed.fit c.run_at-stretch.result.shape stretch.force in
+    let same = ap (λ (k : ℕ). data_disks c.run_at-stretch.result.shape * k) size in
     let last = stretch.within in
     let more = stretch.some in
     let from = was.from in
@@ -101,17 +136,17 @@ read_parts-read-requires-clause-short g c =
 pub returns-then-is_err-clause-moved : goal.returns-then-is_err-clause-moved
 returns-then-is_err-clause-moved g c =
     let was = c.loop-at.invariant in
-    let did = c.read_parts-read.ensures in
-    let stretch = c.stretch_at-stretch.ensures in
+    let did = c.read_chunk-read.ensures in
+    let stretch = c.run_at-stretch.ensures in
     let old = c.args.members.now in
     let mid = c.loop-at.members in
-    let new = c.read_parts-read.new.members in
+    let new = c.read_chunk-read.new.members in
     let given = g.B.Bank.given c.args.bank.now in
     let f0 = g.B.Bank.faults_of c.args.bank.now in
     let f1 = g.B.Bank.faults_of c.loop-at.bank in
-    let f2 = g.B.Bank.faults_of c.read_parts-read.new.bank in
-    let r = c.read_parts-read.result.lost in
-    let shape = c.stretch_at-stretch.result.shape in
+    let f2 = g.B.Bank.faults_of c.read_chunk-read.new.bank in
+    let r = c.read_chunk-read.result.lost in
+    let shape = c.run_at-stretch.result.shape in
     let lost1 : AreLost given shape mid new r f1 f2 = lost-of given shape mid new r f1 f2 was.moved.placed did.lost in
     let two : IsMoved given mid new = moved-lost given shape mid new r f1 f2 was.moved.placed lost1 was.moved.unlost in
     moved-then given old mid new was.moved two
@@ -119,17 +154,17 @@ returns-then-is_err-clause-moved g c =
 pub returns-then-is_err-clause-lost : goal.returns-then-is_err-clause-lost
 returns-then-is_err-clause-lost g c =
     let was = c.loop-at.invariant in
-    let did = c.read_parts-read.ensures in
-    let stretch = c.stretch_at-stretch.ensures in
+    let did = c.read_chunk-read.ensures in
+    let stretch = c.run_at-stretch.ensures in
     let old = c.args.members.now in
     let mid = c.loop-at.members in
-    let new = c.read_parts-read.new.members in
+    let new = c.read_chunk-read.new.members in
     let given = g.B.Bank.given c.args.bank.now in
     let f0 = g.B.Bank.faults_of c.args.bank.now in
     let f1 = g.B.Bank.faults_of c.loop-at.bank in
-    let f2 = g.B.Bank.faults_of c.read_parts-read.new.bank in
-    let r = c.read_parts-read.result.lost in
-    let shape = c.stretch_at-stretch.result.shape in
+    let f2 = g.B.Bank.faults_of c.read_chunk-read.new.bank in
+    let r = c.read_chunk-read.result.lost in
+    let shape = c.run_at-stretch.result.shape in
     let lost1 : AreLost given shape mid new r f1 f2 = lost-of given shape mid new r f1 f2 was.moved.placed did.lost in
     let two : IsMoved given mid new = moved-lost given shape mid new r f1 f2 was.moved.placed lost1 was.moved.unlost in
     (bit_or was.lost.0 r, did.lost.members ∙ ap (members_without r) was.lost.1 ∙ members_then was.lost.0 r old)
@@ -137,17 +172,17 @@ returns-then-is_err-clause-lost g c =
 pub returns-then-is_err-clause-failed : goal.returns-then-is_err-clause-failed
 returns-then-is_err-clause-failed g c =
     let was = c.loop-at.invariant in
-    let did = c.read_parts-read.ensures in
-    let stretch = c.stretch_at-stretch.ensures in
+    let did = c.read_chunk-read.ensures in
+    let stretch = c.run_at-stretch.ensures in
     let old = c.args.members.now in
     let mid = c.loop-at.members in
-    let new = c.read_parts-read.new.members in
+    let new = c.read_chunk-read.new.members in
     let given = g.B.Bank.given c.args.bank.now in
     let f0 = g.B.Bank.faults_of c.args.bank.now in
     let f1 = g.B.Bank.faults_of c.loop-at.bank in
-    let f2 = g.B.Bank.faults_of c.read_parts-read.new.bank in
-    let r = c.read_parts-read.result.lost in
-    let shape = c.stretch_at-stretch.result.shape in
+    let f2 = g.B.Bank.faults_of c.read_chunk-read.new.bank in
+    let r = c.read_chunk-read.result.lost in
+    let shape = c.run_at-stretch.result.shape in
     let lost1 : AreLost given shape mid new r f1 f2 = lost-of given shape mid new r f1 f2 was.moved.placed did.lost in
     let two : IsMoved given mid new = moved-lost given shape mid new r f1 f2 was.moved.placed lost1 was.moved.unlost in
     since-then old mid new 0 0 0 f0 f1 f2 was.counts did.lost.never_falls was.failed (since-lost given shape mid new r f1 f2 lost1) (in-second 0)
@@ -155,17 +190,17 @@ returns-then-is_err-clause-failed g c =
 pub returns-then-is_err-clause-kept : goal.returns-then-is_err-clause-kept
 returns-then-is_err-clause-kept g c =
     let was = c.loop-at.invariant in
-    let did = c.read_parts-read.ensures in
-    let stretch = c.stretch_at-stretch.ensures in
+    let did = c.read_chunk-read.ensures in
+    let stretch = c.run_at-stretch.ensures in
     let old = c.args.members.now in
     let mid = c.loop-at.members in
-    let new = c.read_parts-read.new.members in
+    let new = c.read_chunk-read.new.members in
     let given = g.B.Bank.given c.args.bank.now in
     let f0 = g.B.Bank.faults_of c.args.bank.now in
     let f1 = g.B.Bank.faults_of c.loop-at.bank in
-    let f2 = g.B.Bank.faults_of c.read_parts-read.new.bank in
-    let r = c.read_parts-read.result.lost in
-    let shape = c.stretch_at-stretch.result.shape in
+    let f2 = g.B.Bank.faults_of c.read_chunk-read.new.bank in
+    let r = c.read_chunk-read.result.lost in
+    let shape = c.run_at-stretch.result.shape in
     let lost1 : AreLost given shape mid new r f1 f2 = lost-of given shape mid new r f1 f2 was.moved.placed did.lost in
     let two : IsMoved given mid new = moved-lost given shape mid new r f1 f2 was.moved.placed lost1 was.moved.unlost in
     λ whole. lost1.kept (lost-none given shape mid new r f1 f2 lost1 stretch.force whole) ∙ was.kept (two.whole whole)
@@ -173,27 +208,27 @@ returns-then-is_err-clause-kept g c =
 pub returns-then-is_err-clause-counts : goal.returns-then-is_err-clause-counts
 returns-then-is_err-clause-counts g c =
     let was = c.loop-at.invariant in
-    let did = c.read_parts-read.ensures in
+    let did = c.read_chunk-read.ensures in
     λ s. let one = was.counts s in let late = did.lost.never_falls s in omega (arith, one, late)
 
 pub returns-then-is_err-clause-unread : goal.returns-then-is_err-clause-unread
 returns-then-is_err-clause-unread g c =
     let was = c.loop-at.invariant in
-    let did = c.read_parts-read.ensures in
-    let stretch = c.stretch_at-stretch.ensures in
+    let did = c.read_chunk-read.ensures in
+    let stretch = c.run_at-stretch.ensures in
     let old = c.args.members.now in
     let mid = c.loop-at.members in
-    let new = c.read_parts-read.new.members in
+    let new = c.read_chunk-read.new.members in
     let given = g.B.Bank.given c.args.bank.now in
     let f0 = g.B.Bank.faults_of c.args.bank.now in
     let f1 = g.B.Bank.faults_of c.loop-at.bank in
-    let f2 = g.B.Bank.faults_of c.read_parts-read.new.bank in
-    let r = c.read_parts-read.result.lost in
-    let shape = c.stretch_at-stretch.result.shape in
+    let f2 = g.B.Bank.faults_of c.read_chunk-read.new.bank in
+    let r = c.read_chunk-read.result.lost in
+    let shape = c.run_at-stretch.result.shape in
     let lost1 : AreLost given shape mid new r f1 f2 = lost-of given shape mid new r f1 f2 was.moved.placed did.lost in
     let two : IsMoved given mid new = moved-lost given shape mid new r f1 f2 was.moved.placed lost1 was.moved.unlost in
     let at = c.loop-at.at in
-    let end = c.stretch_at-stretch.result.end in
+    let end = c.run_at-stretch.result.end in
     let d = at - c.args.first in
     let e = end - c.args.first in
     let some : d ≤ e = (let more = stretch.some in let from = was.from in omega (arith, more, from)) in
@@ -205,53 +240,53 @@ returns-then-is_err-clause-unread g c =
     let last = stretch.within in
     let found = answer-lacked new shape c.args.relied c.relied_rows-rows.result at end more (subst (λ (sb : Sb). IsStretch sb shape at end) (sym newest) stretch.one)
     (subst (λ (sb : Sb). c.relied_rows-rows.result ≡ relied_rows sb c.args.relied shape) (sym newest) c.relied_rows-rows.ensures.rows)
-    (length (take (512 * e - 512 * d) (drop (512 * d) c.loop-at.into)) / 512) (omega (arith, count, from, more)) c.read_parts-read.result.answer (sym c.is_err.ensures.value ∙ c.if-is_err.true) did.answer in
+    (length (take (512 * e - 512 * d) (drop (512 * d) c.loop-at.into)) / 512) (omega (arith, count, from, more)) c.read_chunk-read.result.answer (sym c.is_err.ensures.value ∙ c.if-is_err.true) did.answer in
     λ lt. let high = found.2 in (found.0, found.1, omega (arith, high, last), found.3)
 
 pub returns-then-is_err-clause-holds : goal.returns-then-is_err-clause-holds
 returns-then-is_err-clause-holds g c =
     let was = c.loop-at.invariant in
-    let did = c.read_parts-read.ensures in
-    let stretch = c.stretch_at-stretch.ensures in
+    let did = c.read_chunk-read.ensures in
+    let stretch = c.run_at-stretch.ensures in
     let old = c.args.members.now in
     let mid = c.loop-at.members in
-    let new = c.read_parts-read.new.members in
+    let new = c.read_chunk-read.new.members in
     let given = g.B.Bank.given c.args.bank.now in
     let f0 = g.B.Bank.faults_of c.args.bank.now in
     let f1 = g.B.Bank.faults_of c.loop-at.bank in
-    let f2 = g.B.Bank.faults_of c.read_parts-read.new.bank in
-    let r = c.read_parts-read.result.lost in
-    let shape = c.stretch_at-stretch.result.shape in
+    let f2 = g.B.Bank.faults_of c.read_chunk-read.new.bank in
+    let r = c.read_chunk-read.result.lost in
+    let shape = c.run_at-stretch.result.shape in
     let lost1 : AreLost given shape mid new r f1 f2 = lost-of given shape mid new r f1 f2 was.moved.placed did.lost in
     let two : IsMoved given mid new = moved-lost given shape mid new r f1 f2 was.moved.placed lost1 was.moved.unlost in
     let at = c.loop-at.at in
-    let end = c.stretch_at-stretch.result.end in
+    let end = c.run_at-stretch.result.end in
     let d = at - c.args.first in
     let e = end - c.args.first in
     let some : d ≤ e = (let more = stretch.some in let from = was.from in omega (arith, more, from)) in
     let within : 512 * e ≤ length c.loop-at.into = (let last = stretch.within in let size = c.loop-at.auto.into in omega (arith, last, size)) in
     λ told hidden list stands fills i low shown.
-    sector-before c.loop-at.into c.read_parts-read.new.into d e within some i (let from = was.from in omega (arith, low, from))
+    sector-before c.loop-at.into c.read_chunk-read.new.into d e within some i (let from = was.from in omega (arith, low, from))
     ∙ was.holds told hidden list stands (elim fills [ inl whole ↦ inl (two.whole whole) | inr rows ↦ inr rows ]) i low shown
 
 pub loop-at-preserved : goal.loop-at-preserved
 loop-at-preserved g c =
     let was = c.loop-at.invariant in
-    let did = c.read_parts-read.ensures in
-    let stretch = c.stretch_at-stretch.ensures in
+    let did = c.read_chunk-read.ensures in
+    let stretch = c.run_at-stretch.ensures in
     let old = c.args.members.now in
     let mid = c.loop-at.members in
-    let new = c.read_parts-read.new.members in
+    let new = c.read_chunk-read.new.members in
     let given = g.B.Bank.given c.args.bank.now in
     let f0 = g.B.Bank.faults_of c.args.bank.now in
     let f1 = g.B.Bank.faults_of c.loop-at.bank in
-    let f2 = g.B.Bank.faults_of c.read_parts-read.new.bank in
-    let r = c.read_parts-read.result.lost in
-    let shape = c.stretch_at-stretch.result.shape in
+    let f2 = g.B.Bank.faults_of c.read_chunk-read.new.bank in
+    let r = c.read_chunk-read.result.lost in
+    let shape = c.run_at-stretch.result.shape in
     let lost1 : AreLost given shape mid new r f1 f2 = lost-of given shape mid new r f1 f2 was.moved.placed did.lost in
     let two : IsMoved given mid new = moved-lost given shape mid new r f1 f2 was.moved.placed lost1 was.moved.unlost in
     let at = c.loop-at.at in
-    let end = c.stretch_at-stretch.result.end in
+    let end = c.run_at-stretch.result.end in
     let d = at - c.args.first in
     let e = end - c.args.first in
     let some : d ≤ e = (let more = stretch.some in let from = was.from in omega (arith, more, from)) in
@@ -264,7 +299,7 @@ loop-at-preserved g c =
       from = let from = was.from in let more = stretch.some in omega (arith, from, more);
       within = stretch.within;
       holds = λ told hidden list stands fills i high shown. elim (cases_lt (c.args.first + i) at) [
-        | inl low ↦ sector-before c.loop-at.into c.read_parts-read.new.into d e within some i (let from = was.from in omega (arith, low, from))
+        | inl low ↦ sector-before c.loop-at.into c.read_chunk-read.new.into d e within some i (let from = was.from in omega (arith, low, from))
             ∙ was.holds told hidden list stands (elim fills [ inl whole ↦ inl (two.whole whole) | inr rows ↦ inr rows ]) i low shown
         | inr late ↦
             let tape0 = g.B.Bank.tape c.args.bank.now in
@@ -279,10 +314,10 @@ loop-at-preserved g c =
             let here : at + j ≡ x = omega (arith, late, from) in
             let long = part-long c.loop-at.into [] d e within some in
             let count = part-count c.loop-at.into [] d e within some in
-            let part = c.read_parts-read.new.into in
+            let part = c.read_chunk-read.new.into in
             let rows = c.relied_rows-rows.result in
             let placed : shape_for old.newest x ≡ shape = subst (λ (sb : Sb). shape_for sb x ≡ shape) newest (stretch.one x late high) in
-            let read1 = not-err c.read_parts-read.result.answer (sym c.is_err.ensures.value ∙ c.if-is_err.false) did.sectors told in
+            let read1 = not-err c.read_chunk-read.result.answer (sym c.is_err.ensures.value ∙ c.if-is_err.false) did.sectors told in
             let read : (list0 : ℕ → Sector) → DataStands (reading_of mid) c0 shape list0 (place shape x).row → ((place shape x).row < rows → AreWhole new ⊎ RowStands (reading_of mid) c0 shape list0 (place shape x).row)
             → sector_of part j ≡ list0 x =
             subst (λ (y : ℕ). (list0 : ℕ → Sector) → DataStands (reading_of mid) c0 shape list0 (place shape y).row → ((place shape y).row < rows → AreWhole new ⊎ RowStands (reading_of mid) c0 shape list0 (place shape y).row)
@@ -290,7 +325,7 @@ loop-at-preserved g c =
             (subst (λ (k : Contents). (list0 : ℕ → Sector) → DataStands (reading_of mid) k shape list0 (place shape (at + j)).row
             → ((place shape (at + j)).row < rows → AreWhole new ⊎ RowStands (reading_of mid) k shape list0 (place shape (at + j)).row) → sector_of part j ≡ list0 (at + j)) same
             (λ list0. read1 list0 j (omega (arith, count, late, high, from, more)))) in
-            sector-here c.loop-at.into part d e within some (c.read_parts-read.auto.into ∙ long) i (omega (arith, late, from)) (omega (arith, high, from))
+            sector-here c.loop-at.into part d e within some (c.read_chunk-read.auto.into ∙ long) i (omega (arith, late, from)) (omega (arith, high, from))
             ∙ sector-read given old mid new was.moved c.requires.placed c0 shape (force-old old mid was.lost.0 was.lost.1 shape stretch.force) c.args.relied rows
             (subst (λ (sb : Sb). rows ≡ relied_rows sb c.args.relied shape) newest c.relied_rows-rows.ensures.rows) x placed (sector_of part j) read (IsShapeOf old.newest c.args.first (c.args.first + length c.args.into.now / 512))
             (x, omega arith, (let last = stretch.within in omega (arith, high, last)), refl) hidden list stands shown fills

@@ -1,4 +1,4 @@
-use Rattle.std.proofs.Common.{◌≡◌, ◌⊎◌, ◌<◌, ◌≤◌, ℕ}
+use Rattle.std.proofs.Common.{◌≡◌, ◌⊎◌, ◌-◌, ◌<◌, ◌≤◌, ℕ}
 use Rattle.bank.specs.Given.{NeverFalls}
 use Rattle.bank.specs.Tape.{EachMark, disk}
 use Rattle.md_base.specs.declared.places.Span.{Span}
@@ -8,8 +8,13 @@ use Rattle.list_io.specs.Writing.{IsFull, IsRowKept}
 use Rattle.window_rows.specs.Copies.{IsCopied, IsOwnRow, IsChangedAt, IsRowsPlace}
 use Rattle.window_rows.proofs.stripes.copy_rows.Given as goal
 
+abbrev pub decreases-loop-row : goal.decreases-loop-row
+decreases-loop-row g l = l.to - l.row
+
 abbrev pub invariant-loop-row : goal.invariant-loop-row
 invariant-loop-row g l = record {
+  reached : l.from ≤ l.row;
+  within : l.row ≤ l.to;
   marks : EachMark g.B.Bank.tells (g.B.Bank.given l.fn.bank).start (g.B.Bank.tape l.fn.bank) (g.B.Bank.tape l.bank)
       (IsChangedAt (IsRowsPlace (reading_of l.fn.members) l.from l.to) (disk (g.B.Bank.given l.fn.bank).start (g.B.Bank.tape l.fn.bank)));
   full : (tail : Span) (list : ℕ → Sector) → IsCopied l.span l.buffer tail list → g.B.Bank.tells → (row : ℕ) → l.from ≤ row → row < l.row → IsOwnRow l.shape l.span tail row

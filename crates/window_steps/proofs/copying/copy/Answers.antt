@@ -86,11 +86,10 @@ returns-then-is_some-clause-others g c = λ told row out.
     let tape0 = g.B.Bank.tape c.args.bank.now in
     let tape1 = g.B.Bank.tape c.loop-done.bank in
     let tape2 = g.B.Bank.tape c.copy_part-part.new.bank in
-    let within = did.within in
-    others-join given c.args.shape.now c.args.stripe 0 c.loop-done.done c.copy_part-part.result.done (omega arith) did.reached n new (present given tape0) (present given tape1) (present given tape2)
+    others-join given c.args.shape.now c.args.stripe 0 c.args.shape.now.chunk c.loop-done.done c.args.shape.now.chunk (omega arith) (omega arith) n new (present given tape0) (present given tape1) (present given tape2)
     (moved-from given given1 n n new was.given refl did.moved) (was.others told)
-    (subst (λ (b : Given). AreOtherRowsKept (IsOfStripeFrom c.args.shape.now c.args.stripe c.loop-done.done c.copy_part-part.result.done) (reading_of new) (present b tape1) (present b tape2)) was.given (did.others told))
-    row (λ at. out (let low = at.0 in omega (arith, low), (let high = at.1 in omega (arith, high, within))))
+    (subst (λ (b : Given). AreOtherRowsKept (IsOfStripeFrom c.args.shape.now c.args.stripe c.loop-done.done c.args.shape.now.chunk) (reading_of new) (present b tape1) (present b tape2)) was.given (did.others told))
+    row (λ at. out (let low = at.0 in omega (arith, low), (let high = at.1 in omega (arith, high))))
 
 pub returns-then-is_some-clause-rise : goal.returns-then-is_some-clause-rise
 returns-then-is_some-clause-rise g c = risen-then c.loop-done.invariant.rise c.copy_part-part.ensures.rise
@@ -163,8 +162,8 @@ loop-done-preserved g c =
     let tape1 = g.B.Bank.tape c.loop-done.bank in
     let tape2 = g.B.Bank.tape c.copy_part-part.new.bank in
     let moved : IsMoved given n new = moved-from given given1 n n new was.given refl did.moved in
-    let kept : g.B.Bank.tells → AreOtherRowsKept (IsOfStripeFrom c.args.shape.now c.args.stripe c.loop-done.done c.copy_part-part.result.done) (reading_of new) (present given tape1) (present given tape2) =
-    λ told. subst (λ (b : Given). AreOtherRowsKept (IsOfStripeFrom c.args.shape.now c.args.stripe c.loop-done.done c.copy_part-part.result.done) (reading_of new) (present b tape1) (present b tape2)) was.given (did.others told) in
+    let kept : g.B.Bank.tells → AreOtherRowsKept (IsOfStripeFrom c.args.shape.now c.args.stripe c.loop-done.done c.args.shape.now.chunk) (reading_of new) (present given tape1) (present given tape2) =
+    λ told. subst (λ (b : Given). AreOtherRowsKept (IsOfStripeFrom c.args.shape.now c.args.stripe c.loop-done.done c.args.shape.now.chunk) (reading_of new) (present b tape1) (present b tape2)) was.given (did.others told) in
     record {
       moved = moved-then given m n new was.moved moved;
       failed = since-then m n new c.loop-done.spares c.copy_part-part.result.spares _ (g.B.Bank.faults_of c.args.bank.now) (g.B.Bank.faults_of c.loop-done.bank) (g.B.Bank.faults_of c.copy_part-part.new.bank)
@@ -179,7 +178,7 @@ loop-done-preserved g c =
         | inr late ↦ subst (λ (b : Given). RowStands (reading_of new) (present b tape2) c.args.shape.now list row) was.given
             (did.stands told list (tail-alike m.newest n.newest was.moved.reshape was.moved.shape was.moved.size c.args.span.now c.args.buffer.now list copied) row (late, at.1))
       ];
-      others = λ told. others-join given c.args.shape.now c.args.stripe 0 c.loop-done.done c.copy_part-part.result.done (omega arith) did.reached n new (present given tape0) (present given tape1) (present given tape2) moved (was.others told) (kept told);
+      others = λ told. others-join given c.args.shape.now c.args.stripe 0 c.args.shape.now.chunk c.loop-done.done c.args.shape.now.chunk (omega arith) (omega arith) n new (present given tape0) (present given tape1) (present given tape2) moved (was.others told) (kept told);
       rise = risen-then was.rise did.rise;
       safe = λ told world ledger room gone unclean able safe.
           safe-part world given given1 ledger m n new tape0 tape1 tape2 told was.given was.moved.placed moved did.grows was.rise room gone
@@ -208,9 +207,7 @@ returns-clause-stands g c = λ none told list copied row at.
 pub returns-clause-others : goal.returns-clause-others
 returns-clause-others g c = λ told row out.
     let was = c.loop-done.invariant in
-    let within = was.within in
-    let same = c.from-chunk.ensures in
-    was.others told row (λ at. out ((let low = at.0 in omega (arith, low)), (let high = at.1 in omega (arith, high, within, same))))
+    was.others told row (λ at. out ((let low = at.0 in omega (arith, low)), (let high = at.1 in omega (arith, high))))
 
 pub returns-clause-named : goal.returns-clause-named
 returns-clause-named g c =

@@ -90,7 +90,7 @@ returns-clause-others g c = λ told.
     let tape2 = g.B.Bank.tape c.name_missing-spares.new.bank in
     let moved : IsMoved given n new = moved-from given given1 n n new did.given refl named.moved in
     let others : AreOthersPresent (present given tape1) (present given tape2) = subst (λ (b : Given). AreOthersPresent (present b tape1) (present b tape2)) did.given (named.others told) in
-    let among = IsOfStripeFrom c.args.shape.now c.args.stripe c.args.done c.copy_stretch-done.result.done in
+    let among = IsOfStripeFrom c.args.shape.now c.args.stripe c.args.done c.args.shape.now.chunk in
     others-then given among c.args.members.now n new (present given (g.B.Bank.tape c.args.bank.now)) (present given tape1) (present given tape2) moved (did.others told)
     (others-same given among n new (present given tape1) (present given tape2) moved did.moved.placed others)
 

@@ -84,7 +84,7 @@ returns-clause-others g c = λ told row out role slot held.
     let tape0 = g.B.Bank.tape c.args.bank.now in
     let tape1 = g.B.Bank.tape c.copy_stripe-copied.new.bank in
     subst (λ (b : Given). present b tape1 slot (data_offset_of (reading_of c.copy_stripe-copied.new.members) slot + row) ≡ present given tape0 slot (data_offset_of (reading_of c.copy_stripe-copied.new.members) slot + row)) did.given
-    (did.others told row (out-of (c.args.stripe * c.args.shape.now.chunk) c.args.done c.copy_stripe-copied.result.done row out) slot)
+    (did.others told row (out-of (c.args.stripe * c.args.shape.now.chunk) c.args.done c.args.shape.now.chunk row out) slot)
 
 pub returns-clause-copyable : goal.returns-clause-copyable
 returns-clause-copyable g c = λ told world able.

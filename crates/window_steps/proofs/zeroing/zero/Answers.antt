@@ -87,11 +87,10 @@ returns-then-is_some-clause-others g c = λ told row out.
     let tape0 = g.B.Bank.tape c.args.bank.now in
     let tape1 = g.B.Bank.tape c.loop-done.bank in
     let tape2 = g.B.Bank.tape c.zero_part-part.new.bank in
-    let within = did.within in
-    others-join given c.args.shape.now c.args.stripe 0 c.loop-done.done c.zero_part-part.result.done (omega arith) did.reached n new (present given tape0) (present given tape1) (present given tape2)
+    others-join given c.args.shape.now c.args.stripe 0 c.args.shape.now.chunk c.loop-done.done c.args.shape.now.chunk (omega arith) (omega arith) n new (present given tape0) (present given tape1) (present given tape2)
     (moved-from given given1 n n new was.given refl did.moved) (was.others told)
-    (subst (λ (b : Given). AreOtherRowsKept (IsOfStripeFrom c.args.shape.now c.args.stripe c.loop-done.done c.zero_part-part.result.done) (reading_of new) (present b tape1) (present b tape2)) was.given (did.others told))
-    row (λ at. out (let low = at.0 in omega (arith, low), (let high = at.1 in omega (arith, high, within))))
+    (subst (λ (b : Given). AreOtherRowsKept (IsOfStripeFrom c.args.shape.now c.args.stripe c.loop-done.done c.args.shape.now.chunk) (reading_of new) (present b tape1) (present b tape2)) was.given (did.others told))
+    row (λ at. out (let low = at.0 in omega (arith, low), (let high = at.1 in omega (arith, high))))
 
 pub returns-then-is_some-clause-rise : goal.returns-then-is_some-clause-rise
 returns-then-is_some-clause-rise g c = risen-then c.loop-done.invariant.rise c.zero_part-part.ensures.rise
@@ -137,8 +136,8 @@ loop-done-preserved g c =
     let tape1 = g.B.Bank.tape c.loop-done.bank in
     let tape2 = g.B.Bank.tape c.zero_part-part.new.bank in
     let moved : IsMoved given n new = moved-from given given1 n n new was.given refl did.moved in
-    let kept : g.B.Bank.tells → AreOtherRowsKept (IsOfStripeFrom c.args.shape.now c.args.stripe c.loop-done.done c.zero_part-part.result.done) (reading_of new) (present given tape1) (present given tape2) =
-    λ told. subst (λ (b : Given). AreOtherRowsKept (IsOfStripeFrom c.args.shape.now c.args.stripe c.loop-done.done c.zero_part-part.result.done) (reading_of new) (present b tape1) (present b tape2)) was.given (did.others told) in
+    let kept : g.B.Bank.tells → AreOtherRowsKept (IsOfStripeFrom c.args.shape.now c.args.stripe c.loop-done.done c.args.shape.now.chunk) (reading_of new) (present given tape1) (present given tape2) =
+    λ told. subst (λ (b : Given). AreOtherRowsKept (IsOfStripeFrom c.args.shape.now c.args.stripe c.loop-done.done c.args.shape.now.chunk) (reading_of new) (present b tape1) (present b tape2)) was.given (did.others told) in
     record {
       moved = moved-then given m n new was.moved moved;
       failed = since-then m n new c.loop-done.spares c.zero_part-part.result.spares _ (g.B.Bank.faults_of c.args.bank.now) (g.B.Bank.faults_of c.loop-done.bank) (g.B.Bank.faults_of c.zero_part-part.new.bank)
@@ -153,7 +152,7 @@ loop-done-preserved g c =
         | inr late ↦ subst (λ (b : Given). RowStands (reading_of new) (present b tape2) c.args.shape.now list row) was.given
             (did.stands told list (zero-moved given m n was.moved list zeros) row (late, at.1))
       ];
-      others = λ told. others-join given c.args.shape.now c.args.stripe 0 c.loop-done.done c.zero_part-part.result.done (omega arith) did.reached n new (present given tape0) (present given tape1) (present given tape2) moved (was.others told) (kept told);
+      others = λ told. others-join given c.args.shape.now c.args.stripe 0 c.args.shape.now.chunk c.loop-done.done c.args.shape.now.chunk (omega arith) (omega arith) n new (present given tape0) (present given tape1) (present given tape2) moved (was.others told) (kept told);
       headers = λ told s v may. was.headers told s v (subst (λ (b : Given). AreHeadersKept (disk b.start tape1) (disk b.start tape2)) was.given (did.headers told) s v may);
       unused = λ told. unused-then given m n (disk given.start tape0) (disk given.start tape1) (disk given.start tape2) was.moved (was.unused told)
           (subst (λ (b : Given). IsUnusedKept n (disk b.start tape1) (disk b.start tape2)) was.given (did.unused told));
@@ -178,9 +177,7 @@ returns-clause-stands g c = λ none told list zeros row at.
 pub returns-clause-others : goal.returns-clause-others
 returns-clause-others g c = λ told row out.
     let was = c.loop-done.invariant in
-    let within = was.within in
-    let same = c.from-chunk.ensures in
-    was.others told row (λ at. out ((let low = at.0 in omega (arith, low)), (let high = at.1 in omega (arith, high, within, same))))
+    was.others told row (λ at. out ((let low = at.0 in omega (arith, low)), (let high = at.1 in omega (arith, high))))
 
 pub returns-clause-named : goal.returns-clause-named
 returns-clause-named g c =

@@ -30,7 +30,7 @@ invariant-loop-done g l = record {
   named : 0 < l.done → HasLiveSlot l.members → AreNamedMissing l.members;
   stands : g.B.Bank.tells → (list : ℕ → Sector) → IsZeroIn (tail_of l.fn.members.newest) list → (row : ℕ) → IsOfStripeFrom l.shape l.stripe 0 l.done row
       → RowStands (reading_of l.members) (present (g.B.Bank.given l.fn.bank) (g.B.Bank.tape l.bank)) l.shape list row;
-  others : g.B.Bank.tells → AreOtherRowsKept (IsOfStripeFrom l.shape l.stripe 0 l.done) (reading_of l.members) (present (g.B.Bank.given l.fn.bank) (g.B.Bank.tape l.fn.bank)) (present (g.B.Bank.given l.fn.bank) (g.B.Bank.tape l.bank));
+  others : g.B.Bank.tells → AreOtherRowsKept (IsOfStripeFrom l.shape l.stripe 0 l.shape.chunk) (reading_of l.members) (present (g.B.Bank.given l.fn.bank) (g.B.Bank.tape l.fn.bank)) (present (g.B.Bank.given l.fn.bank) (g.B.Bank.tape l.bank));
   headers : g.B.Bank.tells → AreHeadersKept (disk (g.B.Bank.given l.fn.bank).start (g.B.Bank.tape l.fn.bank)) (disk (g.B.Bank.given l.fn.bank).start (g.B.Bank.tape l.bank));
   unused : g.B.Bank.tells → IsUnusedKept l.fn.members (disk (g.B.Bank.given l.fn.bank).start (g.B.Bank.tape l.fn.bank)) (disk (g.B.Bank.given l.fn.bank).start (g.B.Bank.tape l.bank));
   rise : IsRisen g.B.Bank.tells l.fn.members l.members (g.B.Bank.tape l.fn.bank) (g.B.Bank.tape l.bank);

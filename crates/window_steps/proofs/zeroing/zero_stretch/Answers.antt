@@ -81,7 +81,7 @@ returns-clause-others g c = λ told row out role slot held.
     let tape0 = g.B.Bank.tape c.args.bank.now in
     let tape1 = g.B.Bank.tape c.zero_stripe-zeroed.new.bank in
     subst (λ (b : Given). present b tape1 slot (data_offset_of (reading_of c.zero_stripe-zeroed.new.members) slot + row) ≡ present given tape0 slot (data_offset_of (reading_of c.zero_stripe-zeroed.new.members) slot + row)) did.given
-    (did.others told row (out-of (c.args.stripe * c.args.shape.now.chunk) c.args.done c.zero_stripe-zeroed.result.done row out) slot)
+    (did.others told row (out-of (c.args.stripe * c.args.shape.now.chunk) c.args.done c.args.shape.now.chunk row out) slot)
 
 pub returns-clause-headers : goal.returns-clause-headers
 returns-clause-headers g c = λ told s v may. let kept = marks_last c.zero_stripe-zeroed.ensures.each_mark told in subst (λ (l : List Sector). IsIn l v) (kept.1 s 0 (omega arith)) may

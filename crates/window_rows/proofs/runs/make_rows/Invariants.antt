@@ -1,0 +1,13 @@
+use Rattle.std.proofs.Common.{◌≡◌, ◌+◌, ◌<◌, ℕ}
+use Rattle.md_base.specs.declared.places.Span.{Span}
+use Rattle.md_base.specs.Sectors.{Sector}
+use Rattle.list_io.specs.Buffers.{buffered}
+use Rattle.list_io.specs.Full.{full_sector}
+use Rattle.window_rows.specs.Copies.{IsCopied, IsOwnRow}
+use Rattle.window_rows.proofs.runs.make_rows.Given as goal
+
+abbrev pub invariant-loop-i : goal.invariant-loop-i
+invariant-loop-i l = record {
+  full : (tail : Span) (list : ℕ → Sector) → IsCopied l.span l.buffer tail list → (i : ℕ) → i < l.i → IsOwnRow l.shape l.span tail (l.from + i)
+      → (role : ℕ) → role < l.shape.disks → buffered l.rows i role ≡ full_sector l.shape list (l.from + i) role;
+}
