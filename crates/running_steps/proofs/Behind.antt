@@ -1,5 +1,5 @@
 -- Steps of a call up to the end of a reshape, and what is done behind it.
-use Rattle.std.proofs.Common.{◌≡◌, ◌⊎◌, inl, inr, ℕ, ◌+◌, ◌||◌, ◌++◌, Bool, true, false, List, sym, ◌∙◌, ap, subst, append_assoc, Option, Some, None}
+use Rattle.std.proofs.Common.{◌≡◌, inl, inr, ℕ, ◌+◌, ◌||◌, ◌++◌, Bool, true, false, List, sym, ◌∙◌, ap, subst, append_assoc, Option, Some, None}
 use Rattle.std.specs.Prelude.{IfSome}
 use Rattle.std.specs.List.{list_any}
 use Rattle.std.proofs.lemmas.List.Folds.{list_any-append}

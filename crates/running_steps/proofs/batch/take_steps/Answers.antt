@@ -36,11 +36,11 @@ pub returns-in-Ok-true-clause-all : goal.returns-in-Ok-true-clause-all
 returns-in-Ok-true-clause-all g c =
     let o = over-behind g.B.Bank.tells g.B.Bank.given g.B.Bank.tape g.B.Bank.faults_of c.args.who c.args.array.now c.loop-done.array c.take_step.new.array c.loop-done.done c.loop-done.invariant.entered c.loop-done.invariant.went
     (rw c.in-Ok-true.field-0-test at c.in-Ok-true.ensures.taken) c.go_on_behind.new.array c.go_on_behind.result.done c.go_on_behind.result.ended c.go_on_behind.ensures.gone in
-    by c.go_on_behind.result.ended o.over c.go_on_behind.ensures.fewer
+    by _ _ _ _ c.go_on_behind.result.ended o.over c.go_on_behind.ensures.fewer
   where
-    by : {W X Y Z : Type 0} (ended : Option Refusal) → Z → MatchOption ended ⊤ (λ refusal. Y) → MatchOption ended (W ⊎ X ⊎ Z) (λ refusal. Y)
-    by None over fewer = inr (inr over)
-    by (Some refusal) over fewer = fewer
+    by : (W X Y Z : Type 0) (ended : Option Refusal) → Z → MatchOption ended ⊤ (λ refusal. Y) → MatchOption ended (W ⊎ X ⊎ Z) (λ refusal. Y)
+    by W X Y Z None over fewer = inr (inr over)
+    by W X Y Z (Some refusal) over fewer = fewer
 
 pub returns-in-Ok-true-clause-left : goal.returns-in-Ok-true-clause-left
 returns-in-Ok-true-clause-left g c =
