@@ -74,7 +74,7 @@ const GROWN: [Row; 12] = [
     // the flush behind the first section's header fails: that window is not written to any more, and the reshape stays where it is
     Row {
         lines: "create 6ba7b810-9dad-11d1-80b4-00c04fd430c8 level=5 disks=4 chunk=8 size=128 offset=16\nadd 4\nwrite 0 96 3\nflush\ngrow disks=5\nstep 2\nwrite 0 1 5\nread 0 1\nwrite 96 1 5\nstep 1\n",
-        calls: &[946],
+        calls: &[862],
         status: 1,
         output: b"created\nadded 4\nwrote 0 96\nflushed\nplanned 26\nstepped 1 left 25 refused 4 BackupFault\nrefused 4 BackupFault\nread 0 1: seed 3 x1\nwrote 96 1\nstepped 0 left 25 refused 4 BackupFault\n",
         ..LARGE
