@@ -154,7 +154,6 @@ pub begin-refused : {B : Type 0} (f g : ℕ → ℕ) (to : Shape) (more : List P
     → IsBeginRefused f g to refusal old new → MayEndSteps new refusal
 begin-refused f g to more old new refusal still ahead next why = ends-still new refusal still (inr (by why, some-ahead old new (Reshape to) more ahead next))
   where
-
     by : IsBeginRefused f g to refusal old new → RefusesBegin refusal
     by (inl (inl (role, lowest, told), bank)) = subst RefusesBegin (sym told) tt
     by (inl (inr (whole, few, told), bank)) = subst RefusesBegin (sym told) tt

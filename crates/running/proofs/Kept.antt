@@ -489,8 +489,10 @@ rest-taken {behind = behind} given tape window to old new given_is next did now 
   one = subst (λ (a : PhasesLeft). IsOneReshape (phases_of a)) (sym did.ahead) (one-behind (phases_of old.ahead) (phases_of behind) to next was.one);
   next = backed-same window given_is did.same.backup did.newest.shape did.newest.size (ap phases_of did.ahead)
       (backed-behind (given old.parts.bank) window old.parts.backup (shape_of old.parts.members.newest) old.parts.members.newest.size (phases_of old.ahead) (phases_of behind) to next was.next);
-  aside = λ slot is. (not-true (has_spare new.parts.members.spares slot) (λ spare. spared slot (apart slot is) (taken-spares old.parts.members to did.slot did.chosen new.parts.members did.spares slot spare)),
-      λ role held. held-none role slot (apart slot is) (taken-roles old.parts.members to did.slot did.chosen new.parts.members did.held role slot held));
+  aside = λ slot is. (
+    not-true (has_spare new.parts.members.spares slot) (λ spare. spared slot (apart slot is) (taken-spares old.parts.members to did.slot did.chosen new.parts.members did.spares slot spare)),
+    λ role held. held-none role slot (apart slot is) (taken-roles old.parts.members to did.slot did.chosen new.parts.members did.held role slot held),
+  );
   closed = closed-taken new did.entered;
   plans = plans-on given tape old new (record {
     given_is = given_is;
