@@ -53,7 +53,7 @@ fn first_phase(ahead: &PhasesLeft) -> Option<(Phase, PhasesLeft)>
 }
 
 // The phases behind the first one ahead; the array is as it was.
-pub(super) fn phases_behind<B: Bank>(still: Still<B>) -> (Still<B>, PhasesLeft)
+pub(crate) fn phases_behind<B: Bank>(still: Still<B>) -> (Still<B>, PhasesLeft)
     requires some { (phase : APhase) × (more : List APhase) × (phases_of still.ahead ≡ phase ∷ more) }
     ensures same { result.0 ≡ still }
     ensures behind { (phase : APhase) × (phases_of still.ahead ≡ phase ∷ phases_of result.1) }
