@@ -1,6 +1,6 @@
 //! One request of the script to a running array.
 
-ghost use Rattle.std.specs.Prelude.{◌≡◌, ◌≢◌, ◌⊎◌, ◌+◌, ◌*◌, ◌/◌, ◌<◌, ◌≤◌, ◌^◌, ℕ, true, length, slice_get, Err, IfOk, IfErr, IsTrue, IsFalse, IsSome, None};
+ghost use Rattle.std.specs.Prelude.{◌≡◌, ◌≢◌, ◌⊎◌, ◌+◌, ◌*◌, ◌/◌, ◌<◌, ◌≤◌, ◌^◌, ℕ, true, length, slice_get, Err, IfOk, IfErr, IsTrue, IsFalse, IsSome};
 ghost use Rattle.md_base.specs.declared.answers.Fault.TheVariants.{NoMemory as WantsMemory};
 ghost use Rattle.bank.specs.Given.{NeverFalls};
 ghost use Rattle.md_base.specs.Sectors.{IsWhole};
@@ -234,7 +234,6 @@ pub fn ask_visible<B: Bank>(array: &mut Running<B>, limit: Option<u64>) -> Resul
 
 /// Plans a grow. Ok is the place of the reply entry. It makes no device call.
 pub fn ask_grow<B: Bank>(array: &mut Running<B>, wish: Wish) -> Result<u64, NoMemory>
-    requires level { wish.level ≡ None }
     requires turning { IsTurningTold (is_reshaping array.old.parts.members.newest) (phases_of array.old.ahead) array.old.parts.entries }
     ensures asked { IsAsked (list_length array.old.parts.members.newest) (GrowLine wish) array.old.parts.entries array.new.parts.entries result }
     ensures tellable { IfOk result (λ place. IsTellable array.new.parts.entries place) }

@@ -1,7 +1,5 @@
-use Rattle.std.proofs.Common.{◌≡◌, ℕ, true, is_none, Option, Some, None, length, Result, refl, sym, subst, arith}
-use Rattle.std.specs.Prelude.{IsTrue}
+use Rattle.std.proofs.Common.{◌≡◌, true, length, Result, refl, sym, subst, arith}
 use Rattle.bank.specs.Given.{NeverFalls}
-use Rattle.script.specs.Script.{is_within_limits}
 use Rattle.md_base.specs.declared.answers.NoMemory.{NoMemory}
 use Rattle.script.specs.declared.lines.Line.{Line}
 use Rattle.script.specs.declared.lines.Line.TheVariants.{Read, Write, Flush, Fail, Add, ArraySize, Grow, Step, Wait, Detail, Mdstat}
@@ -21,10 +19,6 @@ use Rattle.line_answers.proofs.Statuses.{going_detail, going_mdstat}
 use Rattle.run_laws.specs.Written.{HasWritten}
 use Rattle.run_laws.proofs.Writing.{written-nothing, written_going}
 use Rattle.line_answers.proofs.answers.answer_running.Goals as goal
-
-none_level : (o : Option ℕ) → is_none o ≡ true → o ≡ None
-none_level None is = refl
-none_level (Some level) is = absurd (cc)
 
 pub ask_write-requires-clause-turning : goal.ask_write-requires-clause-turning
 ask_write-requires-clause-turning g c = c.requires.own.turning
@@ -56,11 +50,8 @@ ask_show-requires-in-Mdstat g c = record { turning = c.requires.own.turning }
 pub ask_visible-requires : goal.ask_visible-requires
 ask_visible-requires g c = record { turning = c.requires.own.turning }
 
-pub ask_grow-requires-clause-turning : goal.ask_grow-requires-clause-turning
-ask_grow-requires-clause-turning g c = c.requires.own.turning
-
-pub ask_grow-requires-clause-level : goal.ask_grow-requires-clause-level
-ask_grow-requires-clause-level g c = none_level c.in-Grow.wish.level (subst (λ (l : Line). IsTrue (is_within_limits l)) c.in-Grow.is c.requires.limits)
+pub ask_grow-requires : goal.ask_grow-requires
+ask_grow-requires g c = record { turning = c.requires.own.turning }
 
 pub returns-in-Read-clause-answered : goal.returns-in-Read-clause-answered
 returns-in-Read-clause-answered g c =
