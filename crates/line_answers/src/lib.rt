@@ -14,4 +14,4 @@ pub use asks::{
 pub use lane_blocks;
 pub use run_laws;
 pub use shows::ask_show;
-pub use together::{Together, ask_together};
+pub use together::{Together, answer_together, ask_together};

@@ -2,6 +2,8 @@
 
 ghost use Rattle.std.specs.Prelude.{◌≡◌, ◌≢◌, ◌≤◌, ◌^◌, length, map, IfOk, IfErr, OnOk, IsTrue};
 ghost use Rattle.std.specs.List.{AllPass};
+ghost use Rattle.bank.specs.Given.{NeverFalls};
+ghost use Rattle.views.specs.Moving.{Grows};
 ghost use Rattle.superblocks.specs.Reading.{is_reshaping, list_length};
 ghost use Rattle.grow_asked.specs.Left.{phases_of};
 ghost use Rattle.script.specs.Grammar.{is_for_lanes};
@@ -9,18 +11,24 @@ ghost use Rattle.script.specs.Script.{is_within_limits};
 ghost use Rattle.run_laws.specs.array_kept_Calls.{IsEndOf};
 ghost use Rattle.run_laws.specs.running_Calls.{running_left};
 ghost use Rattle.run_laws.specs.Blocks.{request_of, HasRunLane, IsBlockEntered};
+ghost use Rattle.run_laws.specs.Ended.{IsRunKept};
+ghost use Rattle.run_laws.specs.Making.{setting_of};
+ghost use Rattle.run_laws.specs.States.{histories_in, bank_in, entries_in, course_in, RunsOwn, IsBlockTurn};
 ghost use Rattle.run_laws.specs.Turning.{IsTurningTold};
+ghost use Rattle.run_laws.specs.Written.{IsWritten};
+ghost use Rattle.run_laws.specs.declared.states.State.TheVariants.{Running as IsRunning};
 ghost use Rattle.lane_blocks.specs.Blocks.{HasWorkedBy};
 ghost use Rattle.lane_blocks.specs.lanes_Pace.{AnswersSteps, asked_by};
 ghost use Rattle.lane_blocks.specs.running_calls_Going.{HasGoneOn};
 ghost use Rattle.lane_blocks.specs.running_calls_Replies.{IsAskable};
 
 use bank::Bank;
-use flat_history::Request;
+use flat_history::{Epoch, Request};
 use lane_blocks::lanes::{Pace, Worked};
 use lane_blocks::running_calls::Reply;
 use lane_blocks::{Joined, run_block};
 use md_base::NoMemory;
+use run_laws::State;
 use run_laws::running::Running;
 use script::{Line, seed_sectors};
 use std::alloc::{AllocError, Global};
@@ -122,4 +130,41 @@ pub fn ask_together<
             worked,
         }),
     )
+}
+
+/// The same of the array that runs in a script, behind the epochs of others.
+pub fn answer_together<
+    B: Bank + Drop + Send,
+    F: Fn(u64, u64) -> u64 + Sync,
+    R: Threads + Wait + Sync,
+>(
+    rt: &R,
+    alloc: Global,
+    array: Running<B>,
+    epochs: Vec<Epoch>,
+    backup: Option<u32>,
+    first: &[Line],
+    second: &[Line],
+    pace: &Pace<F>,
+) -> (State<B>, Result<Together, NoMemory>)
+    requires limits { AllPass is_within_limits first.now × AllPass is_within_limits second.now }
+    requires lanes { AllPass is_for_lanes first.now × AllPass is_for_lanes second.now }
+    requires callable { F.IsAlwaysCallable (asked_by pace.now) }
+    requires answers { AnswersSteps (F.post (asked_by pace.now)) }
+    requires own { RunsOwn (IsRunning array epochs) }
+    requires former { IsRunKept B.tells (B.given array.parts.bank) (B.tape array.parts.bank) backup (IsRunning array epochs) }
+    ensures first { IfOk result.1 (λ t. HasRunLane (course_in (IsRunning array epochs)).size array.parts.entries (entries_in result.0) 1 (map request_of first.now) t.first.items) }
+    ensures second { IfOk result.1 (λ t. HasRunLane (course_in (IsRunning array epochs)).size array.parts.entries (entries_in result.0) 2 (map request_of second.now) t.second.items) }
+    ensures worked { IfOk result.1 (λ t. HasWorkedBy (HasRunLane (course_in (IsRunning array epochs)).size array.parts.entries (entries_in result.0) 255) (F.post (asked_by pace.now)) (running_left array) t.worked) }
+    ensures entered { IsBlockEntered array.parts.entries (entries_in result.0) }
+    ensures turn { IsBlockTurn (setting_of B.tells (B.given array.parts.bank) (B.tape array.parts.bank) (B.tape (bank_in result.0)) backup (B.faults_of array.parts.bank) (B.faults_of (bank_in result.0))) (IsRunning array epochs) result.0 }
+    ensures written { B.tells → IsWritten (setting_of B.tells (B.given array.parts.bank) (B.tape array.parts.bank) (B.tape (bank_in result.0)) backup (B.faults_of array.parts.bank) (B.faults_of (bank_in result.0))) (histories_in (IsRunning array epochs)) (histories_in result.0) (λ slot. ⊥) }
+    ensures former { IsRunKept B.tells (B.given array.parts.bank) (B.tape (bank_in result.0)) backup result.0 }
+    ensures never_falls { NeverFalls (B.faults_of array.parts.bank) (B.faults_of (bank_in result.0)) }
+    ensures grows { Grows B.tells (B.tape array.parts.bank) (B.tape (bank_in result.0)) }
+    ensures given { B.given (bank_in result.0) ≡ B.given array.parts.bank }
+{
+    let _ = backup;
+    let (array, answer) = ask_together(rt, alloc, array, first, second, pace);
+    (State::Running(array, epochs), answer)
 }

@@ -69,6 +69,6 @@ IsOfBlock caller = (caller ≡ 1) ⊎ (caller ≡ 2) ⊎ (caller ≡ 255)
 pub record IsBlockEntered (old new : List Entry) : Type 0 where
   pub more : List Entry
   pub grown : new ≡ old ++ more
-  pub calls : All (λ e. IsOfNewCall old e) more
+  pub calls : All (IsOfNewCall old new) more
   pub callers : All (λ e. IsOfBlock e.caller) more
   pub going : AreGoing more

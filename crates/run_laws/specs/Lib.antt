@@ -35,3 +35,6 @@ pub use Rattle.openings.specs.history_calls_Reliable
 pub use Rattle.running_calls.specs.Turning
 pub use Rattle.running_calls.specs.declared.reply.Reply as running_calls_the_Reply
 pub use Rattle.running_calls.specs.declared.reply.Reply.TheVariants as running_calls_the_Reply_TheVariants
+pub use Rattle.running_calls.specs.Entered as running_calls_Entered
+pub use Rattle.running_calls.specs.Going as running_calls_Going
+pub use Rattle.running_calls.specs.Replies as running_calls_Replies

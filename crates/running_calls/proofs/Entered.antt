@@ -1,5 +1,5 @@
 -- What a call enters, by how it was answered.
-use Rattle.std.proofs.Common.{◌≡◌, ℕ, ◌+◌, ◌≤◌, ◌==◌, Bool, true, false, Option, Some, List, [], ◌∷◌, ◌++◌, length, drop, refl, sym, ◌∙◌, ap, subst, arith, append_assoc, append-nil, fold}
+use Rattle.std.proofs.Common.{◌≡◌, ℕ, ◌+◌, ◌≤◌, ◌==◌, Bool, true, false, Option, Some, List, [], ◌∷◌, ◌++◌, length, drop, refl, sym, ◌∙◌, ap, subst, arith, append_assoc, append-nil, fold, ◌<◌, eq-eqb}
 use Rattle.std.proofs.Math.Seq.{drop-append_seam}
 use Rattle.std.proofs.lemmas.Bool.Decides.{nat_tests}
 use Rattle.std.proofs.lemmas.List.Elements.{All-nil, All-cons, All-append, All-push, All-weaker, All-head, All-tail}
@@ -45,11 +45,11 @@ number-rises c low n (e ∷ entries) le all =
     by true is = let at = All-head (λ e. e.caller ≡ c → low ≤ e.number) e entries all (grind (arith, nat_tests, is)) in omega (arith, at)
     by false is = le
 
-pub never-falls : (c : ℕ) (old more : List Entry) → All (IsOfNewCall old) more → next_number c old ≤ next_number c (old ++ more)
-never-falls c old more calls =
+pub never-falls : (c : ℕ) (old more now : List Entry) → now ≡ old ++ more → All (IsOfNewCall old now) more → next_number c old ≤ next_number c now
+never-falls c old more now is calls =
     let at = number-rises c (next_number c old) (next_number c old) more (omega arith)
-    (All-weaker (IsOfNewCall old) (λ e. e.caller ≡ c → next_number c old ≤ e.number) (λ e new is. subst (λ (k : ℕ). next_number k old ≤ e.number) is new) more calls) in
-    let long = fold-append (number_after c) 0 old more in
+    (All-weaker (IsOfNewCall old now) (λ e. e.caller ≡ c → next_number c old ≤ e.number) (λ e new same. subst (λ (k : ℕ). next_number k old ≤ e.number) same new.0) more calls) in
+    let long = ap (λ (l : List Entry). next_number c l) is ∙ fold-append (number_after c) 0 old more in
     omega (arith, at, long)
 
 module _ {B : Type 0} where
@@ -57,7 +57,7 @@ module _ {B : Type 0} where
   entered-none array = record {
     more = [];
     grown = sym (append-nil array.parts.entries);
-    calls = All-nil (IsOfNewCall array.parts.entries);
+    calls = All-nil (IsOfNewCall array.parts.entries array.parts.entries);
     going = All-nil (λ e. GoesOn e.event);
     turning = λ was. was;
   }
@@ -69,17 +69,18 @@ module _ {B : Type 0} where
   entered-then old mid new one two = record {
     more = one.more ++ two.more;
     grown = two.grown ∙ ap (λ (l : List Entry). l ++ two.more) one.grown ∙ append_assoc old.parts.entries one.more two.more;
-    calls = All-append (IsOfNewCall old.parts.entries) one.more two.more one.calls
-        (All-weaker (IsOfNewCall mid.parts.entries) (IsOfNewCall old.parts.entries) (λ e is. later e is) two.more two.calls);
+    calls = All-append (IsOfNewCall old.parts.entries new.parts.entries) one.more two.more
+        (All-weaker (IsOfNewCall old.parts.entries mid.parts.entries) (IsOfNewCall old.parts.entries new.parts.entries) (λ e is. earlier e is) one.more one.calls)
+        (All-weaker (IsOfNewCall mid.parts.entries new.parts.entries) (IsOfNewCall old.parts.entries new.parts.entries) (λ e is. later e is) two.more two.calls);
     going = All-append (λ e. GoesOn e.event) one.more two.more one.going two.going;
     turning = λ was. two.turning (one.turning was);
   }
     where
-      later : (e : Entry) → IsOfNewCall mid.parts.entries e → IsOfNewCall old.parts.entries e
-      later e is =
-          let rises = never-falls e.caller old.parts.entries one.more one.calls in
-          let at = ap (λ (l : List Entry). next_number e.caller l) one.grown in
-          omega (arith, is, rises, at)
+      earlier : (e : Entry) → IsOfNewCall old.parts.entries mid.parts.entries e → IsOfNewCall old.parts.entries new.parts.entries e
+      earlier e is = let rises = never-falls e.caller mid.parts.entries two.more new.parts.entries two.grown two.calls in (is.0, omega (arith, is.1, rises))
+
+      later : (e : Entry) → IsOfNewCall mid.parts.entries new.parts.entries e → IsOfNewCall old.parts.entries new.parts.entries e
+      later e is = let rises = never-falls e.caller old.parts.entries one.more mid.parts.entries one.grown one.calls in (omega (arith, is.0, rises), is.1)
 
 -- ---- one call
 
@@ -142,8 +143,18 @@ module _ {B : Type 0} (tells : Type 0) (given : B → Given) (tape : B → List 
   }
 
   module _ (who : Who) (event : Event) (number : who.number ≡ next_number who.caller old.parts.entries) where
-    new-call : (e : Entry) → IsOfCall who e → IsOfNewCall old.parts.entries e
-    new-call e own = let at = ap (λ (c : ℕ). next_number c old.parts.entries) own.0 in omega (arith, number, own.1, at)
+    -- the caller's next number behind the call
+    next : (inner : List Entry) (end : ℕ) → new.parts.entries ≡ old.parts.entries ++ (inner ++ one who end event ∷ []) → next_number who.caller new.parts.entries ≡ who.number + 1
+    next inner end is =
+        ap (λ (l : List Entry). next_number who.caller l) (is ∙ sym (append_assoc old.parts.entries inner (one who end event ∷ [])))
+        ∙ fold-append (number_after who.caller) 0 (old.parts.entries ++ inner) (one who end event ∷ [])
+        ∙ ap (λ (b : Bool). if b then who.number + 1 else next_number who.caller (old.parts.entries ++ inner)) (eq-eqb who.caller who.caller refl)
+
+    new-call : next_number who.caller new.parts.entries ≡ who.number + 1 → (e : Entry) → IsOfCall who e → IsOfNewCall old.parts.entries new.parts.entries e
+    new-call last e own =
+        let low = ap (λ (c : ℕ). next_number c old.parts.entries) own.0 in
+        let high = ap (λ (c : ℕ). next_number c new.parts.entries) own.0 in
+        (omega (arith, number, own.1, low), omega (arith, last, own.1, high))
 
     -- the entries of the call, by what its last one tells of steps
     entered : (inner : List Entry) (end : ℕ) → All (λ e. IsOfCall who e) inner → All (λ e. MayBeInner e.event) inner → new.parts.entries ≡ old.parts.entries ++ (inner ++ one who end event ∷ [])
@@ -151,8 +162,9 @@ module _ {B : Type 0} (tells : Type 0) (given : B → Given) (tape : B → List 
     entered inner end own inside is goes turning = record {
       more = inner ++ one who end event ∷ [];
       grown = is;
-      calls = All-push (IsOfNewCall old.parts.entries) inner (one who end event) (All-weaker (λ e. IsOfCall who e) (IsOfNewCall old.parts.entries) (λ e own. new-call e own) inner own)
-          (new-call (one who end event) (refl, refl));
+      calls = All-push (IsOfNewCall old.parts.entries new.parts.entries) inner (one who end event)
+          (All-weaker (λ e. IsOfCall who e) (IsOfNewCall old.parts.entries new.parts.entries) (λ e own. new-call (next inner end is) e own) inner own)
+          (new-call (next inner end is) (one who end event) (refl, refl));
       going = All-push (λ e. GoesOn e.event) inner (one who end event) (All-weaker (λ e. MayBeInner e.event) (λ e. GoesOn e.event) (λ e is. inner-goes e.event is) inner inside) goes;
       turning = turning;
     }

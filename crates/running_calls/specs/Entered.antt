@@ -1,5 +1,5 @@
 -- What callers' calls enter, whatever they ask.
-use Rattle.std.specs.Prelude.{◌≡◌, ℕ, ◌++◌, ◌≤◌, List, ⊤}
+use Rattle.std.specs.Prelude.{◌≡◌, ◌++◌, ◌<◌, ◌≤◌, List, ⊤}
 use Rattle.std.specs.List.{All}
 use Rattle.superblocks.specs.Reading.{is_reshaping}
 use Rattle.flat_history.specs.declared.events.Entry.{Entry}
@@ -20,9 +20,9 @@ GoesOn Stopped = ⊥
 GoesOn Halted = ⊥
 GoesOn event = ⊤
 
--- the entry belongs to no call that its caller had made by these entries
-abbrev pub IsOfNewCall : List Entry → Entry → Type 0
-IsOfNewCall old e = next_number e.caller old ≤ e.number
+-- the entry is of a call that its caller made between these histories
+abbrev pub IsOfNewCall : List Entry → List Entry → Entry → Type 0
+IsOfNewCall old new e = (next_number e.caller old ≤ e.number) × (e.number < next_number e.caller new)
 
 -- the history of an array tells a reshape that is active in it, or ahead
 abbrev pub TellsTurning : {B : Type 0} → RunningParts B → Type 0
@@ -32,7 +32,7 @@ TellsTurning array = IsTurningTold (is_reshaping array.parts.members.newest) (ph
 pub record HasEntered {B : Type 0} (old new : RunningParts B) : Type 0 where
   pub more : List Entry
   pub grown : new.parts.entries ≡ old.parts.entries ++ more
-  pub calls : All (λ e. IsOfNewCall old.parts.entries e) more
+  pub calls : All (IsOfNewCall old.parts.entries new.parts.entries) more
   pub going : All (λ e. GoesOn e.event) more
   pub turning : TellsTurning old → TellsTurning new
 
