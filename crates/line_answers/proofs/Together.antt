@@ -15,6 +15,7 @@ use Rattle.flat_history.specs.declared.events.Request.TheVariants.{Read as AsksR
 use Rattle.flat_history.specs.Flat.{next_number}
 use Rattle.md_base.proofs.Tabulated.{length-tabulate}
 use Rattle.script.specs.declared.lines.Line.{Line}
+use Rattle.script.specs.declared.lines.Numbered.{Numbered}
 use Rattle.script.specs.declared.lines.Line.TheVariants.{Create, Read, Write, Flush, Fail, Add, Step, Wait, ArraySize, Grow, Stop, Halt, Detail, Mdstat, Examine, Assemble}
 use Rattle.script.specs.Grammar.{is_for_lanes}
 use Rattle.script.specs.Script.{is_within_limits}
@@ -30,7 +31,7 @@ use Rattle.run_laws.specs.running_calls_the_Reply.{Reply}
 use Rattle.run_laws.specs.running_calls_the_Reply_TheVariants.{Done, NoMemory as Short}
 use Rattle.run_laws.specs.running_replies_Replies.{RunningFits}
 use Rattle.run_laws.specs.running_words_Parts.{RunningParts}
-use Rattle.run_laws.specs.Blocks.{request_of, IsCallersReply, AreCallersReplies, calls_told, HasRunLane, IsOfBlock, IsBlockEntered}
+use Rattle.run_laws.specs.Blocks.{is_allowed, is_in_lane, request_of, requests_in, IsCallersReply, AreCallersReplies, calls_told, HasRunLane, IsOfBlock, IsBlockEntered}
 use Rattle.run_laws.specs.Histories.{is_end, AreGoing}
 
 -- ---- what a lane asks
@@ -46,9 +47,9 @@ plain-lane (Write at count seed) = tt
 plain-lane (Fail role) = tt
 plain-lane line = tt
 
-plain-lanes : (lines : List Line) → All IsPlain (map request_of lines)
+plain-lanes : (lines : List Numbered) → All IsPlain (requests_in lines)
 plain-lanes [] = All-nil IsPlain
-plain-lanes (line ∷ lines) = All-cons IsPlain (request_of line) (map request_of lines) (plain-lane line) (plain-lanes lines)
+plain-lanes (line ∷ lines) = All-cons IsPlain (request_of line.line) (requests_in lines) (plain-lane line.line) (plain-lanes lines)
 
 plain-steps : (turns : List (ℕ × Reply)) → All IsPlain (map (λ t. AsksSteps t.0) turns)
 plain-steps [] = All-nil IsPlain
@@ -67,12 +68,12 @@ askable (Fail role) within lane = tt
 askable Flush within lane = tt
 askable line within lane = absurd (cc)
 
-pub all-askable : (lines : List Line) → AllPass is_within_limits lines → AllPass is_for_lanes lines → All IsAskable (map request_of lines)
+pub all-askable : (lines : List Numbered) → AllPass is_allowed lines → AllPass is_in_lane lines → All IsAskable (requests_in lines)
 all-askable [] within lanes = All-nil IsAskable
 all-askable (line ∷ lines) within lanes =
-    All-cons IsAskable (request_of line) (map request_of lines)
-    (askable line (All-head (λ l. is_within_limits l ≡ true) line lines within) (All-head (λ l. is_for_lanes l ≡ true) line lines lanes))
-    (all-askable lines (All-tail (λ l. is_within_limits l ≡ true) line lines within) (All-tail (λ l. is_for_lanes l ≡ true) line lines lanes))
+    All-cons IsAskable (request_of line.line) (requests_in lines)
+    (askable line.line (All-head (λ l. is_allowed l ≡ true) line lines within) (All-head (λ l. is_in_lane l ≡ true) line lines lanes))
+    (all-askable lines (All-tail (λ l. is_allowed l ≡ true) line lines within) (All-tail (λ l. is_in_lane l ≡ true) line lines lanes))
 
 -- ---- what it was answered
 
@@ -134,10 +135,10 @@ module _ {B : Type 0} (start now : RunningParts B) (few : length now.parts.entri
         calls = called.next ∙ ap (λ (n : ℕ). next_number caller start.parts.entries + n) (counts requests rs ran.each);
       }
 
-  pub lane-run : (lines : List Line) (requests : List Request) (rs : List Reply) → requests ≡ map request_of lines → HasRun start now caller requests rs
-      → HasRunLane (sectors_of start) start.parts.entries now.parts.entries caller (map request_of lines) rs
+  pub lane-run : (lines : List Numbered) (requests : List Request) (rs : List Reply) → requests ≡ requests_in lines → HasRun start now caller requests rs
+      → HasRunLane (sectors_of start) start.parts.entries now.parts.entries caller (requests_in lines) rs
   lane-run lines requests rs same ran =
-      lane (map request_of lines) rs (plain-lanes lines) (subst (λ (l : List Request). HasRun start now caller l rs) same ran)
+      lane (requests_in lines) rs (plain-lanes lines) (subst (λ (l : List Request). HasRun start now caller l rs) same ran)
 
   pub worker-run : (answers : ℕ → ℕ → ℕ → Type 0) (left : ℕ) (worked : Worked) → HasWorkedBy (HasRun start now caller) answers left worked
       → HasWorkedBy (HasRunLane (sectors_of start) start.parts.entries now.parts.entries caller) answers left worked

@@ -10,7 +10,7 @@ ghost use Rattle.script.specs.Grammar.{is_for_lanes};
 ghost use Rattle.script.specs.Script.{is_within_limits};
 ghost use Rattle.run_laws.specs.array_kept_Calls.{IsEndOf};
 ghost use Rattle.run_laws.specs.running_Calls.{running_left};
-ghost use Rattle.run_laws.specs.Blocks.{request_of, HasRunLane, IsBlockEntered};
+ghost use Rattle.run_laws.specs.Blocks.{is_allowed, is_in_lane, request_of, requests_in, HasRunLane, IsBlockEntered};
 ghost use Rattle.run_laws.specs.Ended.{IsRunKept};
 ghost use Rattle.run_laws.specs.Making.{setting_of};
 ghost use Rattle.run_laws.specs.States.{histories_in, bank_in, entries_in, course_in, RunsOwn, IsBlockTurn};
@@ -30,7 +30,7 @@ use lane_blocks::{Joined, run_block};
 use md_base::NoMemory;
 use run_laws::State;
 use run_laws::running::Running;
-use script::{Line, seed_sectors};
+use script::{Line, Numbered, seed_sectors};
 use std::alloc::{AllocError, Global};
 use std::sync::Wait;
 use std::thread::Threads;
@@ -62,14 +62,14 @@ fn request_of(alloc: Global, line: Line) -> Result<Request, AllocError>
 }
 
 // What the lines of a lane ask.
-fn requests_of(alloc: Global, lines: &[Line]) -> Result<Vec<Request>, AllocError>
-    requires limits { AllPass is_within_limits lines.now }
-    requires lanes { AllPass is_for_lanes lines.now }
-    ensures { IfOk result (λ requests. requests.items ≡ map request_of lines.now) }
+fn requests_of(alloc: Global, lines: &[Numbered]) -> Result<Vec<Request>, AllocError>
+    requires limits { AllPass is_allowed lines.now }
+    requires lanes { AllPass is_in_lane lines.now }
+    ensures { IfOk result (λ requests. requests.items ≡ requests_in lines.now) }
 {
     let mut requests = Vec::with_capacity(alloc, lines.len())?;
     for line in lines {
-        requests.push(request_of(alloc, *line)?)?;
+        requests.push(request_of(alloc, line.line)?)?;
     }
     Ok(requests)
 }
@@ -85,18 +85,18 @@ pub fn ask_together<
     rt: &R,
     alloc: Global,
     array: Running<B>,
-    first: &[Line],
-    second: &[Line],
+    first: &[Numbered],
+    second: &[Numbered],
     pace: &Pace<F>,
 ) -> (Running<B>, Result<Together, NoMemory>)
     requires ended { IsEndOf B.tells array.parts.first array.parts.entries (B.tape array.parts.bank) }
     requires turning { IsTurningTold (is_reshaping array.parts.members.newest) (phases_of array.ahead) array.parts.entries }
-    requires limits { AllPass is_within_limits first.now × AllPass is_within_limits second.now }
-    requires lanes { AllPass is_for_lanes first.now × AllPass is_for_lanes second.now }
+    requires limits { AllPass is_allowed first.now × AllPass is_allowed second.now }
+    requires lanes { AllPass is_in_lane first.now × AllPass is_in_lane second.now }
     requires callable { F.IsAlwaysCallable (asked_by pace.now) }
     requires answers { AnswersSteps (F.post (asked_by pace.now)) }
-    ensures first { IfOk result.1 (λ t. HasRunLane (list_length array.parts.members.newest) array.parts.entries result.0.parts.entries 1 (map request_of first.now) t.first.items) }
-    ensures second { IfOk result.1 (λ t. HasRunLane (list_length array.parts.members.newest) array.parts.entries result.0.parts.entries 2 (map request_of second.now) t.second.items) }
+    ensures first { IfOk result.1 (λ t. HasRunLane (list_length array.parts.members.newest) array.parts.entries result.0.parts.entries 1 (requests_in first.now) t.first.items) }
+    ensures second { IfOk result.1 (λ t. HasRunLane (list_length array.parts.members.newest) array.parts.entries result.0.parts.entries 2 (requests_in second.now) t.second.items) }
     ensures worked { IfOk result.1 (λ t. HasWorkedBy (HasRunLane (list_length array.parts.members.newest) array.parts.entries result.0.parts.entries 255) (F.post (asked_by pace.now)) (running_left array) t.worked) }
     ensures entered { IsBlockEntered array.parts.entries result.0.parts.entries }
     ensures turning { IsTurningTold (is_reshaping result.0.parts.members.newest) (phases_of result.0.ahead) result.0.parts.entries }
@@ -143,18 +143,18 @@ pub fn answer_together<
     array: Running<B>,
     epochs: Vec<Epoch>,
     backup: Option<u32>,
-    first: &[Line],
-    second: &[Line],
+    first: &[Numbered],
+    second: &[Numbered],
     pace: &Pace<F>,
 ) -> (State<B>, Result<Together, NoMemory>)
-    requires limits { AllPass is_within_limits first.now × AllPass is_within_limits second.now }
-    requires lanes { AllPass is_for_lanes first.now × AllPass is_for_lanes second.now }
+    requires limits { AllPass is_allowed first.now × AllPass is_allowed second.now }
+    requires lanes { AllPass is_in_lane first.now × AllPass is_in_lane second.now }
     requires callable { F.IsAlwaysCallable (asked_by pace.now) }
     requires answers { AnswersSteps (F.post (asked_by pace.now)) }
     requires own { RunsOwn (IsRunning array epochs) }
     requires former { IsRunKept B.tells (B.given array.parts.bank) (B.tape array.parts.bank) backup (IsRunning array epochs) }
-    ensures first { IfOk result.1 (λ t. HasRunLane (course_in (IsRunning array epochs)).size array.parts.entries (entries_in result.0) 1 (map request_of first.now) t.first.items) }
-    ensures second { IfOk result.1 (λ t. HasRunLane (course_in (IsRunning array epochs)).size array.parts.entries (entries_in result.0) 2 (map request_of second.now) t.second.items) }
+    ensures first { IfOk result.1 (λ t. HasRunLane (course_in (IsRunning array epochs)).size array.parts.entries (entries_in result.0) 1 (requests_in first.now) t.first.items) }
+    ensures second { IfOk result.1 (λ t. HasRunLane (course_in (IsRunning array epochs)).size array.parts.entries (entries_in result.0) 2 (requests_in second.now) t.second.items) }
     ensures worked { IfOk result.1 (λ t. HasWorkedBy (HasRunLane (course_in (IsRunning array epochs)).size array.parts.entries (entries_in result.0) 255) (F.post (asked_by pace.now)) (running_left array) t.worked) }
     ensures entered { IsBlockEntered array.parts.entries (entries_in result.0) }
     ensures turn { IsBlockTurn (setting_of B.tells (B.given array.parts.bank) (B.tape array.parts.bank) (B.tape (bank_in result.0)) backup (B.faults_of array.parts.bank) (B.faults_of (bank_in result.0))) (IsRunning array epochs) result.0 }

@@ -1,5 +1,5 @@
 -- A block of lanes: what the lines of its lanes and its worker are answered, and what it leaves of the array's history.
-use Rattle.std.specs.Prelude.{◌≡◌, ◌⊎◌, ℕ, ◌+◌, ◌++◌, List, [], ◌∷◌, length, map, take, drop, slice_get, Some, ⊤}
+use Rattle.std.specs.Prelude.{◌≡◌, ◌⊎◌, ℕ, ◌+◌, ◌++◌, Bool, List, [], ◌∷◌, length, map, take, drop, slice_get, Some, ⊤}
 use Rattle.std.specs.List.{All}
 use Rattle.flat_history.specs.declared.events.Entry.{Entry}
 use Rattle.flat_history.specs.declared.events.Event.{Event}
@@ -12,8 +12,11 @@ use Rattle.running_calls.specs.declared.reply.Reply.{Reply}
 use Rattle.running_calls.specs.declared.reply.Reply.TheVariants.{Done, NoMemory as Short}
 use Rattle.script.specs.declared.lines.Line.{Line}
 use Rattle.script.specs.declared.lines.Line.TheVariants.{Read, Write, Flush, Fail}
+use Rattle.script.specs.declared.lines.Numbered.{Numbered}
 use Rattle.script.specs.declared.reply.Lane.{Lane}
 use Rattle.script.specs.declared.reply.Lane.TheVariants.{Script, A, B, Worker}
+use Rattle.script.specs.Grammar.{is_for_lanes}
+use Rattle.script.specs.Script.{is_within_limits}
 use Rattle.script.specs.Seeds.{seeded}
 use Rattle.run_laws.specs.Histories.{AreGoing}
 
@@ -30,6 +33,17 @@ request_of (Read at count) = AsksRead at count
 request_of (Write at count seed) = AsksWrite at (seeded seed at count)
 request_of (Fail role) = AsksFail role
 request_of line = AsksFlush
+
+-- what the lines of a lane ask, one after another
+abbrev pub requests_in : List Numbered → List Request
+requests_in lines = map (λ numbered. request_of numbered.line) lines
+
+-- lines within their limits, and lines that may stand in a lane
+abbrev pub is_allowed : Numbered → Bool
+is_allowed numbered = is_within_limits numbered.line
+
+abbrev pub is_in_lane : Numbered → Bool
+is_in_lane numbered = is_for_lanes numbered.line
 
 -- The entry at a place is the last of this caller's call of this number. It tells this event, and is the reply to the request.
 pub record IsCallersReply (size : ℕ) (entries : List Entry) (caller number place : ℕ) (request : Request) (event : Event) : Type 0 where
