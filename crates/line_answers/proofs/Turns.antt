@@ -430,7 +430,7 @@ module _ {B : Type 0} (setting : Setting) (bank : B) (olds epochs : Vec Epoch) (
         ∙ ap (λ (n : ℕ). record { opened = length olds.items + 1; running = true; calls = calls; size = n }) sized
 
     no_entries : array.parts.entries ≡ [] → IsByScript (running_history array.parts)
-    no_entries none = subst (λ (l : List Entry). AreByScript (next_number 0 l) l) (sym none) (All-nil (λ e. IsOwnEntry 0 e))
+    no_entries none = subst (λ (l : List Entry). AreByScript l l) (sym none) (All-nil (IsOwnEntry []))
 
     pub turn_created : (line : CreateLine) → create_refusal setting.given setting.backup (spec_of line) ≡ None → IsCreated setting.tells setting.given setting.tape setting.backup (spec_of line) array.parts → phases_of array.ahead ≡ []
         → (setting.tells → used_slot (scope_of setting.given setting.backup array.parts.given line.uuid) (held_at setting (length setting.tape)) line.shape.disks ≡ None)
@@ -475,8 +475,8 @@ module _ {B : Type 0} (setting : Setting) (bank : B) (olds epochs : Vec Epoch) (
       found_number : next_number 0 found.parts.entries ≡ 0
       found_number = ap (λ (l : List Entry). next_number 0 l) found_entries ∙ opening_number array.parts.first losses 0
 
-      losses_own : (number : ℕ) → AreByScript number (entries_of opener array.parts.first losses)
-      losses_own number = each-absent (λ e. IsOwnEntry number e) opener array.parts.first is.r is.n (λ role lt missing. (inr (refl, refl, tt), inr (refl, refl, tt)))
+      losses_own : (history : List Entry) → AreByScript history (entries_of opener array.parts.first losses)
+      losses_own history = each-absent (IsOwnEntry history) opener array.parts.first is.r is.n (λ role lt missing. (inr (refl, refl, tt), inr (refl, refl, tt)))
 
       losses_go : AreGoing (entries_of opener array.parts.first losses)
       losses_go = each-absent (λ e. IsFalse (is_end e.event)) opener array.parts.first is.r is.n (λ role lt missing. (refl, refl))
@@ -498,8 +498,8 @@ module _ {B : Type 0} (setting : Setting) (bank : B) (olds epochs : Vec Epoch) (
       pub turn_found : (status : Status) → IsShownAs found status → IsEntered setting.tells setting.tape (script_who found.parts.entries) found.parts.entries array.parts.entries (Shown status ∷ []) → array.parts.members ≡ found.parts.members → array.ahead ≡ found.ahead
           → IsTurn setting (Idle bank olds) (Running array epochs) (Assemble asked) (IsOutside (Assembled (length epochs.items) status))
       turn_found status told entered members ahead = record {
-        own = opened_own (subst (λ (l : List Entry). AreByScript (next_number 0 l) l) (sym entries) (subst (λ (n : ℕ). AreByScript n (entries_of opener array.parts.first losses ++ first_entry ∷ [])) (sym one_call)
-            (All-append (λ e. IsOwnEntry 1 e) (entries_of opener array.parts.first losses) (first_entry ∷ []) (losses_own 1) (All-cons (λ e. IsOwnEntry 1 e) first_entry [] (inl (refl, omega arith)) (All-nil (λ e. IsOwnEntry 1 e))))))
+        own = opened_own (subst (λ (l : List Entry). AreByScript l l) (sym entries)
+            (All-push (IsOwnEntry (entries_of opener array.parts.first losses ++ first_entry ∷ [])) (entries_of opener array.parts.first losses) first_entry (losses_own (entries_of opener array.parts.first losses ++ first_entry ∷ [])) (inl (inl refl, omega (arith, one_call)))))
             (subst (λ (l : List Entry). AreGoing l) (sym entries) (All-push (λ e. IsFalse (is_end e.event)) (entries_of opener array.parts.first losses) first_entry losses_go refl))
             (ap (λ (l : List Entry). length_of (list_length array.parts.members.newest) l) entries ∙ losses_leave (list_length array.parts.members.newest) first_entry refl) turning;
         losses = opened_losses (found_lost (first_entry ∷ []) (tt, tt) entries);
