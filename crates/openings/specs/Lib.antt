@@ -8,6 +8,7 @@ pub use Rattle.assemble.specs.Opening as assemble_Opening
 pub use Rattle.assemble.specs.Running as assemble_Running
 pub use Rattle.moving_opens.specs.reshape_openings_Finding
 pub use Rattle.running_steps.specs.course_kept_the_Course
+pub use Rattle.running_steps.specs.growing_Planned
 pub use Rattle.running_steps.specs.growing_Replied
 pub use Rattle.running_steps.specs.moving_laws_Writing
 pub use Rattle.running_steps.specs.region_mends_Left

@@ -1,4 +1,5 @@
 pub mod AskLaws
+pub mod CausedLaws
 pub mod Causes
 pub mod Growth
 pub mod Legal

@@ -1,4 +1,5 @@
 pub mod Asked
+pub mod Caused
 pub mod Ended
 pub mod Examining
 pub mod Histories
@@ -16,6 +17,7 @@ pub use Rattle.openings.specs.assemble_Made
 pub use Rattle.openings.specs.assemble_Opening
 pub use Rattle.openings.specs.assemble_Running
 pub use Rattle.openings.specs.course_kept_the_Course
+pub use Rattle.openings.specs.growing_Planned
 pub use Rattle.openings.specs.growing_Replied
 pub use Rattle.openings.specs.region_mends_Left
 pub use Rattle.openings.specs.reshape_openings_Finding

@@ -52,7 +52,7 @@ pub ended_running : {B tells : Type 0} {tape : List Operation} {place : ℕ} (se
     → IsEnded setting (Running array epochs) array.parts.bank ended.items
 ended_running {place = place} setting who array epoch epochs ended items own entered uuid given first asked halts =
     let still : Setting = record { tells = ⊥; given = record { slots = 0; sectors = λ s. 0; start = λ s k. [] }; tape = []; backup = None; began = 0; before = λ s. 0; now = λ s. 0 } in
-    let turn = turn_ended still array epoch array.parts.bank epochs ended items own (losses-halted still who (history_of epoch) entered) uuid given first Halt place asked (asked-tellable asked (halt-told asked.event asked.fits)) (λ t. absurd t) (ap is_end halts) in
+    let turn = turn_ended still array epoch array.parts.bank epochs ended items own (losses-halted still who (history_of epoch) entered) uuid given first Halt place asked (asked-tellable asked (halt-told asked.event asked.fits)) (λ entries event. tt) (λ t. absurd t) (ap is_end halts) in
     let are = now_are still array epoch array.parts.bank epochs ended items own (losses-halted still who (history_of epoch) entered) uuid given first in
     let many : length (histories_of ended.items) ≡ length (histories_of epochs.items) + 1 =
     ap (λ (l : List History). length l) are ∙ length-append (histories_of epochs.items) (history_of epoch ∷ []) in
