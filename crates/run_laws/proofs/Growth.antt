@@ -186,16 +186,18 @@ tellable_longer entries more place was = by_entry (slice_get entries place) refl
         subst (λ (o : Option Entry). MatchOption o ⊥ (λ x. MayTellBy (IsTrue (may_be_active (take place (entries ++ more)))) (IsTrue (may_be_ahead (take place (entries ++ more)))) x.event)) (sym (get_append entries more place e is))
         (subst (λ (l : List Entry). MayTellBy (IsTrue (may_be_active l)) (IsTrue (may_be_ahead l)) e.event) (sym (take-append-le place entries more (omega (arith, within)))) told)
 
--- nor is what spoke against a line another
-caused_longer : (given : Given) (backup : Option ℕ) (line : Line) (entries more : List Entry) (place : ℕ) → IsCausedAt given backup line entries place → IsCausedAt given backup line (entries ++ more) place
-caused_longer given backup line entries more place was = by_entry (slice_get entries place) refl was
+-- nor is what it was judged by another
+caused_longer : (given : Given) (backup : Option ℕ) (size : ℕ) (line : Line) (entries more : List Entry) (place : ℕ) → IsTellable entries place → IsCausedAt given backup size line entries place
+    → IsCausedAt given backup size line (entries ++ more) place
+caused_longer given backup size line entries more place there was = by_entry (slice_get entries place) refl there
   where
-    by_entry : (o : Option Entry) → slice_get entries place ≡ o → MatchOption o ⊥ (λ e. IsCausedFor given backup (take place entries) line e.event) → IsCausedAt given backup line (entries ++ more) place
-    by_entry None is caused = absurd caused
-    by_entry (Some e) is caused =
+    by_entry : (o : Option Entry) → slice_get entries place ≡ o → MatchOption o ⊥ (λ e. MayTellBy (IsTrue (may_be_active (take place entries))) (IsTrue (may_be_ahead (take place entries))) e.event)
+        → IsCausedAt given backup size line (entries ++ more) place
+    by_entry None is told = absurd told
+    by_entry (Some e) is told =
         let within = slice_get_within entries place e is in
-        subst (λ (o : Option Entry). MatchOption o ⊥ (λ x. IsCausedFor given backup (take place (entries ++ more)) line x.event)) (sym (get_append entries more place e is))
-        (subst (λ (l : List Entry). IsCausedFor given backup l line e.event) (sym (take-append-le place entries more (omega (arith, within)))) caused)
+        subst (λ (o : Option Entry). IsCausedFor given backup size line (take place (entries ++ more)) o) (is ∙ sym (get_append entries more place e is))
+        (subst (λ (l : List Entry). IsCausedFor given backup size line l (slice_get entries place)) (sym (take-append-le place entries more (omega (arith, within)))) was)
 
 inside_stays : (given : Given) (backup : Option ℕ) (olds news : List History) (course : Course) (epoch place : ℕ) (line : Line) → AreGrown olds news
     → IsAnsweredInside given backup olds course epoch place line → IsAnsweredInside given backup news course epoch place line
@@ -208,7 +210,7 @@ inside_stays given backup olds news course epoch place line grown was =
       there = now.1;
       replied = subst (λ (l : List Entry). IsRepliedAt course.size l place course.calls line) (sym now.2.grown) (replied_longer course.size place course.calls line was.history.entries now.2.more now.2.later was.replied);
       tellable = subst (λ (l : List Entry). IsTellable l place) (sym now.2.grown) (tellable_longer was.history.entries now.2.more place was.tellable);
-      caused = subst (λ (l : List Entry). IsCausedAt given backup line l place) (sym now.2.grown) (caused_longer given backup line was.history.entries now.2.more place was.caused);
+      caused = subst (λ (l : List Entry). IsCausedAt given backup course.size line l place) (sym now.2.grown) (caused_longer given backup course.size line was.history.entries now.2.more place was.tellable was.caused);
     }
 
 -- the same bank, over a longer time

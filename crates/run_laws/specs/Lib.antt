@@ -24,6 +24,7 @@ pub use Rattle.openings.specs.reshape_openings_Finding
 pub use Rattle.openings.specs.running_Calls
 pub use Rattle.openings.specs.running_steps_Steps
 pub use Rattle.openings.specs.running_replies_Going
+pub use Rattle.openings.specs.running_replies_Limits
 pub use Rattle.openings.specs.running_replies_Replies
 pub use Rattle.openings.specs.running_words_Adding
 pub use Rattle.openings.specs.running_words_Calls

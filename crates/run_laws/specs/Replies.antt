@@ -152,7 +152,7 @@ abbrev pub IsRepliedAt : ℕ → List Entry → ℕ → ℕ → Line → Type 0
 IsRepliedAt size entries place number Wait = (earlier : List ℕ) × IsWaitedAt size entries earlier place number
 IsRepliedAt size entries place number line = IsReplyAt size entries place number line
 
--- The line is answered by an entry of the array that runs, in the script's next call, which tells nothing that only a reshape could, unless by the entries before it one may be active, or ahead; and what refuses it is so.
+-- The line is answered by an entry of the array that runs, in the script's next call, which tells nothing that only a reshape could, unless by the entries before it one may be active, or ahead; and a record of the array that its history allows judges so.
 pub record IsAnsweredInside (given : Given) (backup : Option ℕ) (histories : List History) (course : Course) (epoch place : ℕ) (line : Line) : Type 0 where
   pub running : IsTrue course.running
   pub latest : epoch + 1 ≡ course.opened
@@ -160,7 +160,7 @@ pub record IsAnsweredInside (given : Given) (backup : Option ℕ) (histories : L
   pub there : slice_get histories epoch ≡ Some history
   pub replied : IsRepliedAt course.size history.entries place course.calls line
   pub tellable : IsTellable history.entries place
-  pub caused : IsCausedAt given backup line history.entries place
+  pub caused : IsCausedAt given backup course.size line history.entries place
 
 -- The next history is that of an array that was made as the line asks: nothing spoke against it, it has the uuid, all slots are given,
 -- and it begins where the reply was made; there its list is zero, it is sound, its superblocks are alike and say what was asked for, and
