@@ -8,21 +8,18 @@ pub use Rattle.assemble.specs.Opening as assemble_Opening
 pub use Rattle.assemble.specs.Running as assemble_Running
 pub use Rattle.moving_opens.specs.reshape_openings_Finding
 pub use Rattle.running_steps.specs.course_kept_the_Course
-pub use Rattle.running_steps.specs.growing_Planned
 pub use Rattle.running_steps.specs.growing_Replied
 pub use Rattle.running_steps.specs.moving_laws_Writing
 pub use Rattle.running_steps.specs.region_mends_Left
 pub use Rattle.running_steps.specs.Steps as running_steps_Steps
 pub use Rattle.running_steps.specs.running_Calls
 pub use Rattle.running_steps.specs.running_replies_Going
-pub use Rattle.running_steps.specs.running_replies_Limits
 pub use Rattle.running_steps.specs.running_replies_Replies
 pub use Rattle.running_steps.specs.running_words_Adding
 pub use Rattle.running_steps.specs.running_words_Calls
 pub use Rattle.running_steps.specs.running_words_Parts
 pub use Rattle.running_steps.specs.running_words_Plans
 pub use Rattle.running_steps.specs.running_words_Still
-pub use Rattle.running_steps.specs.running_words_Visible
 pub use Rattle.running_steps.specs.still_laws_Plain
 pub use Rattle.running_steps.specs.array_kept_Adopting
 pub use Rattle.running_steps.specs.array_kept_Calls

@@ -26,14 +26,14 @@ use Rattle.flat_history.specs.World.{World}
 use Rattle.openings.specs.array_kept_Calls.{IsReplied, IsAnswered, IsAddedFor, IsFailedFor, by_answer}
 use Rattle.grow_asked.specs.Asked.{grow_refusal}
 use Rattle.grow_asked.specs.Left.{phases_of}
-use Rattle.openings.specs.growing_Planned.{asked_in, IsGrowJudged, IsGrowAnswered, IsReplyTo, IsAsBefore, IsGrowPlanned, IsReplied as IsRepliedTo}
+use Rattle.growing.specs.Planned.{asked_in, IsGrowJudged, IsGrowAnswered, IsReplyTo, IsAsBefore, IsGrowPlanned, IsReplied as IsRepliedTo}
 use Rattle.openings.specs.running_Calls.{running_left, IsShownAs}
 use Rattle.openings.specs.running_steps_Steps.{IsStepCount}
 use Rattle.openings.specs.running_words_Calls.{IsStatusFor}
 use Rattle.openings.specs.running_words_Parts.{RunningParts, visible_size, visible_in}
 use Rattle.openings.specs.running_words_Still.{IsStillStatus}
-use Rattle.openings.specs.running_words_Visible.{IsVisibleJudged, IsLimitedAs}
-use Rattle.openings.specs.running_replies_Limits.{limit_refusal}
+use Rattle.running_words.specs.Visible.{IsVisibleJudged, IsLimitedAs}
+use Rattle.running_replies.specs.Limits.{limit_refusal}
 use Rattle.openings.specs.running_replies_Replies.{IsAnsweredWith}
 use Rattle.script.specs.declared.lines.Line.{Line}
 use Rattle.script.specs.declared.lines.Line.TheVariants.{Fail, Add, ArraySize, Grow, Step, Wait, Detail, Mdstat}

@@ -17,14 +17,12 @@ pub use Rattle.openings.specs.assemble_Made
 pub use Rattle.openings.specs.assemble_Opening
 pub use Rattle.openings.specs.assemble_Running
 pub use Rattle.openings.specs.course_kept_the_Course
-pub use Rattle.openings.specs.growing_Planned
 pub use Rattle.openings.specs.growing_Replied
 pub use Rattle.openings.specs.region_mends_Left
 pub use Rattle.openings.specs.reshape_openings_Finding
 pub use Rattle.openings.specs.running_Calls
 pub use Rattle.openings.specs.running_steps_Steps
 pub use Rattle.openings.specs.running_replies_Going
-pub use Rattle.openings.specs.running_replies_Limits
 pub use Rattle.openings.specs.running_replies_Replies
 pub use Rattle.openings.specs.running_words_Adding
 pub use Rattle.openings.specs.running_words_Calls

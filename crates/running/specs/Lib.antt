@@ -1,6 +1,5 @@
 pub mod Calls
 pub mod State
-pub use Rattle.growing.specs.Planned as growing_Planned
 pub use Rattle.growing.specs.Replied as growing_Replied
 pub use Rattle.growing.specs.course_kept_the_Course
 pub use Rattle.growing.specs.moving_laws_Mending
