@@ -7,6 +7,7 @@ use Rattle.bank.specs.Given.{Given}
 use Rattle.flat_history.specs.declared.events.Entry.{Entry}
 use Rattle.flat_history.specs.declared.events.Request.{Request}
 use Rattle.shared_lanes.specs.running_words_Parts.{RunningParts}
+use Rattle.shared_lanes.specs.running_calls_Entered.{HasEntered}
 use Rattle.shared_lanes.specs.running_calls_Going.{HasGoneOn}
 use Rattle.shared_lanes.specs.running_calls_the_Reply.{Reply}
 use Rattle.shared_lanes.specs.running_calls_the_Reply_TheVariants.{Done, NoMemory as Short}
@@ -172,6 +173,7 @@ pub record AreTold {B : Type 0} (tells : Type 0) (given : B → Given) (tape : B
   pub worked : HasWorkedBy (HasRun start now 255) answers left did
   pub others : (caller : ℕ) → caller ≢ 1 → caller ≢ 2 → caller ≢ 255 → HasMade tells given tape faults start now caller []
   pub went : HasGoneOn tells given tape faults start now
+  pub entered : HasEntered start now
 
 pub all-told : {B : Type 0} {tells : Type 0} {given : B → Given} {tape : B → List Operation} {faults : B → ℕ → ℕ} (id : LockId) (key start now : RunningParts B)
     (passes : List (Pass (RunningParts B) Request)) (x y z a b c : Pass (RunningParts B) Request) (asked other : List Request) (one two : List Reply)
@@ -192,4 +194,5 @@ all-told {B} {tells} {given} {tape} {faults} id key start now passes x y z a b c
           (λ requests replies. worker-ran id start now x y z a b c these at-end same requests replies) w;
       others = none-else id start now x y z a b c these at-end same;
       went = (at-end.made 1).went;
+      entered = (at-end.made 1).entered;
     }

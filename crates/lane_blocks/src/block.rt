@@ -2,6 +2,7 @@
 ghost use Rattle.std.specs.Prelude.{◌≡◌, ◌≢◌, ◌≤◌, ℕ, [], ◌∷◌, IfOk, IfErr, vec_capacity};
 ghost use Rattle.std.specs.List.{All};
 ghost use Rattle.shared_lanes.specs.array_kept_Calls.{IsEndOf};
+ghost use Rattle.shared_lanes.specs.running_calls_Entered.{HasEntered};
 ghost use Rattle.shared_lanes.specs.running_calls_Going.{HasGoneOn};
 ghost use Rattle.shared_lanes.specs.running_calls_Replies.{IsAskable};
 ghost use Rattle.shared_lanes.specs.running_Calls.{running_left};
@@ -65,6 +66,7 @@ pub fn run_block<B: Bank + Drop + Send, F: Fn(u64, u64) -> u64 + Sync, R: Thread
     ensures back { IfErr result (λ a. a ≡ array) }
     ensures later { IfOk result (λ t. IsEarlier B.tells B.given B.tape array t.array) }
     ensures went { IfOk result (λ t. HasGoneOn B.tells B.given B.tape B.faults_of array t.array) }
+    ensures entered { IfOk result (λ t. HasEntered array t.array) }
     ensures ended { IfOk result (λ t. IsEndOf B.tells t.array.parts.first t.array.parts.entries (B.tape t.array.parts.bank)) }
     ensures first { IfOk result (λ t. HasRun array t.array 1 first.items t.first.items) }
     ensures second { IfOk result (λ t. HasRun array t.array 2 second.items t.second.items) }

@@ -31,3 +31,6 @@ returns-clause-others g c = (told g c).others
 
 pub returns-clause-went : goal.returns-clause-went
 returns-clause-went g c = (told g c).went
+
+pub returns-clause-entered : goal.returns-clause-entered
+returns-clause-entered g c = (told g c).entered
