@@ -1,18 +1,17 @@
 -- What is kept of plans as a plan is entered, and what the backup has room for.
-use Rattle.std.proofs.Common.{Bool, None, ◌≡◌, ℕ, ◌+◌, ◌<◌, ◌≤◌, ◌==◌, true, cond, Option, Some, List, [], ◌∷◌, ◌++◌, length, sym, ◌∙◌, ap, subst, arith, unwrap_or}
+use Rattle.std.proofs.Common.{◌≡◌, ℕ, ◌+◌, ◌<◌, ◌≤◌, Option, Some, List, [], ◌∷◌, ◌++◌, length, sym, ◌∙◌, ap, subst, arith}
 use Rattle.std.specs.Prelude.{option_map}
 use Rattle.std.specs.List.{All}
-use Rattle.std.proofs.lemmas.Bool.Decides.{nat_tests}
 use Rattle.std.proofs.lemmas.List.Elements.{All-nil, All-cons}
 use Rattle.std.proofs.lemmas.List.Sums.{fold-append}
 use Rattle.md_base.specs.declared.answers.Who.{Who}
 use Rattle.md_base.specs.declared.places.Shape.{Shape}
 use Rattle.md_base.specs.declared.wishes.Phase.{Phase}
-use Rattle.md_base.specs.declared.wishes.Phase.TheVariants.{Reshape, UpTo6, DownTo5}
+use Rattle.md_base.specs.declared.wishes.Phase.TheVariants.{Reshape}
 use Rattle.md_base.specs.declared.wishes.Wish.{Wish}
 use Rattle.bank.specs.declared.bank.Operation.{Operation}
 use Rattle.bank.specs.Given.{Given}
-use Rattle.grow_plan.specs.Plans.{phases, phase_window, largest_window, last_shape, target, phases_to, taken_up, before_down, reshape_unless_same}
+use Rattle.grow_plan.specs.Plans.{phases, phase_window, largest_window, last_shape, target}
 use Rattle.grow_plan.proofs.Sound.{phases_lead}
 use Rattle.superblocks.specs.declared.members.Members.{Members}
 use Rattle.superblocks.specs.Reading.{Scope, Reading, shape_of}
@@ -61,12 +60,3 @@ planned-goes {given = given} {tape = tape} {scope = scope} {first = first} {entr
     subst (λ (l : List Entry). All (λ plan. planned_shape world plan.end plan.event ≡ Some (last_shape (shape_of m.newest) ahead)) l) (sym (plan-open entries who end left wish none))
     (All-cons (λ plan. planned_shape world plan.end plan.event ≡ Some (last_shape (shape_of m.newest) ahead)) (entry_of who end (Planned left wish)) [] goes
     (All-nil (λ plan. planned_shape world plan.end plan.event ≡ Some (last_shape (shape_of m.newest) ahead))))
-
--- a wish that keeps the level is planned as one reshape
-same-number : (n : ℕ) → (n == n) ≡ true
-same-number n = grind (arith, nat_tests)
-
-pub one-reshape : (now : Shape) (wish : Wish) → wish.level ≡ None → phases now wish ≡ Reshape (target now wish) ∷ []
-one-reshape now wish none =
-    ap (λ (level : ℕ). phases_to now level (target now wish)) (ap (λ (o : Option ℕ). unwrap_or o now.level) none)
-    ∙ ap (λ (b : Bool). cond b (Reshape (target now wish) ∷ []) (cond (now.level == 6) (UpTo6 (taken_up now) ∷ reshape_unless_same (taken_up now) (target now wish)) (reshape_unless_same now (before_down (target now wish)) ++ DownTo5 (target now wish) ∷ []))) (same-number now.level)

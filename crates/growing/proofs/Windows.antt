@@ -1,16 +1,13 @@
--- The window of a reshape has some sectors, so that its plan has a backup.
-use Rattle.std.proofs.Common.{◌≡◌, ℕ, ◌+◌, ◌*◌, ◌<◌, ◌≤◌, true, min, Option, Some, [], ◌∷◌, arith}
+-- The window of a reshape has some sectors, so that its plan has a backup (`begin-backed` of PlanLaws).
+use Rattle.std.proofs.Common.{◌≡◌, ℕ, ◌*◌, ◌<◌, ◌≤◌, true, min, arith}
 use Rattle.std.proofs.lemmas.Bool.{and_parts, leb-true}
 use Rattle.std.proofs.lemmas.Nat.{mul-le}
 use Rattle.md_base.specs.Shapes.{data_disks}
 use Rattle.md_base.specs.declared.places.Shape.{Shape}
 use Rattle.md_base.specs.declared.wishes.Phase.TheVariants.{Reshape}
-use Rattle.bank.specs.Given.{Given}
 use Rattle.geometry.specs.Geometry.{AreInForce, is_size}
 use Rattle.geometry.proofs.Valid.{bounded, bounded_pair}
-use Rattle.grow_plan.specs.Plans.{phase_window, largest_window}
-use Rattle.growing.specs.Planned.{HasWideBackup}
-use Rattle.growing.proofs.PlanLaws.{begin-backed}
+use Rattle.grow_plan.specs.Plans.{phase_window}
 
 some-size : (size chunk : ℕ) → is_size size chunk ≡ true → 1 ≤ size
 some-size size chunk is = leb-true 1 size (and_parts _ _ (and_parts _ _ is).0).0
@@ -23,8 +20,3 @@ some-window now to size force =
     let rows = some-size size now.chunk force.old_size in
     let list : 1 * 1 ≤ min (data_disks now) (data_disks to) * size = mul-le 1 1 (min (data_disks now) (data_disks to)) size (omega (arith, one, two)) rows in
     omega (arith, unit, list)
-
--- so the array has a backup, with room for them
-pub reshape-backed : (given : Given) (backup : Option ℕ) (now to : Shape) (size : ℕ) → AreInForce now to size → HasWideBackup given backup (largest_window now size (Reshape to ∷ []))
-    → (slot : ℕ) × (backup ≡ Some slot) × (slot < given.slots) × (8 + phase_window now size (Reshape to) ≤ given.sectors slot)
-reshape-backed given backup now to size force wide = begin-backed given backup now to size [] (some-window now to size force) wide

@@ -1,5 +1,6 @@
 pub mod Apart
 pub mod AskLaws
+pub mod CausedLaws
 pub mod Causes
 pub mod Growth
 pub mod Legal

@@ -27,7 +27,7 @@ use Rattle.openings.specs.array_kept_Adopting.{opener, found_loss, absent_loss, 
 use Rattle.openings.specs.array_kept_Calls.{IsRoleLossBy, IsLossBy, AreLossesBy, AreLossesOf, AreSparesFewer, IsSameArray, IsEntered}
 use Rattle.views.specs.Rebuilding.{Held, MayHold}
 use Rattle.views.specs.Placed.{AreStillHeld}
-use Rattle.openings.specs.running_replies_Going.{is_finish, MayBeDropped, MayHoldBehind, AreHeldBehind, AreLossesAlong}
+use Rattle.openings.specs.running_replies_Going.{may_drop, MayBeDropped, MayHoldBehind, AreHeldBehind, AreLossesAlong}
 use Rattle.views.specs.Moving.{Grows}
 use Rattle.run_laws.specs.Histories.{History}
 use Rattle.run_laws.specs.Making.{Setting, world_at, history_world, HeldAtFirst, MissingAtFirst, SpareAtFirst, is_added, IsSpareSince, MayHaveHeld, AreHeldSince}
@@ -80,8 +80,8 @@ added-more : (slot : ℕ) (entries more : List Entry) → IsTrue (list_any (λ e
 added-more slot entries more told = told-more (λ e. is_added slot e.event) entries more told
 
 -- and the end of a reshape
-finish-more : (entries more : List Entry) → IsTrue (list_any (λ e. is_finish e.event) entries) → IsTrue (list_any (λ e. is_finish e.event) (entries ++ more))
-finish-more entries more told = told-more (λ e. is_finish e.event) entries more told
+finish-more : (entries more : List Entry) → IsTrue (list_any (λ e. may_drop e.event) entries) → IsTrue (list_any (λ e. may_drop e.event) (entries ++ more))
+finish-more entries more told = told-more (λ e. may_drop e.event) entries more told
 
 -- histories that began alike have the same world
 pub world_same : (given : Given) (tape : List Operation) (backup : Option ℕ) (old new : History) → IsSameOpening old new → world_at given tape backup new ≡ world_at given tape backup old
@@ -107,7 +107,7 @@ module _ (given : Given) (backup : Option ℕ) (before : List Operation) (more :
   since-spare slot (inl first) = inl (subst (λ (w : World). SpareAtFirst w slot) (sym world_is) (spare-longer world_before more first))
   since-spare slot (inr (inl told)) = inr (inl (subst (λ (l : List Entry). IsTrue (list_any (λ e. is_added slot e.event) l)) (sym later.grown) (added-more slot old.entries later.more told)))
   since-spare slot (inr (inr (finished, role, held))) =
-      inr (inr (subst (λ (l : List Entry). IsTrue (list_any (λ e. is_finish e.event) l)) (sym later.grown) (finish-more old.entries later.more finished), role, first-held role slot held))
+      inr (inr (subst (λ (l : List Entry). IsTrue (list_any (λ e. may_drop e.event) l)) (sym later.grown) (finish-more old.entries later.more finished), role, first-held role slot held))
 
   since-held : (role slot : ℕ) → MayHaveHeld world_before old.entries role slot → MayHaveHeld world_after new.entries role slot
   since-held role slot (inl held) = inl (first-held role slot held)
@@ -147,7 +147,7 @@ pub on-steps : {old new : Members} (entries more : List Entry) → AreHeldBehind
 on-steps {old = old} entries more held = record { roles = λ role slot is. role_of role slot (held.roles role slot is); spares = λ slot is. spare_of slot (held.spares slot is) }
   where
     dropped : (slot : ℕ) → MayBeDropped old more slot → MayBeDropped old (entries ++ more) slot
-    dropped slot (finished, role, had) = (told-behind (λ e. is_finish e.event) entries more finished, role, had)
+    dropped slot (finished, role, had) = (told-behind (λ e. may_drop e.event) entries more finished, role, had)
 
     role_of : (role slot : ℕ) → MayHoldBehind old more role slot → MayHoldBehind old (entries ++ more) role slot
     role_of role slot (inl may) = inl may
@@ -194,7 +194,7 @@ module _ (was now : Setting) (wider : IsWider was now) (old new : History) (late
   held-wider role slot (inr (inr (inl told))) = inr (inr (inl (subst (λ (l : List Entry). IsTrue (list_any (λ e. is_added slot e.event) l)) (sym later.grown) (added-more slot old.entries later.more told))))
   held-wider role slot (inr (inr (inr (finished, had, held)))) =
       inr (inr (inr (
-        subst (λ (l : List Entry). IsTrue (list_any (λ e. is_finish e.event) l)) (sym later.grown) (finish-more old.entries later.more finished),
+        subst (λ (l : List Entry). IsTrue (list_any (λ e. may_drop e.event) l)) (sym later.grown) (finish-more old.entries later.more finished),
         had,
         subst (λ (w : World). HeldAtFirst w had slot) (sym world_later) (held-longer (history_world was old) (wider.grows.more t).0 held),
       )))
@@ -323,7 +323,7 @@ module _ (setting : Setting) (old : List Entry) (history : History) (members : M
   along-held done role slot t (inr (finished, had, held)) = of (held-more (history_world setting history) old done had slot ((since t).roles had slot held))
     where
       of : MayHaveHeld (history_world setting history) (old ++ done) had slot → MayHaveHeld (history_world setting history) (old ++ done) role slot
-      of (inl first) = inr (inr (inr (told-behind (λ e. is_finish e.event) old done finished, had, first)))
+      of (inl first) = inr (inr (inr (told-behind (λ e. may_drop e.event) old done finished, had, first)))
       of (inr spare) = inr spare
 
   losses-behind : (done more : List Entry) → AreLossesAlong members setting.before setting.now done more → All (λ e. IsRefusalTold setting e.event) more → AreLossesBehind setting history (old ++ done) more

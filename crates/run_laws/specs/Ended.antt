@@ -23,7 +23,7 @@ use Rattle.run_laws.specs.Histories.{History, histories_of}
 use Rattle.run_laws.specs.Making.{world_at, AreHeldSince}
 use Rattle.run_laws.specs.States.{running_history}
 
--- A fact of an epoch whose history can be relied on: it opened sound, or takes no role's holder away and opened with no reshape but one on its course, so that what is filled in for a
+-- A fact of an epoch whose history can be relied on: it opened sound, or takes no role's holder away, takes no level over and opened with no reshape but one on its course, so that what is filled in for a
 -- missing role is right; it had room for its events, and it opened with superblocks that are alike.
 abbrev pub IfReliable : Given → List Operation → Option ℕ → Epoch → Type 0 → Type 0
 IfReliable given tape backup epoch fact = IsReliable (world_of given tape backup epoch) epoch.entries.items → fact

@@ -1,5 +1,6 @@
 pub mod Asked
 pub mod Blocks
+pub mod Caused
 pub mod Ended
 pub mod Examining
 pub mod Histories

@@ -16,7 +16,7 @@ use Rattle.row_io.specs.Rows.{reading_of}
 use Rattle.flat_history.specs.declared.events.Entry.{Entry}
 use Rattle.flat_history.specs.declared.events.Event.{Event}
 use Rattle.flat_history.specs.declared.events.Event.TheVariants.{Added, Shown}
-use Rattle.openings.specs.running_replies_Going.{is_finish}
+use Rattle.openings.specs.running_replies_Going.{may_drop}
 use Rattle.flat_history.specs.World.{World, contents_at, reading_at, opening_list}
 use Rattle.flat_history.specs.Left.{opened_roles}
 use Rattle.flat_history.specs.Reopened.{OpensAccepted}
@@ -92,9 +92,9 @@ abbrev pub is_added : ℕ → Event → Bool
 is_added slot (Added added) = added == slot
 is_added slot event = false
 
--- the slot held a role at the opening, and a reshape ended by these entries, which may have made it a spare
+-- the slot held a role at the opening, and by these entries a reshape ended, or the level was taken over, which may have made it a spare
 abbrev pub IsDroppedSince : World → List Entry → ℕ → Type 0
-IsDroppedSince world entries slot = IsTrue (list_any (λ e. is_finish e.event) entries) × (role : ℕ) × HeldAtFirst world role slot
+IsDroppedSince world entries slot = IsTrue (list_any (λ e. may_drop e.event) entries) × (role : ℕ) × HeldAtFirst world role slot
 
 -- the slot was a spare at the opening, or was made one by these entries
 abbrev pub IsSpareSince : World → List Entry → ℕ → Type 0

@@ -7,3 +7,5 @@ mod grows;
 mod parts;
 #[cfg(test)]
 mod runs;
+#[cfg(test)]
+mod takeovers;

@@ -4,9 +4,7 @@ use Rattle.std.specs.Prelude.{MatchBool, MatchOption, ⊤}
 use Rattle.md_base.specs.declared.answers.Refusal.{Refusal}
 use Rattle.md_base.specs.declared.answers.Refusal.TheVariants.{Nothing}
 use Rattle.md_base.specs.declared.answers.Who.{Who}
-use Rattle.md_base.specs.declared.places.Shape.{Shape}
 use Rattle.md_base.specs.declared.wishes.Phase.{Phase}
-use Rattle.md_base.specs.declared.wishes.Phase.TheVariants.{Reshape}
 use Rattle.grow_plan.specs.Plans.{phases_steps}
 use Rattle.bank.specs.declared.bank.Operation.{Operation}
 use Rattle.bank.specs.Given.{Given}
@@ -86,7 +84,7 @@ answered-called old new did members work = record {
 pub moving-left : {B : Type 0} (array : RunningParts B) {F : Type 0} → is_reshaping array.parts.members.newest ≡ true → 0 < left_in array.parts.work array.parts.members array.course array.ahead → running_left array ≡ 0 → F
 moving-left array active some none = absurd (let same = left-moving array active in omega (arith, same, some, none))
 
--- neither is there a reshape ahead
+-- neither is there a phase ahead
 pub rest-left : {B : Type 0} (array : RunningParts B) → is_reshaping array.parts.members.newest ≡ false → running_left array ≡ 0 → HasNoReshape array
 rest-left array still none = record { active = still; ahead = by (phases_of array.ahead) refl }
   where
@@ -103,15 +101,15 @@ rest-left array still none = record { active = still; ahead = by (phases_of arra
 pub moving-some : {B : Type 0} (array : RunningParts B) → is_reshaping array.parts.members.newest ≡ true → left_in array.parts.work array.parts.members array.course array.ahead ≢ 0 → 0 < running_left array
 moving-some array active some = some-of (running_left array) (λ none. some (sym (left-moving array active) ∙ none))
 
--- so where some are of what is under way without one, or where a reshape is ahead
+-- so where some are of what is under way without one, or where a phase is ahead
 pub still-some : {B : Type 0} (array : RunningParts B) → is_reshaping array.parts.members.newest ≡ false → 0 < still_left array.parts.work array.parts.members array.ahead → 0 < running_left array
 still-some array still some = subst (λ (n : ℕ). 0 < n) (sym (left-still array still)) some
 
 pub own-some : (work : Work) (m : Members) (ahead : PhasesLeft) → 0 < left_of work m → 0 < still_left work m ahead
 own-some work m ahead some = omega (arith, some)
 
-pub ahead-some : (work : Work) (m : Members) (ahead : PhasesLeft) (to : Shape) → phases_of ahead ≡ Reshape to ∷ [] → 0 < still_left work m ahead
-ahead-some work m ahead to is = let some = some-steps (shape_of m.newest) m.newest.size (phases_of ahead) [] (Reshape to) (sym is) in omega (arith, some)
+pub ahead-some : (work : Work) (m : Members) (ahead : PhasesLeft) (phase : Phase) (more : List Phase) → phases_of ahead ≡ phase ∷ more → 0 < still_left work m ahead
+ahead-some work m ahead phase more is = let some = some-steps (shape_of m.newest) m.newest.size (phases_of ahead) more phase (sym is) in omega (arith, some)
 
 -- none is where nothing is under way and nothing ahead
 pub nothing-left : {B : Type 0} (array : RunningParts B) → is_reshaping array.parts.members.newest ≡ false → left_of array.parts.work array.parts.members ≡ 0 → phases_of array.ahead ≡ [] → running_left array ≡ 0

@@ -19,7 +19,7 @@ use Rattle.flat_history.specs.declared.events.Entry.{Entry}
 use Rattle.flat_history.specs.declared.events.Event.{Event}
 use Rattle.flat_history.specs.declared.events.Event.TheVariants.{Step, Rebuilt}
 use Rattle.flat_history.specs.declared.events.StepKind.{StepKind}
-use Rattle.flat_history.specs.declared.events.StepKind.TheVariants.{Finished, RebuildEnded}
+use Rattle.flat_history.specs.declared.events.StepKind.TheVariants.{Finished, TakenOver, RebuildEnded}
 use Rattle.flat_history.specs.Plain.{entries_of}
 use Rattle.flat_history.specs.Reshaped.{is_done, open_plans}
 use Rattle.views.specs.Placed.{is_vacant, AreWhole, IsPlaced}
@@ -43,8 +43,9 @@ use Rattle.growing.proofs.still_steps_NextLaws.{next-rebuild}
 use Rattle.growing.specs.turning_Ended.{ended_length, IsEndedWith}
 use Rattle.growing.proofs.Idle.{none-left}
 use Rattle.growing.proofs.still_laws_PlansKept.{PlanNone, AddNoPlan, none-open, done-closes}
+use Rattle.takeover.specs.TakenOver.{IsTakenWith}
 use Rattle.running.specs.State.{AreClosedIdle}
-use Rattle.running.proofs.Entered.{ended-tail}
+use Rattle.running.proofs.Entered.{losses-none, ended-tail}
 
 -- ---- calls that do no step
 
@@ -187,3 +188,14 @@ ended-closes {who = who} {before = before} {size = size} {old = old} new is none
 
 pub closed-ended : {B : Type 0} {who : Who} {before size : ℕ} {was later : Members} {old : List Entry} (new : RunningParts B) → IsEndedWith who before size was later old new.parts.entries (still_left new.parts.work new.parts.members new.ahead) → AreClosedIdle new
 closed-ended new is synced none whole = ended-closes new is (idle-left new synced none whole)
+
+-- ---- a takeover of the level
+
+pub taken-closes : {B : Type 0} {who : Who} {plan later : Members} {old : List Entry} (new : RunningParts B) → IsTakenWith who plan later old new.parts.entries (still_left new.parts.work new.parts.members new.ahead)
+    → still_left new.parts.work new.parts.members new.ahead ≡ 0 → open_plans new.parts.entries ≡ []
+taken-closes {who = who} {old = old} new is none =
+    closes-behind who is.end [] (losses_of is.roles is.spares) (Step TakenOver (still_left new.parts.work new.parts.members new.ahead)) old new.parts.entries is.is
+    (zero-done TakenOver (still_left new.parts.work new.parts.members new.ahead) none) (losses-none who is.end is.roles is.spares)
+
+pub closed-taken : {B : Type 0} {who : Who} {plan later : Members} {old : List Entry} (new : RunningParts B) → IsTakenWith who plan later old new.parts.entries (still_left new.parts.work new.parts.members new.ahead) → AreClosedIdle new
+closed-taken new is synced none whole = taken-closes new is (idle-left new synced none whole)

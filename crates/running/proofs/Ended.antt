@@ -6,7 +6,8 @@ use Rattle.md_base.specs.declared.answers.Fault.TheVariants.{Refused as IsRefuse
 use Rattle.md_base.specs.declared.answers.Refusal.{Refusal}
 use Rattle.md_base.specs.declared.answers.Who.{Who}
 use Rattle.md_base.specs.declared.places.Shape.{Shape}
-use Rattle.md_base.specs.declared.wishes.Phase.TheVariants.{Reshape}
+use Rattle.md_base.specs.declared.wishes.Phase.{Phase}
+use Rattle.md_base.specs.declared.wishes.Phase.TheVariants.{Reshape, UpTo6, DownTo5}
 use Rattle.sb1.specs.declared.sb.Sb.{Sb}
 use Rattle.superblocks.specs.declared.members.Members.{Members}
 use Rattle.superblocks.specs.Reading.{is_reshaping, shape_of, final_shape, list_length, next_window}
@@ -35,8 +36,9 @@ use Rattle.growing.specs.still_steps_Stepping.{IsUndone, after_step}
 use Rattle.growing.specs.moving_steps_Replies.{IsEndedInReshape}
 use Rattle.growing.specs.turning_Begun.{IsBeginRefused}
 use Rattle.growing.specs.turning_Ended.{IsEndedWith}
+use Rattle.takeover.specs.TakenOver.{IsTakeoverNext, IsTakenWith, IsUntaken}
 use Rattle.running.specs.Calls.{MayEndSteps, IsRefusedInStep}
-use Rattle.running.proofs.Closed.{why-of, ended-closes}
+use Rattle.running.proofs.Closed.{why-of, ended-closes, taken-closes}
 
 -- ---- by the state
 
@@ -145,21 +147,38 @@ moved-refused f g kind old new who left (Err NoMemory) active shape final work e
 
 -- ---- a reshape that doesn't begin
 
-pub begin-refused : {B : Type 0} (f g : ℕ → ℕ) (to : Shape) (old new : RunningParts B) (refusal : Refusal) → is_reshaping new.parts.members.newest ≡ false → new.ahead ≡ old.ahead → phases_of old.ahead ≡ Reshape to ∷ []
-    → IsBeginRefused f g to refusal old new → MayEndSteps new refusal
-begin-refused f g to old new refusal still ahead next why = ends-still new refusal still (inr (by why, some))
-  where
-    some : phases_of new.ahead ≢ []
-    some none = absurd (let e : [] ≡ Reshape to ∷ [] = sym none ∙ (ap phases_of ahead ∙ next) in cc)
+some-ahead : {B : Type 0} (old new : RunningParts B) (phase : Phase) (more : List Phase) → new.ahead ≡ old.ahead → phases_of old.ahead ≡ phase ∷ more → phases_of new.ahead ≢ []
+some-ahead old new phase more ahead next none = absurd (let e : ◌≡◌ {A = List Phase} [] (phase ∷ more) = sym none ∙ (ap phases_of ahead ∙ next) in cc)
 
+pub begin-refused : {B : Type 0} (f g : ℕ → ℕ) (to : Shape) (more : List Phase) (old new : RunningParts B) (refusal : Refusal) → is_reshaping new.parts.members.newest ≡ false → new.ahead ≡ old.ahead → phases_of old.ahead ≡ Reshape to ∷ more
+    → IsBeginRefused f g to refusal old new → MayEndSteps new refusal
+begin-refused f g to more old new refusal still ahead next why = ends-still new refusal still (inr (by why, some-ahead old new (Reshape to) more ahead next))
+  where
     by : IsBeginRefused f g to refusal old new → RefusesBegin refusal
     by (inl (inl (role, lowest, told), bank)) = subst RefusesBegin (sym told) tt
     by (inl (inr (whole, few, told), bank)) = subst RefusesBegin (sym told) tt
     by (inr (can, told, fault)) = subst RefusesBegin (sym told) tt
 
--- ---- a reshape that ended
+-- ---- a takeover that isn't done
+
+pub take-refused : {B : Type 0} (to : Shape) (more : List Phase) (old new : RunningParts B) (refusal : Refusal) → is_reshaping new.parts.members.newest ≡ false → new.ahead ≡ old.ahead → IsTakeoverNext (phases_of old.ahead) to more
+    → IsUntaken old.parts.members to refusal → MayEndSteps new refusal
+take-refused to more old new refusal still ahead next why = ends-still new refusal still (inr (by why, some next))
+  where
+    some : IsTakeoverNext (phases_of old.ahead) to more → phases_of new.ahead ≢ []
+    some (inl up) = some-ahead old new (UpTo6 to) more ahead up
+    some (inr down) = some-ahead old new (DownTo5 to) more ahead down
+
+    by : IsUntaken old.parts.members to refusal → RefusesBegin refusal
+    by (inl (role, lowest, told)) = subst RefusesBegin (sym told) tt
+    by (inr (whole, six, none, told)) = subst RefusesBegin (sym told) tt
+
+-- ---- a reshape that ended, and a takeover that is done
 
 -- where none is left behind it, it closed the plans
 pub closable-ended : {B : Type 0} {who : Who} {before size : ℕ} {was later : Members} {old : List Entry} (new : RunningParts B)
     → IsEndedWith who before size was later old new.parts.entries (still_left new.parts.work new.parts.members new.ahead) → IsClosable new
 closable-ended new is none = inl (ended-closes new is none)
+
+pub closable-taken : {B : Type 0} {who : Who} {plan later : Members} {old : List Entry} (new : RunningParts B) → IsTakenWith who plan later old new.parts.entries (still_left new.parts.work new.parts.members new.ahead) → IsClosable new
+closable-taken new is none = inl (taken-closes new is none)

@@ -18,7 +18,7 @@ use Rattle.flat_history.specs.declared.events.Event.{Event}
 use Rattle.flat_history.specs.declared.events.Event.TheVariants.{Planned, Refused, Resized, Shown, Step}
 use Rattle.flat_history.specs.declared.events.Request.{Request}
 use Rattle.flat_history.specs.declared.events.StepKind.{StepKind}
-use Rattle.flat_history.specs.declared.events.StepKind.TheVariants.{Finished, Begun, RebuildEnded}
+use Rattle.flat_history.specs.declared.events.StepKind.TheVariants.{Finished, Begun, TakenOver, RebuildEnded}
 use Rattle.flat_history.specs.OneShape.{IsOfCall}
 use Rattle.flat_history.specs.Plain.{entries_of}
 use Rattle.flat_history.specs.Reshaped.{is_planned}
@@ -38,6 +38,7 @@ use Rattle.growing.specs.still_steps_Stepping.{IsStepEntered}
 use Rattle.growing.specs.moving_laws_Writing.{IsRepliedBehind, IsWriteReplied}
 use Rattle.growing.specs.turning_Begun.{begun_length, IsBegunWith}
 use Rattle.growing.specs.turning_Ended.{ended_length, IsEndedWith}
+use Rattle.takeover.specs.TakenOver.{IsTakenWith}
 use Rattle.growing.proofs.still_laws_PlansKept.{PlanNone, AddNoPlan, none-behind, add-entered, add-behind, add-behind_all, add-nothing, add-step}
 
 -- ---- lists
@@ -51,7 +52,7 @@ pub none-both : (xs ys : List Entry) → PlanNone xs → PlanNone ys → PlanNon
 none-both xs ys one two = list_any-append (λ e. is_planned e.event) xs ys ∙ both-none _ _ one two
 
 -- losses alone
-losses-none : (who : Who) (end roles spares : ℕ) → PlanNone (entries_of who end (losses_of roles spares))
+pub losses-none : (who : Who) (end roles spares : ℕ) → PlanNone (entries_of who end (losses_of roles spares))
 losses-none who end roles spares = subst (λ (l : List Event). PlanNone (entries_of who end l)) (append-nil (losses_of roles spares)) (none-behind who end roles spares [] refl)
 
 -- ---- a write
@@ -116,6 +117,15 @@ add-stepped who old new work members members' left result is = by work.resync is
         (λ mended. IsStepTaken who old new (resync.next_kind work.resync members) left result) → AddNoPlan old new
     by None entered = add-rebuilt who old new members' (rebuilt_role members) (rebuild_kind work members) left result entered
     by (Some mended) entered = add-step who (resync.next_kind work.resync members) left result entered
+
+-- ---- the level is taken over
+
+pub add-taken : {who : Who} {plan later : Members} {old new : List Entry} {left : ℕ} → IsTakenWith who plan later old new left → AddNoPlan old new
+add-taken {who = who} {left = left} is = record {
+  more = entries_of who is.end (Step TakenOver left ∷ losses_of is.roles is.spares);
+  grown = is.is;
+  none = losses-none who is.end is.roles is.spares;
+}
 
 -- ---- a reshape begins and ends
 

@@ -10,7 +10,8 @@ use Rattle.md_base.specs.declared.answers.Fault.TheVariants.{Refused as IsRefuse
 use Rattle.md_base.specs.declared.answers.Refusal.{Refusal}
 use Rattle.md_base.specs.declared.answers.Refusal.TheVariants.{NoSuchSlot, SlotFault, SlotTaken}
 use Rattle.md_base.specs.declared.places.Shape.{Shape}
-use Rattle.md_base.specs.declared.wishes.Phase.TheVariants.{Reshape}
+use Rattle.md_base.specs.declared.wishes.Phase.{Phase}
+use Rattle.md_base.specs.declared.wishes.Phase.TheVariants.{Reshape, UpTo6, DownTo5}
 use Rattle.md_base.specs.declared.answers.Who.{Who}
 use Rattle.bank.specs.Given.{Given}
 use Rattle.bank.specs.declared.bank.Operation.{Operation}
@@ -43,12 +44,14 @@ use Rattle.growing.specs.running_words_Calls.{moving_world, IsCalled, IsSameResh
 use Rattle.growing.specs.running_words_Plans.{aim_of, ArePlansKept, turns_shape, KeepsShape}
 use Rattle.growing.specs.still_laws_Steps.{IsStepped}
 use Rattle.growing.specs.moving_laws_Mending.{IsMendCalled}
-use Rattle.growing.specs.turning_Begun.{IsReshapeBegun, IsGivenBack}
+use Rattle.growing.specs.turning_Begun.{IsBackupAt, IsReshapeBegun, IsGivenBack}
 use Rattle.growing.specs.turning_Ended.{IsReshapeEnded}
 use Rattle.growing.proofs.still_laws_PlansKept.{AddNoPlan, add-nothing, plans-kept, plans-closed, aim-begun, aim-ended}
-use Rattle.running.specs.State.{IsStillNow, IsOneReshape, CanBeNext, IsWithin, IsBackupAside, AreClosedIdle, IsAtRest, IsInReshape}
-use Rattle.running.proofs.Closed.{closed-kept, closed-ended}
-use Rattle.running.proofs.Entered.{add-begun, begun-turns, add-ended}
+use Rattle.takeover.specs.TakenOver.{IsTakeoverNext, IsLevelTaken, IsUntouched}
+use Rattle.takeover.proofs.TakenFrom.{WasSpareOrHeld, taken-roles, taken-spares}
+use Rattle.running.specs.State.{IsStillNow, AreTakeovers, IsOneReshape, AreBacked, IsNextBacked, IsWithin, IsBackupAside, AreClosedIdle, IsAtRest, IsInReshape}
+use Rattle.running.proofs.Closed.{closed-kept, closed-ended, closed-taken}
+use Rattle.running.proofs.Entered.{add-begun, begun-turns, add-ended, add-taken}
 
 -- ---- the history
 
@@ -110,6 +113,57 @@ aim-same : {B : Type 0} (old new : RunningParts B) → is_reshaping new.parts.me
     → shape_of new.parts.members.newest ≡ shape_of old.parts.members.newest → new.ahead ≡ old.ahead → aim_of new ≡ aim_of old
 aim-same old new active final shape ahead = λ i. last_shape (if active i then final i else shape i) (phases_of (ahead i))
 
+-- ---- the phases ahead
+
+-- takeovers alone have at most one reshape, and need no backup
+takeovers-one : (phases : List Phase) → AreTakeovers phases → IsOneReshape phases
+takeovers-one [] are = tt
+takeovers-one (Reshape to ∷ more) are = absurd are
+takeovers-one (UpTo6 to ∷ more) are = takeovers-one more are
+takeovers-one (DownTo5 to ∷ more) are = takeovers-one more are
+
+takeovers-backed : (given : Given) (window : ℕ) (backup : Option ℕ) (now : Shape) (size : ℕ) (phases : List Phase) → AreTakeovers phases → AreBacked given window backup now size phases
+takeovers-backed given window backup now size [] are = tt
+takeovers-backed given window backup now size (Reshape to ∷ more) are = absurd are
+takeovers-backed given window backup now size (UpTo6 to ∷ more) are = takeovers-backed given window backup to size more are
+takeovers-backed given window backup now size (DownTo5 to ∷ more) are = takeovers-backed given window backup to size more are
+
+-- of the same array with the same phases ahead
+backed-same : (window : ℕ) {given given' : Given} {backup backup' : Option ℕ} {now now' : Shape} {size size' : ℕ} {phases phases' : List Phase} → given' ≡ given → backup' ≡ backup → now' ≡ now → size' ≡ size → phases' ≡ phases
+    → AreBacked given window backup now size phases → AreBacked given' window backup' now' size' phases'
+backed-same window {given = given} {given' = given'} {backup = backup} {backup' = backup'} {now = now} {now' = now'} {size = size} {size' = size'} {phases = phases} {phases' = phases'} given_is backup_is now_is size_is phases_is was =
+    subst (λ (g : Given). AreBacked g window backup' now' size' phases') (sym given_is)
+    (subst (λ (b : Option ℕ). AreBacked given window b now' size' phases') (sym backup_is)
+    (subst (λ (s : Shape). AreBacked given window backup s size' phases') (sym now_is)
+    (subst (λ (n : ℕ). AreBacked given window backup now n phases') (sym size_is)
+    (subst (λ (l : List Phase). AreBacked given window backup now size l) (sym phases_is) was))))
+
+-- a phase that is the first one ahead is the one that stands before those behind it
+pub first-same : {phases : List Phase} {phase first : Phase} {more rest : List Phase} → phases ≡ phase ∷ more → phases ≡ first ∷ rest → phases ≡ phase ∷ rest
+first-same {phases = phases} {phase = phase} {first = first} {more = more} {rest = rest} a b =
+    let both : ◌≡◌ {A = List Phase} (first ∷ rest) (phase ∷ more) = sym b ∙ a in
+    let same : first ≡ phase = cc in
+    b ∙ ap (λ (p : Phase). p ∷ rest) same
+
+pub first-taken : {phases : List Phase} {first : Phase} {more rest : List Phase} (to : Shape) → IsTakeoverNext phases to more → phases ≡ first ∷ rest → IsTakeoverNext phases to rest
+first-taken to (inl up) b = inl (first-same up b)
+first-taken to (inr down) b = inr (first-same down b)
+
+pub first-of : {phases more : List Phase} (to : Shape) → IsTakeoverNext phases to more → (phase : Phase) × (rest : List Phase) × (phases ≡ phase ∷ rest)
+first-of {more = more} to (inl up) = (UpTo6 to, more, up)
+first-of {more = more} to (inr down) = (DownTo5 to, more, down)
+
+-- the reshape that is the next phase has a backup that serves it, and a buffer
+pub backup-serves : {B : Type 0} {tells : Type 0} {given : Given} {tape : List Operation} {window : ℕ} (array : RunningParts B) (to : Shape) (more : List Phase) → phases_of array.ahead ≡ Reshape to ∷ more
+    → IsAtRest tells given tape window array
+    → (slot : ℕ) × (array.parts.backup ≡ Some slot) × IsBackupAt given array.parts.members to slot
+    × (512 * phase_window (shape_of array.parts.members.newest) array.parts.members.newest.size (Reshape to) ≤ window)
+backup-serves {given = given} {window = window} array to more next was =
+    let m = array.parts.members in
+    let can = (subst (λ (l : List Phase). AreBacked given window array.parts.backup (shape_of m.newest) m.newest.size l) next was.next).0 in
+    let apart = was.aside can.slot can.is in
+    (can.slot, can.is, record { known = can.known; apart = apart.0; own = apart.1; room = can.room }, can.wide)
+
 -- ---- without a reshape
 
 -- What a call leaves as it was besides, as far as what is ahead asks for it.
@@ -129,26 +183,8 @@ clash : {P : Type 0} {b : Bool} → b ≡ false → b ≡ true → P
 clash off on = absurd (let both : true ≡ false = sym on ∙ off in cc)
 
 module _ {B : Type 0} {tells : Type 0} (given : B → Given) (tape : B → List Operation) (window : ℕ) (old new : RunningParts B) (on : GoesOn tells given tape old new) (leaves : LeavesAhead old new) where
-  next-kept : (to : Shape) → CanBeNext (given old.parts.bank) window old to → CanBeNext (given new.parts.bank) window new to
-  next-kept to can = record {
-    slot = can.slot;
-    backup = on.backup ∙ can.backup;
-    serves = record {
-      known = subst (λ (g : Given). can.slot < g.slots) (sym on.given_is) can.serves.known;
-      apart = not-true (has_spare new.parts.members.spares can.slot) (λ is. clash can.serves.apart (leaves.spares can.slot can.backup is));
-      own = λ role held. none role (leaves.held role can.slot held);
-      room = subst (λ (g : Given). 8 + phase_window (shape_of new.parts.members.newest) new.parts.members.newest.size (Reshape to) ≤ g.sectors can.slot) (sym on.given_is)
-          (subst (λ (n : ℕ). 8 + n ≤ (given old.parts.bank).sectors can.slot) (sym window-same) can.serves.room);
-    };
-    wide = subst (λ (n : ℕ). 512 * n ≤ window) (sym window-same) can.wide;
-  }
-    where
-      window-same : phase_window (shape_of new.parts.members.newest) new.parts.members.newest.size (Reshape to) ≡ phase_window (shape_of old.parts.members.newest) old.parts.members.newest.size (Reshape to)
-      window-same = λ i. phase_window (leaves.shape i) (leaves.size i) (Reshape to)
-
-      none : (role : ℕ) → MayHold old.parts.members role can.slot → ⊥
-      none role (inl held) = can.serves.own role held
-      none role (inr spare) = clash can.serves.apart spare
+  next-kept : IsNextBacked (given old.parts.bank) window old → IsNextBacked (given new.parts.bank) window new
+  next-kept = backed-same window on.given_is on.backup leaves.shape leaves.size (ap phases_of leaves.ahead)
 
   aside-kept : IsBackupAside old → IsBackupAside new
   aside-kept was slot is =
@@ -165,7 +201,7 @@ module _ {B : Type 0} {tells : Type 0} (given : B → Given) (tape : B → List 
     now = now;
     within = within;
     one = subst (λ (a : PhasesLeft). IsOneReshape (phases_of a)) (sym leaves.ahead) was.one;
-    next = λ to is. next-kept to (was.next to (sym (ap phases_of leaves.ahead) ∙ is));
+    next = next-kept was.next;
     aside = aside-kept was.aside;
     closed = closed;
     plans = plans-on given tape old new on was.within
@@ -180,7 +216,7 @@ module _ {B : Type 0} {tells : Type 0} (given : B → Given) (tape : B → List 
   reshape-kept active within was = record {
     active = active;
     within = within;
-    last = ap phases_of ahead ∙ was.last;
+    last = subst (λ (a : PhasesLeft). AreTakeovers (phases_of a)) (sym ahead) was.last;
     turned = turned-on given tape old new on was.within was.turned;
     plans = plans-on given tape old new on was.within (aim-same old new (active ∙ sym was.active) final shape ahead) was.plans;
   }
@@ -322,7 +358,7 @@ module _ {B : Type 0} {tells : Type 0} (given : B → Given) (tape : B → List 
     now = record { still = was.now.still; course = was.now.course };
     within = record { begun = was.within.begun; ends = was.within.ends; sized = was.within.sized; limited = was.within.limited };
     one = was.one;
-    next = λ to is. let can = was.next to is in record { slot = can.slot; backup = can.backup; serves = can.serves; wide = can.wide };
+    next = was.next;
     aside = was.aside;
     plans = was.plans;
     closed = was.closed;
@@ -344,12 +380,12 @@ module _ {B : Type 0} {tells : Type 0} (given : B → Given) (tape : B → List 
 
 -- it begins: the plans that are open go to its shape
 pub reshape-begun : {B tells : Type 0} {f g : ℕ → ℕ} {who : Who} {behind : PhasesLeft} (given : B → Given) (tape : B → List Operation) (window : ℕ) (to : Shape) (old new : RunningParts B) → given new.parts.bank ≡ given old.parts.bank
-    → phases_of old.ahead ≡ Reshape to ∷ [] → phases_of behind ≡ [] → IsReshapeBegun tells (given old.parts.bank) (tape old.parts.bank) (tape new.parts.bank) f g who to behind old new
+    → phases_of old.ahead ≡ Reshape to ∷ phases_of behind → IsReshapeBegun tells (given old.parts.bank) (tape old.parts.bank) (tape new.parts.bank) f g who to behind old new
     → IsWithin tells (tape new.parts.bank) new → IsAtRest tells (given old.parts.bank) (tape old.parts.bank) window old → IsInReshape tells (given new.parts.bank) (tape new.parts.bank) new
-reshape-begun {behind = behind} given tape window to old new given_is next none did within was = record {
+reshape-begun {behind = behind} given tape window to old new given_is next did within was = record {
   active = did.start.active;
   within = within;
-  last = ap phases_of did.ahead ∙ none;
+  last = subst (λ (a : PhasesLeft). AreTakeovers (phases_of a)) (sym did.ahead) (subst IsOneReshape next was.one);
   turned = λ t. begun-turns (world_over given tape new) did.entered;
   plans = plans-on given tape old new (record {
     given_is = given_is;
@@ -359,14 +395,14 @@ reshape-begun {behind = behind} given tape window to old new given_is next none 
     first = did.same.first;
     backup = did.same.backup;
     added = add-begun did.entered;
-  }) was.within (aim-begun old new to [] was.now.still did.start.active did.start.final next (ap phases_of did.ahead ∙ none)) was.plans;
+  }) was.within (aim-begun old new to (phases_of behind) was.now.still did.start.active did.start.final next (ap phases_of did.ahead)) was.plans;
 }
 
 -- it couldn't
-pub rest-back : {B tells : Type 0} {who : Who} {refusal : Refusal} (given : B → Given) (tape : B → List Operation) (window : ℕ) (to : Shape) (old new : RunningParts B) → given new.parts.bank ≡ given old.parts.bank
-    → phases_of old.ahead ≡ Reshape to ∷ [] → Grows tells (tape old.parts.bank) (tape new.parts.bank) → IsGivenBack tells (given old.parts.bank) (tape old.parts.bank) (tape new.parts.bank) who refusal old new → IsStillNow new → IsWithin tells (tape new.parts.bank) new
+pub rest-back : {B tells : Type 0} {who : Who} {refusal : Refusal} (given : B → Given) (tape : B → List Operation) (window : ℕ) (to : Shape) (more : List Phase) (old new : RunningParts B) → given new.parts.bank ≡ given old.parts.bank
+    → phases_of old.ahead ≡ Reshape to ∷ more → Grows tells (tape old.parts.bank) (tape new.parts.bank) → IsGivenBack tells (given old.parts.bank) (tape old.parts.bank) (tape new.parts.bank) who refusal old new → IsStillNow new → IsWithin tells (tape new.parts.bank) new
     → IsAtRest tells (given old.parts.bank) (tape old.parts.bank) window old → IsAtRest tells (given new.parts.bank) (tape new.parts.bank) window new
-rest-back {who = who} {refusal = refusal} given tape window to old new given_is next grows back now within = rest-kept given tape window old new
+rest-back {who = who} {refusal = refusal} given tape window to more old new given_is next grows back now within = rest-kept given tape window old new
     (record {
       given_is = given_is;
       grows = grows;
@@ -384,7 +420,7 @@ rest-back {who = who} {refusal = refusal} given tape window to old new given_is 
       held = λ role slot has. inl (subst (λ (m : Members). Held m role slot) back.members has);
       spares = λ slot backup is. subst (λ (m : Members). has_spare m.spares slot ≡ true) back.members is;
     })
-    now within (λ synced none whole. absurd (let e : [] ≡ Reshape to ∷ [] = sym none ∙ (ap phases_of back.ahead ∙ next) in cc))
+    now within (λ synced none whole. absurd (let e : ◌≡◌ {A = List Phase} [] (Reshape to ∷ more) = sym none ∙ (ap phases_of back.ahead ∙ next) in cc))
 
 -- it ends: the array has its shape
 pub rest-ended : {B tells : Type 0} {f g : ℕ → ℕ} {who : Who} (given : B → Given) (tape : B → List Operation) (window : ℕ) (old new : RunningParts B) → given new.parts.bank ≡ given old.parts.bank
@@ -393,8 +429,8 @@ pub rest-ended : {B tells : Type 0} {f g : ℕ → ℕ} {who : Who} (given : B �
 rest-ended given tape window old new given_is did apart now within was = record {
   now = now;
   within = within;
-  one = subst IsOneReshape (sym none) tt;
-  next = λ to is. absurd (let e : [] ≡ Reshape to ∷ [] = sym none ∙ is in cc);
+  one = takeovers-one (phases_of new.ahead) last;
+  next = takeovers-backed (given new.parts.bank) window new.parts.backup (shape_of new.parts.members.newest) new.parts.members.newest.size (phases_of new.ahead) last;
   aside = λ slot is. (not-true (has_spare new.parts.members.spares slot) (λ spare. spared slot (apart slot (before slot is)) (did.spares slot spare)), λ role held. (apart slot (before slot is)).1 role (did.held role slot held));
   closed = closed-ended new did.entered;
   plans = plans-on given tape old new (record {
@@ -408,8 +444,8 @@ rest-ended given tape window old new given_is did apart now within was = record 
   }) was.within (aim-ended old new was.active now.still did.over.shape did.ahead) was.plans;
 }
   where
-    none : phases_of new.ahead ≡ []
-    none = ap phases_of did.ahead ∙ was.last
+    last : AreTakeovers (phases_of new.ahead)
+    last = subst (λ (a : PhasesLeft). AreTakeovers (phases_of a)) (sym did.ahead) was.last
 
     before : (slot : ℕ) → new.parts.backup ≡ Some slot → old.parts.backup ≡ Some slot
     before slot is = sym did.same.backup ∙ is
@@ -418,6 +454,94 @@ rest-ended given tape window old new given_is did apart now within was = record 
         → (has_spare old.parts.members.spares slot ≡ true) ⊎ ((role : ℕ) × ((final_shape old.parts.members.newest).disks ≤ role) × Held old.parts.members role slot) → ⊥
     spared slot alone (inl was) = clash alone.0 was
     spared slot alone (inr dropped) = alone.1 dropped.0 dropped.2
+
+-- ---- the level is taken over
+
+-- the same phases are ahead behind the takeover, at most one of which is a reshape
+one-behind : (phases more : List Phase) (to : Shape) → IsTakeoverNext phases to more → IsOneReshape phases → IsOneReshape more
+one-behind phases more to (inl up) was = subst IsOneReshape up was
+one-behind phases more to (inr down) was = subst IsOneReshape down was
+
+backed-behind : (given : Given) (window : ℕ) (backup : Option ℕ) (now : Shape) (size : ℕ) (phases more : List Phase) (to : Shape) → IsTakeoverNext phases to more → AreBacked given window backup now size phases
+    → AreBacked given window backup to size more
+backed-behind given window backup now size phases more to (inl up) was = subst (λ (l : List Phase). AreBacked given window backup now size l) up was
+backed-behind given window backup now size phases more to (inr down) was = subst (λ (l : List Phase). AreBacked given window backup now size l) down was
+
+-- they lead to the same shape
+lead-behind : (now to : Shape) (phases more : List Phase) → IsTakeoverNext phases to more → last_shape to more ≡ last_shape now phases
+lead-behind now to phases more (inl up) = sym (ap (λ (l : List Phase). last_shape now l) up)
+lead-behind now to phases more (inr down) = sym (ap (λ (l : List Phase). last_shape now l) down)
+
+aim-taken : {B : Type 0} (old new : RunningParts B) (to : Shape) (behind : PhasesLeft) → is_reshaping old.parts.members.newest ≡ false → is_reshaping new.parts.members.newest ≡ false → shape_of new.parts.members.newest ≡ to
+    → new.ahead ≡ behind → IsTakeoverNext (phases_of old.ahead) to (phases_of behind) → aim_of new ≡ aim_of old
+aim-taken old new to behind before after shape ahead next =
+    (λ i. last_shape (if after i then final_shape new.parts.members.newest else shape i) (phases_of (ahead i)))
+    ∙ lead-behind (shape_of old.parts.members.newest) to (phases_of old.ahead) (phases_of behind) next
+    ∙ sym (λ i. last_shape (if before i then final_shape old.parts.members.newest else shape_of old.parts.members.newest) (phases_of old.ahead))
+
+pub rest-taken : {B tells : Type 0} {f g : ℕ → ℕ} {who : Who} {behind : PhasesLeft} (given : B → Given) (tape : B → List Operation) (window : ℕ) (to : Shape) (old new : RunningParts B) → given new.parts.bank ≡ given old.parts.bank
+    → IsTakeoverNext (phases_of old.ahead) to (phases_of behind)
+    → IsLevelTaken tells (given old.parts.bank) (tape old.parts.bank) (tape new.parts.bank) f g who to behind old new → IsStillNow new → IsWithin tells (tape new.parts.bank) new
+    → IsAtRest tells (given old.parts.bank) (tape old.parts.bank) window old → IsAtRest tells (given new.parts.bank) (tape new.parts.bank) window new
+rest-taken {behind = behind} given tape window to old new given_is next did now within was = record {
+  now = now;
+  within = within;
+  one = subst (λ (a : PhasesLeft). IsOneReshape (phases_of a)) (sym did.ahead) (one-behind (phases_of old.ahead) (phases_of behind) to next was.one);
+  next = backed-same window given_is did.same.backup did.newest.shape did.newest.size (ap phases_of did.ahead)
+      (backed-behind (given old.parts.bank) window old.parts.backup (shape_of old.parts.members.newest) old.parts.members.newest.size (phases_of old.ahead) (phases_of behind) to next was.next);
+  aside = λ slot is. (
+    not-true (has_spare new.parts.members.spares slot) (λ spare. spared slot (apart slot is) (taken-spares old.parts.members to did.slot did.chosen new.parts.members did.spares slot spare)),
+    λ role held. held-none role slot (apart slot is) (taken-roles old.parts.members to did.slot did.chosen new.parts.members did.held role slot held),
+  );
+  closed = closed-taken new did.entered;
+  plans = plans-on given tape old new (record {
+    given_is = given_is;
+    grows = did.grows;
+    uuid = did.same.uuid;
+    slots = did.same.given;
+    first = did.same.first;
+    backup = did.same.backup;
+    added = add-taken did.entered;
+  }) was.within (aim-taken old new to behind was.now.still now.still did.newest.shape did.ahead next) was.plans;
+}
+  where
+    apart : (slot : ℕ) → new.parts.backup ≡ Some slot → (has_spare old.parts.members.spares slot ≡ false) × ((role : ℕ) → Held old.parts.members role slot → ⊥)
+    apart slot is = was.aside slot (sym did.same.backup ∙ is)
+
+    spared : (slot : ℕ) → (has_spare old.parts.members.spares slot ≡ false) × ((role : ℕ) → Held old.parts.members role slot → ⊥) → WasSpareOrHeld old.parts.members slot → ⊥
+    spared slot alone (inl spare) = clash alone.0 spare
+    spared slot alone (inr (role, held)) = alone.1 role held
+
+    held-none : (role slot : ℕ) → (has_spare old.parts.members.spares slot ≡ false) × ((role : ℕ) → Held old.parts.members role slot → ⊥) → MayHold old.parts.members role slot → ⊥
+    held-none role slot alone (inl held) = alone.1 role held
+    held-none role slot alone (inr spare) = clash alone.0 spare
+
+-- it isn't
+pub rest-untaken : {B tells : Type 0} {who : Who} {refusal : Refusal} (given : B → Given) (tape : B → List Operation) (window : ℕ) (old new : RunningParts B) → IsUntouched tells (tape old.parts.bank) who refusal old new → IsStillNow new
+    → IsWithin tells (tape new.parts.bank) new
+    → IsAtRest tells (given old.parts.bank) (tape old.parts.bank) window old → IsAtRest tells (given new.parts.bank) (tape new.parts.bank) window new
+rest-untaken {who = who} {refusal = refusal} given tape window old new did now within was = rest-kept given tape window old new
+    (record {
+      given_is = ap given did.bank;
+      grows = grows-none (λ t. ap tape did.bank);
+      uuid = did.same.uuid;
+      slots = did.same.given;
+      first = did.same.first;
+      backup = did.same.backup;
+      added = added;
+    })
+    (record {
+      shape = ap (λ (m : Members). shape_of m.newest) did.members;
+      final = ap (λ (m : Members). final_shape m.newest) did.members;
+      size = ap (λ (m : Members). m.newest.size) did.members;
+      ahead = did.ahead;
+      held = λ role slot has. inl (subst (λ (m : Members). Held m role slot) did.members has);
+      spares = λ slot backup is. subst (λ (m : Members). has_spare m.spares slot ≡ true) did.members is;
+    })
+    now within (closed-kept old new (ap (λ (w : Work). w.resync) did.work) did.ahead (λ whole. subst AreWhole did.members whole) added was.closed) was
+  where
+    added : AddNoPlan old.parts.entries new.parts.entries
+    added = record { more = entries_of who did.end (Refused refusal ∷ []); grown = did.entered; none = refl }
 
 -- ---- at first
 
@@ -428,7 +552,7 @@ rest-first given tape window array now within none unplanned aside = record {
   now = now;
   within = within;
   one = subst IsOneReshape (sym none) tt;
-  next = λ to is. absurd (let e : [] ≡ Reshape to ∷ [] = sym none ∙ is in cc);
+  next = subst (λ (l : List Phase). AreBacked given window array.parts.backup (shape_of array.parts.members.newest) array.parts.members.newest.size l) (sym none) tt;
   aside = aside;
   plans = plans-closed _ (moving_world given tape array) array unplanned;
   closed = λ synced ahead whole. unplanned;
@@ -439,7 +563,7 @@ pub reshape-first : {B tells : Type 0} (given : Given) (tape : List Operation) (
 reshape-first given tape array active within none unplanned turned = record {
   active = active;
   within = within;
-  last = none;
+  last = subst AreTakeovers (sym none) tt;
   turned = turned;
   plans = plans-closed _ (moving_world given tape array) array unplanned;
 }

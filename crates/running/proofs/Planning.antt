@@ -1,16 +1,16 @@
 -- A running array keeps what it keeps over a request to grow, planned or refused.
-use Rattle.std.proofs.Common.{◌≡◌, inl, ◌*◌, ◌≤◌, ℕ, Bool, true, false, None, Ok, Err, List, [], ◌∷◌, refl, sym, ◌∙◌, ap, subst, arith}
+use Rattle.std.proofs.Common.{◌≡◌, inl, ◌*◌, ◌≤◌, ◌+◌, ◌==◌, ℕ, Bool, true, false, cond, Option, None, Ok, Err, List, [], ◌∷◌, ◌++◌, refl, sym, ◌∙◌, ap, subst, arith}
 use Rattle.std.specs.Prelude.{if◌then◌else◌}
 use Rattle.md_base.specs.declared.answers.Fault.{Fault}
 use Rattle.md_base.specs.declared.answers.Fault.TheVariants.{Refused as IsRefusedWith, NoMemory}
 use Rattle.md_base.specs.declared.answers.Who.{Who}
 use Rattle.md_base.specs.declared.places.Shape.{Shape}
 use Rattle.md_base.specs.declared.wishes.Phase.{Phase}
-use Rattle.md_base.specs.declared.wishes.Phase.TheVariants.{Reshape}
+use Rattle.md_base.specs.declared.wishes.Phase.TheVariants.{Reshape, UpTo6, DownTo5}
 use Rattle.md_base.specs.declared.wishes.Wish.{Wish}
 use Rattle.bank.specs.Given.{Given}
 use Rattle.bank.specs.declared.bank.Operation.{Operation}
-use Rattle.grow_plan.specs.Plans.{AreSound, largest_window, target}
+use Rattle.grow_plan.specs.Plans.{AreSound, phases_steps, phases_to, largest_window, target, wished_level, is_same_shape, taken_up, before_down}
 use Rattle.superblocks.specs.declared.members.Members.{Members}
 use Rattle.superblocks.specs.Reading.{is_reshaping, shape_of, final_shape, list_length}
 use Rattle.superblocks.specs.Reads.{has_spare}
@@ -36,11 +36,11 @@ use Rattle.growing.specs.Planned.{asked_in, HasWideBackup, IsAsBefore, IsGrowAns
 use Rattle.growing.specs.Plans.{GoesTo}
 use Rattle.growing.specs.Replied.{IsGrowReplied}
 use Rattle.growing.proofs.Idle.{planned-alone, planned-whole}
-use Rattle.growing.proofs.PlanLaws.{one-reshape}
+use Rattle.growing.proofs.PlanLaws.{begin-backed}
 use Rattle.growing.proofs.Replied.{grow-replied, grow-went}
-use Rattle.growing.proofs.Windows.{reshape-backed}
+use Rattle.growing.proofs.Windows.{some-window}
 use Rattle.running.specs.Calls.{running_left}
-use Rattle.running.specs.State.{IsStillNow, IsOneReshape, CanBeNext, IsWithin, IsBackupAside, IsAtRest, IsInReshape}
+use Rattle.running.specs.State.{IsStillNow, IsOneReshape, AreBacked, IsWithin, IsBackupAside, IsAtRest, IsInReshape}
 use Rattle.running.proofs.Closed.{closed-kept}
 use Rattle.running.proofs.Kept.{GoesOn, LeavesAhead, rest-kept, reshape-kept}
 
@@ -59,6 +59,39 @@ history-leaves old new before ahead = record {
   held = λ role slot has. inl (subst (λ (m : Members). Held m role slot) before.members has);
   spares = λ slot backup is. subst (λ (m : Members). has_spare m.spares slot ≡ true) before.members is;
 }
+
+-- ---- the phases of a wish
+
+-- at most one of them is a reshape
+planned-one : (now : Shape) (level : ℕ) (to : Shape) → IsOneReshape (phases_to now level to)
+planned-one now level to = by (level == now.level) (level == 6) (is_same_shape (taken_up now) to) (is_same_shape now (before_down to))
+  where
+    by : (a b c d : Bool) → IsOneReshape (cond a (Reshape to ∷ []) (cond b (UpTo6 (taken_up now) ∷ cond c [] (Reshape to ∷ [])) (cond d [] (Reshape (before_down to) ∷ []) ++ DownTo5 to ∷ [])))
+    by true b c d = tt
+    by false true true d = tt
+    by false true false d = tt
+    by false false c true = tt
+    by false false c false = tt
+
+narrower : (given : Given) (backup : Option ℕ) (small large : ℕ) → small ≤ large → HasWideBackup given backup large → HasWideBackup given backup small
+narrower given backup small large le wide some =
+    let found = wide (omega (arith, some, le)) in
+    let room = found.3 in
+    (found.0, found.1, found.2, omega (arith, room, le))
+
+-- the backup and the buffer that have room for the largest window have it for each
+backed-all : (given : Given) (room : ℕ) (backup : Option ℕ) (now : Shape) (size : ℕ) (phases : List Phase) → AreSound now size phases → HasWideBackup given backup (largest_window now size phases)
+    → 512 * largest_window now size phases ≤ room → AreBacked given room backup now size phases
+backed-all given room backup now size [] sound backed wide = tt
+backed-all given room backup now size (Reshape to ∷ more) sound backed wide =
+    let found = begin-backed given backup now to size more (some-window now to size sound.0) backed in (
+      record { slot = found.0; is = found.1; known = found.2; room = found.3; wide = omega (arith, wide) },
+      backed-all given room backup to size more sound.2 (narrower given backup (largest_window to size more) (largest_window now size (Reshape to ∷ more)) (omega arith) backed) (omega (arith, wide)),
+    )
+backed-all given room backup now size (UpTo6 to ∷ more) sound backed wide =
+    backed-all given room backup to size more sound.2 (narrower given backup (largest_window to size more) (largest_window now size (UpTo6 to ∷ more)) (omega arith) backed) (omega (arith, wide))
+backed-all given room backup now size (DownTo5 to ∷ more) sound backed wide =
+    backed-all given room backup to size more sound.2 (narrower given backup (largest_window to size more) (largest_window now size (DownTo5 to ∷ more)) (omega arith) backed) (omega (arith, wide))
 
 module _ {B : Type 0} {tells : Type 0} (given : B → Given) (tape : B → List Operation) (old new : RunningParts B) (before : IsAsBefore old new) where
   -- ---- refused
@@ -87,7 +120,7 @@ module _ {B : Type 0} {tells : Type 0} (given : B → Given) (tape : B → List 
 
   -- ---- planned
 
-  module _ (wish : Wish) (left window room : ℕ) (level : wish.level ≡ None) (none : grow_refusal (asked_in (given old.parts.bank) old) wish ≡ None)
+  module _ (wish : Wish) (left window room : ℕ) (none : grow_refusal (asked_in (given old.parts.bank) old) wish ≡ None)
       (planned : IsGrowPlanned tells (given new.parts.bank) (moving_world (given new.parts.bank) (tape new.parts.bank) new) wish left new)
       (goes : GoesTo tells (moving_world (given new.parts.bank) (tape new.parts.bank) new) old new)
       (wide : 512 * largest_window (shape_of old.parts.members.newest) old.parts.members.newest.size (phases_of new.ahead) ≤ room) (was : IsAtRest tells (given old.parts.bank) (tape old.parts.bank) window old) where
@@ -97,10 +130,6 @@ module _ {B : Type 0} {tells : Type 0} (given : B → Given) (tape : B → List 
     abbrev size : ℕ
     size = new.parts.members.newest.size
 
-    -- one reshape is ahead
-    ahead-is : phases_of new.ahead ≡ Reshape (target (shape_of new.parts.members.newest) wish) ∷ []
-    ahead-is = planned.ahead ∙ one-reshape (shape_of new.parts.members.newest) wish level
-
     aside-still : IsBackupAside new
     aside-still slot is =
         let apart = was.aside slot (sym before.backup ∙ is) in (
@@ -108,34 +137,22 @@ module _ {B : Type 0} {tells : Type 0} (given : B → Given) (tape : B → List 
           λ role held. apart.1 role (subst (λ (m : Members). Held m role slot) before.members held),
         )
 
-    -- which the backup serves, and for which the buffer is long enough
-    next-planned : (to : Shape) → phases_of new.ahead ≡ Reshape to ∷ [] → CanBeNext (given new.parts.bank) room new to
-    next-planned to is =
-        let sound : AreSound shape size (Reshape to ∷ []) = subst (λ (l : List Phase). AreSound shape size l) is planned.sound in
-        let backed : HasWideBackup (given new.parts.bank) new.parts.backup (largest_window shape size (Reshape to ∷ [])) =
-        subst (λ (l : List Phase). HasWideBackup (given new.parts.bank) new.parts.backup (largest_window shape size l)) is planned.backed in
-        let found = reshape-backed (given new.parts.bank) new.parts.backup shape to size sound.0 backed in
-        let long : 512 * largest_window shape size (phases_of new.ahead) ≤ room = subst (λ (m : Members). 512 * largest_window (shape_of m.newest) m.newest.size (phases_of new.ahead) ≤ room) (sym before.members) wide in
-        let enough : 512 * largest_window shape size (Reshape to ∷ []) ≤ room = subst (λ (l : List Phase). 512 * largest_window shape size l ≤ room) is long in
-        let apart = aside-still found.0 found.1 in
-        record {
-          slot = found.0;
-          backup = found.1;
-          serves = record { known = found.2; apart = apart.0; own = apart.1; room = found.3 };
-          wide = omega (arith, enough);
-        }
-
     pub rest-planned : IsStillNow new → IsWithin tells (tape new.parts.bank) new → IsAtRest tells (given new.parts.bank) (tape new.parts.bank) room new
     rest-planned now within =
         let alone = planned-alone (asked_in (given old.parts.bank) old) wish (phases_of old.ahead) refl none in
         record {
           now = now;
           within = within;
-          one = subst IsOneReshape (sym ahead-is) tt;
-          next = next-planned;
+          one = subst IsOneReshape (sym planned.ahead) (planned-one shape (wished_level shape wish) (target shape wish));
+          next = backed-all (given new.parts.bank) room new.parts.backup shape size (phases_of new.ahead) planned.sound planned.backed
+              (subst (λ (m : Members). 512 * largest_window (shape_of m.newest) m.newest.size (phases_of new.ahead) ≤ room) (sym before.members) wide);
           aside = aside-still;
           plans = goes (was.closed alone.0 alone.1 (planned-whole (asked_in (given old.parts.bank) old) wish none));
-          closed = λ synced empty whole. absurd (let e : [] ≡ Reshape (target shape wish) ∷ [] = sym empty ∙ ahead-is in cc);
+          closed = λ synced empty whole. absurd (
+              let none : phases_steps shape size (phases_of new.ahead) ≡ 0 = ap (λ (l : List Phase). phases_steps shape size l) empty in
+              let some = planned.some in
+              let is = planned.left_is in
+              omega (arith, none, some, is));
         }
 
 -- ---- the reply

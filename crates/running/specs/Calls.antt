@@ -1,9 +1,10 @@
 -- What the calls of a running array tell of it, by whether a reshape is active in it.
-use Rattle.std.specs.Prelude.{◌≡◌, ◌≢◌, ℕ, ◌+◌, ◌<◌, true, false, List, [], ◌∷◌, if◌then◌else◌, MatchBool, MatchOption, Result, Ok, Err, ⊤}
+use Rattle.std.specs.Prelude.{◌≡◌, ◌≢◌, ℕ, ◌+◌, ◌<◌, true, false, List, ◌∷◌, if◌then◌else◌, MatchBool, MatchOption, Result, Ok, Err, ⊤}
 use Rattle.md_base.specs.declared.answers.Fault.{Fault}
 use Rattle.md_base.specs.declared.answers.Fault.TheVariants.{Refused as IsRefusedWith, NoMemory}
 use Rattle.md_base.specs.declared.answers.Refusal.{Refusal}
 use Rattle.md_base.specs.declared.answers.Refusal.TheVariants.{Nothing as IsDone}
+use Rattle.md_base.specs.declared.wishes.Phase.{Phase}
 use Rattle.md_base.specs.declared.wishes.Phase.TheVariants.{Reshape}
 use Rattle.md_base.specs.declared.status.Status.{Status}
 use Rattle.superblocks.specs.declared.members.Members.{Members}
@@ -28,8 +29,9 @@ use Rattle.growing.specs.moving_state_First.{IsUnreadAround}
 use Rattle.growing.specs.moving_laws_Writing.{IsWriteBarred}
 use Rattle.growing.specs.still_laws_Steps.{MayEndNow}
 use Rattle.growing.specs.moving_steps_Replies.{IsEndedInReshape}
+use Rattle.takeover.specs.TakenOver.{IsTakeoverNext}
 use Rattle.running.specs.declared.state.choosing.Next.{Next}
-use Rattle.running.specs.declared.state.choosing.Next.TheVariants.{Nothing, Own, Begin, Move, Finish}
+use Rattle.running.specs.declared.state.choosing.Next.TheVariants.{Nothing, Own, Begin, Take, Move, Finish}
 
 -- the steps that are left: of the reshape that is active, or else of what is under way on members that have one shape; of a pending resync, and of the phases ahead
 abbrev pub running_left : {B : Type 0} → RunningParts B → ℕ
@@ -60,15 +62,21 @@ IsWriteLackedIn array at count m refusal =
 
 -- ---- steps
 
--- What is next to do: nothing is left; a step without a reshape, of a resync or a rebuild; the reshape that is ahead begins, where none of these is left; a step of the active one, or its end.
+-- no reshape is active, and nothing is left to do but the phases ahead
+abbrev pub IsPhaseDue : {B : Type 0} → RunningParts B → Type 0
+IsPhaseDue array = (is_reshaping array.parts.members.newest ≡ false) × (left_of array.parts.work array.parts.members ≡ 0)
+
+-- What is next to do: nothing is left; a step without a reshape, of a resync or a rebuild; the first phase ahead, where none of these is left: a reshape begins, or the level is taken over; a step of
+-- the active reshape, or its end.
 abbrev pub IsNext : {B : Type 0} → RunningParts B → Next → Type 0
 IsNext array Nothing = running_left array ≡ 0
 IsNext array Own = (is_reshaping array.parts.members.newest ≡ false) × (0 < left_of array.parts.work array.parts.members)
-IsNext array (Begin to) = (is_reshaping array.parts.members.newest ≡ false) × (left_of array.parts.work array.parts.members ≡ 0) × (phases_of array.ahead ≡ Reshape to ∷ [])
+IsNext array (Begin to) = IsPhaseDue array × (behind : List Phase) × (phases_of array.ahead ≡ Reshape to ∷ behind)
+IsNext array (Take to) = IsPhaseDue array × (behind : List Phase) × IsTakeoverNext (phases_of array.ahead) to behind
 IsNext array Move = (is_reshaping array.parts.members.newest ≡ true) × (due_of array.parts.members.newest array.course array.parts.work.resync ≢ EndsReshape)
 IsNext array Finish = (is_reshaping array.parts.members.newest ≡ true) × (due_of array.parts.members.newest array.course array.parts.work.resync ≡ EndsReshape)
 
--- Such a step may have been refused so: in a reshape for what is missing now, or for the backup; or else for what is missing, or because the reshape that is ahead can't begin.
+-- Such a step may have been refused so: in a reshape for what is missing now, or for the backup; or else for what is missing, or because the next phase ahead can't be done.
 abbrev pub MayEndSteps : {B : Type 0} → RunningParts B → Refusal → Type 0
 MayEndSteps array refusal = MatchBool (is_reshaping array.parts.members.newest) (IsEndedInReshape array.parts.work array.parts.members refusal)
     (MayEndNow array.parts.work array.parts.members array.ahead refusal)

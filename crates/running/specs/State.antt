@@ -1,11 +1,11 @@
 -- What a running array keeps, by whether a reshape is active in it.
-use Rattle.std.specs.Prelude.{◌≡◌, ℕ, ◌*◌, ◌≤◌, true, false, List, [], ◌∷◌, length, Some, None, ⊤}
+use Rattle.std.specs.Prelude.{◌≡◌, ℕ, ◌+◌, ◌*◌, ◌<◌, ◌≤◌, true, false, List, [], ◌∷◌, length, Option, Some, None, ⊤}
 use Rattle.md_base.specs.declared.places.Shape.{Shape}
 use Rattle.md_base.specs.declared.wishes.Phase.{Phase}
 use Rattle.md_base.specs.declared.wishes.Phase.TheVariants.{Reshape}
 use Rattle.bank.specs.Given.{Given}
 use Rattle.bank.specs.declared.bank.Operation.{Operation}
-use Rattle.grow_plan.specs.Plans.{phase_window}
+use Rattle.grow_plan.specs.Plans.{phase_shape, phase_window}
 use Rattle.superblocks.specs.Reading.{is_reshaping, shape_of, list_length}
 use Rattle.superblocks.specs.Reads.{has_spare}
 use Rattle.flat_history.specs.Flat.{length_of, limit_of}
@@ -18,7 +18,6 @@ use Rattle.growing.specs.course_kept_Laws.{closed}
 use Rattle.growing.specs.running_words_Parts.{RunningParts}
 use Rattle.growing.specs.running_words_Calls.{moving_world}
 use Rattle.growing.specs.running_words_Plans.{ArePlansKept, KeepsShape}
-use Rattle.growing.specs.turning_Begun.{IsBackupAt}
 use Rattle.running.specs.declared.state.State.{State}
 use Rattle.running.specs.declared.state.State.TheVariants.{Still, Moving}
 
@@ -32,18 +31,41 @@ pub record IsStillNow {B : Type 0} (array : RunningParts B) : Type 0 where
   pub still : is_reshaping array.parts.members.newest ≡ false
   pub course : array.course ≡ closed 0
 
--- nothing is ahead, or one reshape
+-- ---- the phases ahead
+
+-- none of these phases is a reshape
+abbrev pub AreTakeovers : List Phase → Type 0
+AreTakeovers [] = ⊤
+AreTakeovers (Reshape to ∷ more) = ⊥
+AreTakeovers (phase ∷ more) = AreTakeovers more
+
+-- at most one of them is
 abbrev pub IsOneReshape : List Phase → Type 0
 IsOneReshape [] = ⊤
-IsOneReshape (Reshape to ∷ []) = ⊤
-IsOneReshape phases = ⊥
+IsOneReshape (Reshape to ∷ more) = AreTakeovers more
+IsOneReshape (phase ∷ more) = IsOneReshape more
 
--- A reshape to this shape can be next: a slot can be its backup, and a buffer of so many bytes has room for each of its windows.
-pub record CanBeNext {B : Type 0} (given : Given) (window : ℕ) (array : RunningParts B) (to : Shape) : Type 0 where
+-- A reshape from a shape of so many rows to another can begin, as far as its backup and its buffer go: there is a slot with room for its header and each window, and a buffer of so many bytes has room
+-- for each window.
+pub record CanBeNext (given : Given) (window : ℕ) (backup : Option ℕ) (now : Shape) (size : ℕ) (to : Shape) : Type 0 where
   pub slot : ℕ
-  pub backup : array.parts.backup ≡ Some slot
-  pub serves : IsBackupAt given array.parts.members to slot
-  pub wide : 512 * phase_window (shape_of array.parts.members.newest) array.parts.members.newest.size (Reshape to) ≤ window
+  pub is : backup ≡ Some slot
+  pub known : slot < given.slots
+  pub room : 8 + phase_window now size (Reshape to) ≤ given.sectors slot
+  pub wide : 512 * phase_window now size (Reshape to) ≤ window
+
+-- so can each reshape of these phases, from the shape on that the phases before it lead to
+abbrev pub AreBacked : Given → ℕ → Option ℕ → Shape → ℕ → List Phase → Type 0
+AreBacked given window backup now size [] = ⊤
+AreBacked given window backup now size (Reshape to ∷ more) = CanBeNext given window backup now size to × AreBacked given window backup to size more
+AreBacked given window backup now size (phase ∷ more) = AreBacked given window backup (phase_shape phase) size more
+
+-- so it is of those that are ahead of an array without a reshape
+abbrev pub IsNextBacked : {B : Type 0} → Given → ℕ → RunningParts B → Type 0
+IsNextBacked given window array =
+    AreBacked given window array.parts.backup (shape_of array.parts.members.newest) array.parts.members.newest.size (phases_of array.ahead)
+
+-- ---- what it keeps
 
 -- its epoch began within the tape, where its entries end too; they tell how long its list is, and its limit
 pub record IsWithin {B : Type 0} (tells : Type 0) (tape : List Operation) (array : RunningParts B) : Type 0 where
@@ -61,21 +83,21 @@ IsBackupAside array = (slot : ℕ) → array.parts.backup ≡ Some slot
 abbrev pub AreClosedIdle : {B : Type 0} → RunningParts B → Type 0
 AreClosedIdle array = array.parts.work.resync ≡ None → phases_of array.ahead ≡ [] → AreWhole array.parts.members → open_plans array.parts.entries ≡ []
 
--- Without a reshape one may be ahead, which can be next; each plan that is open goes where that leads, and none is where all is done.
+-- Without a reshape phases may be ahead, one of which may be a reshape, which can be next behind those before it; each plan that is open goes where they lead, and none is where all is done.
 pub record IsAtRest {B : Type 0} (tells : Type 0) (given : Given) (tape : List Operation) (window : ℕ) (array : RunningParts B) : Type 0 where
   pub now : IsStillNow array
   pub within : IsWithin tells tape array
   pub one : IsOneReshape (phases_of array.ahead)
-  pub next : (to : Shape) → phases_of array.ahead ≡ Reshape to ∷ [] → CanBeNext given window array to
+  pub next : IsNextBacked given window array
   pub aside : IsBackupAside array
   pub plans : ArePlansKept tells (moving_world given tape array) array
   pub closed : AreClosedIdle array
 
--- In a reshape none is ahead; each plan that is open goes where the reshape does, which the opening found or the history tells.
+-- In a reshape takeovers alone may be ahead; each plan that is open goes where the reshape and they do, and the opening found the reshape, or the history tells it.
 pub record IsInReshape {B : Type 0} (tells : Type 0) (given : Given) (tape : List Operation) (array : RunningParts B) : Type 0 where
   pub active : is_reshaping array.parts.members.newest ≡ true
   pub within : IsWithin tells tape array
-  pub last : phases_of array.ahead ≡ []
+  pub last : AreTakeovers (phases_of array.ahead)
   pub turned : tells → KeepsShape (moving_world given tape array) array.parts.entries → ⊥
   pub plans : ArePlansKept tells (moving_world given tape array) array
 

@@ -26,6 +26,7 @@ mod reading;
 mod rooms;
 mod settling;
 mod stepping;
+mod taking;
 mod writing;
 
 use bank::Bank;

@@ -17,7 +17,7 @@ use Rattle.flat_history.specs.declared.events.LostCause.TheVariants.{Absent, Rec
 use Rattle.views.specs.Placed.{AreStillHeld}
 use Rattle.views.specs.Rebuilding.{Held}
 use Rattle.array_kept.specs.Calls.{IsRoleLossBy, IsLossBy, AreLossesBy}
-use Rattle.openings.specs.running_replies_Going.{is_finish, MayBeDropped, MayHoldBehind, AreHeldBehind, AreLossesAlong}
+use Rattle.openings.specs.running_replies_Going.{may_drop, MayBeDropped, MayHoldBehind, AreHeldBehind, AreLossesAlong}
 use Rattle.running_calls.specs.Going.{is_added, MayBeNewSpare, MayHoldSince, AreHeldSince, AreLossesSince}
 
 -- ---- some entry is of a kind, in one list or in the other
@@ -55,7 +55,7 @@ module _ (old mid : Members) (one : List Entry) (held : AreHeldSince old mid one
   -- a slot that is a new spare is one behind more
   new-on : (slot : ℕ) → MayBeNewSpare old one slot → MayBeNewSpare old (one ++ two) slot
   new-on slot (inl added) = inl (any-left (is_added slot) one two added)
-  new-on slot (inr (finished, other, had)) = inr (any-left is_finish one two finished, other, had)
+  new-on slot (inr (dropped, other, had)) = inr (any-left may_drop one two dropped, other, had)
 
   had-on : (role slot : ℕ) → MayHoldSince old one role slot → MayHoldSince old (one ++ two) role slot
   had-on role slot (inl may) = inl may
@@ -68,10 +68,10 @@ module _ (old mid : Members) (one : List Entry) (held : AreHeldSince old mid one
   -- one that is a new spare of the second call is one since the first, or was one
   new-then : (slot : ℕ) → MayBeNewSpare mid two slot → (has_spare old.spares slot ≡ true) ⊎ MayBeNewSpare old (one ++ two) slot
   new-then slot (inl added) = inr (inl (any-right (is_added slot) one two added))
-  new-then slot (inr (finished, role, had)) = of (held.roles role slot had)
+  new-then slot (inr (dropped, role, had)) = of (held.roles role slot had)
     where
       of : MayHoldSince old one role slot → (has_spare old.spares slot ≡ true) ⊎ MayBeNewSpare old (one ++ two) slot
-      of (inl (inl was)) = inr (inr (any-right is_finish one two finished, role, was))
+      of (inl (inl was)) = inr (inr (any-right may_drop one two dropped, role, was))
       of (inl (inr spare)) = inl spare
       of (inr new) = inr (new-on slot new)
 

@@ -24,7 +24,7 @@ abbrev pub is_added : ℕ → Event → Bool
 is_added slot (Added added) = added == slot
 is_added slot event = false
 
--- these entries may have made the slot a spare: it was added, or a reshape ended that dropped the role that it had
+-- these entries may have made the slot a spare: it was added, or a reshape ended or a takeover of the level was done that dropped the role that it had
 abbrev pub MayBeNewSpare : Members → List Entry → ℕ → Type 0
 MayBeNewSpare members entries slot = IsTrue (list_any (λ e. is_added slot e.event) entries) ⊎ MayBeDropped members entries slot
 

@@ -1,5 +1,5 @@
 -- The replies to a caller's requests.
-use Rattle.std.specs.Prelude.{◌≡◌, ℕ, ◌+◌, ◌<◌, ◌≤◌, ◌^◌, ◌++◌, List, [], ◌∷◌, length, None, Result, Ok, Err, ⊤}
+use Rattle.std.specs.Prelude.{◌≡◌, ℕ, ◌+◌, ◌<◌, ◌≤◌, ◌^◌, ◌++◌, List, [], ◌∷◌, length, Result, Ok, Err, ⊤}
 use Rattle.md_base.specs.declared.answers.Who.{Who}
 use Rattle.md_base.specs.declared.answers.Fault.{Fault}
 use Rattle.md_base.specs.declared.answers.Fault.TheVariants.{Refused as IsRefusedWith, NoMemory as WantsMemory}
@@ -19,7 +19,7 @@ use Rattle.openings.specs.running_steps_Steps.{IsStepCount}
 use Rattle.running_calls.specs.declared.reply.Reply.{Reply}
 use Rattle.running_calls.specs.declared.reply.Reply.TheVariants.{Done, NoMemory as Short}
 
--- a request that can be answered: 1 to 128 sectors are read or written, a wish keeps the level, and a step is asked for at least
+-- a request that can be answered: 1 to 128 sectors are read or written, and a step is asked for at least
 abbrev pub IsAskable : Request → Type 0
 IsAskable (AsksRead at count) = (1 ≤ count) × (count ≤ 128) × (at + count < 2 ^ 63)
 IsAskable (AsksWrite at body) = (1 ≤ length body) × (length body ≤ 128) × (at + length body < 2 ^ 63)
@@ -27,7 +27,7 @@ IsAskable AsksFlush = ⊤
 IsAskable (AsksFail role) = ⊤
 IsAskable (AsksAdd slot) = ⊤
 IsAskable (AsksVisible limit) = ⊤
-IsAskable (AsksGrow wish) = wish.level ≡ None
+IsAskable (AsksGrow wish) = ⊤
 IsAskable (AsksSteps most) = 1 ≤ most
 IsAskable AsksShow = ⊤
 

@@ -137,7 +137,6 @@ fn set_limit<B: Bank>(
 fn grow<B: Bank>(array: &mut Running<B>, who: Who, wish: Wish) -> Result<Event, NoMemory>
     requires next { who.number ≡ next_number who.caller array.old.parts.entries }
     requires caller { who.caller ≢ 254 }
-    requires askable { IsAskable (AsksGrow wish) }
     ensures replied { IfOk result (λ event. IsAnsweredWith (list_length array.old.parts.members.newest) (AsksGrow wish) who array.old.parts.entries array.new.parts.entries event) }
     ensures unchanged { IfErr result (λ none. array.new ≡ array.old) }
     ensures ended { IfOk result (λ event. IsEndOf B.tells array.new.parts.first array.new.parts.entries (B.tape array.new.parts.bank)) }
@@ -194,8 +193,7 @@ fn answer<B: Bank>(
     }
 }
 
-/// Does a request, and answers with the place of its reply's entry and a copy of its event; `NoMemory` has done nothing. A wish
-/// keeps the level.
+/// Does a request, and answers with the place of its reply's entry and a copy of its event; `NoMemory` has done nothing.
 pub fn perform<B: Bank>(alloc: Global, array: &mut Running<B>, who: Who, request: Request) -> Reply
     requires next { who.number ≡ next_number who.caller array.old.parts.entries }
     requires caller { who.caller ≢ 254 }

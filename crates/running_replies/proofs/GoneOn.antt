@@ -23,7 +23,7 @@ use Rattle.flat_history.specs.Reshaped.{is_planned}
 use Rattle.running_words.specs.array_kept_Calls.{IsRoleLossBy, IsLossBy}
 use Rattle.running_words.specs.Parts.{RunningParts}
 use Rattle.running_replies.specs.Replies.{IsRefusalBy, IsRefusalToldBy, HasToldBy}
-use Rattle.running_replies.specs.Going.{is_finish, is_begin, MayBeDropped, MayHoldBehind, AreHeldBehind, AreLossesAlong, HasRunOn}
+use Rattle.running_replies.specs.Going.{may_drop, is_begin, MayBeDropped, MayHoldBehind, AreHeldBehind, AreLossesAlong, HasRunOn}
 
 -- ---- counts that rise later, and that rose before
 
@@ -74,8 +74,8 @@ told-then {backup = backup} {before = before} {now = now} {old = old} one two = 
 
 -- ---- the slots that roles may have had
 
-finish-append : (xs ys : List Entry) → list_any (λ e. is_finish e.event) (xs ++ ys) ≡ (list_any (λ e. is_finish e.event) xs || list_any (λ e. is_finish e.event) ys)
-finish-append xs ys = list_any-append (λ e. is_finish e.event) xs ys
+drop-append : (xs ys : List Entry) → list_any (λ e. may_drop e.event) (xs ++ ys) ≡ (list_any (λ e. may_drop e.event) xs || list_any (λ e. may_drop e.event) ys)
+drop-append xs ys = list_any-append (λ e. may_drop e.event) xs ys
 
 or-left : (a b : Bool) → IsTrue a → IsTrue (a || b)
 or-left a b is = ap (λ (x : Bool). x || b) is
@@ -85,27 +85,27 @@ or-right true b is = refl
 or-right false b is = is
 
 module _ (old mid : Members) (one : List Entry) (held : AreHeldBehind old mid one) (two : List Entry) where
-  or-more : IsTrue (list_any (λ e. is_finish e.event) one) → IsTrue (list_any (λ e. is_finish e.event) (one ++ two))
-  or-more is = finish-append one two ∙ or-left (list_any (λ e. is_finish e.event) one) (list_any (λ e. is_finish e.event) two) is
+  or-more : IsTrue (list_any (λ e. may_drop e.event) one) → IsTrue (list_any (λ e. may_drop e.event) (one ++ two))
+  or-more is = drop-append one two ∙ or-left (list_any (λ e. may_drop e.event) one) (list_any (λ e. may_drop e.event) two) is
 
-  or-later : IsTrue (list_any (λ e. is_finish e.event) two) → IsTrue (list_any (λ e. is_finish e.event) (one ++ two))
-  or-later is = finish-append one two ∙ or-right (list_any (λ e. is_finish e.event) one) (list_any (λ e. is_finish e.event) two) is
+  or-later : IsTrue (list_any (λ e. may_drop e.event) two) → IsTrue (list_any (λ e. may_drop e.event) (one ++ two))
+  or-later is = drop-append one two ∙ or-right (list_any (λ e. may_drop e.event) one) (list_any (λ e. may_drop e.event) two) is
 
   -- it had a role before, or was a spare
   had-then : (role slot : ℕ) → MayHoldBehind old one role slot → MayHoldBehind old (one ++ two) role slot
   had-then role slot (inl may) = inl may
-  had-then role slot (inr (finished, other, had)) = inr (or-more finished, other, had)
+  had-then role slot (inr (dropped, other, had)) = inr (or-more dropped, other, had)
 
   spare-then : (slot : ℕ) → (has_spare old.spares slot ≡ true) ⊎ MayBeDropped old one slot → (has_spare old.spares slot ≡ true) ⊎ MayBeDropped old (one ++ two) slot
   spare-then slot (inl spare) = inl spare
-  spare-then slot (inr (finished, other, had)) = inr (or-more finished, other, had)
+  spare-then slot (inr (dropped, other, had)) = inr (or-more dropped, other, had)
 
   -- one that had a role then, and was dropped
   dropped-then : (slot : ℕ) → MayBeDropped mid two slot → (has_spare old.spares slot ≡ true) ⊎ MayBeDropped old (one ++ two) slot
-  dropped-then slot (finished, role, had) = of (held.roles role slot had)
+  dropped-then slot (dropped, role, had) = of (held.roles role slot had)
     where
       of : MayHoldBehind old one role slot → (has_spare old.spares slot ≡ true) ⊎ MayBeDropped old (one ++ two) slot
-      of (inl (inl was)) = inr (or-later finished, role, was)
+      of (inl (inl was)) = inr (or-later dropped, role, was)
       of (inl (inr spare)) = inl spare
       of (inr (before, other, was)) = inr (or-more before, other, was)
 

@@ -1,4 +1,4 @@
--- What steps leave of a running array: a reshape may begin or end among them.
+-- What steps leave of a running array: a reshape may begin or end among them, and the level may be taken over.
 use Rattle.std.specs.Prelude.{◌≡◌, ◌⊎◌, ℕ, ◌++◌, Bool, true, false, List, [], ◌∷◌, IsTrue, ⊤}
 use Rattle.std.specs.List.{list_any}
 use Rattle.bank.specs.declared.bank.Operation.{Operation}
@@ -9,7 +9,7 @@ use Rattle.superblocks.specs.Reading.{is_reshaping, list_length}
 use Rattle.flat_history.specs.declared.events.Entry.{Entry}
 use Rattle.flat_history.specs.declared.events.Event.{Event}
 use Rattle.flat_history.specs.declared.events.Event.TheVariants.{Step}
-use Rattle.flat_history.specs.declared.events.StepKind.TheVariants.{Begun, Finished}
+use Rattle.flat_history.specs.declared.events.StepKind.TheVariants.{Begun, Finished, TakenOver}
 use Rattle.flat_history.specs.Flat.{length_of}
 use Rattle.flat_history.specs.Reshaped.{is_planned}
 use Rattle.views.specs.Moving.{Grows}
@@ -19,19 +19,25 @@ use Rattle.running_words.specs.array_kept_Calls.{IsLossBy}
 use Rattle.running_words.specs.Parts.{RunningParts}
 use Rattle.running_replies.specs.Replies.{HasToldBy}
 
--- the event tells that a reshape ended, which makes the slots of the roles that it drops spares
+-- the event tells that a reshape ended
 abbrev pub is_finish : Event → Bool
 is_finish (Step Finished left) = true
 is_finish event = false
+
+-- the event tells that a reshape ended, or that the level was taken over: both make the slots of the roles that they drop spares
+abbrev pub may_drop : Event → Bool
+may_drop (Step Finished left) = true
+may_drop (Step TakenOver left) = true
+may_drop event = false
 
 -- the event tells that a reshape began
 abbrev pub is_begin : Event → Bool
 is_begin (Step Begun left) = true
 is_begin event = false
 
--- the slot had a role, and a reshape ended in these entries
+-- the slot had a role, and a reshape ended in these entries, or the level was taken over
 abbrev pub MayBeDropped : Members → List Entry → ℕ → Type 0
-MayBeDropped members entries slot = IsTrue (list_any (λ e. is_finish e.event) entries) × (role : ℕ) × Held members role slot
+MayBeDropped members entries slot = IsTrue (list_any (λ e. may_drop e.event) entries) × (role : ℕ) × Held members role slot
 
 -- the slot had the role, or was a spare, or may be one since
 abbrev pub MayHoldBehind : Members → List Entry → ℕ → ℕ → Type 0
@@ -54,13 +60,13 @@ pub record IsSameEpoch {B : Type 0} (old new : RunningParts B) : Type 0 where
   pub first : new.parts.first ≡ old.parts.first
   pub backup : new.parts.backup ≡ old.parts.backup
 
--- no reshape is active, and none is ahead
+-- no reshape is active, and no phase of a plan is ahead
 pub record HasNoReshape {B : Type 0} (array : RunningParts B) : Type 0 where
   pub active : is_reshaping array.parts.members.newest ≡ false
   pub ahead : phases_of array.ahead ≡ []
 
 -- What steps leave of an array over its bank: more is entered, which tells what the list's length is then; roles are lost, or given to spares, each loss and refusal has its cause, and it is the
--- array of the same epoch. A reshape is active then only if one was, or is told to have begun; and one is ahead only if one was, or is told to be planned.
+-- array of the same epoch. A reshape is active then only if one was, or is told to have begun; and phases are ahead only if some were, or a plan is told.
 pub record HasRunOn {B : Type 0} (tells : Type 0) (given : B → Given) (tape : B → List Operation) (faults : B → ℕ → ℕ) (old new : RunningParts B) : Type 0 where
   pub more : List Entry
   pub grown : new.parts.entries ≡ old.parts.entries ++ more

@@ -114,7 +114,7 @@ IsRepliedWith size request who old new event (Err NoMemory) = new ≡ old
 
 -- ---- what a reply tells only in a reshape
 
--- Steps are ended by a backup that failed only where a reshape is active or ahead, and for a role that is missing or for want of spares only where one is ahead, which can't begin.
+-- Steps are ended by a backup that failed only where a reshape is active or phases are ahead, and for a role that is missing or for want of spares only where some are ahead, the next of which can't be done.
 abbrev pub MayEndBy : (Active Ahead : Type 0) → Refusal → Type 0
 MayEndBy Active Ahead BackupFault = Active ⊎ Ahead
 MayEndBy Active Ahead (Degraded role) = Ahead

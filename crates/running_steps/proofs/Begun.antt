@@ -11,6 +11,8 @@ use Rattle.md_base.specs.declared.answers.Refusal.{Refusal}
 use Rattle.md_base.specs.declared.answers.Who.{Who}
 use Rattle.md_base.specs.declared.places.Shape.{Shape}
 use Rattle.md_base.specs.declared.status.Role.TheVariants.{Missing}
+use Rattle.md_base.specs.declared.wishes.Phase.{Phase}
+use Rattle.md_base.specs.declared.wishes.Phase.TheVariants.{Reshape}
 use Rattle.md_base.proofs.Tabulated.{length-tabulate, get_or-tabulate}
 use Rattle.bank.specs.declared.bank.Operation.{Operation}
 use Rattle.bank.specs.Given.{Given, NeverFalls}
@@ -141,10 +143,10 @@ IsUnfinished event = is_finish event ≡ false
 -- ---- it begins
 
 module _ {B : Type 0} (tells : Type 0) (given : B → Given) (tape : B → List Operation) (faults : B → ℕ → ℕ) (who : Who) (old new : RunningParts B) where
-  pub begin-done : (to : Shape) (behind : PhasesLeft) → phases_of behind ≡ [] → is_reshaping old.parts.members.newest ≡ false → IsCallGoing old.parts.entries who
+  pub begin-done : (to : Shape) (behind : PhasesLeft) → phases_of old.ahead ≡ Reshape to ∷ phases_of behind → is_reshaping old.parts.members.newest ≡ false → IsCallGoing old.parts.entries who
       → IsReshapeBegun tells (given old.parts.bank) (tape old.parts.bank) (tape new.parts.bank) (faults old.parts.bank) (faults new.parts.bank) who to behind old new → given new.parts.bank ≡ given old.parts.bank
       → IsStepDone tells given tape faults who old new false
-  begin-done to behind empty still goes was given_is = record {
+  begin-done to behind next still goes was given_is = record {
     inner = inner;
     is = was.entered.is;
     own = each-own MayGoOn who end events (each-begun MayGoOn left roles spares size back tt tt (each-losses MayGoOn (λ role. tt) (λ slot. tt) roles spares));
@@ -173,7 +175,7 @@ module _ {B : Type 0} (tells : Type 0) (given : B → Given) (tape : B → List 
       given_is = given_is;
       same = epoch-itself old new was.same;
       active = λ none begun. absurd (let clash : true ≡ false = begun in cc);
-      ahead = λ none unplanned. ap (λ (p : PhasesLeft). phases_of p) was.ahead ∙ empty;
+      ahead = λ none unplanned. absurd (let clash : ◌≡◌ {A = List Phase} [] (Reshape to ∷ phases_of behind) = sym none ∙ next in cc);
     };
     ended = was.ended;
   }

@@ -30,7 +30,7 @@ use Rattle.running.specs.running_words_Parts.{RunningParts, still_left}
 use Rattle.running.specs.still_laws_Steps.{IsClosable}
 use Rattle.running.specs.turning_Ended.{ended_length, AreSparesOrDropped, IsReshapeEnded}
 use Rattle.running.specs.running_replies_Replies.{IsRefusalToldBy}
-use Rattle.running.specs.running_replies_Going.{is_finish, MayBeDropped, AreHeldBehind}
+use Rattle.running.specs.running_replies_Going.{is_finish, may_drop, MayBeDropped, AreHeldBehind}
 use Rattle.running.specs.Calls.{running_left}
 use Rattle.running_steps.specs.Steps.{TellsLeft, IsStepDone}
 use Rattle.running_steps.proofs.Events.{EachOf, each-behind, each-losses, each-entry, each-own, count-one, IsNoStep, going-more}
@@ -48,9 +48,9 @@ each-rest P roles spares before size resized losses = by (nat_lt before size)
     by false = losses
 
 -- an end is told among them
-finish-told : (who : Who) (end left : ℕ) (xs ys : List Event) → list_any (λ e. is_finish e.event) (entries_of who end (xs ++ Step Finished left ∷ ys)) ≡ true
-finish-told who end left [] ys = refl
-finish-told who end left (x ∷ xs) ys = right (is_finish x) (list_any (λ e. is_finish e.event) (entries_of who end (xs ++ Step Finished left ∷ ys))) (finish-told who end left xs ys)
+finish-told : (p : Event → Bool) → ((left : ℕ) → p (Step Finished left) ≡ true) → (who : Who) (end left : ℕ) (xs ys : List Event) → list_any (λ e. p e.event) (entries_of who end (xs ++ Step Finished left ∷ ys)) ≡ true
+finish-told p is who end left [] ys = ap (λ (b : Bool). b || list_any (λ e. p e.event) (entries_of who end ys)) (is left)
+finish-told p is who end left (x ∷ xs) ys = right (p x) (list_any (λ e. p e.event) (entries_of who end (xs ++ Step Finished left ∷ ys))) (finish-told p is who end left xs ys)
   where
     right : (a b : Bool) → b ≡ true → (a || b) ≡ true
     right true b is = refl
@@ -85,7 +85,7 @@ no-shorter old new is none = least (data_disks (shape_of old)) (data_disks (fina
 
 -- ---- it ends
 
-dropped-behind : (old new : Members) (entries : List Entry) → IsTrue (list_any (λ e. is_finish e.event) entries) → AreStillHeld old new → AreSparesOrDropped old new → AreHeldBehind old new entries
+dropped-behind : (old new : Members) (entries : List Entry) → IsTrue (list_any (λ e. may_drop e.event) entries) → AreStillHeld old new → AreSparesOrDropped old new → AreHeldBehind old new entries
 dropped-behind old new entries told held spares = record { roles = λ role slot has. inl (inl (held role slot has)); spares = λ slot is. by slot (spares slot is) }
   where
     by : (slot : ℕ) → (has_spare old.spares slot ≡ true) ⊎ ((role : ℕ) × ((final_shape old.newest).disks ≤ role) × Held old role slot) → (has_spare old.spares slot ≡ true) ⊎ MayBeDropped old entries slot
@@ -112,7 +112,7 @@ module _ {B : Type 0} (tells : Type 0) (given : B → Given) (tape : B → List 
       more = inner;
       grown = was.entered.is;
       sized = ended-length who end left roles spares late late_spares before size (no-shorter old.parts.members.newest new.parts.members.newest was.long);
-      held = dropped-behind old.parts.members new.parts.members inner finished was.held was.spares;
+      held = dropped-behind old.parts.members new.parts.members inner drops was.held was.spares;
       losses = losses-along old.parts.members (faults old.parts.bank) (faults new.parts.bank) (Held old.parts.members) (λ role slot has. inl has) old.parts.entries new.parts.entries inner was.entered.is was.losses;
       refusals = record {
         more = inner;
@@ -167,4 +167,7 @@ module _ {B : Type 0} (tells : Type 0) (given : B → Given) (tape : B → List 
           (step, each-rest P late late_spares before size resized (each-losses P role spare late late_spares))
 
       finished : list_any (λ e. is_finish e.event) inner ≡ true
-      finished = finish-told who end left (losses_of roles spares) (ended_length before size ++ losses_of late late_spares)
+      finished = finish-told is_finish (λ n. refl) who end left (losses_of roles spares) (ended_length before size ++ losses_of late late_spares)
+
+      drops : list_any (λ e. may_drop e.event) inner ≡ true
+      drops = finish-told may_drop (λ n. refl) who end left (losses_of roles spares) (ended_length before size ++ losses_of late late_spares)

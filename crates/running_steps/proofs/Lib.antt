@@ -5,6 +5,7 @@ mod Refusals
 mod Own
 mod Moved
 mod Begun
+mod Taken
 mod Ended
 mod StepsOf
 mod Replies

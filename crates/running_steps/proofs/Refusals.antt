@@ -72,7 +72,7 @@ ended-in array refusal active may = chosen (is_reshaping array.parts.members.new
 pub moved-ends : {B : Type 0} (array : RunningParts B) (refusal : Refusal) → is_reshaping array.parts.members.newest ≡ true → MayEndSteps array refusal → EndsRunningSteps refusal
 moved-ends array refusal active may = reshape-so EndsRunningSteps (λ count most. tt) (λ role. tt) tt array.parts.work array.parts.members refusal (ended-in array refusal active may)
 
--- ---- what may have ended steps only in a reshape, or where one is ahead
+-- ---- what may have ended steps only in a reshape, or where phases are ahead
 
 now-by : (Active : Type 0) (work : Work) (m : Members) (ahead : PhasesLeft) (refusal : Refusal) → MayEndNow work m ahead refusal → MayEndBy Active (phases_of ahead ≢ []) refusal
 now-by Active work m ahead refusal (inl right) = unmendable-so (MayEndBy Active (phases_of ahead ≢ [])) (λ count most. tt) (λ role. tt) m refusal right.0

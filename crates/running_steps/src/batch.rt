@@ -75,8 +75,8 @@ fn take_steps<B: Bank>(array: &mut Running<B>, who: Who, count: u64) -> Batch
 
 /// Answers the request for at most so many background steps: does them until so many are done, or as many as were left at its start;
 /// until none is left, one is refused, or a reshape has ended. Ok is a copy of the reply's event, which tells `Nothing` where
-/// none was left. Memory is wanted before the first step alone. A backup ends steps only in a reshape or before one, and a missing
-/// role or want of spares only before one; and where none is left, there is neither.
+/// none was left. Memory is wanted before the first step alone. A backup ends steps only in a reshape or where phases are ahead,
+/// and a missing role or want of spares only where some are; and where none is left, there is neither.
 pub fn steps<B: Bank>(array: &mut Running<B>, who: Who, most: u64) -> Result<Event, NoMemory>
     requires next { who.number ≡ next_number who.caller array.old.parts.entries }
     requires caller { who.caller ≢ 254 }

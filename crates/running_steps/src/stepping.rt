@@ -7,7 +7,7 @@ ghost use Rattle.running.specs.running_replies_Going.{HasRunOn};
 ghost use Rattle.running.specs.Calls.{running_left};
 ghost use Rattle.running_steps.specs.Steps.{IsOpenFor, IsStepTaken, IsStepAnswered, IsNothingRight};
 
-use crate::turns::{begin, finish, move_step, own_step};
+use crate::turns::{begin, finish, move_step, own_step, take};
 use bank::Bank;
 use core::mem::replace_with;
 use flat_history::Event;
@@ -28,14 +28,15 @@ pub(crate) fn take_step<B: Bank>(array: &mut Running<B>, who: Who) -> Result<boo
         Next::Nothing => unreachable!(),
         Next::Own => own_step(array, who),
         Next::Begin(to) => replace_with(array, (who, to), begin),
+        Next::Take(to) => replace_with(array, (who, to), take),
         Next::Move => move_step(array, who),
         Next::Finish => replace_with(array, who, finish),
     }
 }
 
-/// Does the next background step: of a resync or a rebuild without a reshape, of the active reshape, or a reshape begins or ends.
-/// Refusals: `Nothing` where none is left, `TooManyMissing`, `NotResynced` and `BackupFault`, and, where a reshape is to begin,
-/// `Degraded` and `NeedSpares`. `NoMemory` has done nothing.
+/// Does the next background step: of a resync or a rebuild without a reshape, of the active reshape, a reshape begins or ends, or the
+/// level is taken over. Refusals: `Nothing` where none is left, `TooManyMissing`, `NotResynced` and `BackupFault`, and, where the next
+/// phase of a plan is to begin, `Degraded` and `NeedSpares`. `NoMemory` has done nothing.
 pub fn step<B: Bank>(array: &mut Running<B>, who: Who) -> Result<(), Fault>
     requires open { IsOpenFor array.old who }
     requires caller { who.caller ≢ 254 }

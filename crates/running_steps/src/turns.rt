@@ -1,6 +1,7 @@
-//! The kinds of background steps, each by what it leaves: without a reshape, a reshape begins, in it, and it ends.
+//! The kinds of background steps, each by what it leaves: without a reshape, a reshape begins, in it, and it ends; and a takeover.
 
-ghost use Rattle.std.specs.Prelude.{◌≡◌, ◌≢◌, ◌+◌, ◌<◌, ◌≤◌, ◌∷◌, [], true, false, Ok};
+ghost use Rattle.std.specs.Prelude.{◌≡◌, ◌≢◌, ◌+◌, ◌<◌, ◌≤◌, ◌∷◌, List, true, false, Ok};
+ghost use Rattle.md_base.specs.declared.wishes.Phase.{Phase};
 ghost use Rattle.md_base.specs.declared.wishes.Phase.TheVariants.{Reshape};
 ghost use Rattle.superblocks.specs.Reading.{is_reshaping};
 ghost use Rattle.views.specs.Status.{left_of};
@@ -9,6 +10,7 @@ ghost use Rattle.kept_history.specs.Recorded.{IsCallGoing};
 ghost use Rattle.running.specs.moving_state_Due.{due_of};
 ghost use Rattle.running.specs.moving_state_the_Due_TheVariants.{Finish as EndsReshape};
 ghost use Rattle.running.specs.turning_Begun.{HasKeptLength};
+ghost use Rattle.takeover.specs.TakenOver.{IsTakeoverNext};
 ghost use Rattle.running_steps.specs.Steps.{IsStepTaken};
 
 use bank::Bank;
@@ -42,12 +44,33 @@ pub(crate) fn begin<B: Bank>(
     requires room { 1 ≤ array.parts.steps }
     requires still { is_reshaping array.parts.members.newest ≡ false }
     requires done { left_of array.parts.work array.parts.members ≡ 0 }
-    requires next { phases_of array.ahead ≡ Reshape begin.1 ∷ [] }
+    requires next { (behind : List Phase) × (phases_of array.ahead ≡ Reshape begin.1 ∷ behind) }
     ensures taken { IsStepTaken B.tells B.given B.tape B.faults_of begin.0 array result.0 result.1 }
     ensures room { result.0.parts.steps + 1 ≡ array.parts.steps }
 {
     let (who, to) = begin;
     match array.begin(who, to) {
+        Ok(array) => (array, Ok(false)),
+        Err((array, refusal)) => (array, Err(refusal)),
+    }
+}
+
+// The level is taken over to this shape, which is ahead.
+pub(crate) fn take<B: Bank>(
+    array: Running<B>,
+    take: (Who, Shape),
+) -> (Running<B>, Result<bool, Refusal>)
+    requires open { HasKeptLength array.parts.entries take.0 }
+    requires caller { take.0.caller ≢ 254 }
+    requires room { 1 ≤ array.parts.steps }
+    requires still { is_reshaping array.parts.members.newest ≡ false }
+    requires done { left_of array.parts.work array.parts.members ≡ 0 }
+    requires next { (behind : List Phase) × IsTakeoverNext (phases_of array.ahead) take.1 behind }
+    ensures taken { IsStepTaken B.tells B.given B.tape B.faults_of take.0 array result.0 result.1 }
+    ensures room { result.0.parts.steps + 1 ≡ array.parts.steps }
+{
+    let (who, to) = take;
+    match array.take_over(who, to) {
         Ok(array) => (array, Ok(false)),
         Err((array, refusal)) => (array, Err(refusal)),
     }

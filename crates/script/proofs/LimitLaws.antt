@@ -2,10 +2,11 @@
 use Rattle.std.proofs.Common.{◌≡◌, ℕ, ◌^◌, Bool, true, false, cond, not, nat_le, List, [], ◌∷◌, refl, sym, ap, ◌∙◌, ◌⊎◌, inl, inr, Option, Some, None, option_map}
 use Rattle.std.specs.Str.{bytes_eq}
 use Rattle.std.specs.List.{list_all}
-use Rattle.std.specs.Option.{is_none, option_and_then}
+use Rattle.std.specs.Option.{option_and_then}
 use Rattle.uuid.specs.Text.{parsed}
 use lib.Chars.{codes}
 use Rattle.md_base.specs.declared.places.Shape.{Shape}
+use Rattle.md_base.specs.declared.wishes.Wish.{Wish}
 use Rattle.line_words.specs.Keys.{has_key}
 use Rattle.line_words.specs.Numbers.{words_of, number_below}
 use Rattle.line_words.specs.Shapes.{shape_of}
@@ -99,9 +100,7 @@ array_size_ok (word ∷ more ∷ rest) line e = absurd (cc)
 
 grow_ok : (values : List (List ℕ)) (line : Line) → grow_of values ≡ Some line → is_within_limits line ≡ true
 grow_ok values line e =
-    let read = then_some (λ wish. cond (is_none wish.level) (Some (Grow wish)) None) (wish_of values) line e in
-    let kept = kept_some (is_none (read.0).level) (Grow (read.0)) line (read.1) in
-    ap is_within_limits (sym (kept.1)) ∙ kept.0
+    let made = map_some (λ (wish : Wish). Grow wish) (wish_of values) line e in ap is_within_limits (sym (made.2))
 
 create_ok : (values : List (List ℕ)) (line : Line) → create_of values ≡ Some line → is_within_limits line ≡ true
 create_ok [] line e = absurd (cc)

@@ -1,7 +1,7 @@
 -- What one line of a script asks.
 use Rattle.std.specs.Prelude.{ℕ, ◌+◌, ◌^◌, Bool, ◌&&◌, ◌||◌, not, ◌==◌, true, false, nat_lt, nat_le, if◌then◌else◌, List, [], ◌∷◌, slice_index, bytes_eq, codes, Option, Some, None, option_map}
 use Rattle.std.specs.List.{list_all}
-use Rattle.std.specs.Option.{is_none, option_and_then}
+use Rattle.std.specs.Option.{option_and_then}
 use Rattle.uuid.specs.Text.{parsed}
 use Rattle.md_base.specs.declared.places.Shape.{Shape}
 use Rattle.line_words.specs.Keys.{has_key, given_number}
@@ -86,9 +86,9 @@ abbrev pub array_size_of : List (List ℕ) → Option Line
 array_size_of (word ∷ []) = option_map (λ limit. ArraySize limit) (limit_given word)
 array_size_of _ = None
 
--- `grow key=value..`: a wish that keeps the level
+-- `grow key=value..`
 abbrev pub grow_of : List (List ℕ) → Option Line
-grow_of words = option_and_then (λ wish. if is_none wish.level then Some (Grow wish) else None) (wish_of words)
+grow_of words = option_map (λ wish. Grow wish) (wish_of words)
 
 -- `examine SLOT`
 abbrev pub examine_of : List (List ℕ) → Option Line

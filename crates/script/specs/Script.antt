@@ -1,11 +1,10 @@
 -- What the text of a whole script asks, or which of its lines is the first bad one.
 use Rattle.std.specs.Prelude.{◌≡◌, ℕ, ◌+◌, ◌-◌, Bool, true, false, ◌&&◌, ◌||◌, not, ◌==◌, nat_lt, nat_le, if◌then◌else◌, List, [], ◌∷◌, ◌++◌, length, take, fold, scan, sum_by, slice_index, slice_index_or, Option, Some, None, Result, Ok, Err}
 use Rattle.std.specs.List.{slice_split, enumerate_from, filter_map}
-use Rattle.std.specs.Option.{is_none}
 use Rattle.md_base.specs.Search.{least_below}
 use Rattle.script.specs.Grammar.{is_span, is_for_lanes, meaning_of}
 use Rattle.script.specs.declared.lines.Line.{Line}
-use Rattle.script.specs.declared.lines.Line.TheVariants.{Read, Write, Step, Grow, Wait}
+use Rattle.script.specs.declared.lines.Line.TheVariants.{Read, Write, Step, Wait}
 use Rattle.script.specs.declared.lines.Numbered.{Numbered}
 use Rattle.script.specs.declared.lines.ScriptFault.{ScriptFault}
 use Rattle.script.specs.declared.lines.ScriptFault.TheVariants.{BadLine, NoMemory}
@@ -79,12 +78,11 @@ sectors_of (Read start count) = count
 sectors_of (Write start count seed) = count
 sectors_of line = 0
 
--- what a line reads or writes is a span, one for steps asks for at least one, and one to grow keeps the level
+-- what a line reads or writes is a span, and one for steps asks for at least one
 abbrev pub is_within_limits : Line → Bool
 is_within_limits (Read start count) = is_span (start, count)
 is_within_limits (Write start count seed) = is_span (start, count)
 is_within_limits (Step most) = nat_le 1 most
-is_within_limits (Grow wish) = is_none wish.level
 is_within_limits line = true
 
 -- what a lane may ask; the worker asks what `wait` does

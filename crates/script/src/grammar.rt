@@ -313,9 +313,6 @@ fn parse_grow(words: Words<'_>) -> Option<Line>
     ensures { result ≡ grow_of (words_of words.entry.line.now) }
 {
     let wish = wish_of(words)?;
-    if wish.level.is_some() {
-        return None;
-    }
     Some(Line::Grow(wish))
 }
 

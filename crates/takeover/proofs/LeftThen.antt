@@ -1,11 +1,13 @@
 -- The steps that are left behind a takeover: those of Q at level 6, and none at level 5, unless a loss is told.
 use Rattle.std.proofs.Common.{◌≡◌, inl, inr, ℕ, zero, suc, ◌+◌, ◌-◌, ◌*◌, ◌<◌, ◌||◌, min, cond, Bool, true, false, not, Option, None, List, [], ◌∷◌, ◌++◌, refl, sym, ◌∙◌, ap, ap₂, arith}
-use Rattle.std.specs.Prelude.{is_some}
+use Rattle.std.specs.Prelude.{is_some, drop, length}
 use Rattle.std.specs.List.{list_any}
+use Rattle.std.proofs.Math.Seq.{drop-append_seam}
 use Rattle.std.proofs.lemmas.Bool.{cases_lt}
 use Rattle.std.proofs.lemmas.List.Folds.{list_any-append}
 use Rattle.md_base.specs.Search.{count_below}
 use Rattle.md_base.specs.Shapes.{has_slot}
+use Rattle.md_base.specs.declared.answers.Who.{Who}
 use Rattle.md_base.specs.declared.places.Shape.{Shape}
 use Rattle.md_base.specs.declared.status.Role.{Role}
 use Rattle.md_base.specs.declared.status.Role.TheVariants.{Whole, Recovering, Missing}
@@ -13,10 +15,11 @@ use Rattle.md_base.proofs.Least.{least_below-none}
 use Rattle.superblocks.specs.declared.members.Members.{Members}
 use Rattle.superblocks.specs.Reading.{is_reshaping, is_whole, shape_of, final_shape, role_state, holder}
 use Rattle.row_io.specs.Rows.{reading_of, is_missing, IsTolerated}
-use Rattle.flat_history.specs.Legal.{disturbs}
+use Rattle.flat_history.specs.declared.events.Entry.{Entry}
 use Rattle.flat_history.specs.declared.events.Event.{Event}
 use Rattle.flat_history.specs.declared.events.Event.TheVariants.{Lost}
 use Rattle.flat_history.specs.declared.events.LostCause.TheVariants.{Fault}
+use Rattle.flat_history.specs.Plain.{entries_of}
 use Rattle.shape_views.specs.Regions.{DoWithout}
 use Rattle.shape_views.proofs.Stands.{final-still}
 use Rattle.views.specs.declared.work.Work.{Work}
@@ -40,33 +43,53 @@ whole-does m still whole = record { old = few (shape_of m.newest) refl; final = 
 
 -- ---- the losses
 
-no-both : (xs ys : List Event) → list_any disturbs (xs ++ ys) ≡ false → (list_any disturbs xs ≡ false) × (list_any disturbs ys ≡ false)
-no-both xs ys none = by (list_any disturbs xs) (list_any disturbs ys) (sym (list_any-append disturbs xs ys) ∙ none)
+no-both : (p : Event → Bool) (xs ys : List Event) → list_any p (xs ++ ys) ≡ false → (list_any p xs ≡ false) × (list_any p ys ≡ false)
+no-both p xs ys none = by (list_any p xs) (list_any p ys) (sym (list_any-append p xs ys) ∙ none)
   where
     by : (a b : Bool) → (a || b) ≡ false → (a ≡ false) × (b ≡ false)
     by true b is = absurd (cc)
     by false b is = (refl, is)
 
-no-role : (roles n role : ℕ) → list_any disturbs (role_losses roles n) ≡ false → role < n → has_slot roles role ≡ true → ⊥
+no-role : (p : Event → Bool) (roles n role : ℕ) → ((r : ℕ) → p (Lost r Fault) ≡ true) → list_any p (role_losses roles n) ≡ false → role < n → has_slot roles role ≡ true → ⊥
 unfolding role_losses
-no-role roles zero role none lt there = omega (arith, lt)
-no-role roles (suc n) role none lt there =
-    let both = no-both (role_losses roles n) (role_loss roles n) none in
+no-role p roles zero role tells none lt there = omega (arith, lt)
+no-role p roles (suc n) role tells none lt there =
+    let both = no-both p (role_losses roles n) (role_loss roles n) none in
     elim (cases_lt role n) [
-      | inl below ↦ no-role roles n role both.0 below there
+      | inl below ↦ no-role p roles n role tells both.0 below there
       | inr above ↦
           let is : role ≡ n = omega (arith, lt, above) in
-          let here : list_any disturbs (role_loss roles n) ≡ true = ap (λ (b : Bool). list_any disturbs (cond b (Lost n Fault ∷ []) [])) (ap (has_slot roles) (sym is) ∙ there) in
-          let nothing : true ≡ false = sym here ∙ both.1 in cc
+          let here : list_any p (role_loss roles n) ≡ (p (Lost n Fault) || false) = ap (λ (b : Bool). list_any p (cond b (Lost n Fault ∷ []) [])) (ap (has_slot roles) (sym is) ∙ there) in
+          let nothing : true ≡ false = sym (here ∙ ap (λ (b : Bool). b || false) (tells n)) ∙ both.1 in cc
     ]
 
--- where no loss is told, each role that is told where no slot holds it has one
-pub quiet-held : (m : Members) (roles spares role : ℕ) → list_any disturbs (losses_of roles spares) ≡ false → role < 16 → (is_vacant (reading_of m) role ≡ true → has_slot roles role ≡ true) → is_vacant (reading_of m) role ≡ false
-quiet-held m roles spares role quiet lt told = of (is_vacant (reading_of m) role) refl
+-- where no role's loss is told, each role that is told where no slot holds it has one
+pub quiet-held : (p : Event → Bool) (m : Members) (roles spares role : ℕ) → ((r : ℕ) → p (Lost r Fault) ≡ true) → list_any p (losses_of roles spares) ≡ false → role < 16 → (is_vacant (reading_of m) role ≡ true → has_slot roles role ≡ true)
+    → is_vacant (reading_of m) role ≡ false
+quiet-held p m roles spares role tells quiet lt told = of (is_vacant (reading_of m) role) refl
   where
     of : (b : Bool) → is_vacant (reading_of m) role ≡ b → is_vacant (reading_of m) role ≡ false
     of false is = is
-    of true is = absurd (no-role roles 16 role (no-both (role_losses roles 16) (spare_losses spares 32) quiet).0 lt (told is))
+    of true is = absurd (no-role p roles 16 role tells (no-both p (role_losses roles 16) (spare_losses spares 32) quiet).0 lt (told is))
+
+any-entries : (p : Event → Bool) (who : Who) (end : ℕ) (events : List Event) → list_any (λ e. p e.event) (entries_of who end events) ≡ list_any p events
+any-entries p who end [] = refl
+any-entries p who end (event ∷ events) = ap (λ (b : Bool). p event || b) (any-entries p who end events)
+
+-- where none of a call's entries is such, none of its events behind the first is
+pub none-told : (p : Event → Bool) (entries new : List Entry) (who : Who) (end : ℕ) (event : Event) (events : List Event) → new ≡ entries ++ entries_of who end (event ∷ events)
+    → not (list_any (λ e. p e.event) (drop (length entries) new)) ≡ true → list_any p events ≡ false
+none-told p entries new who end event events is none =
+    let last : drop (length entries) new ≡ entries_of who end (event ∷ events) = ap (drop (length entries)) is ∙ drop-append_seam entries (entries_of who end (event ∷ events)) in
+    rest (p event) (list_any p events) (fails (list_any p (event ∷ events)) (sym (ap not (ap (list_any (λ e. p e.event)) last ∙ any-entries p who end (event ∷ events))) ∙ none))
+  where
+    fails : (b : Bool) → not b ≡ true → b ≡ false
+    fails true is = absurd (cc)
+    fails false is = refl
+
+    rest : (a b : Bool) → (a || b) ≡ false → b ≡ false
+    rest true b is = absurd (cc)
+    rest false b is = is
 
 -- a role that has a slot and isn't whole is recovered
 pub held-recovers : (state : Role) → not (is_some (holder state)) ≡ false → not (is_whole state) ≡ true → (s : ℕ) × (state ≡ Recovering s)

@@ -3,3 +3,4 @@ pub mod Behind
 pub mod LeftThen
 pub mod Untaken
 pub mod TakenReady
+pub mod TakenFrom

@@ -1,5 +1,5 @@
 -- What a takeover leaves, from what `take_over` of `takeover_updates` says of it: the array is ready.
-use Rattle.std.proofs.Common.{◌≡◌, ◌≢◌, ◌⊎◌, inl, inr, ℕ, ◌+◌, ◌-◌, ◌*◌, ◌/◌, ◌<◌, ◌≤◌, ◌==◌, ◌&&◌, nat_lt, Bool, true, false, Option, Some, None, List, [], ◌∷◌, ◌++◌, length, refl, sym, ◌∙◌, ap, subst, arith, append-nil}
+use Rattle.std.proofs.Common.{◌≡◌, ◌≢◌, ◌⊎◌, inl, inr, ℕ, ◌+◌, ◌-◌, ◌*◌, ◌/◌, ◌<◌, ◌≤◌, ◌==◌, ◌&&◌, nat_lt, not, drop, Bool, true, false, Option, Some, None, List, [], ◌∷◌, ◌++◌, length, refl, sym, ◌∙◌, ap, subst, arith, append-nil}
 use Rattle.std.specs.Prelude.{if◌then◌else◌}
 use Rattle.std.specs.List.{list_any, All}
 use Rattle.std.proofs.lemmas.List.{get_or-set_same}
@@ -19,8 +19,10 @@ use Rattle.superblocks.specs.Reading.{Scope, is_reshaping, shape_of, final_shape
 use Rattle.row_io.specs.Rows.{reading_of, present, is_missing}
 use Rattle.flat_history.specs.declared.events.Entry.{Entry}
 use Rattle.flat_history.specs.declared.events.Event.{Event}
-use Rattle.flat_history.specs.declared.events.Event.TheVariants.{Step}
+use Rattle.flat_history.specs.declared.events.Event.TheVariants.{Lost, Step}
+use Rattle.flat_history.specs.declared.events.LostCause.TheVariants.{Fault}
 use Rattle.flat_history.specs.declared.events.StepKind.TheVariants.{TakenOver}
+use Rattle.flat_history.specs.Fits.{is_lost_event}
 use Rattle.flat_history.specs.Flat.{length_of}
 use Rattle.flat_history.specs.Legal.{disturbs}
 use Rattle.flat_history.specs.Plain.{entries_of}
@@ -49,7 +51,7 @@ use Rattle.views.proofs.MarkLaws.{few-planned}
 use Rattle.call_entries.specs.Losing.{losses_of}
 use Rattle.call_entries.proofs.CallLaws.{all-losses}
 use Rattle.call_entries.proofs.PlainLaws.{one}
-use Rattle.still_steps.specs.array_kept_Calls.{AreLossesOf, IsLossBy, with_rebuilt}
+use Rattle.still_steps.specs.array_kept_Calls.{AreLossesOf, AreStepsFewer, IsLossBy, with_rebuilt}
 use Rattle.still_steps.proofs.array_kept_NowLaws.{length-more}
 use Rattle.grow_asked.specs.declared.window.PhasesLeft.{PhasesLeft}
 use Rattle.grow_asked.specs.Left.{phases_of}
@@ -69,7 +71,7 @@ use Rattle.still_steps.proofs.still_laws_Plain.{IsLeftPlain, turned-plain, turns
 use Rattle.takeover.specs.TakenOver.{IsTakeoverNext, IsTakenSlot, work_then}
 use Rattle.takeover.proofs.Chosen.{IsSoundNext, sound-next, can-take}
 use Rattle.takeover.proofs.Behind.{live-old, count-new, vacant-told, lost-since, lost-few, recovers-then, missing-then}
-use Rattle.takeover.proofs.LeftThen.{whole-does, quiet-held, held-recovers, left-five, left-six}
+use Rattle.takeover.proofs.LeftThen.{whole-does, quiet-held, none-told, held-recovers, left-five, left-six}
 
 -- What `take_over` of `takeover_updates` leaves.
 pub record IsUpdated (tells : Type 0) (given : Given) (tape tape' : List Operation) (to : Shape) (slot : ℕ) (old new : Members) (spares : ℕ) (before after : ℕ → ℕ) : Type 0 where
@@ -186,16 +188,20 @@ module _ {tells : Type 0} {given : Given} {tape tape' : List Operation} {scope :
       vacant-told given old to slot was.kept.members_are.placed was.kept.members_are.unlost was.kept.members_are.free still sound.valid can whole new roles spares before after did.moved did.failed did.newest.shape did.newest.still lost
       role (omega (arith, lt, n)) none
 
-  full : list_any disturbs (losses_of roles spares) ≡ false → (role : ℕ) → role < to.disks → is_vacant (reading_of new) role ≡ false
-  full quiet role lt = quiet-held new roles spares role quiet (let most = (limited to sound.valid).most in omega (arith, lt, most)) (told role lt)
+  -- each role has a slot
+  abbrev AreAllHeld : Type 0
+  AreAllHeld = (role : ℕ) → role < to.disks → is_vacant (reading_of new) role ≡ false
+
+  full : (p : Event → Bool) → ((r : ℕ) → p (Lost r Fault) ≡ true) → list_any p (losses_of roles spares) ≡ false → AreAllHeld
+  full p tells quiet role lt = quiet-held p new roles spares role tells quiet (let most = (limited to sound.valid).most in omega (arith, lt, most)) (told role lt)
 
   not-both : CanTakeUp old to slot → to.level ≡ 5 → ⊥
   not-both up five = (let six_is = six up in omega (arith, five, six_is))
 
   -- Q is recovered by a slot
-  last-recovers : list_any disturbs (losses_of roles spares) ≡ false → CanTakeUp old to slot → (s : ℕ) × (role_state (reading_of new) (shape_of old.newest).disks ≡ Recovering s)
-  last-recovers quiet up =
-      held-recovers (role_state (reading_of new) (shape_of old.newest).disks) (full quiet (shape_of old.newest).disks (let many = more up in omega (arith, many))) (missing-moved did.moved (shape_of old.newest).disks (missing did.plan))
+  last-recovers : AreAllHeld → CanTakeUp old to slot → (s : ℕ) × (role_state (reading_of new) (shape_of old.newest).disks ≡ Recovering s)
+  last-recovers all up =
+      held-recovers (role_state (reading_of new) (shape_of old.newest).disks) (all (shape_of old.newest).disks (let many = more up in omega (arith, many))) (missing-moved did.moved (shape_of old.newest).disks (missing did.plan))
     where
       missing : IsTakenUp old (taken_plan old to slot) ⊎ IsTakenDown old (taken_plan old to slot) → is_missing (reading_of (taken_plan old to slot)) (shape_of old.newest).disks ≡ true
       missing (inl way) = way.last
@@ -204,14 +210,14 @@ module _ {tells : Type 0} {given : Given} {tape tape' : List Operation} {scope :
   stripes-then : stripes_of new ≡ old.newest.size / to.chunk
   stripes-then i = did.newest.size i / (did.newest.shape i).chunk
 
-  left-up : list_any disturbs (losses_of roles spares) ≡ false → CanTakeUp old to slot → left_of (work_then to work) new ≡ old.newest.size / to.chunk + 1
-  left-up quiet up =
-      let q = last-recovers quiet up in
-      left-six new to (work_then to work) did.newest.shape synced' (full quiet) (shape_of old.newest).disks q.0 (more up) q.1 (λ role s is. (recovers role s is).1) (unbuilt (shape_of old.newest).disks q.0 q.1)
+  left-up : AreAllHeld → CanTakeUp old to slot → left_of (work_then to work) new ≡ old.newest.size / to.chunk + 1
+  left-up all up =
+      let q = last-recovers all up in
+      left-six new to (work_then to work) did.newest.shape synced' all (shape_of old.newest).disks q.0 (more up) q.1 (λ role s is. (recovers role s is).1) (unbuilt (shape_of old.newest).disks q.0 q.1)
       ∙ ap (λ (n : ℕ). n + 1) stripes-then
 
-  left-down : list_any disturbs (losses_of roles spares) ≡ false → to.level ≡ 5 → left_of (work_then to work) new ≡ 0
-  left-down quiet five = left-five new to (work_then to work) did.newest.shape synced' (full quiet) (λ role s is. not-both (recovers role s is).0 five)
+  left-down : AreAllHeld → to.level ≡ 5 → left_of (work_then to work) new ≡ 0
+  left-down all five = left-five new to (work_then to work) did.newest.shape synced' all (λ role s is. not-both (recovers role s is).0 five)
 
   rest-same : phases_steps (shape_of new.newest) new.newest.size (phases_of behind) ≡ phases_steps to old.newest.size (phases_of behind)
   rest-same i = phases_steps (did.newest.shape i) (did.newest.size i) (phases_of behind)
@@ -230,26 +236,41 @@ module _ {tells : Type 0} {given : Given} {tape tape' : List Operation} {scope :
   five-of : phases_of ahead ≡ DownTo5 to ∷ phases_of behind → to.level ≡ 5
   five-of is = (subst (λ (l : List Phase). AreSound (shape_of old.newest) old.newest.size l) is was.planned).1.0
 
-  -- one step fewer is left, where no loss is told
-  counted : list_any disturbs (losses_of roles spares) ≡ false → still_left work old ahead ≡ still_left (work_then to work) new behind + 1
-  counted quiet = by next
+  -- one step fewer is left, where each role has a slot
+  counted : AreAllHeld → still_left work old ahead ≡ still_left (work_then to work) new behind + 1
+  counted all = by next
     where
       by : IsTakeoverNext (phases_of ahead) to (phases_of behind) → still_left work old ahead ≡ still_left (work_then to work) new behind + 1
       by (inl is) =
           (λ i. idle i + phases_steps (shape_of old.newest) old.newest.size (is i))
           ∙ steps-up old.newest.size to.chunk (phases_steps to old.newest.size (phases_of behind))
-          ∙ sym (λ i. left-up quiet (up-of is) i + rest-same i + 1)
+          ∙ sym (λ i. left-up all (up-of is) i + rest-same i + 1)
       by (inr is) =
           (λ i. idle i + phases_steps (shape_of old.newest) old.newest.size (is i))
           ∙ steps-down (phases_steps to old.newest.size (phases_of behind))
-          ∙ sym (λ i. left-down quiet (five-of is) i + rest-same i + 1)
+          ∙ sym (λ i. left-down all (five-of is) i + rest-same i + 1)
 
   pub taken-stepped : (still_left work old ahead ≡ still_left (work_then to work) new behind + 1) ⊎ (list_any disturbs (losses_of roles spares) ≡ true)
   taken-stepped = of (list_any disturbs (losses_of roles spares)) refl
     where
       of : (b : Bool) → list_any disturbs (losses_of roles spares) ≡ b → (still_left work old ahead ≡ still_left (work_then to work) new behind + 1) ⊎ (list_any disturbs (losses_of roles spares) ≡ true)
       of true is = inr is
-      of false is = inl (counted is)
+      of false is = inl (counted (full disturbs (λ r. refl) is))
+
+  -- one fewer, where the loss of no role is told
+  pub taken-fewer : {mid later : List Entry} → mid ≡ entries → later ≡ mid ++ entries_of who end (Step TakenOver (still_left (work_then to work) new behind) ∷ losses_of roles spares)
+      → AreStepsFewer entries later (still_left work old ahead) (still_left (work_then to work) new behind)
+  taken-fewer {later = later} mid_is is = record {
+    one = λ none. sym (fewer disturbs (λ r. refl) none);
+    some = λ none. let less = fewer is_lost_event (λ r. refl) none in omega (arith, less);
+  }
+    where
+      there : later ≡ entries ++ added
+      there = is ∙ ap (λ (l : List Entry). l ++ added) mid_is
+
+      fewer : (p : Event → Bool) → ((r : ℕ) → p (Lost r Fault) ≡ true) → not (list_any (λ e. p e.event) (drop (length entries) later)) ≡ true
+          → still_left work old ahead ≡ still_left (work_then to work) new behind + 1
+      fewer p tells none = counted (full p tells (none-told p entries later who end (Step TakenOver (still_left (work_then to work) new behind)) (losses_of roles spares) there none))
 
   planned : tells → IsReliable (world_in given tape scope first) entries → still_left (work_then to work) new behind ≡ 0
       → ArePlannedTo (world_in given tape scope first) (shape_of new.newest) (open_plans entries)

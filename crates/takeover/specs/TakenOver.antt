@@ -25,7 +25,7 @@ use Rattle.views.specs.Lacking.{HaveRolesFailed}
 use Rattle.views.specs.Moving.{Grows}
 use Rattle.views.specs.Placed.{is_vacant, AreStillHeld}
 use Rattle.call_entries.specs.Losing.{losses_of}
-use Rattle.still_steps.specs.array_kept_Calls.{AreLossesOf, AreSparesFewer, IsEndOf, with_rebuilt}
+use Rattle.still_steps.specs.array_kept_Calls.{AreLossesOf, AreSparesFewer, AreStepsFewer, IsEndOf, with_rebuilt}
 use Rattle.grow_asked.specs.declared.window.PhasesLeft.{PhasesLeft}
 use Rattle.grow_asked.specs.Asked.{lowest_missing}
 use Rattle.still_steps.specs.running_words_Parts.{RunningParts, still_left}
@@ -79,6 +79,7 @@ pub record IsLevelTaken {B : Type 0} (tells : Type 0) (given : Given) (tape tape
   pub entered : IsTakenWith who (taken_plan old.parts.members to slot) new.parts.members old.parts.entries new.parts.entries (still_left new.parts.work new.parts.members new.ahead)
   pub ended : IsEndOf tells new.parts.first new.parts.entries tape'
   pub grows : Grows tells tape tape'
+  pub left : AreStepsFewer old.parts.entries new.parts.entries (still_left old.parts.work old.parts.members old.ahead) (still_left new.parts.work new.parts.members new.ahead)
   pub newest : IsTakenTo old.parts.members.newest to new.parts.members.newest
   pub long : list_length new.parts.members.newest ≡ list_length old.parts.members.newest
   pub held : AreStillHeld (taken_plan old.parts.members to slot) new.parts.members

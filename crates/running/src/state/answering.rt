@@ -38,7 +38,7 @@ fn answer_in<B: Bank>(moving: Moving<B>, reply: (Who, Event)) -> (Moving<B>, ())
 impl<B: Bank> Running<B> {
     /// Answers a request for steps: that nothing was left to do, or how many were done and what refused one. Without a reshape, and where none
     /// is left and none was refused, what is missing is to be told by the superblocks, or no plan is open. It makes no device call, and takes
-    /// no memory. Where no step is left, no reshape is active, and none is ahead.
+    /// no memory. Where no step is left, no reshape is active, and no phase of a plan is ahead.
     pub fn answer(&mut self, who: Who, event: Event)
         requires open { IsCallGoing self.old.parts.entries who }
         requires caller { who.caller ≢ 254 }

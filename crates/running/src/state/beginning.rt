@@ -1,6 +1,7 @@
 //! A reshape that is ahead begins.
 
-ghost use Rattle.std.specs.Prelude.{◌≡◌, ◌≢◌, ◌≤◌, ◌∷◌, [], false, IfOk, IfErr, IsSome};
+ghost use Rattle.std.specs.Prelude.{◌≡◌, ◌≢◌, ◌≤◌, ◌∷◌, List, false, IfOk, IfErr, IsSome};
+ghost use Rattle.md_base.specs.declared.wishes.Phase.{Phase};
 ghost use Rattle.md_base.specs.declared.wishes.Phase.TheVariants.{Reshape};
 ghost use Rattle.bank.specs.Given.{NeverFalls};
 ghost use Rattle.superblocks.specs.Reading.{is_reshaping};
@@ -11,16 +12,16 @@ ghost use Rattle.grow_asked.specs.Left.{phases_of};
 ghost use Rattle.growing.specs.turning_Begun.{HasKeptLength, IsReshapeBegun, IsGivenBack, IsBeginRefused};
 ghost use Rattle.running.specs.Calls.{MayEndSteps};
 
+use crate::state::choosing::phases_behind;
 use crate::state::{Running, State, check_moving, check_still};
 use bank::Bank;
-use grow_asked::PhasesLeft;
 use growing::turning::begin_reshape;
 use md_base::{Refusal, Shape, Who};
 
 impl<B: Bank> Running<B> {
-    /// The reshape to this shape, which is all that is ahead, begins, where nothing else is left to do: the backup's header is cleared,
-    /// and the superblocks record the reshape, by which the lowest spares get the new roles. To fewer data disks the list gets shorter
-    /// then. It takes no memory. Refused, the array goes on as it was: `Degraded` where a role is missing, and `NeedSpares` where there
+    /// The reshape to this shape, the first phase ahead, begins, where nothing else is left to do: the backup's header is cleared, and the
+    /// superblocks record the reshape, by which the lowest spares get the new roles. To fewer data disks the list gets shorter then. The
+    /// phases behind it are ahead then. It takes no memory. Refused, the array goes on as it was: `Degraded` where a role is missing, and `NeedSpares` where there
     /// are fewer spares than new roles, with nothing done; and `BackupFault` where the backup failed.
     pub fn begin(self, who: Who, to: Shape) -> Result<Running<B>, (Running<B>, Refusal)>
         requires open { HasKeptLength self.parts.entries who }
@@ -28,8 +29,8 @@ impl<B: Bank> Running<B> {
         requires room { 1 ≤ self.parts.steps }
         requires still { is_reshaping self.parts.members.newest ≡ false }
         requires done { left_of self.parts.work self.parts.members ≡ 0 }
-        requires next { phases_of self.ahead ≡ Reshape to ∷ [] }
-        ensures begun { IfOk result (λ r. (behind : PhasesLeft) × (phases_of behind ≡ [])
+        requires next { (behind : List Phase) × (phases_of self.ahead ≡ Reshape to ∷ behind) }
+        ensures begun { IfOk result (λ r. (behind : PhasesLeft) × (phases_of self.ahead ≡ Reshape to ∷ phases_of behind)
             × IsReshapeBegun B.tells (B.given self.parts.bank) (B.tape self.parts.bank) (B.tape r.parts.bank) (B.faults_of self.parts.bank) (B.faults_of r.parts.bank) who to behind self r) }
         ensures given { IfOk result (λ r. B.given r.parts.bank ≡ B.given self.parts.bank) }
         ensures refused { IfErr result (λ e. IsGivenBack B.tells (B.given self.parts.bank) (B.tape self.parts.bank) (B.tape e.0.parts.bank) who e.1 self e.0) }
@@ -49,10 +50,7 @@ impl<B: Bank> Running<B> {
         let State::Still(still) = state else {
             unreachable!()
         };
-        let behind = PhasesLeft {
-            next: None,
-            last: None,
-        };
+        let (still, behind) = phases_behind(still);
         match begin_reshape(still, who, to, behind, window) {
             Ok(moving) => {
                 let mut moving = moving;

@@ -1,10 +1,10 @@
 //! What is next to do in a running array.
 
-ghost use Rattle.std.specs.Prelude.{◌≡◌, ◌≢◌, ◌<◌, ◌∷◌, [], true, IfSome, IfNone};
-ghost use Rattle.md_base.specs.declared.wishes.Phase.TheVariants.{Reshape};
+ghost use Rattle.std.specs.Prelude.{◌≡◌, ◌≢◌, ◌<◌, ◌∷◌, List, [], true, IfSome, IfNone};
+ghost use Rattle.md_base.specs.declared.wishes.Phase.{Phase as APhase};
 ghost use Rattle.superblocks.specs.Reading.{is_reshaping};
 ghost use Rattle.grow_asked.specs.Left.{phases_of};
-ghost use Rattle.running.specs.State.{IsStillNow, IsOneReshape};
+ghost use Rattle.running.specs.State.{IsStillNow};
 ghost use Rattle.running.specs.Calls.{running_left, IsNext};
 ghost use Rattle.running.specs.declared.state.choosing.Next.TheVariants.{Nothing as IsDone};
 
@@ -19,32 +19,55 @@ use growing::still::Still;
 use md_base::{Phase, Shape};
 
 /// What is next to do in a running array: nothing; a step of a resync or of a rebuild, without a reshape; the reshape to this shape
-/// begins, which is ahead; a step of the active reshape, or of a resync beside it; or the active reshape ends.
+/// begins, which is ahead; the level is taken over, to this shape; a step of the active reshape, or of a resync beside it; or the
+/// active reshape ends.
 #[derive(Clone, Copy, Debug, PartialEq, Eq)]
 pub enum Next {
     Nothing,
     Own,
     Begin(Shape),
+    Take(Shape),
     Move,
     Finish,
 }
 
-// The reshape that is ahead, where there is one.
-fn reshape_ahead(ahead: &PhasesLeft) -> Option<Shape>
-    requires one { IsOneReshape (phases_of ahead.now) }
-    ensures some { IfSome result (λ to. phases_of ahead.now ≡ Reshape to ∷ []) }
+// The first phase ahead, and those behind it, where there is one.
+fn first_phase(ahead: &PhasesLeft) -> Option<(Phase, PhasesLeft)>
+    ensures some { IfSome result (λ r. phases_of ahead.now ≡ r.0 ∷ phases_of r.1) }
     ensures none { IfNone result (phases_of ahead.now ≡ []) }
 {
     match (ahead.next, ahead.last) {
-        (Some(Phase::Reshape(to)), _) | (None, Some(Phase::Reshape(to))) => Some(to),
-        _ => None,
+        (Some(phase), last) => {
+            let behind = PhasesLeft { next: None, last };
+            Some((phase, behind))
+        }
+        (None, Some(phase)) => {
+            let behind = PhasesLeft {
+                next: None,
+                last: None,
+            };
+            Some((phase, behind))
+        }
+        (None, None) => None,
     }
+}
+
+// The phases behind the first one ahead; the array is as it was.
+pub(crate) fn phases_behind<B: Bank>(still: Still<B>) -> (Still<B>, PhasesLeft)
+    requires some { (phase : APhase) × (more : List APhase) × (phases_of still.ahead ≡ phase ∷ more) }
+    ensures same { result.0 ≡ still }
+    ensures behind { (phase : APhase) × (phases_of still.ahead ≡ phase ∷ phases_of result.1) }
+{
+    let pieces = still.take_apart();
+    let Some((_, behind)) = first_phase(&pieces.ahead) else {
+        unreachable!()
+    };
+    (Still::of_pieces(pieces), behind)
 }
 
 // What is next without a reshape.
 fn next_still<B: Bank>(still: Still<B>, _none: ()) -> (Still<B>, Next)
     requires rest { IsStillNow still }
-    requires one { IsOneReshape (phases_of still.ahead) }
     ensures same { result.0 ≡ still }
     ensures next { IsNext still result.1 }
     ensures some { result.1 ≢ IsDone → 0 < running_left still }
@@ -53,9 +76,10 @@ fn next_still<B: Bank>(still: Still<B>, _none: ()) -> (Still<B>, Next)
     let next = if steps_left(&pieces.members, &pieces.work) > 0 {
         Next::Own
     } else {
-        match reshape_ahead(&pieces.ahead) {
-            Some(to) => Next::Begin(to),
+        match first_phase(&pieces.ahead) {
             None => Next::Nothing,
+            Some((Phase::Reshape(to), _)) => Next::Begin(to),
+            Some((Phase::UpTo6(to), _)) | Some((Phase::DownTo5(to), _)) => Next::Take(to),
         }
     };
     (Still::of_pieces(pieces), next)

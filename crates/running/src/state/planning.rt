@@ -1,6 +1,6 @@
 //! Requests to grow a running array.
 
-ghost use Rattle.std.specs.Prelude.{◌≡◌, ◌≢◌, ◌*◌, ◌≤◌, None, length, OnOk, OnErr, IsErr, IfOk};
+ghost use Rattle.std.specs.Prelude.{◌≡◌, ◌≢◌, ◌*◌, ◌≤◌, length, OnOk, OnErr, IsErr, IfOk};
 ghost use Rattle.md_base.specs.declared.answers.Refusal.TheVariants.{Busy};
 ghost use Rattle.md_base.specs.declared.answers.BusyKind.TheVariants.{Reshape};
 ghost use Rattle.grow_plan.specs.Plans.{largest_window};
@@ -71,13 +71,13 @@ fn refuse_moving<B: Bank>(
 }
 
 impl<B: Bank> Running<B> {
-    /// Plans the grow that a wish asks for, which keeps the level: its reshape is ahead then, and the answer is how many steps are left. It
-    /// makes no device call. Refusals, in this order: `Busy` (with a reshape, a resync, a rebuild or a plan), `Degraded`, `SameShape`,
-    /// `BadShape`, `SizeNotMultiple`, `NeedSpares`, `NeedBackup`, `BackupTooSmall` and `ArraySizeFirst`. Want of memory changes nothing.
+    /// Plans the grow that a wish asks for: its phases are ahead then, a reshape, a takeover of the level, or both; and the answer is how
+    /// many steps are left. It makes no device call. Refusals, in this order: `Busy` (with a reshape, a resync, a rebuild or a plan),
+    /// `Degraded`, `SameShape`, `BadShape`, `SizeNotMultiple`, `NeedSpares`, `NeedBackup`, `BackupTooSmall` and `ArraySizeFirst`. Want of
+    /// memory changes nothing.
     pub fn plan_grow(&mut self, who: Who, wish: Wish) -> Result<u64, Fault>
         requires next { who.number ≡ next_number who.caller self.old.parts.entries }
         requires caller { who.caller ≢ 254 }
-        requires level { wish.level ≡ None }
         ensures answered { IsGrowReplied (list_length self.old.parts.members.newest) wish who self.old.parts.entries self.new.parts.entries (running_left self.new) result }
         ensures fits { IsGrowAnswered B.tells (moving_world (B.given self.old.parts.bank) (B.tape self.old.parts.bank) self.old) (asked_in (B.given self.old.parts.bank) self.old) wish who self.old.parts.entries self.new.parts.entries
             (Planned (running_left self.new) wish) result }

@@ -25,7 +25,7 @@ use Rattle.still_steps.specs.still_laws_Ready.{IsReady}
 use Rattle.still_steps.proofs.still_laws_Closing.{LeadTo}
 use Rattle.takeover.specs.TakenOver.{IsTakeoverNext, work_then}
 use Rattle.takeover.proofs.Chosen.{sound-next, can-take, told-ahead}
-use Rattle.takeover.proofs.TakenReady.{IsUpdated, synced-then, taken-ready, taken-longer, taken-losses, taken-told}
+use Rattle.takeover.proofs.TakenReady.{IsUpdated, synced-then, taken-ready, taken-longer, taken-fewer, taken-losses, taken-told}
 use Rattle.takeover.proofs.taking.take_over.Goals as goal
 
 -- ---- why it isn't done
@@ -192,6 +192,8 @@ returns-clause-taken g c =
       ended = λ t. ap (λ (l : List Entry). last_end_from c.enter_taken.new.epoch.first l) items
           ∙ last_end-call c.enter_taken.new.epoch.first p.epoch.entries.items who end (Step TakenOver (still_left (work_then to p.work) new behind)) (losses_of roles spares) ∙ c.ops-end.ensures.count t;
       grows = did.grows;
+      left = taken-fewer p.ahead behind to c.in-Ok.slot who end roles spares was goes c.requires.caller idle next lead c.in-Ok.ensures.whole c.in-Ok.ensures.chosen update c.ops-end.ensures.count c.mark_unbuilt.ensures.long
+          c.told_of-told.ensures.roles refl items;
       newest = did.newest;
       long = taken-longer p.ahead behind to c.in-Ok.slot who end roles spares was goes c.requires.caller idle next lead c.in-Ok.ensures.whole c.in-Ok.ensures.chosen update c.ops-end.ensures.count c.mark_unbuilt.ensures.long
           c.told_of-told.ensures.roles;

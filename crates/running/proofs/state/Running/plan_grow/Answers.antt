@@ -22,7 +22,7 @@ invariant_of-self g c =
     let was = rw c.in-Still.is at c.self.invariant in
     let did = c.in-Ok.ensures in
     rw (c.check_still.ensures.same) (rest-planned g.B.Bank.given g.B.Bank.tape c.in-Still.still c.replace_with-made.new.dest did.1.1.1.1.0 c.args.wish c.in-Ok.plan.left (length c.self.inside.window.items) (length c.in-Ok.plan.window.items)
-    c.requires.level did.1.1.0 did.1.1.1.1.1.1.1.1.0 did.1.1.1.1.1.1.1.1.1.0 did.1.1.1.1.1.1.1.1.1.1.1 was c.check_still.ensures.rest c.check_still.ensures.within)
+    did.1.1.0 did.1.1.1.1.1.1.1.1.0 did.1.1.1.1.1.1.1.1.1.0 did.1.1.1.1.1.1.1.1.1.1.1 was c.check_still.ensures.rest c.check_still.ensures.within)
 
 pub returns-in-Ok-clause-answered : goal.returns-in-Ok-clause-answered
 returns-in-Ok-clause-answered g c =

@@ -1,0 +1,74 @@
+//! The level of an array is taken over.
+
+ghost use Rattle.std.specs.Prelude.{◌≡◌, ◌≢◌, ◌≤◌, List, false, IfOk, IfErr};
+ghost use Rattle.md_base.specs.declared.wishes.Phase.{Phase};
+ghost use Rattle.superblocks.specs.Reading.{is_reshaping};
+ghost use Rattle.views.specs.Status.{left_of};
+ghost use Rattle.grow_asked.specs.declared.window.PhasesLeft.{PhasesLeft};
+ghost use Rattle.grow_asked.specs.Left.{phases_of};
+ghost use Rattle.kept_history.specs.Recorded.{IsCallGoing};
+ghost use Rattle.growing.specs.still_laws_Steps.{IsClosable};
+ghost use Rattle.takeover.specs.TakenOver.{IsTakeoverNext, IsUntaken, IsUntouched, IsLevelTaken};
+ghost use Rattle.running.specs.Calls.{MayEndSteps};
+
+use crate::state::choosing::phases_behind;
+use crate::state::{Running, State, check_still};
+use bank::Bank;
+use md_base::{Refusal, Shape, Who};
+use takeover::take_over as take_level;
+
+impl<B: Bank> Running<B> {
+    /// The level is taken over to this shape, the first phase ahead, where nothing else is left to do: the superblocks record it. To level 6
+    /// the lowest spare gets the last role, Q, and the steps behind it rebuild that; to level 5 the slot of the last role becomes a spare.
+    /// The phases behind it are ahead then. It takes no memory. Refused, the array goes on as it was, with nothing done: `Degraded` where a
+    /// role is missing, and `NeedSpares` where there is no spare for Q.
+    pub fn take_over(self, who: Who, to: Shape) -> Result<Running<B>, (Running<B>, Refusal)>
+        requires open { IsCallGoing self.parts.entries who }
+        requires caller { who.caller ≢ 254 }
+        requires room { 1 ≤ self.parts.steps }
+        requires still { is_reshaping self.parts.members.newest ≡ false }
+        requires done { left_of self.parts.work self.parts.members ≡ 0 }
+        requires next { (behind : List Phase) × IsTakeoverNext (phases_of self.ahead) to behind }
+        ensures taken { IfOk result (λ r. (behind : PhasesLeft) × IsTakeoverNext (phases_of self.ahead) to (phases_of behind)
+            × IsLevelTaken B.tells (B.given self.parts.bank) (B.tape self.parts.bank) (B.tape r.parts.bank) (B.faults_of self.parts.bank) (B.faults_of r.parts.bank) who to behind self r) }
+        ensures closable { IfOk result (λ r. IsClosable r) }
+        ensures given { IfOk result (λ r. B.given r.parts.bank ≡ B.given self.parts.bank) }
+        ensures refused { IfErr result (λ e. IsUntouched B.tells (B.tape self.parts.bank) who e.1 self e.0) }
+        ensures caused { IfErr result (λ e. IsUntaken self.parts.members to e.1) }
+        ensures ends { IfErr result (λ e. MayEndSteps e.0 e.1) }
+        ensures left_still { IfErr result (λ e. is_reshaping e.0.parts.members.newest ≡ false) }
+    {
+        let Running {
+            alloc,
+            state,
+            window,
+        } = self;
+        let State::Still(still) = state else {
+            unreachable!()
+        };
+        let (still, behind) = phases_behind(still);
+        match take_level(still, who, to, behind) {
+            Ok(still) => {
+                let mut still = still;
+                check_still(&mut still);
+                let state = State::Still(still);
+                Ok(Running {
+                    alloc,
+                    state,
+                    window,
+                })
+            }
+            Err((still, refusal)) => {
+                let mut still = still;
+                check_still(&mut still);
+                let state = State::Still(still);
+                let running = Running {
+                    alloc,
+                    state,
+                    window,
+                };
+                Err((running, refusal))
+            }
+        }
+    }
+}

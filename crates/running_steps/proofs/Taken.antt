@@ -1,0 +1,176 @@
+-- A step by which the level is taken over, or can't be.
+use Rattle.std.proofs.Common.{◌≡◌, ◌⊎◌, inl, inr, ℕ, ◌+◌, ◌<◌, ◌++◌, Bool, true, false, List, [], ◌∷◌, refl, sym, ◌∙◌, ap, subst, arith}
+use Rattle.std.specs.Prelude.{IsTrue}
+use Rattle.std.specs.List.{All, list_any}
+use Rattle.std.proofs.lemmas.List.Elements.{All-nil, All-cons, All-weaker}
+use Rattle.md_base.specs.declared.answers.Refusal.{Refusal}
+use Rattle.md_base.specs.declared.answers.Who.{Who}
+use Rattle.md_base.specs.declared.places.Shape.{Shape}
+use Rattle.md_base.specs.declared.wishes.Phase.{Phase}
+use Rattle.md_base.specs.declared.wishes.Phase.TheVariants.{UpTo6, DownTo5}
+use Rattle.bank.specs.declared.bank.Operation.{Operation}
+use Rattle.bank.specs.Given.{Given, NeverFalls}
+use Rattle.superblocks.specs.declared.members.Members.{Members}
+use Rattle.superblocks.specs.Reading.{is_reshaping, list_length}
+use Rattle.superblocks.specs.Reads.{has_spare}
+use Rattle.flat_history.specs.declared.events.Entry.{Entry}
+use Rattle.flat_history.specs.declared.events.Event.{Event}
+use Rattle.flat_history.specs.declared.events.Event.TheVariants.{Step, Refused}
+use Rattle.flat_history.specs.declared.events.StepKind.TheVariants.{TakenOver}
+use Rattle.flat_history.specs.OneShape.{IsOfCall}
+use Rattle.flat_history.specs.Plain.{entries_of}
+use Rattle.flat_history.specs.Reshaped.{is_done}
+use Rattle.takeover_updates.specs.TakingOver.{taken_plan}
+use Rattle.takeover.specs.TakenOver.{IsTakeoverNext, IsUntaken, IsLevelTaken, IsUntouched, StaysItself}
+use Rattle.takeover.proofs.TakenFrom.{WasSpareOrHeld, plan-may, taken-roles, taken-spares}
+use Rattle.call_entries.specs.Losing.{losses_of}
+use Rattle.call_entries.proofs.PlainLaws.{one}
+use Rattle.views.proofs.MovedLaws.{grows-none}
+use Rattle.views.specs.Rebuilding.{Held}
+use Rattle.running.specs.array_kept_Calls.{IsLossBy, IsEndOf}
+use Rattle.running.proofs.array_kept_LossLaws.{behind-alone}
+use Rattle.grow_asked.specs.declared.window.PhasesLeft.{PhasesLeft}
+use Rattle.grow_asked.specs.Left.{phases_of}
+use Rattle.kept_history.specs.Recorded.{MayGoOn, IsCallGoing}
+use Rattle.running.specs.running_words_Parts.{RunningParts, still_left}
+use Rattle.running.specs.still_laws_Steps.{IsClosable}
+use Rattle.running.specs.turning_Begun.{is_resize, HasKeptLength}
+use Rattle.running.specs.running_replies_Replies.{EndsRunningSteps, IsRefusalBy, IsRefusalToldBy}
+use Rattle.running.specs.running_replies_Going.{is_finish, may_drop, MayBeDropped, AreHeldBehind, IsSameEpoch}
+use Rattle.running.specs.Calls.{running_left, MayEndSteps}
+use Rattle.running_steps.specs.Steps.{TellsLeft, IsStepDone, IsStepRefused}
+use Rattle.running_steps.proofs.Events.{EachOf, each-losses, each-own, any-none, count-one, IsNoStep, IsOfStep, of-goes, of-told, of-lengthless, of-unfinished, of-undone, of-unrefused, long-kept, going-more, kept-more}
+use Rattle.running_steps.proofs.Went.{held-same, losses-along}
+use Rattle.running_steps.proofs.Plain.{open-still, still-runs, fewer-as, plain-refused}
+
+epoch-taken : {B : Type 0} (old new : RunningParts B) → StaysItself old new → IsSameEpoch old new
+epoch-taken old new same = record { uuid = same.uuid; given = same.given; first = same.first; backup = same.backup }
+
+-- ---- it is done
+
+module _ {B : Type 0} (tells : Type 0) (given : B → Given) (tape : B → List Operation) (faults : B → ℕ → ℕ) (who : Who) (old new : RunningParts B) where
+  pub take-done : (to : Shape) (behind : PhasesLeft) → IsTakeoverNext (phases_of old.ahead) to (phases_of behind) → is_reshaping old.parts.members.newest ≡ false → HasKeptLength old.parts.entries who
+      → IsLevelTaken tells (given old.parts.bank) (tape old.parts.bank) (tape new.parts.bank) (faults old.parts.bank) (faults new.parts.bank) who to behind old new → given new.parts.bank ≡ given old.parts.bank
+      → IsClosable new → IsStepDone tells given tape faults who old new false
+  take-done to behind next still open_ was given_is closes = record {
+    inner = inner;
+    is = was.entered.is;
+    own = own;
+    told = All-weaker (λ e. IsOfCall who e × IsOfStep (running_left new) e.event) (λ e. TellsLeft (running_left new) e.event) (λ e is. of-told (running_left new) e.event is.1) inner so;
+    one = inl (count-one who end [] (Step TakenOver left) (losses_of roles spares) tt refl (each-losses IsNoStep (λ role. refl) (λ slot. refl) roles spares));
+    over_told = sym (any-none is_finish (IsOfStep (running_left new)) (of-unfinished (running_left new)) inner each);
+    left = λ none. fewer-as old.parts.entries new.parts.entries (still_left old.parts.work old.parts.members old.ahead) (still_left new.parts.work new.parts.members new.ahead) (running_left old) (running_left new)
+        (still-runs old still) runs was.left;
+    next_open = λ none some. open-still new who was.newest.still
+        (kept-more inner open_ was.entered.is own lengthless (any-none is_done (IsOfStep (running_left new)) (of-undone (running_left new) some) inner each));
+    going = going-more inner open_.goes was.entered.is own;
+    closable = λ none. closes;
+    went = record {
+      more = inner;
+      grown = was.entered.is;
+      sized = was.long ∙ sym (long-kept inner lengthless (list_length old.parts.members.newest));
+      held = record {
+        roles = λ role slot has. inl (taken-roles old.parts.members to was.slot was.chosen new.parts.members was.held role slot has);
+        spares = λ slot is. spared slot (taken-spares old.parts.members to was.slot was.chosen new.parts.members was.spares slot is);
+      };
+      losses = losses-along old.parts.members (faults old.parts.bank) (faults new.parts.bank) (Held (taken_plan old.parts.members to was.slot)) (plan-may old.parts.members to was.slot was.chosen) old.parts.entries new.parts.entries inner
+          was.entered.is was.losses;
+      refusals = record {
+        more = inner;
+        grown = was.entered.is;
+        told = All-weaker (λ e. IsOfStep (running_left new) e.event) (λ e. IsRefusalToldBy old.parts.backup (faults old.parts.bank) (faults new.parts.bank) e.event)
+            (λ e is. of-unrefused (running_left new) old.parts.backup (faults old.parts.bank) (faults new.parts.bank) e.event is) inner each;
+      };
+      grows = was.grows;
+      never_falls = was.never_falls;
+      given_is = given_is;
+      same = epoch-taken old new was.same;
+      active = λ none begun. was.newest.still;
+      ahead = λ none unplanned. absurd (ahead-some next none);
+    };
+    ended = was.ended;
+  }
+    where
+      end : ℕ
+      end = was.entered.end
+
+      roles : ℕ
+      roles = was.entered.roles
+
+      spares : ℕ
+      spares = was.entered.spares
+
+      left : ℕ
+      left = still_left new.parts.work new.parts.members new.ahead
+
+      events : List Event
+      events = Step TakenOver left ∷ losses_of roles spares
+
+      inner : List Entry
+      inner = entries_of who end events
+
+      runs : running_left new ≡ left
+      runs = still-runs new was.newest.still
+
+      of-step : EachOf (IsOfStep (running_left new)) events
+      of-step = (sym runs, each-losses (IsOfStep (running_left new)) (λ role. tt) (λ slot. tt) roles spares)
+
+      so : All (λ e. IsOfCall who e × IsOfStep (running_left new) e.event) inner
+      so = each-own (IsOfStep (running_left new)) who end events of-step
+
+      each : All (λ e. IsOfStep (running_left new) e.event) inner
+      each = All-weaker (λ e. IsOfCall who e × IsOfStep (running_left new) e.event) (λ e. IsOfStep (running_left new) e.event) (λ e is. is.1) inner so
+
+      own : All (λ e. IsOfCall who e × MayGoOn e.event) inner
+      own = All-weaker (λ e. IsOfCall who e × IsOfStep (running_left new) e.event) (λ e. IsOfCall who e × MayGoOn e.event) (λ e is. (is.0, of-goes (running_left new) e.event is.1)) inner so
+
+      lengthless : list_any (λ e. is_resize e.event) inner ≡ false
+      lengthless = any-none is_resize (IsOfStep (running_left new)) (of-lengthless (running_left new)) inner each
+
+      -- the slot of the role that is dropped is a spare
+      spared : (slot : ℕ) → WasSpareOrHeld old.parts.members slot → (has_spare old.parts.members.spares slot ≡ true) ⊎ MayBeDropped old.parts.members inner slot
+      spared slot (inl spare) = inl spare
+      spared slot (inr (role, held)) = inr (refl, role, held)
+
+      ahead-some : IsTakeoverNext (phases_of old.ahead) to (phases_of behind) → phases_of old.ahead ≡ [] → ⊥
+      ahead-some (inl up) none = absurd (let clash : ◌≡◌ {A = List Phase} [] (UpTo6 to ∷ phases_of behind) = sym none ∙ up in cc)
+      ahead-some (inr down) none = absurd (let clash : ◌≡◌ {A = List Phase} [] (DownTo5 to ∷ phases_of behind) = sym none ∙ down in cc)
+
+  -- ---- it isn't
+
+  take-ends : (to : Shape) (refusal : Refusal) → IsUntaken old.parts.members to refusal → EndsRunningSteps refusal
+  take-ends to refusal (inl (role, lowest, told)) = subst EndsRunningSteps (sym told) tt
+  take-ends to refusal (inr (whole, six, none, told)) = subst EndsRunningSteps (sym told) (omega arith)
+
+  take-cause : (before now : ℕ → ℕ) (to : Shape) (refusal : Refusal) → IsUntaken old.parts.members to refusal → IsRefusalBy old.parts.backup before now refusal
+  take-cause before now to refusal (inl (role, lowest, told)) = subst (IsRefusalBy old.parts.backup before now) (sym told) tt
+  take-cause before now to refusal (inr (whole, six, none, told)) = subst (IsRefusalBy old.parts.backup before now) (sym told) tt
+
+  pub take-refused : (to : Shape) (refusal : Refusal) → IsCallGoing old.parts.entries who → IsUntouched tells (tape old.parts.bank) who refusal old new → IsUntaken old.parts.members to refusal → MayEndSteps new refusal
+      → IsStepRefused tells given tape faults who old new refusal
+  take-refused to refusal goes back caused right =
+      plain-refused tells given tape faults who old new (Held old.parts.members) refusal
+      (record {
+        long = ap (λ (m : Members). list_length m.newest) back.members;
+        held = held-same old.parts.members new.parts.members back.members;
+        had = λ role slot has. inl has;
+        losses = record {
+          more = entries_of who back.end (Refused refusal ∷ []);
+          grown = back.entered;
+          failed = All-cons (λ e. IsLossBy (Held old.parts.members) (faults old.parts.bank) (faults new.parts.bank) e.event) (one who back.end (Refused refusal)) [] tt (All-nil (λ e. IsLossBy (Held old.parts.members) (faults old.parts.bank) (faults new.parts.bank) e.event));
+        };
+        grows = grows-none (λ t. ap tape back.bank);
+        never_falls = same-faults back.bank;
+        given_is = ap given back.bank;
+        epoch = epoch-taken old new back.same;
+        active = λ still. ap (λ (m : Members). is_reshaping m.newest) back.members ∙ still;
+        ahead = back.ahead;
+        ended = later back.bank back.ended;
+      })
+      (behind-alone who back.end (Refused refusal) refl back.entered) goes (take-ends to refusal caused) (take-cause (faults old.parts.bank) (faults new.parts.bank) to refusal caused) right
+    where
+      same-faults : new.parts.bank ≡ old.parts.bank → NeverFalls (faults old.parts.bank) (faults new.parts.bank)
+      same-faults same slot = let is = ap (λ (b : B). faults b slot) same in omega (arith, is)
+
+      later : new.parts.bank ≡ old.parts.bank → IsEndOf tells new.parts.first new.parts.entries (tape old.parts.bank) → IsEndOf tells new.parts.first new.parts.entries (tape new.parts.bank)
+      later same ended = subst (λ (l : List Operation). IsEndOf tells new.parts.first new.parts.entries l) (sym (ap tape same)) ended
