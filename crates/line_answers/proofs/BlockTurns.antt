@@ -24,7 +24,7 @@ use Rattle.run_laws.specs.array_kept_Calls.{IsEndOf}
 use Rattle.run_laws.specs.declared.states.State.TheVariants.{Running}
 use Rattle.run_laws.specs.running_calls_Entered.{IsOfNewCall}
 use Rattle.run_laws.specs.running_calls_Going.{is_added as is_told_added, MayHoldSince, MayBeNewSpare, AreHeldSince as AreHeldBy, AreLossesSince as AreLossesBy, HasGoneOn}
-use Rattle.run_laws.specs.running_replies_Going.{is_finish, MayBeDropped}
+use Rattle.run_laws.specs.running_replies_Going.{may_drop, MayBeDropped}
 use Rattle.run_laws.specs.running_words_Parts.{RunningParts}
 use Rattle.run_laws.specs.Asked.{IsSizedBy}
 use Rattle.run_laws.specs.Blocks.{IsOfBlock, IsBlockEntered}
@@ -60,14 +60,14 @@ module _ (world : World) (old done : List Entry) (members : Members) (since : Ar
   spare-more : (slot : ℕ) → IsSpareSince world old slot → IsSpareSince world (old ++ done) slot
   spare-more slot (inl first) = inl first
   spare-more slot (inr (inl told)) = inr (inl (told-before (λ e. is_added slot e.event) told))
-  spare-more slot (inr (inr (finished, had, held))) = inr (inr (told-before (λ e. is_finish e.event) finished, had, held))
+  spare-more slot (inr (inr (finished, had, held))) = inr (inr (told-before (λ e. may_drop e.event) finished, had, held))
 
   spare-since : (slot : ℕ) → MayBeNewSpare members done slot → IsSpareSince world (old ++ done) slot
   spare-since slot (inl told) = inr (inl (told-behind (λ e. is_added slot e.event) old done (sym (any-added slot done) ∙ told)))
   spare-since slot (inr (finished, had, held)) = of (held-more world old done had slot (since.roles had slot held))
     where
       of : MayHaveHeld world (old ++ done) had slot → IsSpareSince world (old ++ done) slot
-      of (inl first) = inr (inr (told-behind (λ e. is_finish e.event) old done finished, had, first))
+      of (inl first) = inr (inr (told-behind (λ e. may_drop e.event) old done finished, had, first))
       of (inr spare) = spare
 
   held-since : (role slot : ℕ) → MayHoldSince members done role slot → MayHaveHeld world (old ++ done) role slot

@@ -3,7 +3,7 @@ use Rattle.std.proofs.Common.{◌≡◌, ◌≢◌, ◌⊎◌, inl, inr, ℕ, �
 use Rattle.std.proofs.Math.Seq.{drop-append_seam}
 use Rattle.std.proofs.lemmas.Bool.Decides.{nat_tests}
 use Rattle.std.proofs.lemmas.List.Elements.{All-nil, All-cons, All-head, All-tail, All-weaker}
-use Rattle.std.specs.Prelude.{IsTrue, IsFalse, ⊤}
+use Rattle.std.specs.Prelude.{IsTrue, IsFalse, ⊤, nat_le, nat_lt, ◌&&◌}
 use Rattle.std.specs.List.{All, AllPass}
 use Rattle.bank.specs.declared.bank.Operation.{Operation}
 use Rattle.bank.specs.Given.{Given}
@@ -17,7 +17,7 @@ use Rattle.md_base.proofs.Tabulated.{length-tabulate}
 use Rattle.script.specs.declared.lines.Line.{Line}
 use Rattle.script.specs.declared.lines.Numbered.{Numbered}
 use Rattle.script.specs.declared.lines.Line.TheVariants.{Create, Read, Write, Flush, Fail, Add, Step, Wait, ArraySize, Grow, Stop, Halt, Detail, Mdstat, Examine, Assemble}
-use Rattle.script.specs.Grammar.{is_for_lanes}
+use Rattle.script.specs.Grammar.{is_span, is_for_lanes}
 use Rattle.script.specs.Script.{is_within_limits}
 use Rattle.script.specs.Seeds.{seeded, seed_sector}
 use Rattle.lane_blocks.specs.Blocks.{HasRun, HasWorkedBy}
@@ -56,14 +56,32 @@ plain-steps [] = All-nil IsPlain
 plain-steps (turn ∷ turns) = All-cons IsPlain (AsksSteps turn.0) (map (λ t. AsksSteps t.0) turns) tt (plain-steps turns)
 
 -- each can be answered
+three : (a b c : Bool) → (a && b && c) ≡ true → (a ≡ true) × (b ≡ true) × (c ≡ true)
+three true true true is = (refl, refl, refl)
+three true true false is = absurd (cc)
+three true false c is = absurd (cc)
+three false b c is = absurd (cc)
+
+spanned : (at count : ℕ) → is_span (at, count) ≡ true → (1 ≤ count) × (count ≤ 128) × (at + count < 2 ^ 63)
+spanned at count is =
+    let parts = three (nat_le 1 count) (nat_le count 128) (nat_lt (at + count) (2 ^ 63)) is in
+    (low count parts.0, high count parts.1, under (at + count) parts.2)
+  where
+    low : (n : ℕ) → nat_le 1 n ≡ true → 1 ≤ n
+    low n is = grind (arith, nat_tests, is)
+
+    high : (n : ℕ) → nat_le n 128 ≡ true → n ≤ 128
+    high n is = grind (arith, nat_tests, is)
+
+    under : (n : ℕ) → nat_lt n (2 ^ 63) ≡ true → n < 2 ^ 63
+    under n is = grind (arith, nat_tests, is)
+
 askable : (line : Line) → is_within_limits line ≡ true → is_for_lanes line ≡ true → IsAskable (request_of line)
-askable (Read at count) within lane = grind (arith, nat_tests, within)
+askable (Read at count) within lane = spanned at count within
 askable (Write at count seed) within lane =
     let long = length-tabulate count (λ k. seed_sector seed (at + k)) in
-    let low : 1 ≤ count = grind (arith, nat_tests, within) in
-    let high : count ≤ 128 = grind (arith, nat_tests, within) in
-    let end : at + count < 2 ^ 63 = grind (arith, nat_tests, within) in
-    (omega (arith, long, low), omega (arith, long, high), omega (arith, long, end))
+    let is = spanned at count within in
+    (omega (arith, long, is.0), omega (arith, long, is.1), omega (arith, long, is.2))
 askable (Fail role) within lane = tt
 askable Flush within lane = tt
 askable line within lane = absurd (cc)
@@ -171,15 +189,15 @@ of-block (e ∷ more) none =
     is-so : (c d : ℕ) → (c == d) ≡ true → c ≡ d
     is-so c d is = grind (arith, nat_tests, is)
 
-    isn't : (c d : ℕ) → (c == d) ≡ false → c ≢ d
-    isn't c d is same = absurd (let both : (c == d) ≡ true = grind (arith, nat_tests, same) in let clash : true ≡ false = sym both ∙ is in cc)
+    not-so : (c d : ℕ) → (c == d) ≡ false → c ≢ d
+    not-so c d is same = absurd (let both : (c == d) ≡ true = grind (arith, nat_tests, same) in let clash : true ≡ false = sym both ∙ is in cc)
 
     by : (a : Bool) → (e.caller == 1) ≡ a → (b : Bool) → (e.caller == 2) ≡ b → (c : Bool) → (e.caller == 255) ≡ c → IsOfBlock e.caller
     by true is b second c third = inl (is-so e.caller 1 is)
     by false is true second c third = inr (inl (is-so e.caller 2 second))
     by false is false second true third = inr (inr (is-so e.caller 255 third))
     by false is false second false third =
-        absurd (All-head (λ x. x.caller ≢ e.caller) e more (none e.caller (isn't e.caller 1 is) (isn't e.caller 2 second) (isn't e.caller 255 third)) refl)
+        absurd (All-head (λ x. x.caller ≢ e.caller) e more (none e.caller (not-so e.caller 1 is) (not-so e.caller 2 second) (not-so e.caller 255 third)) refl)
 
 module _ {B : Type 0} {tells : Type 0} {given : B → Given} {tape : B → List Operation} {faults : B → ℕ → ℕ} (start now : RunningParts B) (entered : HasEntered start now)
     (others : (caller : ℕ) → caller ≢ 1 → caller ≢ 2 → caller ≢ 255 → HasMade tells given tape faults start now caller []) where

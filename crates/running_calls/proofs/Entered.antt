@@ -175,7 +175,7 @@ module _ {B : Type 0} (tells : Type 0) (given : B → Given) (tape : B → List 
         (turned (one who shown.end event ∷ []) shown.is (All-cons TellsSome (one who shown.end event) [] (ap none_left shown.event_is) (All-nil TellsSome)))
 
     module _ (request : Request) (answered : IsAnsweredWith (list_length old.parts.members.newest) request who old.parts.entries new.parts.entries event) where
-      before : List Entry
+      abbrev before : List Entry
       before = old.parts.entries ++ answered.inner
 
       goes : GoesOn event
