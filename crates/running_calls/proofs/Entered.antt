@@ -62,25 +62,33 @@ module _ {B : Type 0} where
     turning = λ was. was;
   }
 
+  pub none-more : (array : RunningParts B) → (entered-none array).more ≡ []
+  unfolding entered-none
+  none-more array = refl
+
   pub entered-same : (old new : RunningParts B) → new ≡ old → HasEntered old new
   entered-same old new same = subst (λ (a : RunningParts B). HasEntered old a) (sym same) (entered-none old)
 
   pub entered-then : (old mid new : RunningParts B) → HasEntered old mid → HasEntered mid new → HasEntered old new
-  entered-then old mid new one two = record {
-    more = one.more ++ two.more;
-    grown = two.grown ∙ ap (λ (l : List Entry). l ++ two.more) one.grown ∙ append_assoc old.parts.entries one.more two.more;
-    calls = All-append (IsOfNewCall old.parts.entries new.parts.entries) one.more two.more
-        (All-weaker (IsOfNewCall old.parts.entries mid.parts.entries) (IsOfNewCall old.parts.entries new.parts.entries) (λ e is. earlier e is) one.more one.calls)
-        (All-weaker (IsOfNewCall mid.parts.entries new.parts.entries) (IsOfNewCall old.parts.entries new.parts.entries) (λ e is. later e is) two.more two.calls);
-    going = All-append (λ e. GoesOn e.event) one.more two.more one.going two.going;
-    turning = λ was. two.turning (one.turning was);
+  entered-then old mid new first second = record {
+    more = first.more ++ second.more;
+    grown = second.grown ∙ ap (λ (l : List Entry). l ++ second.more) first.grown ∙ append_assoc old.parts.entries first.more second.more;
+    calls = All-append (IsOfNewCall old.parts.entries new.parts.entries) first.more second.more
+        (All-weaker (IsOfNewCall old.parts.entries mid.parts.entries) (IsOfNewCall old.parts.entries new.parts.entries) (λ e is. earlier e is) first.more first.calls)
+        (All-weaker (IsOfNewCall mid.parts.entries new.parts.entries) (IsOfNewCall old.parts.entries new.parts.entries) (λ e is. later e is) second.more second.calls);
+    going = All-append (λ e. GoesOn e.event) first.more second.more first.going second.going;
+    turning = λ was. second.turning (first.turning was);
   }
     where
       earlier : (e : Entry) → IsOfNewCall old.parts.entries mid.parts.entries e → IsOfNewCall old.parts.entries new.parts.entries e
-      earlier e is = let rises = never-falls e.caller mid.parts.entries two.more new.parts.entries two.grown two.calls in (is.0, omega (arith, is.1, rises))
+      earlier e is = let rises = never-falls e.caller mid.parts.entries second.more new.parts.entries second.grown second.calls in (is.0, omega (arith, is.1, rises))
 
       later : (e : Entry) → IsOfNewCall mid.parts.entries new.parts.entries e → IsOfNewCall old.parts.entries new.parts.entries e
-      later e is = let rises = never-falls e.caller old.parts.entries one.more mid.parts.entries one.grown one.calls in (omega (arith, is.0, rises), is.1)
+      later e is = let rises = never-falls e.caller old.parts.entries first.more mid.parts.entries first.grown first.calls in (omega (arith, is.0, rises), is.1)
+
+  pub then-more : (old mid new : RunningParts B) (first : HasEntered old mid) (second : HasEntered mid new) → (entered-then old mid new first second).more ≡ first.more ++ second.more
+  unfolding entered-then
+  then-more old mid new first second = refl
 
 -- ---- one call
 
