@@ -1,19 +1,18 @@
 -- What a call enters, by how it was answered.
-use Rattle.std.proofs.Common.{◌≡◌, ℕ, ◌+◌, ◌≤◌, ◌==◌, Bool, true, false, Option, Some, List, [], ◌∷◌, ◌++◌, length, drop, refl, sym, ◌∙◌, ap, subst, arith, append_assoc, append-nil, fold, ◌<◌, eq-eqb}
+use Rattle.std.proofs.Common.{◌≡◌, ℕ, ◌+◌, ◌≤◌, ◌==◌, Bool, true, false, List, [], ◌∷◌, ◌++◌, length, drop, refl, sym, ◌∙◌, ap, subst, arith, append_assoc, append-nil, fold, eq-eqb}
 use Rattle.std.proofs.Math.Seq.{drop-append_seam}
 use Rattle.std.proofs.lemmas.Bool.Decides.{nat_tests}
 use Rattle.std.proofs.lemmas.List.Elements.{All-nil, All-cons, All-append, All-push, All-weaker, All-head, All-tail}
 use Rattle.std.proofs.lemmas.List.Sums.{fold-append}
 use Rattle.std.specs.Prelude.{if◌then◌else◌}
 use Rattle.std.specs.List.{All, list_any}
-use Rattle.md_base.specs.declared.answers.Refusal.{Refusal}
 use Rattle.md_base.specs.declared.answers.Who.{Who}
 use Rattle.bank.specs.declared.bank.Operation.{Operation}
 use Rattle.bank.specs.Given.{Given}
-use Rattle.superblocks.specs.Reading.{is_reshaping, list_length}
+use Rattle.superblocks.specs.Reading.{list_length}
 use Rattle.flat_history.specs.declared.events.Entry.{Entry}
 use Rattle.flat_history.specs.declared.events.Event.{Event}
-use Rattle.flat_history.specs.declared.events.Event.TheVariants.{Stepped, Stopped, Halted, Shown}
+use Rattle.flat_history.specs.declared.events.Event.TheVariants.{Stepped, Stopped, Halted}
 use Rattle.flat_history.specs.declared.events.Request.{Request}
 use Rattle.flat_history.specs.declared.events.Request.TheVariants.{Read as AsksRead, Write as AsksWrite, Flush as AsksFlush, Fail as AsksFail, Add as AsksAdd, Visible as AsksVisible, Grow as AsksGrow, Steps as AsksSteps, Show as AsksShow}
 use Rattle.flat_history.specs.Flat.{next_number, number_after}
@@ -21,7 +20,6 @@ use Rattle.flat_history.specs.Legal.{MayBeInner, call_before}
 use Rattle.flat_history.specs.OneShape.{IsOfCall}
 use Rattle.flat_history.specs.Reshaped.{is_planned}
 use Rattle.call_entries.proofs.PlainLaws.{one}
-use Rattle.grow_asked.specs.Left.{phases_of}
 use Rattle.openings.specs.running_Calls.{running_left}
 use Rattle.openings.specs.running_replies_Going.{is_begin, HasNoReshape}
 use Rattle.openings.specs.running_replies_Replies.{RunningAnswers, IsAnsweredWith}
@@ -30,7 +28,7 @@ use Rattle.openings.specs.running_words_Parts.{RunningParts}
 use Rattle.running_calls.specs.Entered.{GoesOn, IsOfNewCall, TellsTurning, HasEntered, RestsBehind}
 use Rattle.running_calls.specs.Going.{HasGoneOn}
 use Rattle.running_calls.specs.Replies.{IsShownBy, IsPerformed, IsCountedBy}
-use Rattle.running_calls.specs.Turning.{may_be_active, may_be_ahead, IsTurningTold}
+use Rattle.running_calls.specs.Turning.{may_be_active, may_be_ahead}
 use Rattle.running_calls.proofs.Turned.{none_left, TellsSome, active-before, ahead-before, active-unbegun, ahead-unplanned, inside-some}
 
 -- ---- one after another
