@@ -51,7 +51,7 @@ added-same slot event = refl
 
 any-added : (slot : ℕ) (entries : List Entry) → list_any (λ e. is_told_added slot e.event) entries ≡ list_any (λ e. is_added slot e.event) entries
 any-added slot [] = refl
-any-added slot (e ∷ entries) i = added-same slot e.event i || any-added slot entries i
+any-added slot (e ∷ entries) = λ i. added-same slot e.event i || any-added slot entries i
 
 module _ (world : World) (old done : List Entry) (members : Members) (since : AreHeldSince world old members) where
   told-before : (passes : Entry → Bool) → IsTrue (list_any passes old) → IsTrue (list_any passes (old ++ done))

@@ -93,9 +93,9 @@ pub called_new : {old new : List Entry} (called : HasCalled old new) → All (Is
 called_new {old = old} {new = new} called =
     All-weaker (λ e. IsCalledBetween (next_number 0 old) (next_number 0 new) e) (IsOfNewCall old new)
     (λ e is.
-        let low = ap (λ (c : ℕ). next_number c old) is.0 in
-        let high = ap (λ (c : ℕ). next_number c new) is.0 in
-        (omega (arith, is.1, low), omega (arith, is.2, high)))
+    let low = ap (λ (c : ℕ). next_number c old) is.0 in
+    let high = ap (λ (c : ℕ). next_number c new) is.0 in
+    (omega (arith, is.1, low), omega (arith, is.2, high)))
     called.more called.calls
 
 called_callers : {old new : List Entry} (called : HasCalled old new) → All (λ e. IsCaller e.caller) called.more

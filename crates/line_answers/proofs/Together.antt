@@ -1,9 +1,9 @@
 -- A block of lanes that was asked, by what its lanes and its worker were answered.
-use Rattle.std.proofs.Common.{◌≡◌, ◌≢◌, ◌⊎◌, inl, inr, ℕ, ◌+◌, ◌<◌, ◌≤◌, ◌==◌, ◌^◌, Bool, true, false, Option, Some, None, List, [], ◌∷◌, ◌++◌, length, map, take, drop, slice_get, MatchOption, refl, sym, ◌∙◌, ap, subst, arith, append-nil}
+use Rattle.std.proofs.Common.{◌≡◌, ◌≢◌, inl, inr, ℕ, ◌+◌, ◌<◌, ◌≤◌, ◌==◌, ◌^◌, Bool, true, false, Option, Some, None, List, [], ◌∷◌, length, map, take, drop, slice_get, MatchOption, refl, sym, ◌∙◌, ap, subst, arith, append-nil}
 use Rattle.std.proofs.Math.Seq.{drop-append_seam}
 use Rattle.std.proofs.lemmas.Bool.Decides.{nat_tests}
 use Rattle.std.proofs.lemmas.List.Elements.{All-nil, All-cons, All-head, All-tail, All-weaker}
-use Rattle.std.specs.Prelude.{IsTrue, IsFalse, ⊤, nat_le, nat_lt, ◌&&◌}
+use Rattle.std.specs.Prelude.{IsFalse, ⊤, nat_le, nat_lt, ◌&&◌}
 use Rattle.std.specs.List.{All, AllPass}
 use Rattle.bank.specs.declared.bank.Operation.{Operation}
 use Rattle.bank.specs.Given.{Given}
@@ -16,15 +16,15 @@ use Rattle.flat_history.specs.Flat.{next_number}
 use Rattle.md_base.proofs.Tabulated.{length-tabulate}
 use Rattle.script.specs.declared.lines.Line.{Line}
 use Rattle.script.specs.declared.lines.Numbered.{Numbered}
-use Rattle.script.specs.declared.lines.Line.TheVariants.{Create, Read, Write, Flush, Fail, Add, Step, Wait, ArraySize, Grow, Stop, Halt, Detail, Mdstat, Examine, Assemble}
+use Rattle.script.specs.declared.lines.Line.TheVariants.{Read, Write, Flush, Fail}
 use Rattle.script.specs.Grammar.{is_span, is_for_lanes}
 use Rattle.script.specs.Script.{is_within_limits}
-use Rattle.script.specs.Seeds.{seeded, seed_sector}
+use Rattle.script.specs.Seeds.{seed_sector}
 use Rattle.lane_blocks.specs.Blocks.{HasRun, HasWorkedBy}
 use Rattle.lane_blocks.specs.lanes_Lane.{AreOneEach, StandsIn, done_of}
 use Rattle.lane_blocks.specs.lanes_the_Worked.{Worked}
 use Rattle.lane_blocks.specs.seen_laws_Callers.{IsReplyTo, AreReplied, IsLastOf, AreNumbered}
-use Rattle.lane_blocks.specs.shared_lanes_Serving.{most_entries, sectors_of, HasMade}
+use Rattle.lane_blocks.specs.shared_lanes_Serving.{sectors_of, HasMade}
 use Rattle.run_laws.specs.running_calls_Entered.{GoesOn, IsOfNewCall, HasEntered}
 use Rattle.run_laws.specs.running_calls_Replies.{IsAskable}
 use Rattle.run_laws.specs.running_calls_the_Reply.{Reply}
@@ -32,7 +32,7 @@ use Rattle.run_laws.specs.running_calls_the_Reply_TheVariants.{Done, NoMemory as
 use Rattle.run_laws.specs.running_replies_Replies.{RunningFits}
 use Rattle.run_laws.specs.running_words_Parts.{RunningParts}
 use Rattle.run_laws.specs.Blocks.{is_allowed, is_in_lane, request_of, requests_in, IsCallersReply, AreCallersReplies, calls_told, HasRunLane, IsOfBlock, IsBlockEntered}
-use Rattle.run_laws.specs.Histories.{is_end, AreGoing}
+use Rattle.run_laws.specs.Histories.{is_end}
 
 -- ---- what a lane asks
 

@@ -77,11 +77,7 @@ fn requests_of(alloc: Global, lines: &[Numbered]) -> Result<Vec<Request>, AllocE
 /// Asks a block of an array: the lines of lane a, as caller 1, those of lane b, as caller 2, and a worker, as caller 255, which asks for
 /// steps as many at a time as the pace answers. All three run at once, in threads; it may wait. A lane stops behind a line for which memory
 /// was short. `NoMemory`: memory was short for all of the replies.
-pub fn ask_together<
-    B: Bank + Drop + Send,
-    F: Fn(u64, u64) -> u64 + Sync,
-    R: Threads + Wait + Sync,
->(
+pub fn ask_together<B: Bank + Drop + Send, F: Fn(u64, u64) -> u64 + Sync, R: Threads + Wait + Sync>(
     rt: &R,
     alloc: Global,
     array: Running<B>,

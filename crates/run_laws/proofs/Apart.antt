@@ -1,5 +1,5 @@
 -- Later calls go on with none of the former ones.
-use Rattle.std.proofs.Common.{◌≡◌, ◌≢◌, ◌⊎◌, inl, inr, ℕ, ◌<◌, ◌≤◌, ◌==◌, ◌&&◌, Bool, true, false, List, [], ◌∷◌, ◌++◌, refl, sym, ◌∙◌, ap, subst, arith, ne_eqb}
+use Rattle.std.proofs.Common.{◌≡◌, inl, inr, ℕ, ◌<◌, ◌==◌, ◌&&◌, Bool, true, false, List, [], ◌∷◌, ◌++◌, refl, sym, ◌∙◌, ap, subst, arith, ne_eqb}
 use Rattle.std.proofs.lemmas.Bool.Decides.{nat_tests}
 use Rattle.std.proofs.lemmas.List.Elements.{All-nil, All-cons, All-append, All-head, All-tail, All-weaker}
 use Rattle.std.specs.Prelude.{if◌then◌else◌}
@@ -8,7 +8,7 @@ use Rattle.flat_history.specs.declared.events.Entry.{Entry}
 use Rattle.flat_history.specs.Flat.{is_same_call, rest_of_call, next_number}
 use Rattle.running_calls.specs.Entered.{IsOfNewCall}
 use Rattle.running_calls.proofs.Entered.{never-falls}
-use Rattle.run_laws.specs.States.{IsCaller, IsAbsence, IsOwnEntry, AreByScript}
+use Rattle.run_laws.specs.States.{IsCaller, IsOwnEntry, AreByScript}
 
 is-so : (c d : ℕ) → (c == d) ≡ true → c ≡ d
 is-so c d is = grind (arith, nat_tests, is)

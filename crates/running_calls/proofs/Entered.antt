@@ -1,19 +1,18 @@
 -- What a call enters, by how it was answered.
-use Rattle.std.proofs.Common.{◌≡◌, ℕ, ◌+◌, ◌≤◌, ◌==◌, Bool, true, false, Option, Some, List, [], ◌∷◌, ◌++◌, length, drop, refl, sym, ◌∙◌, ap, subst, arith, append_assoc, append-nil, fold, ◌<◌, eq-eqb}
+use Rattle.std.proofs.Common.{◌≡◌, ℕ, ◌+◌, ◌≤◌, ◌==◌, Bool, true, false, List, [], ◌∷◌, ◌++◌, length, drop, refl, sym, ◌∙◌, ap, subst, arith, append_assoc, append-nil, fold, eq-eqb}
 use Rattle.std.proofs.Math.Seq.{drop-append_seam}
 use Rattle.std.proofs.lemmas.Bool.Decides.{nat_tests}
 use Rattle.std.proofs.lemmas.List.Elements.{All-nil, All-cons, All-append, All-push, All-weaker, All-head, All-tail}
 use Rattle.std.proofs.lemmas.List.Sums.{fold-append}
 use Rattle.std.specs.Prelude.{if◌then◌else◌}
 use Rattle.std.specs.List.{All, list_any}
-use Rattle.md_base.specs.declared.answers.Refusal.{Refusal}
 use Rattle.md_base.specs.declared.answers.Who.{Who}
 use Rattle.bank.specs.declared.bank.Operation.{Operation}
 use Rattle.bank.specs.Given.{Given}
-use Rattle.superblocks.specs.Reading.{is_reshaping, list_length}
+use Rattle.superblocks.specs.Reading.{list_length}
 use Rattle.flat_history.specs.declared.events.Entry.{Entry}
 use Rattle.flat_history.specs.declared.events.Event.{Event}
-use Rattle.flat_history.specs.declared.events.Event.TheVariants.{Stepped, Stopped, Halted, Shown}
+use Rattle.flat_history.specs.declared.events.Event.TheVariants.{Stepped, Stopped, Halted}
 use Rattle.flat_history.specs.declared.events.Request.{Request}
 use Rattle.flat_history.specs.declared.events.Request.TheVariants.{Read as AsksRead, Write as AsksWrite, Flush as AsksFlush, Fail as AsksFail, Add as AsksAdd, Visible as AsksVisible, Grow as AsksGrow, Steps as AsksSteps, Show as AsksShow}
 use Rattle.flat_history.specs.Flat.{next_number, number_after}
@@ -21,7 +20,6 @@ use Rattle.flat_history.specs.Legal.{MayBeInner, call_before}
 use Rattle.flat_history.specs.OneShape.{IsOfCall}
 use Rattle.flat_history.specs.Reshaped.{is_planned}
 use Rattle.call_entries.proofs.PlainLaws.{one}
-use Rattle.grow_asked.specs.Left.{phases_of}
 use Rattle.openings.specs.running_Calls.{running_left}
 use Rattle.openings.specs.running_replies_Going.{is_begin, HasNoReshape}
 use Rattle.openings.specs.running_replies_Replies.{RunningAnswers, IsAnsweredWith}
@@ -30,7 +28,7 @@ use Rattle.openings.specs.running_words_Parts.{RunningParts}
 use Rattle.running_calls.specs.Entered.{GoesOn, IsOfNewCall, TellsTurning, HasEntered, RestsBehind}
 use Rattle.running_calls.specs.Going.{HasGoneOn}
 use Rattle.running_calls.specs.Replies.{IsShownBy, IsPerformed, IsCountedBy}
-use Rattle.running_calls.specs.Turning.{may_be_active, may_be_ahead, IsTurningTold}
+use Rattle.running_calls.specs.Turning.{may_be_active, may_be_ahead}
 use Rattle.running_calls.proofs.Turned.{none_left, TellsSome, active-before, ahead-before, active-unbegun, ahead-unplanned, inside-some}
 
 -- ---- one after another
@@ -62,25 +60,33 @@ module _ {B : Type 0} where
     turning = λ was. was;
   }
 
+  pub none-more : (array : RunningParts B) → (entered-none array).more ≡ []
+  unfolding entered-none
+  none-more array = refl
+
   pub entered-same : (old new : RunningParts B) → new ≡ old → HasEntered old new
   entered-same old new same = subst (λ (a : RunningParts B). HasEntered old a) (sym same) (entered-none old)
 
   pub entered-then : (old mid new : RunningParts B) → HasEntered old mid → HasEntered mid new → HasEntered old new
-  entered-then old mid new one two = record {
-    more = one.more ++ two.more;
-    grown = two.grown ∙ ap (λ (l : List Entry). l ++ two.more) one.grown ∙ append_assoc old.parts.entries one.more two.more;
-    calls = All-append (IsOfNewCall old.parts.entries new.parts.entries) one.more two.more
-        (All-weaker (IsOfNewCall old.parts.entries mid.parts.entries) (IsOfNewCall old.parts.entries new.parts.entries) (λ e is. earlier e is) one.more one.calls)
-        (All-weaker (IsOfNewCall mid.parts.entries new.parts.entries) (IsOfNewCall old.parts.entries new.parts.entries) (λ e is. later e is) two.more two.calls);
-    going = All-append (λ e. GoesOn e.event) one.more two.more one.going two.going;
-    turning = λ was. two.turning (one.turning was);
+  entered-then old mid new first second = record {
+    more = first.more ++ second.more;
+    grown = second.grown ∙ ap (λ (l : List Entry). l ++ second.more) first.grown ∙ append_assoc old.parts.entries first.more second.more;
+    calls = All-append (IsOfNewCall old.parts.entries new.parts.entries) first.more second.more
+        (All-weaker (IsOfNewCall old.parts.entries mid.parts.entries) (IsOfNewCall old.parts.entries new.parts.entries) (λ e is. earlier e is) first.more first.calls)
+        (All-weaker (IsOfNewCall mid.parts.entries new.parts.entries) (IsOfNewCall old.parts.entries new.parts.entries) (λ e is. later e is) second.more second.calls);
+    going = All-append (λ e. GoesOn e.event) first.more second.more first.going second.going;
+    turning = λ was. second.turning (first.turning was);
   }
     where
       earlier : (e : Entry) → IsOfNewCall old.parts.entries mid.parts.entries e → IsOfNewCall old.parts.entries new.parts.entries e
-      earlier e is = let rises = never-falls e.caller mid.parts.entries two.more new.parts.entries two.grown two.calls in (is.0, omega (arith, is.1, rises))
+      earlier e is = let rises = never-falls e.caller mid.parts.entries second.more new.parts.entries second.grown second.calls in (is.0, omega (arith, is.1, rises))
 
       later : (e : Entry) → IsOfNewCall mid.parts.entries new.parts.entries e → IsOfNewCall old.parts.entries new.parts.entries e
-      later e is = let rises = never-falls e.caller old.parts.entries one.more mid.parts.entries one.grown one.calls in (omega (arith, is.0, rises), is.1)
+      later e is = let rises = never-falls e.caller old.parts.entries first.more mid.parts.entries first.grown first.calls in (omega (arith, is.0, rises), is.1)
+
+  pub then-more : (old mid new : RunningParts B) (first : HasEntered old mid) (second : HasEntered mid new) → (entered-then old mid new first second).more ≡ first.more ++ second.more
+  unfolding entered-then
+  then-more old mid new first second = refl
 
 -- ---- one call
 

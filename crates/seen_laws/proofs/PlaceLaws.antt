@@ -214,7 +214,7 @@ still-numbered who caller number old call (request ∷ requests) own apart are =
           at.0,
           at.1,
           ap (λ (l : List Entry). rest_of_call e l) (drop-append-le (request.1 + 1) old call (omega (arith, within)))
-          ∙ rest-on e (drop (request.1 + 1) old) call at.2 (call-parts who e call own (before e at.0 at.1 apart)),
+              ∙ rest-on e (drop (request.1 + 1) old) call at.2 (call-parts who e call own (before e at.0 at.1 apart)),
         )
 
 numbered-more : (caller number : ℕ) (entries : List Entry) (requests : List (Request × ℕ)) (request : Request) (place : ℕ) → AreNumbered caller number entries requests
@@ -224,7 +224,7 @@ numbered-more caller number entries [] request place are last =
 numbered-more caller number entries (r ∷ requests) request place are last = (
   are.0,
   numbered-more caller (number + 1) entries requests request place are.1
-  (subst (λ (n : ℕ). MatchOption (slice_get entries place) ⊥ (λ e. IsLastOf caller n (drop (place + 1) entries) e)) (omega arith) last),
+      (subst (λ (n : ℕ). MatchOption (slice_get entries place) ⊥ (λ e. IsLastOf caller n (drop (place + 1) entries) e)) (omega arith) last),
 )
 
 -- ---- one call more

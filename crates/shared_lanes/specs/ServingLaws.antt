@@ -26,7 +26,7 @@ use Rattle.running_calls.specs.running_Calls.{IsShownAs as IsShownOf}
 use Rattle.running_calls.specs.Going.{HasGoneOn}
 use Rattle.running_calls.specs.Replies.{TellsSizes, IsPerformed}
 use Rattle.running_calls.proofs.Sizes.{length-since, fits-since}
-use Rattle.running_calls.proofs.Entered.{entered-none, entered-then}
+use Rattle.running_calls.proofs.Entered.{entered-none, none-more, entered-then, then-more}
 use Rattle.running_calls.proofs.GoneOn.{gone-none, gone-then}
 use Rattle.lanes.specs.running_calls_the_Reply.{Reply}
 use Rattle.lanes.specs.running_calls_the_Reply_TheVariants.{Done, NoMemory as Short}
@@ -191,7 +191,7 @@ module _ {B : Type 0} {tells : Type 0} {given : B → Given} {tape : B → List 
   own start x y caller request reply mine served made = record {
     went = gone-then tells given tape faults start x y made.went served.went;
     entered = entered-then start x y made.entered served.entered;
-    silent = λ none. absurd (some mine none);
+    silent = λ none. absurd (some mine (record { request = request; at = size_of y - 1 }) none);
     called = λ few.
         let more = longer x y caller request reply served in
         let before : length x.parts.entries ≤ most_entries = omega (arith, more, few) in
@@ -203,9 +203,9 @@ module _ {B : Type 0} {tells : Type 0} {given : B → Given} {tape : B → List 
         (served-called (sectors_of start) x y caller request reply (sized-since start x made.went served.sizes) served) (requests_of mine) (made.called before));
   }
     where
-      some : (calls : List (Call Request)) {call : Call Request} → calls ++ call ∷ [] ≡ [] → ⊥
-      some [] none = cc
-      some (first ∷ calls) none = cc
+      some : (calls : List (Call Request)) (call : Call Request) → calls ++ call ∷ [] ≡ [] → ⊥
+      some [] call none = cc
+      some (first ∷ calls) call none = cc
 
   others : (start x y : RunningParts B) (caller other : ℕ) (request : Request) (reply : Reply) (mine : List (Call Request))
       → IsServed tells given tape faults x y caller request reply
@@ -213,8 +213,9 @@ module _ {B : Type 0} {tells : Type 0} {given : B → Given} {tape : B → List 
   others start x y caller other request reply mine served ne made = record {
     went = gone-then tells given tape faults start x y made.went served.went;
     entered = entered-then start x y made.entered served.entered;
-    silent = λ none. All-append (λ e. e.caller ≢ other) made.entered.more served.entered.more (made.silent none)
-        (All-weaker (λ e. e.caller ≡ caller) (λ e. e.caller ≢ other) (λ e is same. ne (sym same ∙ is)) served.entered.more (callers x y caller request reply served));
+    silent = λ none. subst (λ (l : List Entry). All (λ e. e.caller ≢ other) l) (sym (then-more start x y made.entered served.entered))
+        (All-append (λ e. e.caller ≢ other) made.entered.more served.entered.more (made.silent none)
+        (All-weaker (λ e. e.caller ≡ caller) (λ e. e.caller ≢ other) (λ e is same. ne (sym same ∙ is)) served.entered.more (callers x y caller request reply served)));
     called = λ few.
         let more = longer x y caller request reply served in
         let before : length x.parts.entries ≤ most_entries = omega (arith, more, few) in
@@ -235,7 +236,7 @@ array_lawful tells given tape faults = record {
   none = λ x caller sound. record {
     went = gone-none tells given tape faults x;
     entered = entered-none x;
-    silent = λ none. All-nil (λ e. e.caller ≢ caller);
+    silent = λ none. subst (λ (l : List Entry). All (λ e. e.caller ≢ caller) l) (sym (none-more x)) (All-nil (λ e. e.caller ≢ caller));
     called = λ few. none-has_called (sectors_of x) x.parts.entries caller;
   };
   own = λ start x y caller request reply mine sound begins served made. own start x y caller request reply mine served made;
