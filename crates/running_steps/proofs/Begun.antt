@@ -156,7 +156,7 @@ module _ {B : Type 0} (tells : Type 0) (given : B → Given) (tape : B → List 
     over_told = sym (any-none is_finish IsUnfinished (λ event is. is) inner
         (each-entry IsUnfinished who end events (each-begun IsUnfinished left roles spares size back refl refl (each-losses IsUnfinished (λ role. refl) (λ slot. refl) roles spares))));
     left = λ none. record { one = λ quiet. fewer; some = λ quiet. let one = fewer in omega (arith, one) };
-    next_open = λ none some. open-moving new who was.start.active going;
+    next_open = λ none some kept. open-moving new who was.start.active going;
     going = going;
     closable = λ none. absurd (let active = was.start.active in let both : true ≡ false = sym active ∙ none in cc);
     went = record {

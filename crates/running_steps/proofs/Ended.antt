@@ -105,7 +105,7 @@ module _ {B : Type 0} (tells : Type 0) (given : B → Given) (tape : B → List 
         (each-rest IsNoStep late late_spares before size refl (each-losses IsNoStep (λ role. refl) (λ slot. refl) late late_spares)));
     over_told = sym finished;
     left = λ over. absurd (cc);
-    next_open = λ over some. absurd (cc);
+    next_open = λ over some kept. absurd (cc);
     going = going-more inner goes was.entered.is (each-own MayGoOn who end events (each MayGoOn (λ role. tt) (λ slot. tt) tt tt));
     closable = λ none. closes;
     went = record {

@@ -9,6 +9,7 @@ mod Taken
 mod Ended
 mod StepsOf
 mod Replies
+mod Behind
 pub use Rattle.running.proofs.running_replies_Fitting
 pub use Rattle.running.proofs.running_replies_GoneOn
 pub use Rattle.running.proofs.still_kept_Whole

@@ -99,7 +99,7 @@ module _ {B : Type 0} (tells : Type 0) (given : B → Given) (tape : B → List 
     one = so.one;
     over_told = sym (any-none is_finish (IsOfStep (running_left new)) (of-unfinished (running_left new)) so.inner each);
     left = λ still. fewer;
-    next_open = λ still some. subst (λ (b : Bool). MatchBool b (IsCallGoing new.parts.entries who) (HasKeptLength new.parts.entries who)) (sym same) (by (is_reshaping old.parts.members.newest) open_ some);
+    next_open = λ still some kept. subst (λ (b : Bool). MatchBool b (IsCallGoing new.parts.entries who) (HasKeptLength new.parts.entries who)) (sym same) (by (is_reshaping old.parts.members.newest) open_ some);
     going = going;
     closable = closable;
     went = record {

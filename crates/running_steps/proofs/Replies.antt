@@ -46,7 +46,7 @@ use Rattle.running.specs.running_replies_Replies.{may_end_early, DidRunningSteps
 use Rattle.running.specs.running_replies_Going.{is_finish, is_begin, MayHoldBehind, AreLossesAlong, HasNoReshape, HasRunOn, IsSameEpoch}
 use Rattle.running.proofs.running_replies_GoneOn.{refusal-wider, told-then, along-append, may-then, spares-then, none-first, gone-then}
 use Rattle.running.specs.Calls.{running_left}
-use Rattle.running_steps.specs.Steps.{IsStepDone, IsStepRefused, IsStepAnswered, AreStepsOf, has_finished}
+use Rattle.running_steps.specs.Steps.{IsOpenFor, IsStepDone, IsStepRefused, IsStepAnswered, AreStepsOf, has_finished}
 use Rattle.running_steps.proofs.Events.{count-both}
 
 -- ---- what stands in a call before its reply
@@ -339,7 +339,7 @@ module _ {B : Type 0} (tells : Type 0) (given : B → Given) (tape : B → List 
     one = was.one;
     over_told = was.over_told;
     left = λ none. subst (λ (a : RunningParts B). AreStepsFewer a.parts.entries new.parts.entries (running_left a) (running_left new)) room (was.left none);
-    next_open = was.next_open;
+    next_open = λ none some kept. was.next_open none some (subst (λ (a : RunningParts B). IsOpenFor a who) (sym room) kept);
     going = was.going;
     closable = was.closable;
     went = gone-behind was.went;

@@ -1,6 +1,6 @@
 -- A step by which the level is taken over, or can't be.
 use Rattle.std.proofs.Common.{◌≡◌, ◌⊎◌, inl, inr, ℕ, ◌+◌, ◌<◌, ◌++◌, Bool, true, false, List, [], ◌∷◌, refl, sym, ◌∙◌, ap, subst, arith}
-use Rattle.std.specs.Prelude.{IsTrue}
+use Rattle.std.specs.Prelude.{IsTrue, MatchBool}
 use Rattle.std.specs.List.{All, list_any}
 use Rattle.std.proofs.lemmas.List.Elements.{All-nil, All-cons, All-weaker}
 use Rattle.md_base.specs.declared.answers.Refusal.{Refusal}
@@ -38,7 +38,7 @@ use Rattle.running.specs.turning_Begun.{is_resize, HasKeptLength}
 use Rattle.running.specs.running_replies_Replies.{EndsRunningSteps, IsRefusalBy, IsRefusalToldBy}
 use Rattle.running.specs.running_replies_Going.{is_finish, may_drop, MayBeDropped, AreHeldBehind, IsSameEpoch}
 use Rattle.running.specs.Calls.{running_left, MayEndSteps}
-use Rattle.running_steps.specs.Steps.{TellsLeft, IsStepDone, IsStepRefused}
+use Rattle.running_steps.specs.Steps.{TellsLeft, IsOpenFor, IsStepDone, IsStepRefused}
 use Rattle.running_steps.proofs.Events.{EachOf, each-losses, each-own, any-none, count-one, IsNoStep, IsOfStep, of-goes, of-told, of-lengthless, of-unfinished, of-undone, of-unrefused, long-kept, going-more, kept-more}
 use Rattle.running_steps.proofs.Went.{held-same, losses-along}
 use Rattle.running_steps.proofs.Plain.{open-still, still-runs, fewer-as, plain-refused}
@@ -46,10 +46,14 @@ use Rattle.running_steps.proofs.Plain.{open-still, still-runs, fewer-as, plain-r
 epoch-taken : {B : Type 0} (old new : RunningParts B) → StaysItself old new → IsSameEpoch old new
 epoch-taken old new same = record { uuid = same.uuid; given = same.given; first = same.first; backup = same.backup }
 
+-- no reshape is active, so the call that goes on has kept the length
+still-open : {B : Type 0} (array : RunningParts B) (who : Who) → is_reshaping array.parts.members.newest ≡ false → IsOpenFor array who → HasKeptLength array.parts.entries who
+still-open array who still kept = subst (λ (b : Bool). MatchBool b (IsCallGoing array.parts.entries who) (HasKeptLength array.parts.entries who)) still kept
+
 -- ---- it is done
 
 module _ {B : Type 0} (tells : Type 0) (given : B → Given) (tape : B → List Operation) (faults : B → ℕ → ℕ) (who : Who) (old new : RunningParts B) where
-  pub take-done : (to : Shape) (behind : PhasesLeft) → IsTakeoverNext (phases_of old.ahead) to (phases_of behind) → is_reshaping old.parts.members.newest ≡ false → HasKeptLength old.parts.entries who
+  pub take-done : (to : Shape) (behind : PhasesLeft) → IsTakeoverNext (phases_of old.ahead) to (phases_of behind) → is_reshaping old.parts.members.newest ≡ false → IsCallGoing old.parts.entries who
       → IsLevelTaken tells (given old.parts.bank) (tape old.parts.bank) (tape new.parts.bank) (faults old.parts.bank) (faults new.parts.bank) who to behind old new → given new.parts.bank ≡ given old.parts.bank
       → IsClosable new → IsStepDone tells given tape faults who old new false
   take-done to behind next still open_ was given_is closes = record {
@@ -61,9 +65,9 @@ module _ {B : Type 0} (tells : Type 0) (given : B → Given) (tape : B → List 
     over_told = sym (any-none is_finish (IsOfStep (running_left new)) (of-unfinished (running_left new)) inner each);
     left = λ none. fewer-as old.parts.entries new.parts.entries (still_left old.parts.work old.parts.members old.ahead) (still_left new.parts.work new.parts.members new.ahead) (running_left old) (running_left new)
         (still-runs old still) runs was.left;
-    next_open = λ none some. open-still new who was.newest.still
-        (kept-more inner open_ was.entered.is own lengthless (any-none is_done (IsOfStep (running_left new)) (of-undone (running_left new) some) inner each));
-    going = going-more inner open_.goes was.entered.is own;
+    next_open = λ none some kept. open-still new who was.newest.still
+        (kept-more inner (still-open old who still kept) was.entered.is own lengthless (any-none is_done (IsOfStep (running_left new)) (of-undone (running_left new) some) inner each));
+    going = going-more inner open_ was.entered.is own;
     closable = λ none. closes;
     went = record {
       more = inner;

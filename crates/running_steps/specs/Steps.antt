@@ -1,5 +1,5 @@
 -- The background steps of an array that may be in a reshape: one of them, and as many as a caller asks for.
-use Rattle.std.specs.Prelude.{◌≡◌, ◌⊎◌, ℕ, ◌+◌, ◌<◌, ◌≤◌, ◌++◌, Bool, false, List, length, drop, count_by, None, MatchBool, Result, Ok, Err, ⊤}
+use Rattle.std.specs.Prelude.{◌≡◌, ◌⊎◌, ℕ, ◌+◌, ◌<◌, ◌≤◌, ◌++◌, Bool, false, List, length, drop, count_by, Option, Some, None, MatchBool, Result, Ok, Err, ⊤}
 use Rattle.std.specs.List.{list_any, All}
 use Rattle.md_base.specs.declared.answers.Fault.{Fault}
 use Rattle.md_base.specs.declared.answers.Fault.TheVariants.{Refused as IsRefusedWith, NoMemory}
@@ -50,7 +50,7 @@ pub record IsStepDone {B : Type 0} (tells : Type 0) (given : B → Given) (tape 
   pub one : TellOneStep inner
   pub over_told : over ≡ list_any (λ e. is_finish e.event) inner
   pub left : over ≡ false → AreStepsFewer old.parts.entries new.parts.entries (running_left old) (running_left new)
-  pub next_open : over ≡ false → 0 < running_left new → IsOpenFor new who
+  pub next_open : over ≡ false → 0 < running_left new → IsOpenFor old who → IsOpenFor new who
   pub going : IsCallGoing new.parts.entries who
   pub closable : is_reshaping new.parts.members.newest ≡ false → IsClosable new
   pub went : HasRunOn tells given tape faults old new
@@ -98,6 +98,11 @@ pub record AreStepsOf (who : Who) (old new : List Entry) (done : ℕ) : Type 0 w
   pub own : All (λ e. IsOfCall who e × MayGoOn e.event) inner
   pub counted : count_by (λ e. is_step_event e.event) inner ≤ done
   pub not_more : done ≤ count_by (λ e. is_step_event e.event) inner + count_by (λ e. is_lost_event e.event) inner
+
+-- Behind the end of a reshape, after so many steps of a call: no more was done, or one step more, or that was refused.
+abbrev pub IsGoneOn : {B : Type 0} → Type 0 → (B → Given) → (B → List Operation) → (B → ℕ → ℕ) → Who → RunningParts B → RunningParts B → ℕ → ℕ → Option Refusal → Type 0
+IsGoneOn tells given tape faults who old new before done None = ((done ≡ before) × (new ≡ old)) ⊎ ((done ≡ before + 1) × IsStepDone tells given tape faults who old new false)
+IsGoneOn tells given tape faults who old new before done (Some refusal) = (done ≡ before) × IsStepRefused tells given tape faults who old new refusal
 
 -- The answer tells how many steps were done, and how many are left after; as many as were left before, where no loss was told, no reshape ended and none was refused. It is Nothing exactly
 -- where none was left.

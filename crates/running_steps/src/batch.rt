@@ -11,13 +11,15 @@ ghost use Rattle.running.specs.still_laws_Steps.{IsClosable};
 ghost use Rattle.running.specs.running_replies_Replies.{IsAnsweredWith, EndsRunningSteps, MayTellBy, IsRefusalBy};
 ghost use Rattle.running.specs.running_replies_Going.{HasNoReshape, HasRunOn};
 ghost use Rattle.running.specs.Calls.{running_left, MayEndSteps};
-ghost use Rattle.running_steps.specs.Steps.{IsOpenFor, AreStepsOf, IsStepCount, has_finished};
+ghost use Rattle.running_steps.specs.Steps.{IsOpenFor, AreStepsOf, IsGoneOn, IsStepCount, has_finished};
 
 use crate::stepping::take_step;
+use crate::turns::take;
 use bank::Bank;
+use core::mem::replace_with;
 use flat_history::Event;
 use md_base::{NoMemory, Refusal, Who};
-use running::Running;
+use running::{Next, Running};
 
 // How many steps were done, and what refused the next one.
 #[derive(Clone, Copy)]
@@ -26,7 +28,37 @@ struct Batch {
     ended: Option<Refusal>,
 }
 
-// So many steps, unless none is left, one is refused, or a reshape ends; there is room for them, for one more at the end of a
+// Behind the end of a reshape, after so many of these steps, the level is taken over where that is next and one more step was asked
+// for; there is room for it, and for one more entry.
+fn go_on_behind<B: Bank>(array: &mut Running<B>, who: Who, count: u64, done: u64) -> Batch
+    requires going { IsCallGoing array.old.parts.entries who }
+    requires caller { who.caller ≢ 254 }
+    requires few { done ≤ count }
+    requires room { count + 1 ≤ array.old.parts.steps + done }
+    ensures gone { IsGoneOn B.tells B.given B.tape B.faults_of who array.old array.new done result.done result.ended }
+    ensures few { result.done ≤ count }
+    ensures fewer { MatchOption result.ended ⊤ (λ refusal. result.done < count) }
+    ensures room { 1 ≤ array.new.parts.steps }
+{
+    if done == count {
+        return Batch { done, ended: None };
+    }
+    let Next::Take(to) = array.next() else {
+        return Batch { done, ended: None };
+    };
+    match replace_with(array, (who, to), take) {
+        Ok(_) => {
+            let done = done + 1;
+            Batch { done, ended: None }
+        }
+        Err(refusal) => {
+            let ended = Some(refusal);
+            Batch { done, ended }
+        }
+    }
+}
+
+// So many steps, unless none is left, one is refused, or a reshape ends with no takeover next; there is room for them, for one more at the end of a
 // reshape, and for one more entry.
 fn take_steps<B: Bank>(array: &mut Running<B>, who: Who, count: u64) -> Batch
     requires open { IsOpenFor array.old who }
@@ -57,10 +89,7 @@ fn take_steps<B: Bank>(array: &mut Running<B>, who: Who, count: u64) -> Batch
         }
         match take_step(array, who) {
             Ok(false) => {}
-            Ok(true) => {
-                let done = done + 1;
-                return Batch { done, ended: None };
-            }
+            Ok(true) => return go_on_behind(array, who, count, done + 1),
             Err(refusal) => {
                 let ended = Some(refusal);
                 return Batch { done, ended };
@@ -74,7 +103,7 @@ fn take_steps<B: Bank>(array: &mut Running<B>, who: Who, count: u64) -> Batch
 }
 
 /// Answers the request for at most so many background steps: does them until so many are done, or as many as were left at its start;
-/// until none is left, one is refused, or a reshape has ended. Ok is a copy of the reply's event, which tells `Nothing` where
+/// until none is left, one is refused, or a reshape has ended, and the takeover behind it, where that is next. Ok is a copy of the reply's event, which tells `Nothing` where
 /// none was left. Memory is wanted before the first step alone. A backup ends steps only in a reshape or where phases are ahead,
 /// and a missing role or want of spares only where some are; and where none is left, there is neither.
 pub fn steps<B: Bank>(array: &mut Running<B>, who: Who, most: u64) -> Result<Event, NoMemory>

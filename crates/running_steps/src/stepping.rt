@@ -23,6 +23,7 @@ pub(crate) fn take_step<B: Bank>(array: &mut Running<B>, who: Who) -> Result<boo
     ensures taken { IsStepTaken B.tells B.given B.tape B.faults_of who array.old array.new result }
     ensures room { array.old.parts.steps ≤ array.new.parts.steps + 2 }
     ensures one { IfOk result (λ over. over ≡ false → array.new.parts.steps + 1 ≡ array.old.parts.steps) }
+    ensures open { IfOk result (λ over. over ≡ false → 0 < running_left array.new → IsOpenFor array.new who) }
 {
     match array.next() {
         Next::Nothing => unreachable!(),

@@ -60,13 +60,14 @@ pub(crate) fn take<B: Bank>(
     array: Running<B>,
     take: (Who, Shape),
 ) -> (Running<B>, Result<bool, Refusal>)
-    requires open { HasKeptLength array.parts.entries take.0 }
+    requires open { IsCallGoing array.parts.entries take.0 }
     requires caller { take.0.caller ≢ 254 }
     requires room { 1 ≤ array.parts.steps }
     requires still { is_reshaping array.parts.members.newest ≡ false }
     requires done { left_of array.parts.work array.parts.members ≡ 0 }
     requires next { (behind : List Phase) × IsTakeoverNext (phases_of array.ahead) take.1 behind }
     ensures taken { IsStepTaken B.tells B.given B.tape B.faults_of take.0 array result.0 result.1 }
+    ensures on { result.1 ≢ Ok true }
     ensures room { result.0.parts.steps + 1 ≡ array.parts.steps }
 {
     let (who, to) = take;

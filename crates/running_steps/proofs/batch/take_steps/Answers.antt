@@ -1,11 +1,12 @@
-use Rattle.std.proofs.Common.{inr, refl, sym, ◌∙◌, arith}
+use Rattle.std.proofs.Common.{◌≡◌, ◌⊎◌, inr, true, false, Option, Some, None, MatchOption, refl, sym, ◌∙◌, arith}
+use Rattle.std.specs.Prelude.{⊤}
 use Rattle.flat_history.specs.Fits.{is_lost_event}
 use Rattle.flat_history.specs.Legal.{disturbs}
-use Rattle.running.specs.running_replies_Going.{is_finish}
 use Rattle.running.proofs.running_replies_GoneOn.{gone-then, gone-none}
 use Rattle.running_steps.proofs.Plain.{going-of}
 use Rattle.running_steps.proofs.Replies.{cause-later}
-use Rattle.running_steps.proofs.StepsOf.{steps-none, steps-more, steps-refused, any-late, none-late, quiet-first, quiet-second}
+use Rattle.running_steps.proofs.StepsOf.{steps-none, steps-more, steps-refused, quiet-first, quiet-second}
+use Rattle.running_steps.proofs.Behind.{over-behind}
 use Rattle.running_steps.proofs.batch.take_steps.Goals as goal
 
 pub loop-done-init : goal.loop-done-init
@@ -26,30 +27,73 @@ loop-done-init g c = record {
 
 pub returns-in-Ok-true-clause-entered : goal.returns-in-Ok-true-clause-entered
 returns-in-Ok-true-clause-entered g c =
-    let s = c.in-Ok-true.ensures.taken in
-    steps-more c.loop-done.invariant.entered s.inner s.is s.own s.one
+    let o = over-behind g.B.Bank.tells g.B.Bank.given g.B.Bank.tape g.B.Bank.faults_of c.args.who c.args.array.now c.loop-done.array c.take_step.new.array c.loop-done.done c.loop-done.invariant.entered c.loop-done.invariant.went
+    (rw c.in-Ok-true.field-0-test at c.in-Ok-true.ensures.taken) c.go_on_behind.new.array c.go_on_behind.result.done c.go_on_behind.result.ended c.go_on_behind.ensures.gone in
+    o.entered
 
 pub returns-in-Ok-true-clause-all : goal.returns-in-Ok-true-clause-all
 returns-in-Ok-true-clause-all g c =
-    let s = c.in-Ok-true.ensures.taken in
-    let so = c.loop-done.invariant.entered in
-    inr (inr (any-late is_finish c.args.array.now.parts.entries c.loop-done.array.parts.entries c.take_step.new.array.parts.entries so.inner s.inner so.is s.is (sym s.over_told ∙ c.in-Ok-true.field-0-test)))
+    let o = over-behind g.B.Bank.tells g.B.Bank.given g.B.Bank.tape g.B.Bank.faults_of c.args.who c.args.array.now c.loop-done.array c.take_step.new.array c.loop-done.done c.loop-done.invariant.entered c.loop-done.invariant.went
+    (rw c.in-Ok-true.field-0-test at c.in-Ok-true.ensures.taken) c.go_on_behind.new.array c.go_on_behind.result.done c.go_on_behind.result.ended c.go_on_behind.ensures.gone in
+    by c.go_on_behind.result.ended o.over c.go_on_behind.ensures.fewer
+  where
+    by : {X Y Z : Type 0} (ended : Option Refusal) → Z → MatchOption ended ⊤ (λ refusal. Y) → MatchOption ended (X ⊎ X ⊎ Z) (λ refusal. Y)
+    by None over fewer = inr (inr over)
+    by (Some refusal) over fewer = fewer
 
 pub returns-in-Ok-true-clause-left : goal.returns-in-Ok-true-clause-left
-returns-in-Ok-true-clause-left g c = λ quiet none unrefused.
-    let s = c.in-Ok-true.ensures.taken in
-    let so = c.loop-done.invariant.entered in
-    none-late is_finish c.args.array.now.parts.entries c.loop-done.array.parts.entries c.take_step.new.array.parts.entries so.inner s.inner so.is s.is (sym s.over_told ∙ c.in-Ok-true.field-0-test) none
+returns-in-Ok-true-clause-left g c =
+    let o = over-behind g.B.Bank.tells g.B.Bank.given g.B.Bank.tape g.B.Bank.faults_of c.args.who c.args.array.now c.loop-done.array c.take_step.new.array c.loop-done.done c.loop-done.invariant.entered c.loop-done.invariant.went
+    (rw c.in-Ok-true.field-0-test at c.in-Ok-true.ensures.taken) c.go_on_behind.new.array c.go_on_behind.result.done c.go_on_behind.result.ended c.go_on_behind.ensures.gone in
+    λ quiet none unrefused. absurd (let both : true ≡ false = sym o.over ∙ none in cc)
 
 pub returns-in-Ok-true-clause-fewer : goal.returns-in-Ok-true-clause-fewer
-returns-in-Ok-true-clause-fewer g c = λ quiet none unrefused.
-    let s = c.in-Ok-true.ensures.taken in
-    let so = c.loop-done.invariant.entered in
-    none-late is_finish c.args.array.now.parts.entries c.loop-done.array.parts.entries c.take_step.new.array.parts.entries so.inner s.inner so.is s.is (sym s.over_told ∙ c.in-Ok-true.field-0-test) none
+returns-in-Ok-true-clause-fewer g c =
+    let o = over-behind g.B.Bank.tells g.B.Bank.given g.B.Bank.tape g.B.Bank.faults_of c.args.who c.args.array.now c.loop-done.array c.take_step.new.array c.loop-done.done c.loop-done.invariant.entered c.loop-done.invariant.went
+    (rw c.in-Ok-true.field-0-test at c.in-Ok-true.ensures.taken) c.go_on_behind.new.array c.go_on_behind.result.done c.go_on_behind.result.ended c.go_on_behind.ensures.gone in
+    λ quiet none unrefused. absurd (let both : true ≡ false = sym o.over ∙ none in cc)
+
+pub returns-in-Ok-true-clause-why : goal.returns-in-Ok-true-clause-why
+returns-in-Ok-true-clause-why g c =
+    let o = over-behind g.B.Bank.tells g.B.Bank.given g.B.Bank.tape g.B.Bank.faults_of c.args.who c.args.array.now c.loop-done.array c.take_step.new.array c.loop-done.done c.loop-done.invariant.entered c.loop-done.invariant.went
+    (rw c.in-Ok-true.field-0-test at c.in-Ok-true.ensures.taken) c.go_on_behind.new.array c.go_on_behind.result.done c.go_on_behind.result.ended c.go_on_behind.ensures.gone in
+    o.why
+
+pub returns-in-Ok-true-clause-cause : goal.returns-in-Ok-true-clause-cause
+returns-in-Ok-true-clause-cause g c =
+    let o = over-behind g.B.Bank.tells g.B.Bank.given g.B.Bank.tape g.B.Bank.faults_of c.args.who c.args.array.now c.loop-done.array c.take_step.new.array c.loop-done.done c.loop-done.invariant.entered c.loop-done.invariant.went
+    (rw c.in-Ok-true.field-0-test at c.in-Ok-true.ensures.taken) c.go_on_behind.new.array c.go_on_behind.result.done c.go_on_behind.result.ended c.go_on_behind.ensures.gone in
+    o.cause
+
+pub returns-in-Ok-true-clause-right : goal.returns-in-Ok-true-clause-right
+returns-in-Ok-true-clause-right g c =
+    let o = over-behind g.B.Bank.tells g.B.Bank.given g.B.Bank.tape g.B.Bank.faults_of c.args.who c.args.array.now c.loop-done.array c.take_step.new.array c.loop-done.done c.loop-done.invariant.entered c.loop-done.invariant.went
+    (rw c.in-Ok-true.field-0-test at c.in-Ok-true.ensures.taken) c.go_on_behind.new.array c.go_on_behind.result.done c.go_on_behind.result.ended c.go_on_behind.ensures.gone in
+    o.right
+
+pub returns-in-Ok-true-clause-going : goal.returns-in-Ok-true-clause-going
+returns-in-Ok-true-clause-going g c =
+    let o = over-behind g.B.Bank.tells g.B.Bank.given g.B.Bank.tape g.B.Bank.faults_of c.args.who c.args.array.now c.loop-done.array c.take_step.new.array c.loop-done.done c.loop-done.invariant.entered c.loop-done.invariant.went
+    (rw c.in-Ok-true.field-0-test at c.in-Ok-true.ensures.taken) c.go_on_behind.new.array c.go_on_behind.result.done c.go_on_behind.result.ended c.go_on_behind.ensures.gone in
+    o.going
+
+pub returns-in-Ok-true-clause-closable : goal.returns-in-Ok-true-clause-closable
+returns-in-Ok-true-clause-closable g c =
+    let o = over-behind g.B.Bank.tells g.B.Bank.given g.B.Bank.tape g.B.Bank.faults_of c.args.who c.args.array.now c.loop-done.array c.take_step.new.array c.loop-done.done c.loop-done.invariant.entered c.loop-done.invariant.went
+    (rw c.in-Ok-true.field-0-test at c.in-Ok-true.ensures.taken) c.go_on_behind.new.array c.go_on_behind.result.done c.go_on_behind.result.ended c.go_on_behind.ensures.gone in
+    o.closable
+
+pub returns-in-Ok-true-clause-ended : goal.returns-in-Ok-true-clause-ended
+returns-in-Ok-true-clause-ended g c =
+    let o = over-behind g.B.Bank.tells g.B.Bank.given g.B.Bank.tape g.B.Bank.faults_of c.args.who c.args.array.now c.loop-done.array c.take_step.new.array c.loop-done.done c.loop-done.invariant.entered c.loop-done.invariant.went
+    (rw c.in-Ok-true.field-0-test at c.in-Ok-true.ensures.taken) c.go_on_behind.new.array c.go_on_behind.result.done c.go_on_behind.result.ended c.go_on_behind.ensures.gone in
+    o.at_end
 
 pub returns-in-Ok-true-clause-went : goal.returns-in-Ok-true-clause-went
 returns-in-Ok-true-clause-went g c =
-    gone-then g.B.Bank.tells g.B.Bank.given g.B.Bank.tape g.B.Bank.faults_of c.args.array.now c.loop-done.array c.take_step.new.array c.loop-done.invariant.went c.in-Ok-true.ensures.taken.went
+    let o = over-behind g.B.Bank.tells g.B.Bank.given g.B.Bank.tape g.B.Bank.faults_of c.args.who c.args.array.now c.loop-done.array c.take_step.new.array c.loop-done.done c.loop-done.invariant.entered c.loop-done.invariant.went
+    (rw c.in-Ok-true.field-0-test at c.in-Ok-true.ensures.taken) c.go_on_behind.new.array c.go_on_behind.result.done c.go_on_behind.result.ended c.go_on_behind.ensures.gone in
+    o.went
 
 -- ---- one was refused
 
@@ -76,7 +120,7 @@ loop-done-preserved g c =
     let no_end = c.in-Ok-false.field-0-test in
     record {
       entered = steps-more was.entered s.inner s.is s.own s.one;
-      next_open = s.next_open no_end;
+      next_open = c.in-Ok-false.ensures.open no_end;
       going = s.going;
       closable = λ some. s.closable;
       begun = λ none. absurd (omega (arith, none));

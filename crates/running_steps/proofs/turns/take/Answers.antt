@@ -9,4 +9,4 @@ returns-in-Ok-clause-taken g c =
 pub returns-in-Err-clause-taken : goal.returns-in-Err-clause-taken
 returns-in-Err-clause-taken g c =
     let s = c.in-Err.ensures in
-    take-refused g.B.Bank.tells g.B.Bank.given g.B.Bank.tape g.B.Bank.faults_of c.args.take.0 c.args.array c.in-Err.array c.args.take.1 c.in-Err.refusal c.requires.open.goes s.refused s.caused s.ends
+    take-refused g.B.Bank.tells g.B.Bank.given g.B.Bank.tape g.B.Bank.faults_of c.args.take.0 c.args.array c.in-Err.array c.args.take.1 c.in-Err.refusal c.requires.open s.refused s.caused s.ends
