@@ -6,11 +6,7 @@ use script::Line;
 use std::test::Fail;
 
 // The level, the number of disks, the chunk and the layout that a line wishes.
-type Wished = (
-    &'static str,
-    [Option<u32>; 3],
-    Option<WishedLayout>,
-);
+type Wished = (&'static str, [Option<u32>; 3], Option<WishedLayout>);
 
 const WISHED: [Wished; 12] = [
     ("  grow   disks=16 ", [None, Some(16), None], None),
