@@ -68,8 +68,8 @@ fn requests_of(alloc: Global, lines: &[Numbered]) -> Result<Vec<Request>, AllocE
     ensures { IfOk result (λ requests. requests.items ≡ requests_in lines.now) }
 {
     let mut requests = Vec::with_capacity(alloc, lines.len())?;
-    for line in lines {
-        requests.push(request_of(alloc, line.line)?)?;
+    for i in 0..lines.len() {
+        requests.push(request_of(alloc, lines[i].line)?)?;
     }
     Ok(requests)
 }

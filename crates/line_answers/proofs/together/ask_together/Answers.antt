@@ -6,6 +6,6 @@ use Rattle.lane_blocks.specs.lanes_Pace.{asked_by}
 use Rattle.run_laws.specs.running_Calls.{running_left}
 use Rattle.run_laws.specs.running_calls_Replies.{IsAskable}
 use Rattle.run_laws.proofs.running_calls_GoneOn.{gone-none, gone-same}
-use Rattle.line_answers.proofs.Together.{all-askable, lane-run, worker-run, block-entered, block-none}
+use Rattle.line_answers.proofs.BlockAsks.{all-askable, lane-run, worker-run, block-entered, block-none}
 use Rattle.line_answers.proofs.together.ask_together.Given.{Over}
 use Rattle.line_answers.proofs.together.ask_together.Goals as goal
