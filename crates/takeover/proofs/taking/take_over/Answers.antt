@@ -13,6 +13,7 @@ use Rattle.views.specs.Status.{left_of, stripes_of}
 use Rattle.views.proofs.Fit.{fit-short}
 use Rattle.call_entries.specs.Losing.{losses_of}
 use Rattle.call_entries.proofs.PlainLaws.{last_end-call}
+use Rattle.still_steps.specs.array_kept_Calls.{AreStepsFewer}
 use Rattle.still_steps.specs.array_kept_Kept.{scope_in}
 use Rattle.still_steps.proofs.array_kept_ReadyLaws.{scope-same}
 use Rattle.grow_asked.specs.Left.{phases_of}
@@ -192,8 +193,9 @@ returns-clause-taken g c =
       ended = λ t. ap (λ (l : List Entry). last_end_from c.enter_taken.new.epoch.first l) items
           ∙ last_end-call c.enter_taken.new.epoch.first p.epoch.entries.items who end (Step TakenOver (still_left (work_then to p.work) new behind)) (losses_of roles spares) ∙ c.ops-end.ensures.count t;
       grows = did.grows;
-      left = taken-fewer p.ahead behind to c.in-Ok.slot who end roles spares was goes c.requires.caller idle next lead c.in-Ok.ensures.whole c.in-Ok.ensures.chosen update c.ops-end.ensures.count c.mark_unbuilt.ensures.long
-          c.told_of-told.ensures.roles refl items;
+      left = subst (λ (w : Work). AreStepsFewer p.epoch.entries.items c.enter_taken.new.epoch.entries.items (still_left p.work p.members p.ahead) (still_left w new behind)) (sym c.mark_unbuilt.ensures.work)
+          (taken-fewer p.ahead behind to c.in-Ok.slot who end roles spares was goes c.requires.caller idle next lead c.in-Ok.ensures.whole c.in-Ok.ensures.chosen update c.ops-end.ensures.count c.mark_unbuilt.ensures.long
+          c.told_of-told.ensures.roles refl items);
       newest = did.newest;
       long = taken-longer p.ahead behind to c.in-Ok.slot who end roles spares was goes c.requires.caller idle next lead c.in-Ok.ensures.whole c.in-Ok.ensures.chosen update c.ops-end.ensures.count c.mark_unbuilt.ensures.long
           c.told_of-told.ensures.roles;
