@@ -1,5 +1,5 @@
 -- What a block of lanes does to a run.
-use Rattle.std.proofs.Common.{◌≡◌, ◌⊎◌, inl, inr, ℕ, ◌+◌, ◌||◌, Bool, true, false, Option, List, [], ◌∷◌, ◌++◌, length, fold, refl, sym, ◌∙◌, ap, subst, arith, append_assoc, append-nil, ne_eqb}
+use Rattle.std.proofs.Common.{◌≡◌, ◌⊎◌, inl, inr, ℕ, ◌+◌, ◌||◌, Bool, true, Option, List, [], ◌∷◌, ◌++◌, length, fold, refl, sym, ◌∙◌, ap, subst, arith, append_assoc, append-nil, ne_eqb}
 use Rattle.std.proofs.lemmas.List.Folds.{list_any-append}
 use Rattle.std.proofs.lemmas.List.Sums.{fold-append}
 use Rattle.std.proofs.lemmas.List.Elements.{All-append, All-head, All-tail, All-weaker}
@@ -18,25 +18,21 @@ use Rattle.flat_history.specs.declared.events.Event.TheVariants.{Added}
 use Rattle.flat_history.specs.Flat.{next_number, number_after}
 use Rattle.flat_history.specs.World.{World}
 use Rattle.grow_asked.specs.Left.{phases_of}
-use Rattle.views.specs.Rebuilding.{MayHold}
-use Rattle.views.specs.Moving.{Grows}
 use Rattle.run_laws.specs.array_kept_Calls.{IsEndOf}
 use Rattle.run_laws.specs.declared.states.State.TheVariants.{Running}
-use Rattle.run_laws.specs.running_calls_Entered.{IsOfNewCall}
 use Rattle.run_laws.specs.running_calls_Going.{is_added as is_told_added, MayHoldSince, MayBeNewSpare, AreHeldSince as AreHeldBy, AreLossesSince as AreLossesBy, HasGoneOn}
-use Rattle.run_laws.specs.running_replies_Going.{may_drop, MayBeDropped}
+use Rattle.run_laws.specs.running_replies_Going.{may_drop}
 use Rattle.run_laws.specs.running_words_Parts.{RunningParts}
 use Rattle.run_laws.specs.Asked.{IsSizedBy}
 use Rattle.run_laws.specs.Blocks.{IsOfBlock, IsBlockEntered}
 use Rattle.run_laws.specs.Ended.{IsGoing}
 use Rattle.run_laws.specs.Histories.{History, histories_of, is_end}
 use Rattle.run_laws.specs.Making.{Setting, setting_of, world_at, history_world, is_added, IsSpareSince, MayHaveHeld, AreHeldSince}
-use Rattle.run_laws.specs.Replies.{gone_on}
-use Rattle.run_laws.specs.States.{running_history, course_with, IsCaller, IsGrown, AreLossesBehind, AreLossesSince, RunsOwn, IsBlockTurn}
+use Rattle.run_laws.specs.States.{running_history, IsCaller, IsGrown, AreLossesBehind, AreLossesSince, RunsOwn, IsBlockTurn}
 use Rattle.run_laws.specs.Turning.{IsTurningTold}
 use Rattle.run_laws.proofs.Apart.{apart-all, own-all}
 use Rattle.run_laws.proofs.Legal.{grows_longer, former_grown, accepted-grown}
-use Rattle.run_laws.proofs.Losses.{IsHistoryLater, told-behind, held-more, held-before, held-later, may-held, loss-since, losses-last}
+use Rattle.run_laws.proofs.Losses.{IsHistoryLater, told-behind, held-more, held-before, may-held, loss-since, losses-last}
 use Rattle.run_laws.proofs.Sizes.{sized-now}
 use Rattle.run_laws.proofs.Told.{IsRefusalTold, HasTold, told_more}
 use Rattle.line_answers.proofs.Called.{epoch-opening, told-backup}

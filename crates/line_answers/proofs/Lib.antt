@@ -1,11 +1,11 @@
 pub mod Barred
+pub mod BlockAsks
 pub mod BlockTurns
 pub mod Called
 pub mod Ending
 pub mod Examined
 pub mod Found
 pub mod Statuses
-pub mod Together
 pub mod Turns
 pub mod Waits
 pub use Rattle.run_laws.proofs.AskLaws as run_laws_AskLaws

@@ -2,7 +2,7 @@
 use Rattle.std.proofs.Common.{◌≡◌, ℕ, ◌+◌, ◌*◌, ◌^◌, ◌<◌, fold, Bool, true, false, Option, Some, None, List, [], ◌∷◌, ◌++◌, length, length-append, refl, sym, ◌∙◌, ap, subst, arith, append-nil, take, take_all, Result, Ok, Err, inl, inr, ◌≤◌}
 use Rattle.std.proofs.lemmas.List.Sums.{fold-append}
 use Rattle.std.proofs.lemmas.List.{map-append, length-map}
-use Rattle.std.proofs.lemmas.List.Elements.{All-nil, All-cons, All-append, All-push}
+use Rattle.std.proofs.lemmas.List.Elements.{All-nil, All-cons, All-push}
 use Rattle.std.specs.Prelude.{slice_get, if◌then◌else◌, vec_capacity, MatchOption, IfOk, IfSome, IsFalse}
 use Rattle.std.specs.Global.{Vec}
 use Rattle.std.specs.List.{All}
@@ -501,7 +501,7 @@ module _ {B : Type 0} (setting : Setting) (bank : B) (olds epochs : Vec Epoch) (
           → IsTurn setting (Idle bank olds) (Running array epochs) (Assemble asked) (IsOutside (Assembled (length epochs.items) status))
       turn_found status told entered members ahead = record {
         own = opened_own (subst (λ (l : List Entry). AreByScript l l) (sym entries)
-            (All-push (IsOwnEntry (entries_of opener array.parts.first losses ++ first_entry ∷ [])) (entries_of opener array.parts.first losses) first_entry (losses_own (entries_of opener array.parts.first losses ++ first_entry ∷ [])) (inl (inl refl, omega (arith, one_call)))))
+            (All-push (IsOwnEntry (entries_of opener array.parts.first losses ++ first_entry ∷ [])) (entries_of opener array.parts.first losses) first_entry (losses_own (entries_of opener array.parts.first losses ++ first_entry ∷ [])) (inl (inl refl, first_number))))
             (subst (λ (l : List Entry). AreGoing l) (sym entries) (All-push (λ e. IsFalse (is_end e.event)) (entries_of opener array.parts.first losses) first_entry losses_go refl))
             (ap (λ (l : List Entry). length_of (list_length array.parts.members.newest) l) entries ∙ losses_leave (list_length array.parts.members.newest) first_entry refl) turning;
         losses = opened_losses (found_lost (first_entry ∷ []) (tt, tt) entries);
@@ -533,6 +533,9 @@ module _ {B : Type 0} (setting : Setting) (bank : B) (olds epochs : Vec Epoch) (
 
           one_call : next_number 0 (entries_of opener array.parts.first losses ++ first_entry ∷ []) ≡ 1
           one_call = fold-append (number_after 0) 0 (entries_of opener array.parts.first losses) (first_entry ∷ [])
+
+          first_number : 0 < next_number 0 (entries_of opener array.parts.first losses ++ first_entry ∷ [])
+          first_number = omega (arith, one_call)
 
           turning : IsTurningTold (is_reshaping array.parts.members.newest) (phases_of array.ahead) array.parts.entries
           turning = subst (λ (l : List Entry). IsTurningTold (is_reshaping array.parts.members.newest) (phases_of array.ahead) l) (sym entries)

@@ -5,13 +5,10 @@ mod answers;
 mod asks;
 mod examines;
 mod shows;
-mod together;
 
 pub use answers::{answer, entry_of};
 pub use asks::{
     ask_add, ask_fail, ask_flush, ask_grow, ask_read, ask_steps, ask_wait, ask_write, script_call,
 };
-pub use lane_blocks;
 pub use run_laws;
 pub use shows::ask_show;
-pub use together::{Together, answer_together, ask_together};

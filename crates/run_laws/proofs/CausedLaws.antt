@@ -40,7 +40,7 @@ use Rattle.script.specs.declared.lines.Line.TheVariants.{Fail, Add, ArraySize, G
 use Rattle.run_laws.specs.Asked.{script_who, IsAskedAt, IsAsked}
 use Rattle.run_laws.specs.Caused.{Record, record_of, IsRecordTold, IsJudgedBy, IsJudged, IsJudgedAt, IsCausedFor, IsCausedAt}
 use Rattle.run_laws.specs.Showing.{TellsArray}
-use Rattle.run_laws.specs.Turning.{IsTurningTold}
+use Rattle.running_calls.specs.Turning.{IsTurningTold}
 use Rattle.run_laws.proofs.AskLaws.{one, entry_there, entries_of-append}
 use Rattle.run_laws.proofs.Turned.{last-there, last-before, inside-some, active-before, ahead-before}
 

@@ -46,7 +46,7 @@ use Rattle.run_laws.specs.Making.{Setting, held_at, history_world, IsUncreated, 
 use Rattle.run_laws.specs.Replies.{Course, spec_of, FitsLine, IsMadeBy, IsFoundBy, IsRefusedOutside, gone_on, course_behind, entries_to, course_after, course_of, leaves_more, leaves_more_at, IsReplyAt, IsWaitedAt, IsRepliedAt, IsAnsweredInside, IsAnswer, IsEnd, IsReplyTo, AreReplies}
 use Rattle.openings.specs.running_replies_Replies.{MayTellBy}
 use Rattle.run_laws.specs.Caused.{IsCausedFor, IsCausedAt}
-use Rattle.run_laws.specs.Turning.{may_be_active, may_be_ahead, IsTellable}
+use Rattle.running_calls.specs.Turning.{may_be_active, may_be_ahead, IsTellable}
 use Rattle.run_laws.specs.States.{IsGrown, AreGrown, IsNamed, IsWaitingAt, IsCutShort}
 use Rattle.run_laws.proofs.Causes.{faulted-wider, given-wider, create-later, assemble-later}
 use Rattle.run_laws.proofs.Worlds.{list-same, alike-later, sound-later, new-later, stored-later}

@@ -41,7 +41,7 @@ use Rattle.script.specs.declared.lines.Line.{Line}
 use Rattle.run_laws.specs.Asked.{script_who, IsAskedAt}
 use Rattle.run_laws.specs.Replies.{FitsLine}
 use Rattle.run_laws.specs.Showing.{IsShown}
-use Rattle.run_laws.specs.Turning.{active_after, ahead_after, may_be_active, may_be_ahead, IsTellable, IsTurningTold}
+use Rattle.running_calls.specs.Turning.{active_after, ahead_after, may_be_active, may_be_ahead, IsTellable, IsTurningTold}
 use Rattle.run_laws.proofs.AskLaws.{one}
 
 -- ---- an event that doesn't tell that no step is left ends nothing

@@ -19,7 +19,7 @@ use Rattle.openings.specs.running_words_Parts.{RunningParts, visible_size, visib
 use Rattle.script.specs.declared.lines.Line.{Line}
 use Rattle.script.specs.declared.lines.Line.TheVariants.{Fail, Add, ArraySize, Grow, Step, Wait, Detail, Mdstat}
 use Rattle.run_laws.specs.Showing.{TellsArray}
-use Rattle.run_laws.specs.Turning.{IsTurningTold}
+use Rattle.running_calls.specs.Turning.{IsTurningTold}
 
 -- ---- a record
 

@@ -34,7 +34,7 @@ use Rattle.run_laws.specs.declared.report.LineReply.{LineReply}
 use Rattle.run_laws.specs.Histories.{History, entry_at, is_end}
 use Rattle.run_laws.specs.Showing.{IsShown}
 use Rattle.run_laws.specs.Caused.{IsCausedAt}
-use Rattle.run_laws.specs.Turning.{IsTellable}
+use Rattle.running_calls.specs.Turning.{IsTellable}
 use Rattle.run_laws.specs.Examining.{IsExaminedBy, IsUnexamined}
 use Rattle.run_laws.specs.Making.{Setting, held_at, history_world, IsUncreated, IsUnassembled, IsStoredNew, IsStoredAs, BeginsShown}
 

@@ -26,7 +26,7 @@ use Rattle.run_laws.specs.Blocks.{IsOfBlock}
 use Rattle.run_laws.specs.Histories.{History, histories_of, entry_at, AreGoing, EndsOnce}
 use Rattle.run_laws.specs.Making.{Setting, history_world, MayHaveHeld, MissingAtFirst}
 use Rattle.run_laws.specs.Replies.{Course, at_rest, gone_on, course_after, steps_at_once, leaves_more_at, IsReplyAt, IsAnswer}
-use Rattle.run_laws.specs.Turning.{IsTurningTold}
+use Rattle.running_calls.specs.Turning.{IsTurningTold}
 
 -- the history of an array that runs
 abbrev pub running_history : {B : Type 0} → Parts B → History
