@@ -1,9 +1,7 @@
 -- Calls of the script, which go on with none of the former ones.
-use Rattle.std.proofs.Common.{◌≡◌, ◌≢◌, ◌⊎◌, inl, inr, ℕ, ◌+◌, ◌*◌, min, ◌<◌, ◌≤◌, ◌==◌, ◌&&◌, Bool, false, Option, List, [], ◌∷◌, ◌++◌, refl, sym, ◌∙◌, ap, subst, arith, append_assoc, append-nil}
+use Rattle.std.proofs.Common.{◌≡◌, ◌≢◌, inl, ℕ, ◌+◌, ◌*◌, min, ◌<◌, ◌≤◌, Option, List, [], ◌∷◌, ◌++◌, refl, sym, ◌∙◌, ap, subst, arith, append_assoc, append-nil}
 use Rattle.std.proofs.lemmas.List.Sums.{fold-append}
-use Rattle.std.proofs.lemmas.Bool.Decides.{nat_tests}
-use Rattle.std.proofs.lemmas.List.Elements.{All-nil, All-cons, All-append, All-head, All-weaker}
-use Rattle.std.specs.Prelude.{if◌then◌else◌}
+use Rattle.std.proofs.lemmas.List.Elements.{All-nil, All-cons, All-append, All-weaker}
 use Rattle.std.specs.List.{All}
 use Rattle.std.specs.Option.{option_map_or}
 use Rattle.flat_history.specs.declared.events.Entry.{Entry}
@@ -34,7 +32,9 @@ use Rattle.run_laws.proofs.Losses.{IsSameOpening, IsHistoryLater, AreHeldOn, on-
 use Rattle.script.specs.declared.lines.Line.{Line}
 use Rattle.run_laws.specs.Asked.{script_who, IsAskedAt}
 use Rattle.run_laws.specs.Histories.{History}
-use Rattle.run_laws.specs.States.{IsGrown, IsOwnEntry, AreByScript, IsByScript}
+use Rattle.run_laws.specs.running_calls_Entered.{IsOfNewCall}
+use Rattle.run_laws.specs.States.{IsGrown, IsCaller, AreByScript, IsByScript}
+use Rattle.run_laws.proofs.Apart.{apart-all, own-all}
 use Rattle.run_laws.proofs.AskLaws.{one, with_reply}
 
 -- the entry is of a call of the script, of one of these numbers
@@ -87,35 +87,24 @@ called_once {old = old} {new = new} asked =
 
 -- ---- the history stays the script's, and its calls apart
 
-other_call : (c d n m : ℕ) → ((n < m) ⊎ ((c ≡ 254) × (d ≡ 0))) → ((c == d) && (n == m)) ≡ false
-other_call c d n m (inl less) = grind (arith, nat_tests, less)
-other_call c d n m (inr (opening, script)) = grind (arith, nat_tests, opening, script)
+pub called_new : {old new : List Entry} (called : HasCalled old new) → All (IsOfNewCall old new) called.more
+called_new {old = old} {new = new} called =
+    All-weaker (λ e. IsCalledBetween (next_number 0 old) (next_number 0 new) e) (IsOfNewCall old new)
+    (λ e is.
+    let low = ap (λ (c : ℕ). next_number c old) is.0 in
+    let high = ap (λ (c : ℕ). next_number c new) is.0 in
+    (omega (arith, is.1, low), omega (arith, is.2, high)))
+    called.more called.calls
 
-none_of : (e : Entry) (low high : ℕ) (more : List Entry) → IsOwnEntry low e → All (λ x. IsCalledBetween low high x) more → rest_of_call e more ≡ []
-none_of e low high [] own calls = refl
-none_of e low high (x ∷ more) own calls = ap (λ (t : Bool). if t then x ∷ rest_of_call e more else []) (other_call e.caller x.caller e.number x.number (apart own))
-  where
-    first : IsCalledBetween low high x
-    first = All-head (λ x. IsCalledBetween low high x) x more calls
+called_callers : {old new : List Entry} (called : HasCalled old new) → All (λ e. IsCaller e.caller) called.more
+called_callers {old = old} {new = new} called =
+    All-weaker (λ e. IsCalledBetween (next_number 0 old) (next_number 0 new) e) (λ e. IsCaller e.caller) (λ e is. inl is.0) called.more called.calls
 
-    apart : IsOwnEntry low e → (e.number < x.number) ⊎ ((e.caller ≡ 254) × (x.caller ≡ 0))
-    apart (inl (script, lt)) = inl (omega (arith, lt, first.1))
-    apart (inr (found, number, absence)) = inr (found, first.0)
+pub called_apart : {old new : List Entry} (called : HasCalled old new) → AreByScript old old → All (λ e. rest_of_call e called.more ≡ []) old
+called_apart {old = old} {new = new} called was = apart-all old new called.more called.grown (called_new called) (called_callers called) was
 
-pub called_apart : {old new : List Entry} (called : HasCalled old new) → AreByScript (next_number 0 old) old → All (λ e. rest_of_call e called.more ≡ []) old
-called_apart {old = old} {new = new} called was =
-    All-weaker (λ e. IsOwnEntry (next_number 0 old) e) (λ e. rest_of_call e called.more ≡ []) (λ e own. none_of e (next_number 0 old) (next_number 0 new) called.more own called.calls) old was
-
-pub called_own : {old new : List Entry} → HasCalled old new → AreByScript (next_number 0 old) old → AreByScript (next_number 0 new) new
-called_own {old = old} {new = new} called was =
-    subst (λ (l : List Entry). AreByScript (next_number 0 new) l) (sym called.grown)
-    (All-append (λ e. IsOwnEntry (next_number 0 new) e) old called.more
-    (All-weaker (λ e. IsOwnEntry (next_number 0 old) e) (λ e. IsOwnEntry (next_number 0 new) e) (λ e own. own_later e own) old was)
-    (All-weaker (λ e. IsCalledBetween (next_number 0 old) (next_number 0 new) e) (λ e. IsOwnEntry (next_number 0 new) e) (λ e is. inl (is.0, is.2)) called.more called.calls))
-  where
-    own_later : (e : Entry) → IsOwnEntry (next_number 0 old) e → IsOwnEntry (next_number 0 new) e
-    own_later e (inl (script, lt)) = inl (script, omega (arith, lt, called.rises))
-    own_later e (inr found) = inr found
+pub called_own : {old new : List Entry} → HasCalled old new → AreByScript old old → AreByScript new new
+called_own {old = old} {new = new} called was = own-all old new called.more called.grown (called_new called) (called_callers called) was
 
 pub called_grown : (old new : History) → HasCalled old.entries new.entries → new.uuid ≡ old.uuid → new.given ≡ old.given → new.first ≡ old.first → IsByScript old → IsGrown old new
 called_grown old new called uuid given first was = record { uuid = uuid; given = given; first = first; more = called.more; grown = called.grown; later = called_apart called was }

@@ -1,4 +1,6 @@
 pub mod Barred
+pub mod BlockAsks
+pub mod BlockTurns
 pub mod Called
 pub mod Ending
 pub mod Examined
@@ -7,6 +9,7 @@ pub mod Statuses
 pub mod Turns
 pub mod Waits
 pub use Rattle.run_laws.proofs.AskLaws as run_laws_AskLaws
+pub use Rattle.run_laws.proofs.CausedLaws as run_laws_CausedLaws
 pub use Rattle.run_laws.proofs.Causes as run_laws_Causes
 pub use Rattle.run_laws.proofs.Growth as run_laws_Growth
 pub use Rattle.run_laws.proofs.Legal as run_laws_Legal

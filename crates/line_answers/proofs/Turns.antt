@@ -2,7 +2,7 @@
 use Rattle.std.proofs.Common.{◌≡◌, ℕ, ◌+◌, ◌*◌, ◌^◌, ◌<◌, fold, Bool, true, false, Option, Some, None, List, [], ◌∷◌, ◌++◌, length, length-append, refl, sym, ◌∙◌, ap, subst, arith, append-nil, take, take_all, Result, Ok, Err, inl, inr, ◌≤◌}
 use Rattle.std.proofs.lemmas.List.Sums.{fold-append}
 use Rattle.std.proofs.lemmas.List.{map-append, length-map}
-use Rattle.std.proofs.lemmas.List.Elements.{All-nil, All-cons, All-append, All-push}
+use Rattle.std.proofs.lemmas.List.Elements.{All-nil, All-cons, All-push}
 use Rattle.std.specs.Prelude.{slice_get, if◌then◌else◌, vec_capacity, MatchOption, IfOk, IfSome, IsFalse}
 use Rattle.std.specs.Global.{Vec}
 use Rattle.std.specs.List.{All}
@@ -37,7 +37,7 @@ use Rattle.history_laws.proofs.OneShapeGrowing.{call-ends}
 use Rattle.flat_history.specs.World.{World, opening_list}
 use Rattle.flat_history.specs.Epochs.{OpensAlike}
 use Rattle.flat_history.specs.Opened.{OpensSound}
-use Rattle.bank.specs.Given.{sizes}
+use Rattle.bank.specs.Given.{Given, sizes}
 use Rattle.superblocks.specs.declared.members.Members.{Members}
 use Rattle.run_laws.specs.array_kept_Adopting.{opener, absent_losses}
 use Rattle.run_laws.specs.array_kept_Calls.{IsEndOf, IsEntered, world_for}
@@ -52,6 +52,7 @@ use Rattle.run_laws.specs.declared.report.Outside.TheVariants.{Created, Assemble
 use Rattle.run_laws.specs.declared.report.Answered.TheVariants.{Inside, Outside as IsOutside}
 use Rattle.run_laws.specs.declared.states.State.TheVariants.{Idle, Running}
 use Rattle.run_laws.specs.Asked.{script_who, IsAskedAt, IsAsked, IsStillWaiting, IsWaited, IsSizedBy}
+use Rattle.run_laws.specs.Caused.{IsCausedAt}
 use Rattle.run_laws.specs.Turning.{IsTellable, IsTurningTold}
 use Rattle.run_laws.specs.Histories.{History, history_of, histories_of, entry_at, is_end, AreGoing}
 use Rattle.run_laws.specs.Making.{Setting, held_at, history_world, MissingAtFirst, IsStoredNew, IsStoredAs}
@@ -101,9 +102,9 @@ grown_came [] new = tt
 grown_came (h ∷ hs) new = (grown_same h, grown_came hs new)
 
 -- a line was answered by calls of the script, the last of them at this place, over the history of the array that runs
-module _ {size : ℕ} {line last : Line} {place : ℕ} {mid : List Entry} (hs : List History) (old new : History) (asked : IsAskedAt size last mid new.entries place) (replied : IsRepliedAt size new.entries place (next_number 0 old.entries) line)
-    (tellable : IsTellable new.entries place) where
-  pub answered_last : IsAnsweredInside (hs ++ new ∷ []) (record { opened = length hs + 1; running = true; calls = next_number 0 old.entries; size = size }) (length hs) place line
+module _ {size : ℕ} {line last : Line} {place : ℕ} {mid : List Entry} (asked_of : Given) (backup : Option ℕ) (hs : List History) (old new : History) (asked : IsAskedAt size last mid new.entries place) (replied : IsRepliedAt size new.entries place (next_number 0 old.entries) line)
+    (tellable : IsTellable new.entries place) (caused : IsCausedAt asked_of backup size line new.entries place) where
+  pub answered_last : IsAnsweredInside asked_of backup (hs ++ new ∷ []) (record { opened = length hs + 1; running = true; calls = next_number 0 old.entries; size = size }) (length hs) place line
   answered_last = record {
     running = refl;
     latest = refl;
@@ -111,6 +112,7 @@ module _ {size : ℕ} {line last : Line} {place : ℕ} {mid : List Entry} (hs : 
     there = get_last hs new;
     replied = replied;
     tellable = tellable;
+    caused = caused;
   }
 
 -- the entry of its reply
@@ -256,22 +258,22 @@ module _ {B : Type 0} (setting : Setting) (old new : RunningParts B) (epochs : V
 
   -- it answered
   pub turn_called : {last : Line} {mid : List Entry} (line : Line) (place : ℕ) (asked : IsAskedAt (list_length old.parts.members.newest) last mid new.parts.entries place) → HasCalled old.parts.entries new.parts.entries → AreGoing new.parts.entries
-      → IsRepliedAt (list_length old.parts.members.newest) new.parts.entries place (next_number 0 old.parts.entries) line → IsTellable new.parts.entries place → (setting.tells → EndsWithin setting asked.end) → is_end asked.event ≡ false
-      → IsTurn setting (Running old epochs) (Running new epochs) line (Inside k place)
-  turn_called line place asked called going replied tellable ended goes = record {
+      → IsRepliedAt (list_length old.parts.members.newest) new.parts.entries place (next_number 0 old.parts.entries) line → IsTellable new.parts.entries place → IsCausedAt setting.given setting.backup (list_length old.parts.members.newest) line new.parts.entries place → (setting.tells → EndsWithin setting asked.end)
+      → is_end asked.event ≡ false → IsTurn setting (Running old epochs) (Running new epochs) line (Inside k place)
+  turn_called line place asked called going replied tellable caused ended goes = record {
     own = called_own_still called going;
     losses = losses-last setting hs (running_history old.parts) (running_history new.parts) lost;
     grown = called_grown_still called;
     ends = λ t. subst (λ (n : ℕ). EndsBetween setting.began (length setting.tape) (hs ++ running_history new.parts ∷ []) (Inside n place)) len
         (between_last hs (running_history new.parts) asked setting.began (length setting.tape) (ended t).0 (ended t).1);
-    answer = subst (λ (n : ℕ). IsAnsweredInside (hs ++ running_history new.parts ∷ []) (record { opened = n + 1; running = true; calls = next_number 0 old.parts.entries; size = list_length old.parts.members.newest }) n place line) len
-        (answered_last hs (running_history old.parts) (running_history new.parts) asked replied tellable);
+    answer = subst (λ (n : ℕ). IsAnsweredInside setting.given setting.backup (hs ++ running_history new.parts ∷ []) (record { opened = n + 1; running = true; calls = next_number 0 old.parts.entries; size = list_length old.parts.members.newest }) n place line) len
+        (answered_last setting.given setting.backup hs (running_history old.parts) (running_history new.parts) asked replied tellable caused);
     course = course_asked line asked goes;
   }
 
-  pub turn_asked : (line : Line) (place : ℕ) (asked : IsAskedAt (list_length old.parts.members.newest) line old.parts.entries new.parts.entries place) → IsTellable new.parts.entries place → (setting.tells → EndsWithin setting asked.end) → is_end asked.event ≡ false
-      → IsTurn setting (Running old epochs) (Running new epochs) line (Inside k place)
-  turn_asked line place asked tellable ended goes = turn_called line place asked (called_once asked) (gone_once asked goes own.going) (replied_at line asked) tellable ended goes
+  pub turn_asked : (line : Line) (place : ℕ) (asked : IsAskedAt (list_length old.parts.members.newest) line old.parts.entries new.parts.entries place) → IsTellable new.parts.entries place
+      → IsCausedAt setting.given setting.backup (list_length old.parts.members.newest) line new.parts.entries place → (setting.tells → EndsWithin setting asked.end) → is_end asked.event ≡ false → IsTurn setting (Running old epochs) (Running new epochs) line (Inside k place)
+  turn_asked line place asked tellable caused ended goes = turn_called line place asked (called_once asked) (gone_once asked goes own.going) (replied_at line asked) tellable caused ended goes
 
   -- memory was short for it
   pub no_turn : (line : Line) → new.parts.entries ≡ old.parts.entries → IsNoTurn setting (Running old epochs) (Running new epochs) line
@@ -288,9 +290,9 @@ module _ {B : Type 0} (setting : Setting) (old new : RunningParts B) (epochs : V
 
   pub turn_of_ask : (line : Line) (r : Result ℕ NoMemory) → ((place : ℕ) (asked : IsAskedAt (list_length old.parts.members.newest) line old.parts.entries new.parts.entries place) → is_end asked.event ≡ false)
       → (setting.tells → setting.began ≤ length setting.tape) → IfOk r (λ place. IsEndOf setting.tells new.parts.first new.parts.entries setting.tape) → IfOk r (λ place. IsTellable new.parts.entries place)
-      → IsAsked (list_length old.parts.members.newest) line old.parts.entries new.parts.entries r → IsTurnOrNone setting (Running old epochs) (Running new epochs) line (answer_at k r)
-  turn_of_ask line (Ok place) going longer ended tellable asked = turn_asked line place asked tellable (λ t. at_the_end setting old.parts.entries new.parts.entries asked new.parts.first t (longer t) ended) (going place asked)
-  turn_of_ask line (Err fault) going longer ended tellable asked = no_turn line asked
+      → IfOk r (λ place. IsCausedAt setting.given setting.backup (list_length old.parts.members.newest) line new.parts.entries place) → IsAsked (list_length old.parts.members.newest) line old.parts.entries new.parts.entries r → IsTurnOrNone setting (Running old epochs) (Running new epochs) line (answer_at k r)
+  turn_of_ask line (Ok place) going longer ended tellable caused asked = turn_asked line place asked tellable caused (λ t. at_the_end setting old.parts.entries new.parts.entries asked new.parts.first t (longer t) ended) (going place asked)
+  turn_of_ask line (Err fault) going longer ended tellable caused asked = no_turn line asked
 
   -- memory was short for one of the calls of a wait
   no_turn_waiting : (earlier : List ℕ) → IsStillWaiting (list_length old.parts.members.newest) old.parts.entries earlier new.parts.entries → IsNoTurn setting (Running old epochs) (Running new epochs) Wait
@@ -319,7 +321,7 @@ module _ {B : Type 0} (setting : Setting) (old new : RunningParts B) (epochs : V
   turn_of_wait (Ok place) longer ended tellable was =
       turn_called Wait place was.asked (waited_called was)
       (gone_once was.asked (going_steps steps_at_once was.asked) (gone_waiting (list_length old.parts.members.newest) old.parts.entries was.between was.earlier was.waiting own.going))
-      (waited_reply own.script was) tellable (λ t. at_the_end setting was.between new.parts.entries was.asked new.parts.first t (longer t) ended) (going_steps steps_at_once was.asked)
+      (waited_reply own.script was) tellable tt (λ t. at_the_end setting was.between new.parts.entries was.asked new.parts.first t (longer t) ended) (going_steps steps_at_once was.asked)
   turn_of_wait (Err fault) longer ended tellable (earlier, was) = no_turn_waiting earlier was
 
 -- it was not called, and goes on
@@ -353,9 +355,9 @@ module _ {B : Type 0} (setting : Setting) (old : RunningParts B) (epoch : Epoch)
   now_many : length ended.items ≡ count + 1
   now_many = ap (λ (l : List Epoch). length l) items ∙ length-append epochs.items (epoch ∷ [])
 
-  pub turn_ended : (line : Line) (place : ℕ) (asked : IsAskedAt (list_length old.parts.members.newest) line old.parts.entries epoch.entries.items place) → IsTellable epoch.entries.items place → (setting.tells → EndsWithin setting asked.end) → is_end asked.event ≡ true
-      → IsTurn setting (Running old epochs) (Idle bank ended) line (Inside count place)
-  turn_ended line place asked tellable within ends =
+  pub turn_ended : (line : Line) (place : ℕ) (asked : IsAskedAt (list_length old.parts.members.newest) line old.parts.entries epoch.entries.items place) → IsTellable epoch.entries.items place
+      → IsCausedAt setting.given setting.backup (list_length old.parts.members.newest) line epoch.entries.items place → (setting.tells → EndsWithin setting asked.end) → is_end asked.event ≡ true → IsTurn setting (Running old epochs) (Idle bank ended) line (Inside count place)
+  turn_ended line place asked tellable caused within ends =
       let now = history_of epoch in
       let called = called_once asked in
       record {
@@ -366,9 +368,9 @@ module _ {B : Type 0} (setting : Setting) (old : RunningParts B) (epoch : Epoch)
         ends = λ t. subst (λ (l : List History). EndsBetween setting.began (length setting.tape) l (Inside count place)) (sym now_are)
             (subst (λ (n : ℕ). EndsBetween setting.began (length setting.tape) (before ++ now ∷ []) (Inside n place)) counted
             (between_last before now asked setting.began (length setting.tape) (within t).0 (within t).1));
-        answer = subst (λ (l : List History). IsAnsweredInside l (course_with count old) count place line) (sym now_are)
-            (subst (λ (n : ℕ). IsAnsweredInside (before ++ now ∷ []) (record { opened = n + 1; running = true; calls = next_number 0 old.parts.entries; size = list_length old.parts.members.newest }) n place line) counted
-            (answered_last before (running_history old.parts) now asked (replied_at line asked) tellable));
+        answer = subst (λ (l : List History). IsAnsweredInside setting.given setting.backup l (course_with count old) count place line) (sym now_are)
+            (subst (λ (n : ℕ). IsAnsweredInside setting.given setting.backup (before ++ now ∷ []) (record { opened = n + 1; running = true; calls = next_number 0 old.parts.entries; size = list_length old.parts.members.newest }) n place line) counted
+            (answered_last setting.given setting.backup before (running_history old.parts) now asked (replied_at line asked) tellable caused));
         course = ap (λ (n : ℕ). at_rest n) now_many
             ∙ sym (ap (λ (l : List History). course_after l (course_with count old) line (Inside count place)) now_are
             ∙ ap (λ (n : ℕ). course_after (before ++ now ∷ []) (course_with count old) line (Inside n place)) (sym counted)
@@ -430,7 +432,7 @@ module _ {B : Type 0} (setting : Setting) (bank : B) (olds epochs : Vec Epoch) (
         ∙ ap (λ (n : ℕ). record { opened = length olds.items + 1; running = true; calls = calls; size = n }) sized
 
     no_entries : array.parts.entries ≡ [] → IsByScript (running_history array.parts)
-    no_entries none = subst (λ (l : List Entry). AreByScript (next_number 0 l) l) (sym none) (All-nil (λ e. IsOwnEntry 0 e))
+    no_entries none = subst (λ (l : List Entry). AreByScript l l) (sym none) (All-nil (IsOwnEntry []))
 
     pub turn_created : (line : CreateLine) → create_refusal setting.given setting.backup (spec_of line) ≡ None → IsCreated setting.tells setting.given setting.tape setting.backup (spec_of line) array.parts → phases_of array.ahead ≡ []
         → (setting.tells → used_slot (scope_of setting.given setting.backup array.parts.given line.uuid) (held_at setting (length setting.tape)) line.shape.disks ≡ None)
@@ -475,8 +477,8 @@ module _ {B : Type 0} (setting : Setting) (bank : B) (olds epochs : Vec Epoch) (
       found_number : next_number 0 found.parts.entries ≡ 0
       found_number = ap (λ (l : List Entry). next_number 0 l) found_entries ∙ opening_number array.parts.first losses 0
 
-      losses_own : (number : ℕ) → AreByScript number (entries_of opener array.parts.first losses)
-      losses_own number = each-absent (λ e. IsOwnEntry number e) opener array.parts.first is.r is.n (λ role lt missing. (inr (refl, refl, tt), inr (refl, refl, tt)))
+      losses_own : (history : List Entry) → AreByScript history (entries_of opener array.parts.first losses)
+      losses_own history = each-absent (IsOwnEntry history) opener array.parts.first is.r is.n (λ role lt missing. (inr (refl, refl, tt), inr (refl, refl, tt)))
 
       losses_go : AreGoing (entries_of opener array.parts.first losses)
       losses_go = each-absent (λ e. IsFalse (is_end e.event)) opener array.parts.first is.r is.n (λ role lt missing. (refl, refl))
@@ -498,8 +500,8 @@ module _ {B : Type 0} (setting : Setting) (bank : B) (olds epochs : Vec Epoch) (
       pub turn_found : (status : Status) → IsShownAs found status → IsEntered setting.tells setting.tape (script_who found.parts.entries) found.parts.entries array.parts.entries (Shown status ∷ []) → array.parts.members ≡ found.parts.members → array.ahead ≡ found.ahead
           → IsTurn setting (Idle bank olds) (Running array epochs) (Assemble asked) (IsOutside (Assembled (length epochs.items) status))
       turn_found status told entered members ahead = record {
-        own = opened_own (subst (λ (l : List Entry). AreByScript (next_number 0 l) l) (sym entries) (subst (λ (n : ℕ). AreByScript n (entries_of opener array.parts.first losses ++ first_entry ∷ [])) (sym one_call)
-            (All-append (λ e. IsOwnEntry 1 e) (entries_of opener array.parts.first losses) (first_entry ∷ []) (losses_own 1) (All-cons (λ e. IsOwnEntry 1 e) first_entry [] (inl (refl, omega arith)) (All-nil (λ e. IsOwnEntry 1 e))))))
+        own = opened_own (subst (λ (l : List Entry). AreByScript l l) (sym entries)
+            (All-push (IsOwnEntry (entries_of opener array.parts.first losses ++ first_entry ∷ [])) (entries_of opener array.parts.first losses) first_entry (losses_own (entries_of opener array.parts.first losses ++ first_entry ∷ [])) (inl (inl refl, first_number))))
             (subst (λ (l : List Entry). AreGoing l) (sym entries) (All-push (λ e. IsFalse (is_end e.event)) (entries_of opener array.parts.first losses) first_entry losses_go refl))
             (ap (λ (l : List Entry). length_of (list_length array.parts.members.newest) l) entries ∙ losses_leave (list_length array.parts.members.newest) first_entry refl) turning;
         losses = opened_losses (found_lost (first_entry ∷ []) (tt, tt) entries);
@@ -531,6 +533,9 @@ module _ {B : Type 0} (setting : Setting) (bank : B) (olds epochs : Vec Epoch) (
 
           one_call : next_number 0 (entries_of opener array.parts.first losses ++ first_entry ∷ []) ≡ 1
           one_call = fold-append (number_after 0) 0 (entries_of opener array.parts.first losses) (first_entry ∷ [])
+
+          first_number : 0 < next_number 0 (entries_of opener array.parts.first losses ++ first_entry ∷ [])
+          first_number = omega (arith, one_call)
 
           turning : IsTurningTold (is_reshaping array.parts.members.newest) (phases_of array.ahead) array.parts.entries
           turning = subst (λ (l : List Entry). IsTurningTold (is_reshaping array.parts.members.newest) (phases_of array.ahead) l) (sym entries)

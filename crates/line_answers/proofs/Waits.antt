@@ -32,7 +32,7 @@ pub waited_called : {size place : ℕ} {old new : List Entry} → IsWaitedFor si
 waited_called {size = size} {old = old} was = called_then (waiting_called size old was.between was.earlier was.waiting) (called_once was.asked)
 
 -- the replies to the calls of a wait that goes on
-pub waiting_at : (size : ℕ) (old new : List Entry) (earlier : List ℕ) → AreByScript (next_number 0 old) old → IsStillWaiting size old earlier new
+pub waiting_at : (size : ℕ) (old new : List Entry) (earlier : List ℕ) → AreByScript old old → IsStillWaiting size old earlier new
     → IsWaitingAt size new earlier (next_number 0 old) (next_number 0 new)
 waiting_at size old new [] own same = ap (λ (l : List Entry). next_number 0 l) same
 waiting_at size old new (first ∷ others) own (mid, one, more, rest) =
@@ -44,7 +44,7 @@ waiting_at size old new (first ∷ others) own (mid, one, more, rest) =
     )
 
 -- the replies to its calls, over the whole history
-waited_at : {size place : ℕ} {between new : List Entry} (old : List Entry) (earlier : List ℕ) → AreByScript (next_number 0 old) old → IsStillWaiting size old earlier between
+waited_at : {size place : ℕ} {between new : List Entry} (old : List Entry) (earlier : List ℕ) → AreByScript old old → IsStillWaiting size old earlier between
     → (asked : IsAskedAt size (Step steps_at_once) between new place) → IsFalse (leaves_more asked.event) → IsWaitedAt size new earlier place (next_number 0 old)
 waited_at {size = size} {place = place} {new = new} old [] own same asked done = (
   subst (λ (l : List Entry). IsReplyAt size new place (next_number 0 l) (Step steps_at_once)) same (reply_at asked),
@@ -58,7 +58,7 @@ waited_at {size = size} {place = place} {between = between} {new = new} old (fir
       subst (λ (n : ℕ). IsWaitedAt size new others place n) (number_more one) (waited_at mid others so_far rest asked done),
     )
 
-pub waited_reply : {size place : ℕ} {old new : List Entry} → AreByScript (next_number 0 old) old → IsWaitedFor size old new place → IsRepliedAt size new place (next_number 0 old) Wait
+pub waited_reply : {size place : ℕ} {old new : List Entry} → AreByScript old old → IsWaitedFor size old new place → IsRepliedAt size new place (next_number 0 old) Wait
 waited_reply {old = old} own was = (was.earlier, waited_at old was.earlier own was.waiting was.asked was.done)
 
 -- ---- the array that is waited for

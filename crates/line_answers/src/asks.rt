@@ -16,6 +16,7 @@ ghost use Rattle.run_laws.specs.running_replies_Replies.{HasToldBy};
 ghost use Rattle.run_laws.specs.Making.{is_added};
 ghost use Rattle.run_laws.specs.Asked.{IsAsked, IsSizedBy, IsWaited, script_who};
 ghost use Rattle.run_laws.specs.Replies.{leaves_more_at};
+ghost use Rattle.run_laws.specs.Caused.{IsJudgedAt};
 ghost use Rattle.run_laws.specs.Turning.{IsTellable, IsTurningTold};
 ghost use Rattle.script.specs.declared.lines.Line.TheVariants.{Read as ReadLine, Write as WriteLine, Flush as FlushLine, Fail as FailLine, Add as AddLine, ArraySize as ArraySizeLine, Grow as GrowLine, Step as StepLine};
 
@@ -167,6 +168,7 @@ pub fn ask_fail<B: Bank>(array: &mut Running<B>, role: u32) -> Result<u64, NoMem
     requires turning { IsTurningTold (is_reshaping array.old.parts.members.newest) (phases_of array.old.ahead) array.old.parts.entries }
     ensures asked { IsAsked (list_length array.old.parts.members.newest) (FailLine role) array.old.parts.entries array.new.parts.entries result }
     ensures tellable { IfOk result (λ place. IsTellable array.new.parts.entries place) }
+    ensures judged { IfOk result (λ place. IsJudgedAt (B.given array.old.parts.bank) array.old (FailLine role) array.new.parts.entries place) }
     ensures turning { IsTurningTold (is_reshaping array.new.parts.members.newest) (phases_of array.new.ahead) array.new.parts.entries }
     ensures ended { IfOk result (λ place. IsEndOf B.tells array.new.parts.first array.new.parts.entries (B.tape array.new.parts.bank)) }
     ensures unchanged { IfErr result (λ none. array.new ≡ array.old) }
@@ -193,6 +195,7 @@ pub fn ask_add<B: Bank>(array: &mut Running<B>, slot: u32) -> Result<u64, NoMemo
     requires turning { IsTurningTold (is_reshaping array.old.parts.members.newest) (phases_of array.old.ahead) array.old.parts.entries }
     ensures asked { IsAsked (list_length array.old.parts.members.newest) (AddLine slot) array.old.parts.entries array.new.parts.entries result }
     ensures tellable { IfOk result (λ place. IsTellable array.new.parts.entries place) }
+    ensures judged { IfOk result (λ place. IsJudgedAt (B.given array.old.parts.bank) array.old (AddLine slot) array.new.parts.entries place) }
     ensures turning { IsTurningTold (is_reshaping array.new.parts.members.newest) (phases_of array.new.ahead) array.new.parts.entries }
     ensures ended { IfOk result (λ place. IsEndOf B.tells array.new.parts.first array.new.parts.entries (B.tape array.new.parts.bank)) }
     ensures unchanged { IfErr result (λ none. array.new ≡ array.old) }
@@ -219,6 +222,7 @@ pub fn ask_visible<B: Bank>(array: &mut Running<B>, limit: Option<u64>) -> Resul
     requires turning { IsTurningTold (is_reshaping array.old.parts.members.newest) (phases_of array.old.ahead) array.old.parts.entries }
     ensures asked { IsAsked (list_length array.old.parts.members.newest) (ArraySizeLine limit) array.old.parts.entries array.new.parts.entries result }
     ensures tellable { IfOk result (λ place. IsTellable array.new.parts.entries place) }
+    ensures judged { IfOk result (λ place. IsJudgedAt (B.given array.old.parts.bank) array.old (ArraySizeLine limit) array.new.parts.entries place) }
     ensures turning { IsTurningTold (is_reshaping array.new.parts.members.newest) (phases_of array.new.ahead) array.new.parts.entries }
     ensures ended { IfOk result (λ place. IsEndOf B.tells array.new.parts.first array.new.parts.entries (B.tape array.new.parts.bank)) }
     ensures unchanged { IfErr result (λ none. array.new ≡ array.old) }
@@ -237,11 +241,14 @@ pub fn ask_grow<B: Bank>(array: &mut Running<B>, wish: Wish) -> Result<u64, NoMe
     requires turning { IsTurningTold (is_reshaping array.old.parts.members.newest) (phases_of array.old.ahead) array.old.parts.entries }
     ensures asked { IsAsked (list_length array.old.parts.members.newest) (GrowLine wish) array.old.parts.entries array.new.parts.entries result }
     ensures tellable { IfOk result (λ place. IsTellable array.new.parts.entries place) }
+    ensures judged { IfOk result (λ place. IsJudgedAt (B.given array.old.parts.bank) array.old (GrowLine wish) array.new.parts.entries place) }
     ensures turning { IsTurningTold (is_reshaping array.new.parts.members.newest) (phases_of array.new.ahead) array.new.parts.entries }
     ensures ended { IfOk result (λ place. IsEndOf B.tells array.new.parts.first array.new.parts.entries (B.tape array.new.parts.bank)) }
     ensures unchanged { IfErr result (λ none. array.new ≡ array.old) }
     ensures went { HasRunOn B.tells B.given B.tape B.faults_of array.old array.new }
 {
+    // (the history and the array say the same of what can be read and written)
+    let _ = array.visible();
     let who = script_call(array);
     let answer = array.plan_grow(who, wish);
     if wants_memory(&answer) {
@@ -256,6 +263,7 @@ pub fn ask_steps<B: Bank>(array: &mut Running<B>, most: u32) -> Result<u64, NoMe
     requires turning { IsTurningTold (is_reshaping array.old.parts.members.newest) (phases_of array.old.ahead) array.old.parts.entries }
     ensures asked { IsAsked (list_length array.old.parts.members.newest) (StepLine most) array.old.parts.entries array.new.parts.entries result }
     ensures tellable { IfOk result (λ place. IsTellable array.new.parts.entries place) }
+    ensures judged { IfOk result (λ place. IsJudgedAt (B.given array.old.parts.bank) array.old (StepLine most) array.new.parts.entries place) }
     ensures turning { IsTurningTold (is_reshaping array.new.parts.members.newest) (phases_of array.new.ahead) array.new.parts.entries }
     ensures more { IfOk result (λ place. length array.old.parts.entries < length array.new.parts.entries) }
     ensures ended { IfOk result (λ place. IsEndOf B.tells array.new.parts.first array.new.parts.entries (B.tape array.new.parts.bank)) }

@@ -1,4 +1,6 @@
+pub mod Apart
 pub mod AskLaws
+pub mod CausedLaws
 pub mod Causes
 pub mod Growth
 pub mod Legal
@@ -13,3 +15,5 @@ pub mod Sizes
 pub use Rattle.openings.proofs.running_replies_Fitting
 pub use Rattle.openings.proofs.running_replies_GoneOn
 pub use Rattle.openings.proofs.array_kept_ReplyLaws
+pub use Rattle.running_calls.proofs.Entered as running_calls_Entered
+pub use Rattle.running_calls.proofs.GoneOn as running_calls_GoneOn

@@ -68,7 +68,7 @@ later-of same lost = record { same = record { uuid = same.uuid; given = same.giv
 told-more : (passes : Entry → Bool) (entries more : List Entry) → IsTrue (list_any passes entries) → IsTrue (list_any passes (entries ++ more))
 told-more passes entries more told = list_any-append passes entries more ∙ ap (λ (b : Bool). b || list_any passes more) told
 
-told-behind : (passes : Entry → Bool) (entries more : List Entry) → IsTrue (list_any passes more) → IsTrue (list_any passes (entries ++ more))
+pub told-behind : (passes : Entry → Bool) (entries more : List Entry) → IsTrue (list_any passes more) → IsTrue (list_any passes (entries ++ more))
 told-behind passes entries more told = list_any-append passes entries more ∙ ap (λ (b : Bool). list_any passes entries || b) told ∙ or_true (list_any passes entries)
   where
     or_true : (b : Bool) → (b || true) ≡ true
@@ -250,7 +250,7 @@ behind-wider was now wider old new same before (e ∷ entries) (one, failed) = (
 )
 
 -- what may have held a role by these entries may have held it by more of them
-held-more : (world : World) (before more : List Entry) (role slot : ℕ) → MayHaveHeld world before role slot → MayHaveHeld world (before ++ more) role slot
+pub held-more : (world : World) (before more : List Entry) (role slot : ℕ) → MayHaveHeld world before role slot → MayHaveHeld world (before ++ more) role slot
 held-more world before more role slot (inl held) = inl held
 held-more world before more role slot (inr (inl first)) = inr (inl first)
 held-more world before more role slot (inr (inr (inl told))) = inr (inr (inl (added-more slot before more told)))
@@ -297,7 +297,7 @@ module _ (setting : Setting) (old : List Entry) (history : History) (Had : ℕ �
   role-since role Absent loss = absurd loss
   role-since role Recovering loss = absurd loss
 
-  loss-since : (event : Event) → IsLossBy Had setting.before setting.now event → IsRefusalTold setting event → IsLossSince setting (with_entries old history) event
+  pub loss-since : (event : Event) → IsLossBy Had setting.before setting.now event → IsRefusalTold setting event → IsLossSince setting (with_entries old history) event
   loss-since (Lost role cause) loss told = role-since role cause loss
   loss-since (SpareLost slot) failed told = failed
   loss-since (Stepped done left ended) loss told = told

@@ -20,7 +20,7 @@ use Rattle.openings.specs.running_words_Plans.{turns_shape}
 use Rattle.openings.specs.running_replies_Replies.{may_end_early, EndsRunningSteps, MayEndBy, MayTellBy, DidRunningSteps, RunningAnswers, RunningFits}
 use Rattle.openings.specs.still_laws_Plain.{MayTellPlainly, AreToldPlainly}
 use Rattle.run_laws.specs.Plain.{asks_to_turn}
-use Rattle.run_laws.specs.Turning.{may_be_active, may_be_ahead}
+use Rattle.running_calls.specs.Turning.{may_be_active, may_be_ahead}
 
 -- neither of two is
 pub neither : (a b : Bool) → (a || b) ≡ false → (a ≡ false) × (b ≡ false)

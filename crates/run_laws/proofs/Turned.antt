@@ -41,7 +41,7 @@ use Rattle.script.specs.declared.lines.Line.{Line}
 use Rattle.run_laws.specs.Asked.{script_who, IsAskedAt}
 use Rattle.run_laws.specs.Replies.{FitsLine}
 use Rattle.run_laws.specs.Showing.{IsShown}
-use Rattle.run_laws.specs.Turning.{active_after, ahead_after, may_be_active, may_be_ahead, IsTellable, IsTurningTold}
+use Rattle.running_calls.specs.Turning.{active_after, ahead_after, may_be_active, may_be_ahead, IsTellable, IsTurningTold}
 use Rattle.run_laws.proofs.AskLaws.{one}
 
 -- ---- an event that doesn't tell that no step is left ends nothing
@@ -71,7 +71,7 @@ kept (Planned left wish) some = record { active = λ b none. none; ahead = λ b 
 kept (Stepped done left ended) some = record { active = λ b none. still-some b (left == 0) some none; ahead = λ b none. still-some b (left == 0) some none }
 kept event some = record { active = λ b none. none; ahead = λ b none. none }
 
-abbrev TellsSome : Entry → Type 0
+abbrev pub TellsSome : Entry → Type 0
 TellsSome e = none_left e.event ≡ false
 
 active-kept : (entries : List Entry) → All TellsSome entries → (b : Bool) → fold (λ active e. active_after active e.event) b entries ≡ false → b ≡ false
@@ -117,10 +117,10 @@ module _ (old more : List Entry) (all : All TellsSome more) where
   ahead-split : may_be_ahead (old ++ more) ≡ false → fold (λ ahead e. ahead_after ahead e.event) (may_be_ahead old) more ≡ false
   ahead-split none = sym (fold-append (λ ahead e. ahead_after ahead e.event) false old more) ∙ none
 
-  active-before : may_be_active (old ++ more) ≡ false → may_be_active old ≡ false
+  pub active-before : may_be_active (old ++ more) ≡ false → may_be_active old ≡ false
   active-before none = active-kept more all (may_be_active old) (active-split none)
 
-  ahead-before : may_be_ahead (old ++ more) ≡ false → may_be_ahead old ≡ false
+  pub ahead-before : may_be_ahead (old ++ more) ≡ false → may_be_ahead old ≡ false
   ahead-before none = ahead-kept more all (may_be_ahead old) (ahead-split none)
 
   active-unbegun : may_be_active (old ++ more) ≡ false → list_any (λ e. is_begin e.event) more ≡ false
@@ -133,7 +133,7 @@ inner-some : (event : Event) → MayBeInner event → none_left event ≡ false
 inner-some (Stepped done left ended) is = absurd is
 inner-some event is = refl
 
-inside-some : (entries : List Entry) → All (λ e. MayBeInner e.event) entries → All TellsSome entries
+pub inside-some : (entries : List Entry) → All (λ e. MayBeInner e.event) entries → All TellsSome entries
 inside-some entries inside = All-weaker (λ e. MayBeInner e.event) TellsSome (λ e is. inner-some e.event is) entries inside
 
 -- ---- the reply at its place
@@ -142,18 +142,29 @@ get-last : (xs : List Entry) (e : Entry) → slice_get (xs ++ e ∷ []) (length 
 get-last [] e = refl
 get-last (x ∷ xs) e = get-last xs e
 
--- the last entry is one that its history may tell
+-- the last entry is there, behind those before it
+module _ (old new inner : List Entry) (e : Entry) (place : ℕ) (is : new ≡ old ++ (inner ++ e ∷ [])) (at_end : place + 1 ≡ length new) where
+  abbrev before-last : List Entry
+  before-last = old ++ inner
+
+  whole : new ≡ before-last ++ e ∷ []
+  whole = is ∙ sym (append_assoc old inner (e ∷ []))
+
+  at-last : place ≡ length before-last
+  at-last = let long = ap (λ (l : List Entry). length l) whole ∙ length-append before-last (e ∷ []) in omega (arith, at_end, long)
+
+  pub last-there : slice_get new place ≡ Some e
+  last-there = ap (λ (l : List Entry). slice_get l place) whole ∙ ap (λ (n : ℕ). slice_get (before-last ++ e ∷ []) n) at-last ∙ get-last before-last e
+
+  pub last-before : take place new ≡ old ++ inner
+  last-before = ap (λ (l : List Entry). take place l) whole ∙ take_at before-last (e ∷ []) place (sym at-last)
+
+-- it is one that its history may tell
 tellable-last : (old new inner : List Entry) (e : Entry) (place : ℕ) → new ≡ old ++ (inner ++ e ∷ []) → place + 1 ≡ length new
     → MayTellBy (IsTrue (may_be_active (old ++ inner))) (IsTrue (may_be_ahead (old ++ inner))) e.event → IsTellable new place
 tellable-last old new inner e place is at_end may =
-    let before : List Entry = old ++ inner in
-    let whole : new ≡ before ++ e ∷ [] = is ∙ sym (append_assoc old inner (e ∷ [])) in
-    let long = ap (λ (l : List Entry). length l) whole ∙ length-append before (e ∷ []) in
-    let at : place ≡ length before = omega (arith, at_end, long) in
-    let there : slice_get new place ≡ Some e = ap (λ (l : List Entry). slice_get l place) whole ∙ ap (λ (n : ℕ). slice_get (before ++ e ∷ []) n) at ∙ get-last before e in
-    let first : take place new ≡ before = ap (λ (l : List Entry). take place l) whole ∙ take_at before (e ∷ []) place (sym at) in
-    subst (λ (o : Option Entry). MatchOption o ⊥ (λ x. MayTellBy (IsTrue (may_be_active (take place new))) (IsTrue (may_be_ahead (take place new))) x.event)) (sym there)
-    (subst (λ (l : List Entry). MayTellBy (IsTrue (may_be_active l)) (IsTrue (may_be_ahead l)) e.event) (sym first) may)
+    subst (λ (o : Option Entry). MatchOption o ⊥ (λ x. MayTellBy (IsTrue (may_be_active (take place new))) (IsTrue (may_be_ahead (take place new))) x.event)) (sym (last-there old new inner e place is at_end))
+    (subst (λ (l : List Entry). MayTellBy (IsTrue (may_be_active l)) (IsTrue (may_be_ahead l)) e.event) (sym (last-before old new inner e place is at_end)) may)
 
 pub asked-tellable : {size place : ℕ} {line : Line} {old new : List Entry} (asked : IsAskedAt size line old new place) → ((Active Ahead : Type 0) → MayTellBy Active Ahead asked.event) → IsTellable new place
 asked-tellable {place = place} {old = old} {new = new} asked may =

@@ -1,4 +1,6 @@
 pub mod Asked
+pub mod Blocks
+pub mod Caused
 pub mod Ended
 pub mod Examining
 pub mod Histories
@@ -7,7 +9,6 @@ pub mod Plain
 pub mod Replies
 pub mod Showing
 pub mod States
-pub mod Turning
 pub mod Written
 pub use Rattle.openings.specs.Found as openings_Found
 pub use Rattle.openings.specs.assemble_the_CreateSpec
@@ -32,3 +33,9 @@ pub use Rattle.openings.specs.still_laws_Plain
 pub use Rattle.openings.specs.array_kept_Adopting
 pub use Rattle.openings.specs.array_kept_Calls
 pub use Rattle.openings.specs.history_calls_Reliable
+pub use Rattle.running_calls.specs.Turning
+pub use Rattle.running_calls.specs.declared.reply.Reply as running_calls_the_Reply
+pub use Rattle.running_calls.specs.declared.reply.Reply.TheVariants as running_calls_the_Reply_TheVariants
+pub use Rattle.running_calls.specs.Entered as running_calls_Entered
+pub use Rattle.running_calls.specs.Going as running_calls_Going
+pub use Rattle.running_calls.specs.Replies as running_calls_Replies

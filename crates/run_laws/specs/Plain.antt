@@ -10,7 +10,7 @@ use Rattle.flat_history.specs.OneShape.{OneShapeFits}
 use Rattle.openings.specs.running_words_Plans.{turns_shape}
 use Rattle.openings.specs.still_laws_Plain.{MayTellPlainly, AreToldPlainly}
 use Rattle.openings.specs.running_replies_Replies.{MayTellBy, RunningFits}
-use Rattle.run_laws.specs.Turning.{may_be_active, may_be_ahead}
+use Rattle.running_calls.specs.Turning.{may_be_active, may_be_ahead}
 
 -- the request asks for a reshape, or to limit what can be read and written
 abbrev pub asks_to_turn : Request → Bool

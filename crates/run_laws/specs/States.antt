@@ -22,10 +22,11 @@ use Rattle.run_laws.specs.declared.report.Answered.{Answered}
 use Rattle.run_laws.specs.declared.report.Answered.TheVariants.{Inside, Outside}
 use Rattle.run_laws.specs.declared.states.State.{State}
 use Rattle.run_laws.specs.declared.states.State.TheVariants.{Idle, Running}
+use Rattle.run_laws.specs.Blocks.{IsOfBlock}
 use Rattle.run_laws.specs.Histories.{History, histories_of, entry_at, AreGoing, EndsOnce}
 use Rattle.run_laws.specs.Making.{Setting, history_world, MayHaveHeld, MissingAtFirst}
 use Rattle.run_laws.specs.Replies.{Course, at_rest, gone_on, course_after, steps_at_once, leaves_more_at, IsReplyAt, IsAnswer}
-use Rattle.run_laws.specs.Turning.{IsTurningTold}
+use Rattle.running_calls.specs.Turning.{IsTurningTold}
 
 -- the history of an array that runs
 abbrev pub running_history : {B : Type 0} → Parts B → History
@@ -39,6 +40,11 @@ histories_in (Running array epochs) = histories_of epochs.items ++ running_histo
 abbrev pub bank_in : {B : Type 0} → State B → B
 bank_in (Idle bank epochs) = bank
 bank_in (Running array epochs) = array.parts.bank
+
+-- the entries of the array that runs
+abbrev pub entries_in : {B : Type 0} → State B → List Entry
+entries_in (Idle bank epochs) = []
+entries_in (Running array epochs) = array.parts.entries
 
 -- where a run stands while an array runs, behind so many others
 abbrev pub course_with : {B : Type 0} → ℕ → RunningParts B → Course
@@ -55,16 +61,20 @@ IsAbsence (Lost role Absent) = ⊤
 IsAbsence (Lost role Recovering) = ⊤
 IsAbsence event = ⊥
 
--- the entry is of a call of the script, before this number, or it tells a role that the opening didn't find whole
-abbrev pub IsOwnEntry : ℕ → Entry → Type 0
-IsOwnEntry number e = ((e.caller ≡ 0) × (e.number < number)) ⊎ ((e.caller ≡ 254) × (e.number ≡ 0) × IsAbsence e.event)
+-- who calls: the script itself, or a lane or the worker of one of its blocks
+abbrev pub IsCaller : ℕ → Type 0
+IsCaller caller = (caller ≡ 0) ⊎ IsOfBlock caller
 
--- the entries are of the script's calls, all before this number, but for those of the opening
-abbrev pub AreByScript : ℕ → List Entry → Type 0
-AreByScript number entries = All (λ e. IsOwnEntry number e) entries
+-- the entry is of a call of the script, before its caller's next one by this history, or it tells a role that the opening didn't find whole
+abbrev pub IsOwnEntry : List Entry → Entry → Type 0
+IsOwnEntry history e = (IsCaller e.caller × (e.number < next_number e.caller history)) ⊎ ((e.caller ≡ 254) × (e.number ≡ 0) × IsAbsence e.event)
+
+-- the entries are of the script's calls, but for those of the opening
+abbrev pub AreByScript : List Entry → List Entry → Type 0
+AreByScript history entries = All (IsOwnEntry history) entries
 
 abbrev pub IsByScript : History → Type 0
-IsByScript history = AreByScript (next_number 0 history.entries) history.entries
+IsByScript history = AreByScript history.entries history.entries
 
 -- it is, and no entry stands behind one that ends it
 pub record IsOfScript (history : History) : Type 0 where
@@ -209,6 +219,14 @@ pub record IsNoTurn {B : Type 0} (setting : Setting) (old new : State B) (line :
 abbrev pub IsTurnOrNone : {B : Type 0} → Setting → State B → State B → Line → Result Answered NoMemory → Type 0
 IsTurnOrNone setting old new line (Ok what) = IsTurn setting old new line what
 IsTurnOrNone setting old new line (Err fault) = IsNoTurn setting old new line
+
+-- A block was run, or cut short where memory was short: what was entered is the script's still, each loss and refusal has its cause, and the run stands
+-- where it stood, but that its list may have another length.
+pub record IsBlockTurn {B : Type 0} (setting : Setting) (old new : State B) : Type 0 where
+  pub own : RunsOwn new
+  pub losses : AreLossesFrom setting (histories_in old) (histories_in new)
+  pub grown : AreGrown (histories_in old) (histories_in new)
+  pub course : course_in new ≡ gone_on (course_in old).calls (course_in new).size (course_in old)
 
 -- the answer by the entry at this place
 abbrev pub answer_at : ℕ → Result ℕ NoMemory → Result Answered NoMemory

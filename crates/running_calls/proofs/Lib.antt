@@ -5,3 +5,5 @@ mod Told
 mod Held
 pub mod GoneOn
 mod Done
+pub mod Turned
+pub mod Entered

@@ -1,5 +1,7 @@
+pub mod Entered
 pub mod Going
 pub mod Replies
+pub mod Turning
 pub use Rattle.openings.specs.running_Calls
 pub use Rattle.openings.specs.running_replies_Going
 pub use Rattle.openings.specs.running_replies_Replies

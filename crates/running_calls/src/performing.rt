@@ -6,6 +6,7 @@ ghost use Rattle.flat_history.specs.Flat.{next_number};
 ghost use Rattle.flat_history.specs.declared.events.Request.TheVariants.{Read as AsksRead, Write as AsksWrite, Flush as AsksFlush, Fail as AsksFail, Add as AsksAdd, Visible as AsksVisible, Grow as AsksGrow};
 ghost use Rattle.array_kept.specs.Calls.{IsEndOf};
 ghost use Rattle.openings.specs.running_replies_Replies.{IsAnsweredWith};
+ghost use Rattle.running_calls.specs.Entered.{HasEntered, RestsBehind};
 ghost use Rattle.running_calls.specs.Going.{HasGoneOn};
 ghost use Rattle.running_calls.specs.Replies.{IsAskable, TellsSizes, told_by, IsShownBy, IsPerformed, IsRepliedBy, IsCountedBy, OnReply};
 
@@ -174,6 +175,7 @@ fn answer<B: Bank>(
     requires askable { IsAskable request }
     ensures replied { IfOk result (λ event. IsPerformed request who array.old array.new.parts.entries event) }
     ensures counted { IfOk result (λ event. IsCountedBy request array.old array.new event) }
+    ensures rest { IfOk result (λ event. RestsBehind request array.new) }
     ensures unchanged { IfErr result (λ none. array.new ≡ array.old) }
     ensures ended { IfOk result (λ event. IsEndOf B.tells array.new.parts.first array.new.parts.entries (B.tape array.new.parts.bank)) }
     ensures went { HasGoneOn B.tells B.given B.tape B.faults_of array.old array.new }
@@ -198,6 +200,7 @@ pub fn perform<B: Bank>(alloc: Global, array: &mut Running<B>, who: Who, request
     requires askable { IsAskable request }
     ensures replied { IsRepliedBy request who array.old array.new result }
     ensures counted { OnReply result (λ event. IsCountedBy request array.old array.new event) }
+    ensures entered { HasEntered array.old array.new }
     ensures ended { OnReply result (λ event. IsEndOf B.tells array.new.parts.first array.new.parts.entries (B.tape array.new.parts.bank)) }
     ensures went { HasGoneOn B.tells B.given B.tape B.faults_of array.old array.new }
 {

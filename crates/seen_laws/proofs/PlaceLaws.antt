@@ -1,7 +1,9 @@
 -- The calls of each caller in a history, and one call more.
-use Rattle.std.proofs.Common.{◌≡◌, ◌≢◌, ℕ, zero, suc, ◌+◌, ◌-◌, ◌&&◌, ◌==◌, Bool, true, false, not, cond, List, [], ◌∷◌, ◌++◌, length, take, drop, refl, sym, ap, ◌∙◌, subst, subst₂, Option, Some, None, MatchOption, slice_get, unwrap_or, arith, append_assoc, append-nil, length-append, eq-eqb, ne_eqb}
+use Rattle.std.proofs.Common.{◌≡◌, ◌≢◌, ℕ, zero, suc, ◌+◌, ◌-◌, ◌&&◌, ◌==◌, Bool, true, false, not, cond, List, [], ◌∷◌, ◌++◌, length, take, drop, fold, refl, sym, ap, ◌∙◌, subst, subst₂, Option, Some, None, MatchOption, slice_get, unwrap_or, arith, append_assoc, append-nil, length-append, eq-eqb, ne_eqb, ◌≤◌, ◌⊎◌, inl, inr}
+use Rattle.std.specs.Prelude.{if◌then◌else◌}
 use Rattle.std.specs.List.{All}
-use Rattle.std.proofs.lemmas.List.{take-append-le, map-append}
+use Rattle.std.proofs.lemmas.List.{take-append-le, drop-append-le, map-append}
+use Rattle.std.proofs.lemmas.List.Sums.{fold-append}
 use Rattle.std.proofs.lemmas.List.Elements.{All-nil, All-cons, All-append, All-head, All-tail}
 use Rattle.std.proofs.lemmas.Bool.Decides.{nat_tests}
 use Rattle.std.proofs.lemmas.Option.{slice_get_within}
@@ -9,12 +11,12 @@ use Rattle.std.proofs.Math.Seq.{drop-append_seam, drop-length, take-append_seam}
 use Rattle.md_base.specs.declared.answers.Who.{Who}
 use Rattle.flat_history.specs.declared.events.Entry.{Entry}
 use Rattle.flat_history.specs.declared.events.Request.{Request}
-use Rattle.flat_history.specs.Flat.{last_of, next_number}
+use Rattle.flat_history.specs.Flat.{is_same_call, rest_of_call, last_of, number_after, next_number}
 use Rattle.flat_history.specs.Growing.{BeginAnother}
 use Rattle.flat_history.specs.OneShape.{IsOfCall}
 use Rattle.flat_history.specs.Seen.{ends_call, reply_places}
 use Rattle.history_laws.proofs.OneShapeGrowing.{next-begins}
-use Rattle.seen_laws.specs.Callers.{IsReplyTo, AreReplied, HasCalled, IsCalled, NoneHasCalled, CallsAreCounted, CallsAreOnesOwn}
+use Rattle.seen_laws.specs.Callers.{IsReplyTo, AreReplied, IsLastOf, AreNumbered, HasCalled, IsCalled, NoneHasCalled, CallsAreCounted, CallsAreOnesOwn}
 
 -- ---- the last entry
 
@@ -107,7 +109,12 @@ no-place who other place (e ∷ call) ne own =
     ∙ no-place who other (place + 1) call ne (All-tail (IsOfCall who) e call own)
 
 pub none-has_called : NoneHasCalled
-none-has_called size start caller = record { places = ap (λ (l : List Entry). reply_places caller (length start) l) (sym (drop-length start)); answered = tt }
+none-has_called size start caller = record {
+  places = ap (λ (l : List Entry). reply_places caller (length start) l) (sym (drop-length start));
+  answered = tt;
+  numbers = tt;
+  next = omega arith;
+}
 
 -- ---- replies
 
@@ -138,6 +145,87 @@ pub reply-more : (size : ℕ) (entries : List Entry) (requests : List (Request �
     → MatchOption (slice_get entries place) ⊥ (λ e. IsReplyTo size (take place entries) e request) → AreReplied size entries (requests ++ (request, place) ∷ [])
 reply-more size entries [] request place replied answers = (answers, tt)
 reply-more size entries (r ∷ requests) request place replied answers = (replied.0, reply-more size entries requests request place replied.1 answers)
+
+-- ---- numbers
+
+-- the next number behind a caller's call
+next-behind : (who : Who) (old inner : List Entry) (reply : Entry) → IsOfCall who reply → next_number who.caller (old ++ (inner ++ reply ∷ [])) ≡ who.number + 1
+next-behind who old inner reply last =
+    ap (λ (l : List Entry). next_number who.caller l) (sym (append_assoc old inner (reply ∷ [])))
+    ∙ fold-append (number_after who.caller) 0 (old ++ inner) (reply ∷ [])
+    ∙ ap (λ (b : Bool). if b then reply.number + 1 else next_number who.caller (old ++ inner)) (eq-eqb reply.caller who.caller last.0)
+    ∙ ap (λ (n : ℕ). n + 1) last.1
+
+-- another caller's stays
+next-stays : (who : Who) (other n : ℕ) (call : List Entry) → other ≢ who.caller → All (IsOfCall who) call → fold (number_after other) n call ≡ n
+next-stays who other n [] ne own = refl
+next-stays who other n (e ∷ call) ne own =
+    let first : IsOfCall who e = All-head (IsOfCall who) e call own in
+    ap (λ (b : Bool). fold (number_after other) (if b then e.number + 1 else n) call) (ne_eqb e.caller other (λ is. ne (sym is ∙ first.0)))
+    ∙ next-stays who other n call ne (All-tail (IsOfCall who) e call own)
+
+-- a call goes on with none of another caller's, nor with one of a number before its own
+call-parts : (who : Who) (e : Entry) (call : List Entry) → All (IsOfCall who) call → (e.caller ≢ who.caller) ⊎ (e.number + 1 ≤ who.number) → rest_of_call e call ≡ []
+call-parts who e [] own apart = refl
+call-parts who e (x ∷ call) own apart =
+    ap (λ (b : Bool). if b then x ∷ rest_of_call e call else []) (other apart)
+  where
+    first : IsOfCall who x
+    first = All-head (IsOfCall who) x call own
+
+    later : (c d n m : ℕ) → n + 1 ≤ m → ((c == d) && (n == m)) ≡ false
+    later c d n m less = grind (arith, nat_tests, less)
+
+    other : (e.caller ≢ who.caller) ⊎ (e.number + 1 ≤ who.number) → is_same_call e x ≡ false
+    other (inl ne) = ap (λ (b : Bool). b && (e.number == x.number)) (ne_eqb e.caller x.caller (λ is. ne (is ∙ first.0)))
+    other (inr less) = later e.caller x.caller e.number x.number (let is = first.1 in omega (arith, less, is))
+
+rest-on : (e : Entry) (xs more : List Entry) → rest_of_call e xs ≡ [] → rest_of_call e more ≡ [] → rest_of_call e (xs ++ more) ≡ []
+rest-on e [] more one two = two
+rest-on e (x ∷ xs) more one two = by (is_same_call e x) one
+  where
+    by : (b : Bool) → (if b then x ∷ rest_of_call e xs else []) ≡ [] → (if b then x ∷ rest_of_call e (xs ++ more) else []) ≡ []
+    by true is = absurd (cc)
+    by false is = refl
+
+-- where calls end stays, behind another call
+still-numbered : (who : Who) (caller number : ℕ) (old call : List Entry) (requests : List (Request × ℕ)) → All (IsOfCall who) call → (caller ≢ who.caller) ⊎ (number + length requests ≤ who.number)
+    → AreNumbered caller number old requests → AreNumbered caller number (old ++ call) requests
+still-numbered who caller number old call [] own apart are = tt
+still-numbered who caller number old call (request ∷ requests) own apart are = (
+  one (slice_get old request.1) refl are.0,
+  still-numbered who caller (number + 1) old call requests own (later apart) are.1,
+)
+  where
+    later : (caller ≢ who.caller) ⊎ (number + length (request ∷ requests) ≤ who.number) → (caller ≢ who.caller) ⊎ (number + 1 + length requests ≤ who.number)
+    later (inl ne) = inl ne
+    later (inr le) = inr (omega (arith, le))
+
+    before : (e : Entry) → e.caller ≡ caller → e.number ≡ number → (caller ≢ who.caller) ⊎ (number + length (request ∷ requests) ≤ who.number) → (e.caller ≢ who.caller) ⊎ (e.number + 1 ≤ who.number)
+    before e whose is (inl ne) = inl (λ same. ne (sym whose ∙ same))
+    before e whose is (inr le) = inr (omega (arith, is, le))
+
+    one : (found : Option Entry) → slice_get old request.1 ≡ found → MatchOption found ⊥ (λ e. IsLastOf caller number (drop (request.1 + 1) old) e)
+        → MatchOption (slice_get (old ++ call) request.1) ⊥ (λ e. IsLastOf caller number (drop (request.1 + 1) (old ++ call)) e)
+    one None is at = absurd at
+    one (Some e) is at =
+        let within = slice_get_within old request.1 e is in
+        subst (λ (found : Option Entry). MatchOption found ⊥ (λ e. IsLastOf caller number (drop (request.1 + 1) (old ++ call)) e)) (sym (there old call request.1 e is)) (
+          at.0,
+          at.1,
+          ap (λ (l : List Entry). rest_of_call e l) (drop-append-le (request.1 + 1) old call (omega (arith, within)))
+              ∙ rest-on e (drop (request.1 + 1) old) call at.2 (call-parts who e call own (before e at.0 at.1 apart)),
+        )
+
+numbered-more : (caller number : ℕ) (entries : List Entry) (requests : List (Request × ℕ)) (request : Request) (place : ℕ) → AreNumbered caller number entries requests
+    → MatchOption (slice_get entries place) ⊥ (λ e. IsLastOf caller (number + length requests) (drop (place + 1) entries) e) → AreNumbered caller number entries (requests ++ (request, place) ∷ [])
+numbered-more caller number entries [] request place are last =
+    (subst (λ (n : ℕ). MatchOption (slice_get entries place) ⊥ (λ e. IsLastOf caller n (drop (place + 1) entries) e)) (omega arith) last, tt)
+numbered-more caller number entries (r ∷ requests) request place are last = (
+  are.0,
+  numbered-more caller (number + 1) entries requests request place are.1
+      (subst (λ (n : ℕ). MatchOption (slice_get entries place) ⊥ (λ e. IsLastOf caller n (drop (place + 1) entries) e)) (omega arith) last),
+)
 
 -- ---- one call more
 
@@ -188,6 +276,29 @@ module _ (size : ℕ) (start since old new : List Entry) (who : Who) (request : 
       (subst (λ (l : List Entry). IsReplyTo size l c.reply request) (sym (take-append_seam (old ++ c.inner) (c.reply ∷ []))) c.answers) in
       subst₂ (λ (l : List Entry) (n : ℕ). MatchOption (slice_get l n) ⊥ (λ e. IsReplyTo size (take n l) e request)) (sym is) at-reply there
 
+  all : All (IsOfCall who) (c.inner ++ c.reply ∷ [])
+  all = All-append (IsOfCall who) c.inner (c.reply ∷ []) c.own (All-cons (IsOfCall who) c.reply [] c.last (All-nil (IsOfCall who)))
+
+  -- the call ends with it
+  last-new : (number : ℕ) → who.number ≡ number → MatchOption (slice_get new (length new - 1)) ⊥ (λ e. IsLastOf who.caller number (drop (length new - 1 + 1) new) e)
+  last-new number is =
+      let whole : new ≡ (old ++ c.inner) ++ c.reply ∷ [] = c.is ∙ sym (append_assoc old c.inner (c.reply ∷ [])) in
+      let here : slice_get new (length new - 1) ≡ Some c.reply =
+      ap (λ (l : List Entry). slice_get l (length new - 1)) whole ∙ ap (λ (n : ℕ). slice_get ((old ++ c.inner) ++ c.reply ∷ []) n) (sym at-reply) ∙ reads (old ++ c.inner) c.reply in
+      let past : length new - 1 + 1 ≡ length new = omega (arith, long-new) in
+      subst (λ (found : Option Entry). MatchOption found ⊥ (λ e. IsLastOf who.caller number (drop (length new - 1 + 1) new) e)) (sym here)
+      (c.last.0, c.last.1 ∙ is, ap (λ (n : ℕ). rest_of_call c.reply (drop n new)) past ∙ ap (λ (l : List Entry). rest_of_call c.reply l) (drop-length new))
+
+  next-new : next_number who.caller new ≡ who.number + 1
+  next-new = ap (λ (l : List Entry). next_number who.caller l) c.is ∙ next-behind who old c.inner c.reply c.last
+
+  next-other : (other : ℕ) → other ≢ who.caller → next_number other new ≡ next_number other old
+  next-other other ne = ap (λ (l : List Entry). next_number other l) c.is ∙ fold-append (number_after other) 0 old (c.inner ++ c.reply ∷ []) ∙ next-stays who other (next_number other old) (c.inner ++ c.reply ∷ []) ne all
+
+  numbered-still : (caller number : ℕ) (requests : List (Request × ℕ)) → (caller ≢ who.caller) ⊎ (number + length requests ≤ who.number) → AreNumbered caller number old requests → AreNumbered caller number new requests
+  numbered-still caller number requests apart are =
+      subst (λ (l : List Entry). AreNumbered caller number l requests) (sym c.is) (still-numbered who caller number old (c.inner ++ c.reply ∷ []) requests all apart are)
+
   still : (requests : List (Request × ℕ)) → AreReplied size old requests → AreReplied size new requests
   still requests replied = subst (λ (l : List Entry). AreReplied size l requests) (sym c.is) (still-replied size old (c.inner ++ c.reply ∷ []) requests replied)
 
@@ -199,6 +310,10 @@ module _ (size : ℕ) (start since old new : List Entry) (who : Who) (request : 
         (ap (λ (n : ℕ). n ∷ []) (sym reply-place) ∙ sym (own-place who (length start + length since) c.inner c.reply c.own c.last))
         ∙ sym (places-new who.caller);
     answered = reply-more size new requests request (length new - 1) (still requests was.answered) replied-new;
+    numbers = numbered-more who.caller (next_number who.caller start) new requests request (length new - 1)
+        (numbered-still who.caller (next_number who.caller start) requests (inr (let next = was.next in let at = c.number in omega (arith, next, at))) was.numbers)
+        (last-new (next_number who.caller start + length requests) (c.number ∙ was.next));
+    next = let one = length-append requests ((request, length new - 1) ∷ []) in let next = was.next in let at = c.number in omega (arith, next-new, next, at, one);
   }
 
   pub unmoved : (other : ℕ) (requests : List (Request × ℕ)) → other ≢ who.caller → HasCalled size start old other requests → HasCalled size start new other requests
@@ -208,10 +323,9 @@ module _ (size : ℕ) (start since old new : List Entry) (who : Who) (request : 
         (sym (no-place who other (length start + length since) (c.inner ++ c.reply ∷ []) ne all))
         ∙ sym (places-new other);
     answered = still requests was.answered;
+    numbers = numbered-still other (next_number other start) requests (inl ne) was.numbers;
+    next = next-other other ne ∙ was.next;
   }
-    where
-      all : All (IsOfCall who) (c.inner ++ c.reply ∷ [])
-      all = All-append (IsOfCall who) c.inner (c.reply ∷ []) c.own (All-cons (IsOfCall who) c.reply [] c.last (All-nil (IsOfCall who)))
 
 pub calls-counted : CallsAreCounted
 calls-counted size start since old new who request requests begun c was = counted size start since old new who request begun c requests was

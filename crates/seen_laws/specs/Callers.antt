@@ -1,5 +1,5 @@
 -- What callers that share an array have seen of its history, and which calls they have made in it.
-use Rattle.std.specs.Prelude.{◌≡◌, ◌≢◌, ℕ, ◌-◌, ◌≤◌, true, List, [], ◌∷◌, ◌++◌, length, map, take, drop, slice_get, MatchOption, ⊤}
+use Rattle.std.specs.Prelude.{◌≡◌, ◌≢◌, ℕ, ◌+◌, ◌-◌, ◌≤◌, true, List, [], ◌∷◌, ◌++◌, length, map, take, drop, slice_get, MatchOption, ⊤}
 use Rattle.std.specs.List.{All}
 use Rattle.md_base.specs.declared.answers.Who.{Who}
 use Rattle.flat_history.specs.declared.events.Entry.{Entry}
@@ -7,7 +7,7 @@ use Rattle.flat_history.specs.declared.events.Event.{Event}
 use Rattle.flat_history.specs.declared.events.Event.TheVariants.{Shown}
 use Rattle.flat_history.specs.declared.events.Request.{Request}
 use Rattle.flat_history.specs.declared.events.Request.TheVariants.{Show as AsksShow}
-use Rattle.flat_history.specs.Flat.{last_of, next_number, length_of, visible_of}
+use Rattle.flat_history.specs.Flat.{rest_of_call, last_of, next_number, length_of, visible_of}
 use Rattle.flat_history.specs.Legal.{last_end}
 use Rattle.flat_history.specs.Growing.{BeginAnother}
 use Rattle.flat_history.specs.OneShape.{IsOfCall}
@@ -49,10 +49,22 @@ AreReplied size entries [] = ⊤
 AreReplied size entries (request ∷ more) =
     MatchOption (slice_get entries request.1) ⊥ (λ e. IsReplyTo size (take request.1 entries) e request.0) × AreReplied size entries more
 
--- Behind the start a caller's calls are these requests, each once and in this order, and each is answered at its place.
+-- the entry is the last of the caller's call of this number, by those behind it
+abbrev pub IsLastOf : ℕ → ℕ → List Entry → Entry → Type 0
+IsLastOf caller number behind e = (e.caller ≡ caller) × (e.number ≡ number) × (rest_of_call e behind ≡ [])
+
+-- at the places of these requests the caller's calls end, from the one of this number on
+abbrev pub AreNumbered : ℕ → ℕ → List Entry → List (Request × ℕ) → Type 0
+AreNumbered caller number entries [] = ⊤
+AreNumbered caller number entries (request ∷ more) =
+    MatchOption (slice_get entries request.1) ⊥ (λ e. IsLastOf caller number (drop (request.1 + 1) entries) e) × AreNumbered caller (number + 1) entries more
+
+-- Behind the start a caller's calls are these requests, each once and in this order, and each is answered at its place, in the next call.
 pub record HasCalled (size : ℕ) (start now : List Entry) (caller : ℕ) (requests : List (Request × ℕ)) : Type 0 where
   pub places : map (λ request. request.1) requests ≡ reply_places caller (length start) (drop (length start) now)
   pub answered : AreReplied size now requests
+  pub numbers : AreNumbered caller (next_number caller start) now requests
+  pub next : next_number caller now ≡ next_number caller start + length requests
 
 -- One call was made: its entries bear the caller's next number, and the last one answers the request.
 pub record IsCalled (size : ℕ) (who : Who) (request : Request) (old new : List Entry) : Type 0 where

@@ -9,6 +9,7 @@ pub use Rattle.lanes.specs.declared.worker.Worked as lanes_the_Worked
 pub use Rattle.lanes.specs.running_calls_Replies
 pub use Rattle.lanes.specs.running_calls_the_Reply
 pub use Rattle.lanes.specs.running_calls_the_Reply_TheVariants
+pub use Rattle.running_calls.specs.Entered as running_calls_Entered
 pub use Rattle.running_calls.specs.Going as running_calls_Going
 pub use Rattle.running_calls.specs.running_Calls
 pub use Rattle.running_calls.specs.running_words_Parts

@@ -1,5 +1,6 @@
 -- An array as a lock sees it: what of it was seen, and which calls its callers have made.
-use Rattle.std.specs.Prelude.{◌≡◌, ◌≢◌, ℕ, ◌<◌, ◌≤◌, ◌^◌, Bool, true, false, min, List, length, map}
+use Rattle.std.specs.Prelude.{◌≡◌, ◌≢◌, ℕ, ◌<◌, ◌≤◌, ◌^◌, Bool, true, false, min, List, [], length, map}
+use Rattle.std.specs.List.{All}
 use Rattle.bank.specs.declared.bank.Operation.{Operation}
 use Rattle.bank.specs.Given.{Given}
 use Rattle.superblocks.specs.Reading.{list_length}
@@ -7,6 +8,7 @@ use Rattle.flat_history.specs.declared.events.Request.{Request}
 use Rattle.flat_history.specs.Seen.{Seen}
 use Rattle.lanes.specs.array_kept_Calls.{world_for, IsEndOf}
 use Rattle.running_calls.specs.running_words_Parts.{RunningParts}
+use Rattle.running_calls.specs.Entered.{HasEntered}
 use Rattle.running_calls.specs.Going.{HasGoneOn}
 use Rattle.running_calls.specs.Replies.{IsAskable, TellsSizes, IsRepliedBy, IsCountedBy, OnReply}
 use Rattle.lanes.specs.running_calls_the_Reply.{Reply}
@@ -58,6 +60,7 @@ pub record IsServed {B : Type 0} (tells : Type 0) (given : B → Given) (tape : 
   pub replied : IsRepliedBy request (next_call caller old.parts.entries) old new reply
   pub counted : OnReply reply (λ event. IsCountedBy request old new event)
   pub went : HasGoneOn tells given tape faults old new
+  pub entered : HasEntered old new
   pub sizes : TellsSizes old
   pub ended : IsSound tells tape new
 
@@ -65,10 +68,13 @@ pub record IsServed {B : Type 0} (tells : Type 0) (given : B → Given) (tape : 
 abbrev pub requests_of : List (Call Request) → List (Request × ℕ)
 requests_of calls = map (λ c. (c.request, c.at)) calls
 
--- Since the start the array has gone on by callers' calls, and of this caller's there are just these, each of which was answered by a reply that fits it.
+-- Since the start the array has gone on by callers' calls, and of this caller's there are just these, each of which was answered by a reply that fits it; if
+-- there are none, no entry is the caller's.
 pub record HasMade {B : Type 0} (tells : Type 0) (given : B → Given) (tape : B → List Operation) (faults : B → ℕ → ℕ) (start now : RunningParts B)
     (caller : ℕ) (calls : List (Call Request)) : Type 0 where
   pub went : HasGoneOn tells given tape faults start now
+  pub entered : HasEntered start now
+  pub silent : calls ≡ [] → All (λ e. e.caller ≢ caller) entered.more
   pub called : length now.parts.entries ≤ most_entries → HasCalled (sectors_of start) start.parts.entries now.parts.entries caller (requests_of calls)
 
 -- how a lock tells arrays and their histories apart

@@ -1,8 +1,10 @@
 -- The laws of an array, for a lock.
-use Rattle.std.proofs.Common.{◌≡◌, ◌≢◌, ◌⊎◌, inl, inr, ℕ, ◌-◌, ◌<◌, ◌≤◌, min, Bool, true, false, Option, List, [], ◌∷◌, ◌++◌, length, refl, sym, ap, ◌∙◌, subst, arith, append-nil, length-append}
+use Rattle.std.proofs.Common.{◌≡◌, ◌≢◌, ◌⊎◌, inl, inr, ℕ, ◌-◌, ◌<◌, ◌≤◌, min, Bool, true, false, Option, List, [], ◌∷◌, ◌++◌, length, refl, sym, ap, ◌∙◌, subst, arith, append-nil, length-append, drop}
+use Rattle.std.proofs.Math.Seq.{drop-append_seam}
 use Rattle.std.proofs.lemmas.List.{map-append}
 use Rattle.std.proofs.lemmas.Bool.{cases_lt}
-use Rattle.std.proofs.lemmas.List.Elements.{All-nil}
+use Rattle.std.proofs.lemmas.List.Elements.{All-nil, All-cons, All-append, All-weaker}
+use Rattle.std.specs.List.{All}
 use Rattle.std.specs.Prelude.{MatchBool}
 use Rattle.std.specs.Option.{option_map_or}
 use Rattle.md_base.specs.declared.answers.Who.{Who}
@@ -24,6 +26,7 @@ use Rattle.running_calls.specs.running_Calls.{IsShownAs as IsShownOf}
 use Rattle.running_calls.specs.Going.{HasGoneOn}
 use Rattle.running_calls.specs.Replies.{TellsSizes, IsPerformed}
 use Rattle.running_calls.proofs.Sizes.{length-since, fits-since}
+use Rattle.running_calls.proofs.Entered.{entered-none, none-more, entered-then, then-more}
 use Rattle.running_calls.proofs.GoneOn.{gone-none, gone-then}
 use Rattle.lanes.specs.running_calls_the_Reply.{Reply}
 use Rattle.lanes.specs.running_calls_the_Reply_TheVariants.{Done, NoMemory as Short}
@@ -171,11 +174,24 @@ module _ {B : Type 0} {tells : Type 0} {given : B → Given} {tape : B → List 
       ap (λ (l : List Entry). length_of (sectors_of start) l) went.grown ∙ length-since (sectors_of start) (sectors_of x) start.parts.entries went.more went.sized
       ∙ ap (λ (l : List Entry). length_of (sectors_of x) l) (sym went.grown) ∙ told.sized
 
+  -- the entries of a call are its caller's
+  callers : (old new : RunningParts B) (caller : ℕ) (request : Request) (reply : Reply) (served : IsServed tells given tape faults old new caller request reply) → All (λ e. e.caller ≡ caller) served.entered.more
+  callers old new caller request reply served =
+      let c = found-called old new caller request reply served in
+      let who = next_call caller old.parts.entries in
+      let is : c.inner ++ c.reply ∷ [] ≡ served.entered.more =
+      sym (drop-append_seam old.parts.entries (c.inner ++ c.reply ∷ [])) ∙ ap (drop (length old.parts.entries)) (sym c.is ∙ served.entered.grown) ∙ drop-append_seam old.parts.entries served.entered.more in
+      subst (λ (l : List Entry). All (λ e. e.caller ≡ caller) l) is
+      (All-weaker (IsOfCall who) (λ e. e.caller ≡ caller) (λ e own. own.0) (c.inner ++ c.reply ∷ [])
+      (All-append (IsOfCall who) c.inner (c.reply ∷ []) c.own (All-cons (IsOfCall who) c.reply [] c.last (All-nil (IsOfCall who)))))
+
   own : (start x y : RunningParts B) (caller : ℕ) (request : Request) (reply : Reply) (mine : List (Call Request))
       → IsServed tells given tape faults x y caller request reply
       → HasMade tells given tape faults start x caller mine → HasMade tells given tape faults start y caller (mine ++ record { request = request; at = size_of y - 1 } ∷ [])
   own start x y caller request reply mine served made = record {
     went = gone-then tells given tape faults start x y made.went served.went;
+    entered = entered-then start x y made.entered served.entered;
+    silent = λ none. absurd (some mine (record { request = request; at = size_of y - 1 }) none);
     called = λ few.
         let more = longer x y caller request reply served in
         let before : length x.parts.entries ≤ most_entries = omega (arith, more, few) in
@@ -186,12 +202,20 @@ module _ {B : Type 0} {tells : Type 0} {given : B → Given} {tape : B → List 
         (counted (sectors_of start) start.parts.entries made.went.more x.parts.entries y.parts.entries (next_call caller x.parts.entries) request made.went.grown
         (served-called (sectors_of start) x y caller request reply (sized-since start x made.went served.sizes) served) (requests_of mine) (made.called before));
   }
+    where
+      some : (calls : List (Call Request)) (call : Call Request) → calls ++ call ∷ [] ≡ [] → ⊥
+      some [] call none = cc
+      some (first ∷ calls) call none = cc
 
   others : (start x y : RunningParts B) (caller other : ℕ) (request : Request) (reply : Reply) (mine : List (Call Request))
       → IsServed tells given tape faults x y caller request reply
       → other ≢ caller → HasMade tells given tape faults start x other mine → HasMade tells given tape faults start y other mine
   others start x y caller other request reply mine served ne made = record {
     went = gone-then tells given tape faults start x y made.went served.went;
+    entered = entered-then start x y made.entered served.entered;
+    silent = λ none. subst (λ (l : List Entry). All (λ e. e.caller ≢ other) l) (sym (then-more start x y made.entered served.entered))
+        (All-append (λ e. e.caller ≢ other) made.entered.more served.entered.more (made.silent none)
+        (All-weaker (λ e. e.caller ≡ caller) (λ e. e.caller ≢ other) (λ e is same. ne (sym same ∙ is)) served.entered.more (callers x y caller request reply served)));
     called = λ few.
         let more = longer x y caller request reply served in
         let before : length x.parts.entries ≤ most_entries = omega (arith, more, few) in
@@ -209,7 +233,12 @@ array_lawful tells given tape faults = record {
     earlier x y caller request reply served,
     (let more = longer x y caller request reply served in let fits = served.fits in omega (arith, more, fits)),
   );
-  none = λ x caller sound. record { went = gone-none tells given tape faults x; called = λ few. none-has_called (sectors_of x) x.parts.entries caller };
+  none = λ x caller sound. record {
+    went = gone-none tells given tape faults x;
+    entered = entered-none x;
+    silent = λ none. subst (λ (l : List Entry). All (λ e. e.caller ≢ caller) l) (sym (none-more x)) (All-nil (λ e. e.caller ≢ caller));
+    called = λ few. none-has_called (sectors_of x) x.parts.entries caller;
+  };
   own = λ start x y caller request reply mine sound begins served made. own start x y caller request reply mine served made;
   others = λ start x y caller other request reply mine sound begins served ne made. others start x y caller other request reply mine served ne made;
 }

@@ -14,6 +14,7 @@ use Rattle.run_laws.specs.Ended.{IsRunKept}
 use Rattle.run_laws.proofs.Legal.{grows_longer, going_grown, going_asked}
 use Rattle.run_laws.proofs.Losses.{losses-of, losses-steps, held-before, on-lost, on-added}
 use Rattle.line_answers.proofs.Called.{epoch-opening, epoch-later, ran-sized, ran-later, ran-on, parts-unchanged, told-backup}
+use Rattle.run_laws.proofs.CausedLaws.{caused-asked, unjudged-asked}
 use Rattle.line_answers.proofs.Turns.{turn_of_ask, turn_of_wait, turn_refused, going_read, going_write, going_flush, going_fail, going_add, going_visible, going_grow, going_steps}
 use Rattle.line_answers.proofs.Statuses.{going_detail, going_mdstat}
 use Rattle.run_laws.specs.Written.{HasWritten}
@@ -64,7 +65,7 @@ returns-in-Read-clause-answered g c =
     (subst (λ (s : State g.row.B.Denot). IsTurnOrNone (setting_of g.B.Bank.tells (g.B.Bank.given array.parts.bank) (g.B.Bank.tape array.parts.bank) (g.B.Bank.tape (bank_in s)) c.args.backup (g.B.Bank.faults_of array.parts.bank) (g.B.Bank.faults_of (bank_in s))) (IsRunning array c.args.epochs) s (Read c.in-Read.at c.in-Read.count) on.result.1) (sym on.ensures.state)
     (subst (λ (r : Result Answered NoMemory). IsTurnOrNone (setting_of g.B.Bank.tells (g.B.Bank.given array.parts.bank) (g.B.Bank.tape array.parts.bank) (g.B.Bank.tape new.parts.bank) c.args.backup (g.B.Bank.faults_of array.parts.bank) (g.B.Bank.faults_of new.parts.bank)) (IsRunning array c.args.epochs) (IsRunning new c.args.epochs) (Read c.in-Read.at c.in-Read.count) r) (sym on.ensures.answer)
     (turn_of_ask (setting_of g.B.Bank.tells (g.B.Bank.given array.parts.bank) (g.B.Bank.tape array.parts.bank) (g.B.Bank.tape new.parts.bank) c.args.backup (g.B.Bank.faults_of array.parts.bank) (g.B.Bank.faults_of new.parts.bank)) array new c.args.epochs c.requires.own (losses-of (setting_of g.B.Bank.tells (g.B.Bank.given array.parts.bank) (g.B.Bank.tape array.parts.bank) (g.B.Bank.tape new.parts.bank) c.args.backup (g.B.Bank.faults_of array.parts.bank) (g.B.Bank.faults_of new.parts.bank)) (running_history new.parts) (held-before (g.B.Bank.given array.parts.bank) c.args.backup (running_history array.parts) (running_history new.parts) array.parts.members did.grows (epoch-opening same) c.requires.former.held) did.losses (told-backup c.requires.former.backup_is did.told)) same.uuid same.given same.first did.sized did.turning
-    (Read c.in-Read.at c.in-Read.count) c.ask_read.result (λ p asked. going_read c.in-Read.at c.in-Read.count asked) (grows_longer did.grows) did.ended did.tellable did.asked)))
+    (Read c.in-Read.at c.in-Read.count) c.ask_read.result (λ p asked. going_read c.in-Read.at c.in-Read.count asked) (grows_longer did.grows) did.ended did.tellable (unjudged-asked (g.B.Bank.given array.parts.bank) c.args.backup array c.requires.former.backup_is c.requires.own.turning (Read c.in-Read.at c.in-Read.count) new.parts.entries c.ask_read.result did.asked (λ before event. tt)) did.asked)))
 
 pub returns-in-Write-clause-answered : goal.returns-in-Write-clause-answered
 returns-in-Write-clause-answered g c =
@@ -77,7 +78,7 @@ returns-in-Write-clause-answered g c =
     (subst (λ (s : State g.row.B.Denot). IsTurnOrNone (setting_of g.B.Bank.tells (g.B.Bank.given array.parts.bank) (g.B.Bank.tape array.parts.bank) (g.B.Bank.tape (bank_in s)) c.args.backup (g.B.Bank.faults_of array.parts.bank) (g.B.Bank.faults_of (bank_in s))) (IsRunning array c.args.epochs) s (Write c.in-Write.at c.in-Write.count c.in-Write.seed) on.result.1) (sym on.ensures.state)
     (subst (λ (r : Result Answered NoMemory). IsTurnOrNone (setting_of g.B.Bank.tells (g.B.Bank.given array.parts.bank) (g.B.Bank.tape array.parts.bank) (g.B.Bank.tape new.parts.bank) c.args.backup (g.B.Bank.faults_of array.parts.bank) (g.B.Bank.faults_of new.parts.bank)) (IsRunning array c.args.epochs) (IsRunning new c.args.epochs) (Write c.in-Write.at c.in-Write.count c.in-Write.seed) r) (sym on.ensures.answer)
     (turn_of_ask (setting_of g.B.Bank.tells (g.B.Bank.given array.parts.bank) (g.B.Bank.tape array.parts.bank) (g.B.Bank.tape new.parts.bank) c.args.backup (g.B.Bank.faults_of array.parts.bank) (g.B.Bank.faults_of new.parts.bank)) array new c.args.epochs c.requires.own (losses-of (setting_of g.B.Bank.tells (g.B.Bank.given array.parts.bank) (g.B.Bank.tape array.parts.bank) (g.B.Bank.tape new.parts.bank) c.args.backup (g.B.Bank.faults_of array.parts.bank) (g.B.Bank.faults_of new.parts.bank)) (running_history new.parts) (held-before (g.B.Bank.given array.parts.bank) c.args.backup (running_history array.parts) (running_history new.parts) array.parts.members did.grows (epoch-opening same) c.requires.former.held) did.losses (told-backup c.requires.former.backup_is did.told)) same.uuid same.given same.first did.sized did.turning
-    (Write c.in-Write.at c.in-Write.count c.in-Write.seed) c.ask_write.result (λ p asked. going_write c.in-Write.at c.in-Write.count c.in-Write.seed asked) (grows_longer did.grows) did.ended did.tellable did.asked)))
+    (Write c.in-Write.at c.in-Write.count c.in-Write.seed) c.ask_write.result (λ p asked. going_write c.in-Write.at c.in-Write.count c.in-Write.seed asked) (grows_longer did.grows) did.ended did.tellable (unjudged-asked (g.B.Bank.given array.parts.bank) c.args.backup array c.requires.former.backup_is c.requires.own.turning (Write c.in-Write.at c.in-Write.count c.in-Write.seed) new.parts.entries c.ask_write.result did.asked (λ before event. tt)) did.asked)))
 
 pub returns-in-Flush-clause-answered : goal.returns-in-Flush-clause-answered
 returns-in-Flush-clause-answered g c =
@@ -90,7 +91,7 @@ returns-in-Flush-clause-answered g c =
     (subst (λ (s : State g.row.B.Denot). IsTurnOrNone (setting_of g.B.Bank.tells (g.B.Bank.given array.parts.bank) (g.B.Bank.tape array.parts.bank) (g.B.Bank.tape (bank_in s)) c.args.backup (g.B.Bank.faults_of array.parts.bank) (g.B.Bank.faults_of (bank_in s))) (IsRunning array c.args.epochs) s Flush on.result.1) (sym on.ensures.state)
     (subst (λ (r : Result Answered NoMemory). IsTurnOrNone (setting_of g.B.Bank.tells (g.B.Bank.given array.parts.bank) (g.B.Bank.tape array.parts.bank) (g.B.Bank.tape new.parts.bank) c.args.backup (g.B.Bank.faults_of array.parts.bank) (g.B.Bank.faults_of new.parts.bank)) (IsRunning array c.args.epochs) (IsRunning new c.args.epochs) Flush r) (sym on.ensures.answer)
     (turn_of_ask (setting_of g.B.Bank.tells (g.B.Bank.given array.parts.bank) (g.B.Bank.tape array.parts.bank) (g.B.Bank.tape new.parts.bank) c.args.backup (g.B.Bank.faults_of array.parts.bank) (g.B.Bank.faults_of new.parts.bank)) array new c.args.epochs c.requires.own (losses-of (setting_of g.B.Bank.tells (g.B.Bank.given array.parts.bank) (g.B.Bank.tape array.parts.bank) (g.B.Bank.tape new.parts.bank) c.args.backup (g.B.Bank.faults_of array.parts.bank) (g.B.Bank.faults_of new.parts.bank)) (running_history new.parts) (held-before (g.B.Bank.given array.parts.bank) c.args.backup (running_history array.parts) (running_history new.parts) array.parts.members did.grows (epoch-opening same) c.requires.former.held) did.losses (told-backup c.requires.former.backup_is did.told)) same.uuid same.given same.first did.sized did.turning
-    Flush c.ask_flush.result (λ p asked. going_flush asked) (grows_longer did.grows) did.ended did.tellable did.asked)))
+    Flush c.ask_flush.result (λ p asked. going_flush asked) (grows_longer did.grows) did.ended did.tellable (unjudged-asked (g.B.Bank.given array.parts.bank) c.args.backup array c.requires.former.backup_is c.requires.own.turning Flush new.parts.entries c.ask_flush.result did.asked (λ before event. tt)) did.asked)))
 
 pub returns-in-Detail-clause-answered : goal.returns-in-Detail-clause-answered
 returns-in-Detail-clause-answered g c =
@@ -103,7 +104,7 @@ returns-in-Detail-clause-answered g c =
     (subst (λ (s : State g.row.B.Denot). IsTurnOrNone (setting_of g.B.Bank.tells (g.B.Bank.given array.parts.bank) (g.B.Bank.tape array.parts.bank) (g.B.Bank.tape (bank_in s)) c.args.backup (g.B.Bank.faults_of array.parts.bank) (g.B.Bank.faults_of (bank_in s))) (IsRunning array c.args.epochs) s Detail on.result.1) (sym on.ensures.state)
     (subst (λ (r : Result Answered NoMemory). IsTurnOrNone (setting_of g.B.Bank.tells (g.B.Bank.given array.parts.bank) (g.B.Bank.tape array.parts.bank) (g.B.Bank.tape new.parts.bank) c.args.backup (g.B.Bank.faults_of array.parts.bank) (g.B.Bank.faults_of new.parts.bank)) (IsRunning array c.args.epochs) (IsRunning new c.args.epochs) Detail r) (sym on.ensures.answer)
     (turn_of_ask (setting_of g.B.Bank.tells (g.B.Bank.given array.parts.bank) (g.B.Bank.tape array.parts.bank) (g.B.Bank.tape new.parts.bank) c.args.backup (g.B.Bank.faults_of array.parts.bank) (g.B.Bank.faults_of new.parts.bank)) array new c.args.epochs c.requires.own (losses-of (setting_of g.B.Bank.tells (g.B.Bank.given array.parts.bank) (g.B.Bank.tape array.parts.bank) (g.B.Bank.tape new.parts.bank) c.args.backup (g.B.Bank.faults_of array.parts.bank) (g.B.Bank.faults_of new.parts.bank)) (running_history new.parts) (held-before (g.B.Bank.given array.parts.bank) c.args.backup (running_history array.parts) (running_history new.parts) array.parts.members did.grows (epoch-opening same) c.requires.former.held) did.losses (told-backup c.requires.former.backup_is did.told)) same.uuid same.given same.first did.sized did.turning
-    Detail c.ask_show.result (λ p asked. going_detail asked) (grows_longer did.grows) did.ended did.tellable did.asked)))
+    Detail c.ask_show.result (λ p asked. going_detail asked) (grows_longer did.grows) did.ended did.tellable (caused-asked (g.B.Bank.given array.parts.bank) c.args.backup array c.requires.former.backup_is c.requires.own.turning Detail new.parts.entries c.ask_show.result did.asked did.shown) did.asked)))
 
 pub returns-in-Mdstat-clause-answered : goal.returns-in-Mdstat-clause-answered
 returns-in-Mdstat-clause-answered g c =
@@ -116,7 +117,7 @@ returns-in-Mdstat-clause-answered g c =
     (subst (λ (s : State g.row.B.Denot). IsTurnOrNone (setting_of g.B.Bank.tells (g.B.Bank.given array.parts.bank) (g.B.Bank.tape array.parts.bank) (g.B.Bank.tape (bank_in s)) c.args.backup (g.B.Bank.faults_of array.parts.bank) (g.B.Bank.faults_of (bank_in s))) (IsRunning array c.args.epochs) s Mdstat on.result.1) (sym on.ensures.state)
     (subst (λ (r : Result Answered NoMemory). IsTurnOrNone (setting_of g.B.Bank.tells (g.B.Bank.given array.parts.bank) (g.B.Bank.tape array.parts.bank) (g.B.Bank.tape new.parts.bank) c.args.backup (g.B.Bank.faults_of array.parts.bank) (g.B.Bank.faults_of new.parts.bank)) (IsRunning array c.args.epochs) (IsRunning new c.args.epochs) Mdstat r) (sym on.ensures.answer)
     (turn_of_ask (setting_of g.B.Bank.tells (g.B.Bank.given array.parts.bank) (g.B.Bank.tape array.parts.bank) (g.B.Bank.tape new.parts.bank) c.args.backup (g.B.Bank.faults_of array.parts.bank) (g.B.Bank.faults_of new.parts.bank)) array new c.args.epochs c.requires.own (losses-of (setting_of g.B.Bank.tells (g.B.Bank.given array.parts.bank) (g.B.Bank.tape array.parts.bank) (g.B.Bank.tape new.parts.bank) c.args.backup (g.B.Bank.faults_of array.parts.bank) (g.B.Bank.faults_of new.parts.bank)) (running_history new.parts) (held-before (g.B.Bank.given array.parts.bank) c.args.backup (running_history array.parts) (running_history new.parts) array.parts.members did.grows (epoch-opening same) c.requires.former.held) did.losses (told-backup c.requires.former.backup_is did.told)) same.uuid same.given same.first did.sized did.turning
-    Mdstat c.ask_show-in-Mdstat.result (λ p asked. going_mdstat asked) (grows_longer did.grows) did.ended did.tellable did.asked_brief)))
+    Mdstat c.ask_show-in-Mdstat.result (λ p asked. going_mdstat asked) (grows_longer did.grows) did.ended did.tellable (caused-asked (g.B.Bank.given array.parts.bank) c.args.backup array c.requires.former.backup_is c.requires.own.turning Mdstat new.parts.entries c.ask_show-in-Mdstat.result did.asked_brief did.shown) did.asked_brief)))
 
 pub returns-in-Fail-clause-answered : goal.returns-in-Fail-clause-answered
 returns-in-Fail-clause-answered g c =
@@ -129,7 +130,7 @@ returns-in-Fail-clause-answered g c =
     (subst (λ (s : State g.row.B.Denot). IsTurnOrNone (setting_of g.B.Bank.tells (g.B.Bank.given array.parts.bank) (g.B.Bank.tape array.parts.bank) (g.B.Bank.tape (bank_in s)) c.args.backup (g.B.Bank.faults_of array.parts.bank) (g.B.Bank.faults_of (bank_in s))) (IsRunning array c.args.epochs) s (Fail c.in-Fail.role) on.result.1) (sym on.ensures.state)
     (subst (λ (r : Result Answered NoMemory). IsTurnOrNone (setting_of g.B.Bank.tells (g.B.Bank.given array.parts.bank) (g.B.Bank.tape array.parts.bank) (g.B.Bank.tape new.parts.bank) c.args.backup (g.B.Bank.faults_of array.parts.bank) (g.B.Bank.faults_of new.parts.bank)) (IsRunning array c.args.epochs) (IsRunning new c.args.epochs) (Fail c.in-Fail.role) r) (sym on.ensures.answer)
     (turn_of_ask (setting_of g.B.Bank.tells (g.B.Bank.given array.parts.bank) (g.B.Bank.tape array.parts.bank) (g.B.Bank.tape new.parts.bank) c.args.backup (g.B.Bank.faults_of array.parts.bank) (g.B.Bank.faults_of new.parts.bank)) array new c.args.epochs c.requires.own (losses-of (setting_of g.B.Bank.tells (g.B.Bank.given array.parts.bank) (g.B.Bank.tape array.parts.bank) (g.B.Bank.tape new.parts.bank) c.args.backup (g.B.Bank.faults_of array.parts.bank) (g.B.Bank.faults_of new.parts.bank)) (running_history new.parts) (held-before (g.B.Bank.given array.parts.bank) c.args.backup (running_history array.parts) (running_history new.parts) array.parts.members did.grows (epoch-opening same) c.requires.former.held) did.losses (told-backup c.requires.former.backup_is did.told)) same.uuid same.given same.first did.sized did.turning
-    (Fail c.in-Fail.role) c.ask_fail.result (λ p asked. going_fail c.in-Fail.role asked) (grows_longer did.grows) did.ended did.tellable did.asked)))
+    (Fail c.in-Fail.role) c.ask_fail.result (λ p asked. going_fail c.in-Fail.role asked) (grows_longer did.grows) did.ended did.tellable (caused-asked (g.B.Bank.given array.parts.bank) c.args.backup array c.requires.former.backup_is c.requires.own.turning (Fail c.in-Fail.role) new.parts.entries c.ask_fail.result did.asked did.judged) did.asked)))
 
 pub returns-in-Add-clause-answered : goal.returns-in-Add-clause-answered
 returns-in-Add-clause-answered g c =
@@ -142,7 +143,7 @@ returns-in-Add-clause-answered g c =
     (subst (λ (s : State g.row.B.Denot). IsTurnOrNone (setting_of g.B.Bank.tells (g.B.Bank.given array.parts.bank) (g.B.Bank.tape array.parts.bank) (g.B.Bank.tape (bank_in s)) c.args.backup (g.B.Bank.faults_of array.parts.bank) (g.B.Bank.faults_of (bank_in s))) (IsRunning array c.args.epochs) s (Add c.in-Add.slot) on.result.1) (sym on.ensures.state)
     (subst (λ (r : Result Answered NoMemory). IsTurnOrNone (setting_of g.B.Bank.tells (g.B.Bank.given array.parts.bank) (g.B.Bank.tape array.parts.bank) (g.B.Bank.tape new.parts.bank) c.args.backup (g.B.Bank.faults_of array.parts.bank) (g.B.Bank.faults_of new.parts.bank)) (IsRunning array c.args.epochs) (IsRunning new c.args.epochs) (Add c.in-Add.slot) r) (sym on.ensures.answer)
     (turn_of_ask (setting_of g.B.Bank.tells (g.B.Bank.given array.parts.bank) (g.B.Bank.tape array.parts.bank) (g.B.Bank.tape new.parts.bank) c.args.backup (g.B.Bank.faults_of array.parts.bank) (g.B.Bank.faults_of new.parts.bank)) array new c.args.epochs c.requires.own (losses-of (setting_of g.B.Bank.tells (g.B.Bank.given array.parts.bank) (g.B.Bank.tape array.parts.bank) (g.B.Bank.tape new.parts.bank) c.args.backup (g.B.Bank.faults_of array.parts.bank) (g.B.Bank.faults_of new.parts.bank)) (running_history new.parts) (held-before (g.B.Bank.given array.parts.bank) c.args.backup (running_history array.parts) (running_history new.parts) array.parts.members did.grows (epoch-opening same) c.requires.former.held) did.losses (told-backup c.requires.former.backup_is did.told)) same.uuid same.given same.first did.sized did.turning
-    (Add c.in-Add.slot) c.ask_add.result (λ p asked. going_add c.in-Add.slot asked) (grows_longer did.grows) did.ended did.tellable did.asked)))
+    (Add c.in-Add.slot) c.ask_add.result (λ p asked. going_add c.in-Add.slot asked) (grows_longer did.grows) did.ended did.tellable (caused-asked (g.B.Bank.given array.parts.bank) c.args.backup array c.requires.former.backup_is c.requires.own.turning (Add c.in-Add.slot) new.parts.entries c.ask_add.result did.asked did.judged) did.asked)))
 
 pub returns-in-ArraySize-clause-answered : goal.returns-in-ArraySize-clause-answered
 returns-in-ArraySize-clause-answered g c =
@@ -156,7 +157,7 @@ returns-in-ArraySize-clause-answered g c =
     (subst (λ (s : State g.row.B.Denot). IsTurnOrNone (setting_of g.B.Bank.tells (g.B.Bank.given array.parts.bank) (g.B.Bank.tape array.parts.bank) (g.B.Bank.tape (bank_in s)) c.args.backup (g.B.Bank.faults_of array.parts.bank) (g.B.Bank.faults_of (bank_in s))) (IsRunning array c.args.epochs) s (ArraySize c.in-ArraySize.limit) on.result.1) (sym on.ensures.state)
     (subst (λ (r : Result Answered NoMemory). IsTurnOrNone (setting_of g.B.Bank.tells (g.B.Bank.given array.parts.bank) (g.B.Bank.tape array.parts.bank) (g.B.Bank.tape new.parts.bank) c.args.backup (g.B.Bank.faults_of array.parts.bank) (g.B.Bank.faults_of new.parts.bank)) (IsRunning array c.args.epochs) (IsRunning new c.args.epochs) (ArraySize c.in-ArraySize.limit) r) (sym on.ensures.answer)
     (turn_of_ask (setting_of g.B.Bank.tells (g.B.Bank.given array.parts.bank) (g.B.Bank.tape array.parts.bank) (g.B.Bank.tape new.parts.bank) c.args.backup (g.B.Bank.faults_of array.parts.bank) (g.B.Bank.faults_of new.parts.bank)) array new c.args.epochs c.requires.own (losses-steps (setting_of g.B.Bank.tells (g.B.Bank.given array.parts.bank) (g.B.Bank.tape array.parts.bank) (g.B.Bank.tape new.parts.bank) c.args.backup (g.B.Bank.faults_of array.parts.bank) (g.B.Bank.faults_of new.parts.bank)) array.parts.entries (running_history new.parts) array.parts.members (held-before (g.B.Bank.given array.parts.bank) c.args.backup (running_history array.parts) (running_history new.parts) array.parts.members went.grows (epoch-opening same) c.requires.former.held) went.more went.grown went.losses (told-backup c.requires.former.backup_is went.refusals)) same.uuid same.given same.first (ran-sized went) did.turning
-    (ArraySize c.in-ArraySize.limit) c.ask_visible.result (λ p asked. going_visible c.in-ArraySize.limit asked) (grows_longer went.grows) did.ended did.tellable did.asked)))
+    (ArraySize c.in-ArraySize.limit) c.ask_visible.result (λ p asked. going_visible c.in-ArraySize.limit asked) (grows_longer went.grows) did.ended did.tellable (caused-asked (g.B.Bank.given array.parts.bank) c.args.backup array c.requires.former.backup_is c.requires.own.turning (ArraySize c.in-ArraySize.limit) new.parts.entries c.ask_visible.result did.asked did.judged) did.asked)))
 
 pub returns-in-Grow-clause-answered : goal.returns-in-Grow-clause-answered
 returns-in-Grow-clause-answered g c =
@@ -170,7 +171,7 @@ returns-in-Grow-clause-answered g c =
     (subst (λ (s : State g.row.B.Denot). IsTurnOrNone (setting_of g.B.Bank.tells (g.B.Bank.given array.parts.bank) (g.B.Bank.tape array.parts.bank) (g.B.Bank.tape (bank_in s)) c.args.backup (g.B.Bank.faults_of array.parts.bank) (g.B.Bank.faults_of (bank_in s))) (IsRunning array c.args.epochs) s (Grow c.in-Grow.wish) on.result.1) (sym on.ensures.state)
     (subst (λ (r : Result Answered NoMemory). IsTurnOrNone (setting_of g.B.Bank.tells (g.B.Bank.given array.parts.bank) (g.B.Bank.tape array.parts.bank) (g.B.Bank.tape new.parts.bank) c.args.backup (g.B.Bank.faults_of array.parts.bank) (g.B.Bank.faults_of new.parts.bank)) (IsRunning array c.args.epochs) (IsRunning new c.args.epochs) (Grow c.in-Grow.wish) r) (sym on.ensures.answer)
     (turn_of_ask (setting_of g.B.Bank.tells (g.B.Bank.given array.parts.bank) (g.B.Bank.tape array.parts.bank) (g.B.Bank.tape new.parts.bank) c.args.backup (g.B.Bank.faults_of array.parts.bank) (g.B.Bank.faults_of new.parts.bank)) array new c.args.epochs c.requires.own (losses-steps (setting_of g.B.Bank.tells (g.B.Bank.given array.parts.bank) (g.B.Bank.tape array.parts.bank) (g.B.Bank.tape new.parts.bank) c.args.backup (g.B.Bank.faults_of array.parts.bank) (g.B.Bank.faults_of new.parts.bank)) array.parts.entries (running_history new.parts) array.parts.members (held-before (g.B.Bank.given array.parts.bank) c.args.backup (running_history array.parts) (running_history new.parts) array.parts.members went.grows (epoch-opening same) c.requires.former.held) went.more went.grown went.losses (told-backup c.requires.former.backup_is went.refusals)) same.uuid same.given same.first (ran-sized went) did.turning
-    (Grow c.in-Grow.wish) c.ask_grow.result (λ p asked. going_grow c.in-Grow.wish asked) (grows_longer went.grows) did.ended did.tellable did.asked)))
+    (Grow c.in-Grow.wish) c.ask_grow.result (λ p asked. going_grow c.in-Grow.wish asked) (grows_longer went.grows) did.ended did.tellable (caused-asked (g.B.Bank.given array.parts.bank) c.args.backup array c.requires.former.backup_is c.requires.own.turning (Grow c.in-Grow.wish) new.parts.entries c.ask_grow.result did.asked did.judged) did.asked)))
 
 pub returns-in-Step-clause-answered : goal.returns-in-Step-clause-answered
 returns-in-Step-clause-answered g c =
@@ -184,7 +185,7 @@ returns-in-Step-clause-answered g c =
     (subst (λ (s : State g.row.B.Denot). IsTurnOrNone (setting_of g.B.Bank.tells (g.B.Bank.given array.parts.bank) (g.B.Bank.tape array.parts.bank) (g.B.Bank.tape (bank_in s)) c.args.backup (g.B.Bank.faults_of array.parts.bank) (g.B.Bank.faults_of (bank_in s))) (IsRunning array c.args.epochs) s (Step c.in-Step.most) on.result.1) (sym on.ensures.state)
     (subst (λ (r : Result Answered NoMemory). IsTurnOrNone (setting_of g.B.Bank.tells (g.B.Bank.given array.parts.bank) (g.B.Bank.tape array.parts.bank) (g.B.Bank.tape new.parts.bank) c.args.backup (g.B.Bank.faults_of array.parts.bank) (g.B.Bank.faults_of new.parts.bank)) (IsRunning array c.args.epochs) (IsRunning new c.args.epochs) (Step c.in-Step.most) r) (sym on.ensures.answer)
     (turn_of_ask (setting_of g.B.Bank.tells (g.B.Bank.given array.parts.bank) (g.B.Bank.tape array.parts.bank) (g.B.Bank.tape new.parts.bank) c.args.backup (g.B.Bank.faults_of array.parts.bank) (g.B.Bank.faults_of new.parts.bank)) array new c.args.epochs c.requires.own (losses-steps (setting_of g.B.Bank.tells (g.B.Bank.given array.parts.bank) (g.B.Bank.tape array.parts.bank) (g.B.Bank.tape new.parts.bank) c.args.backup (g.B.Bank.faults_of array.parts.bank) (g.B.Bank.faults_of new.parts.bank)) array.parts.entries (running_history new.parts) array.parts.members (held-before (g.B.Bank.given array.parts.bank) c.args.backup (running_history array.parts) (running_history new.parts) array.parts.members went.grows (epoch-opening same) c.requires.former.held) went.more went.grown went.losses (told-backup c.requires.former.backup_is went.refusals)) same.uuid same.given same.first (ran-sized went) did.turning
-    (Step c.in-Step.most) c.ask_steps.result (λ p asked. going_steps c.in-Step.most asked) (grows_longer went.grows) did.ended did.tellable did.asked)))
+    (Step c.in-Step.most) c.ask_steps.result (λ p asked. going_steps c.in-Step.most asked) (grows_longer went.grows) did.ended did.tellable (caused-asked (g.B.Bank.given array.parts.bank) c.args.backup array c.requires.former.backup_is c.requires.own.turning (Step c.in-Step.most) new.parts.entries c.ask_steps.result did.asked did.judged) did.asked)))
 
 pub returns-in-Wait-clause-answered : goal.returns-in-Wait-clause-answered
 returns-in-Wait-clause-answered g c =

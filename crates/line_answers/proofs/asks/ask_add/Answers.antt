@@ -13,6 +13,7 @@ use Rattle.run_laws.proofs.Told.{told_added}
 use Rattle.run_laws.proofs.running_replies_Fitting.{fits-add}
 use Rattle.grow_asked.specs.Left.{phases_of}
 use Rattle.grow_asked.specs.declared.window.PhasesLeft.{PhasesLeft}
+use Rattle.run_laws.proofs.CausedLaws.{added-judged}
 use Rattle.run_laws.proofs.Turned.{told-same, told-still, asked-unstepped, asked-told}
 use Rattle.line_answers.proofs.asks.ask_add.Goals as goal
 
@@ -75,3 +76,9 @@ returns-clause-turning g c =
 
 pub returns-clause-tellable : goal.returns-clause-tellable
 returns-clause-tellable g c = asked-told (AsksAdd c.args.slot) (AddLine c.args.slot) (returns-clause-asked g c) refl refl (λ fits. fits)
+
+pub returns-clause-judged : goal.returns-clause-judged
+returns-clause-judged g c =
+    added-judged (list_length c.args.array.now.parts.members.newest) c.script_call-who.result (g.B.Bank.given c.args.array.now.parts.bank) c.args.array.now c.add-answer.new.self.parts.entries c.last_place.result c.last_place.ensures c.args.slot
+    c.add-answer.new.self.parts.members (g.B.Bank.faults_of c.args.array.now.parts.bank) (g.B.Bank.faults_of c.add-answer.new.self.parts.bank) c.add-answer.result
+    c.add-answer.ensures.answered c.add-answer.ensures.caused (c.wants_memory.ensures.no c.if-wants_memory.false)

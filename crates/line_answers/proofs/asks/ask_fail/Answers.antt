@@ -12,6 +12,7 @@ use Rattle.run_laws.proofs.Told.{told_answered, fail_told}
 use Rattle.run_laws.proofs.running_replies_Fitting.{fits-fail}
 use Rattle.grow_asked.specs.Left.{phases_of}
 use Rattle.grow_asked.specs.declared.window.PhasesLeft.{PhasesLeft}
+use Rattle.run_laws.proofs.CausedLaws.{failed-judged}
 use Rattle.run_laws.proofs.Turned.{told-same, told-still, asked-unstepped, asked-told}
 use Rattle.line_answers.proofs.asks.ask_fail.Goals as goal
 
@@ -62,3 +63,8 @@ returns-clause-turning g c =
 
 pub returns-clause-tellable : goal.returns-clause-tellable
 returns-clause-tellable g c = asked-told (AsksFail c.args.role) (FailLine c.args.role) (returns-clause-asked g c) refl refl (λ fits. fits)
+
+pub returns-clause-judged : goal.returns-clause-judged
+returns-clause-judged g c =
+    failed-judged (list_length c.args.array.now.parts.members.newest) c.script_call-who.result (g.B.Bank.given c.args.array.now.parts.bank) c.args.array.now c.fail-answer.new.self.parts.entries c.last_place.result c.last_place.ensures c.args.role
+    c.fail-answer.new.self.parts.members c.fail-answer.result c.fail-answer.ensures.answered c.fail-answer.ensures.caused (c.wants_memory.ensures.no c.if-wants_memory.false)

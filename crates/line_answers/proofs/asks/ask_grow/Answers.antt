@@ -1,11 +1,12 @@
-use Rattle.std.proofs.Common.{refl}
+use Rattle.std.proofs.Common.{refl, sym}
 use Rattle.superblocks.specs.Reading.{list_length}
 use Rattle.flat_history.specs.declared.events.Event.TheVariants.{Planned}
 use Rattle.flat_history.specs.declared.events.Request.TheVariants.{Grow as AsksGrow}
 use Rattle.script.specs.declared.lines.Line.TheVariants.{Grow as GrowLine}
 use Rattle.run_laws.specs.running_Calls.{running_left}
 use Rattle.run_laws.proofs.AskLaws.{on_no_memory, asked_with, with-grew}
-use Rattle.line_answers.proofs.Called.{replied-some, replied-none}
+use Rattle.line_answers.proofs.Called.{replied-some, replied-none, all-seen}
+use Rattle.run_laws.proofs.CausedLaws.{grown-judged}
 use Rattle.run_laws.proofs.Turned.{told-still, told-grown, asked-unstepped, asked-told}
 use Rattle.line_answers.proofs.asks.ask_grow.Goals as goal
 
@@ -41,3 +42,9 @@ returns-clause-turning g c =
 
 pub returns-clause-tellable : goal.returns-clause-tellable
 returns-clause-tellable g c = asked-told (AsksGrow c.args.wish) (GrowLine c.args.wish) (returns-clause-asked g c) refl refl (λ fits. fits)
+
+pub returns-clause-judged : goal.returns-clause-judged
+returns-clause-judged g c =
+    let did = c.plan_grow-answer.ensures in
+    grown-judged (list_length c.args.array.now.parts.members.newest) c.script_call-who.result (g.B.Bank.given c.args.array.now.parts.bank) c.args.array.now c.plan_grow-answer.new.self.parts.entries c.last_place.result c.last_place.ensures c.args.wish
+    (sym (all-seen c.args.array.now c.visible.ensures.sized c.visible.ensures.limited)) c.plan_grow-answer.new.self c.plan_grow-answer.result did.fits did.judged did.planned did.left did.as_before.members (c.wants_memory.ensures.no c.if-wants_memory.false)

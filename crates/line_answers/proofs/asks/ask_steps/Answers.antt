@@ -3,6 +3,8 @@ use Rattle.md_base.specs.declared.answers.Refusal.{Refusal}
 use Rattle.flat_history.specs.declared.events.Event.{Event}
 use Rattle.run_laws.specs.running_Calls.{running_left}
 use Rattle.run_laws.specs.running_steps_Steps.{IsStepCount}
+use Rattle.superblocks.specs.Reading.{list_length}
+use Rattle.run_laws.proofs.CausedLaws.{steps-judged}
 use Rattle.run_laws.proofs.Turned.{told-still, told-steps, steps-tellable}
 use Rattle.line_answers.proofs.asks.ask_steps.Goals as goal
 
@@ -21,3 +23,8 @@ returns-clause-tellable g c =
 
 pub returns-in-Err-clause-turning : goal.returns-in-Err-clause-turning
 returns-in-Err-clause-turning g c = told-still c.in-Err.ensures.unchanged c.requires.turning
+
+pub returns-clause-judged : goal.returns-clause-judged
+returns-clause-judged g c =
+    let did = c.in-Ok.ensures in
+    steps-judged (list_length c.args.array.now.parts.members.newest) c.script_call-who.result (g.B.Bank.given c.args.array.now.parts.bank) c.args.array.now c.steps.new.array.parts.entries c.last_place.result c.last_place.ensures did.replied did.counted

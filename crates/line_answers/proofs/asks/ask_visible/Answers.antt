@@ -6,6 +6,7 @@ use Rattle.script.specs.declared.lines.Line.TheVariants.{ArraySize as ArraySizeL
 use Rattle.run_laws.specs.running_words_Parts.{visible_in}
 use Rattle.run_laws.proofs.AskLaws.{on_no_memory, asked_with, with-grew}
 use Rattle.line_answers.proofs.Called.{replied-some, replied-none}
+use Rattle.run_laws.proofs.CausedLaws.{visible-judged}
 use Rattle.run_laws.proofs.Turned.{told-still, told-grown, asked-unstepped, asked-told}
 use Rattle.line_answers.proofs.asks.ask_visible.Goals as goal
 
@@ -41,3 +42,9 @@ returns-clause-turning g c =
 
 pub returns-clause-tellable : goal.returns-clause-tellable
 returns-clause-tellable g c = asked-told (AsksVisible c.args.limit) (ArraySizeLine c.args.limit) (returns-clause-asked g c) refl refl (λ fits. fits)
+
+pub returns-clause-judged : goal.returns-clause-judged
+returns-clause-judged g c =
+    let did = c.set_visible-answer.ensures in
+    visible-judged (list_length c.args.array.now.parts.members.newest) c.script_call-who.result (g.B.Bank.given c.args.array.now.parts.bank) c.args.array.now c.set_visible-answer.new.self.parts.entries c.last_place.result c.last_place.ensures c.args.limit
+    c.set_visible-answer.new.self c.set_visible-answer.result did.fits did.judged did.limited (c.wants_memory.ensures.no c.if-wants_memory.false)

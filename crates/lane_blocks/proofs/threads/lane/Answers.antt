@@ -1,0 +1,15 @@
+use Rattle.std.proofs.Common.{◌++◌, List, sym, ap, ◌∙◌, subst}
+use Rattle.shared_lanes.specs.running_calls_the_Reply.{Reply}
+use Rattle.shared_lanes.specs.lanes_Lane.{AreDone}
+use Rattle.shared_lanes.specs.Lanes.{carried_by}
+use Rattle.lane_blocks.proofs.threads.lane.Goals as goal
+
+pub returns-clause-ran : goal.returns-clause-ran
+returns-clause-ran g c =
+    let run = c.run_lane-pass.ensures in
+    let done = run.done in
+    record {
+      later = run.later;
+      done = subst (λ (l : List Reply). AreDone (carried_by g.B.Bank.given g.B.Bank.tape c.args.pass) (carried_by g.B.Bank.given g.B.Bank.tape c.run_lane-pass.result) c.args.requests.items l)
+          (sym (done.1 ∙ ap (λ (l : List Reply). l ++ done.0) c.requires.empty)) done.3;
+    }

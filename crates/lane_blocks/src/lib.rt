@@ -1,0 +1,10 @@
+//! A block of lanes: two lanes and a worker on one running array, at once.
+#![tactic(auto)]
+
+mod block;
+mod rows;
+mod threads;
+
+pub use block::{Joined, run_block};
+pub use shared_lanes;
+pub use shared_lanes::{lanes, running, running_calls};
