@@ -7,6 +7,7 @@ pub mod Legal
 pub mod Losses
 pub mod Plain
 pub mod PlainReplies
+pub mod RecordLaws
 pub mod Told
 pub mod Turned
 pub mod Worlds

@@ -6,6 +6,7 @@ pub mod Examining
 pub mod Histories
 pub mod Making
 pub mod Plain
+pub mod Records
 pub mod Replies
 pub mod Showing
 pub mod States
