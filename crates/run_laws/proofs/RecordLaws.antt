@@ -1,9 +1,10 @@
 -- The records of the array that runs, from line to line: what a call leaves, that they stay such as histories grow and over a longer time, and that one line more has one more.
-use Rattle.std.proofs.Common.{◌≡◌, inl, inr, ℕ, ◌+◌, false, Option, Some, None, List, [], ◌∷◌, ◌++◌, length, drop, refl, sym, ◌∙◌, ap, subst, append_assoc}
+use Rattle.std.proofs.Common.{◌≡◌, inl, inr, ℕ, ◌+◌, false, Option, Some, None, Result, Ok, Err, List, [], ◌∷◌, ◌++◌, length, drop, refl, sym, ◌∙◌, ap, subst, append_assoc}
 use Rattle.std.proofs.Math.Seq.{drop-append_seam}
-use Rattle.std.specs.Prelude.{slice_get, IsTrue, MatchOption}
+use Rattle.std.specs.Prelude.{slice_get, IfOk, IsTrue, MatchOption}
 use Rattle.std.specs.List.{list_any}
 use Rattle.std.specs.Option.{option_map_or}
+use Rattle.md_base.specs.declared.answers.NoMemory.{NoMemory}
 use Rattle.md_base.specs.declared.answers.Who.{Who}
 use Rattle.md_base.specs.declared.status.Status.{Status}
 use Rattle.bank.specs.Given.{Given, NeverFalls}
@@ -29,11 +30,11 @@ use Rattle.run_laws.specs.declared.report.Answered.{Answered}
 use Rattle.run_laws.specs.declared.report.Answered.TheVariants.{Inside, Outside as IsOutside}
 use Rattle.run_laws.specs.declared.report.LineReply.{LineReply}
 use Rattle.run_laws.specs.declared.report.Outside.TheVariants.{Created, Assembled, Examined, Refused}
-use Rattle.run_laws.specs.Asked.{IsAskedAt}
+use Rattle.run_laws.specs.Asked.{IsAskedAt, IsAsked}
 use Rattle.run_laws.specs.Caused.{Record, record_of, IsJudgedBy}
 use Rattle.run_laws.specs.Histories.{History, entry_at}
 use Rattle.run_laws.specs.Making.{Setting}
-use Rattle.run_laws.specs.Records.{IsWithSpare, AreStepsAnswered, AreAllAnswered, IsLeftBy, IsLeftAt, IsRecordMade, IsRecordFound, IsNextRecord, IsRecordedBy, IsRecorded, AreRecorded}
+use Rattle.run_laws.specs.Records.{IsLessByFaults, IsWithSpare, AreStepsAnswered, AreAllAnswered, IsLeftBy, IsLeftAt, IsRecordMade, IsRecordFound, IsNextRecord, IsRecordedBy, IsRecorded, AreRecorded}
 use Rattle.run_laws.specs.Replies.{entries_to, leaves_more, leaves_more_at}
 use Rattle.run_laws.specs.States.{IsGrown, AreGrown}
 use Rattle.run_laws.proofs.AskLaws.{one, entry_there}
@@ -50,6 +51,17 @@ left-asked {line = line} before now was is asked left = subst (λ (o : Option En
 -- and the other way round, where it leaves the same by any
 pub left-at : {size place : ℕ} {line : Line} {old new : List Entry} (before now : ℕ → ℕ) (was is : Record) (asked : IsAskedAt size line old new place) → ((event : Event) → IsLeftBy before now was is line event) → IsLeftAt before now was is line new place
 left-at {line = line} before now was is asked all = subst (λ (o : Option Entry). MatchOption o ⊥ (λ e. IsLeftBy before now was is line e.event)) (sym (entry_there asked)) (all asked.event)
+
+-- where memory was short, nothing is asked
+pub less-asked : (size : ℕ) (line : Line) (old new : List Entry) (before now : ℕ → ℕ) (was is : Record) (r : Result ℕ NoMemory) → IsAsked size line old new r → IfOk r (λ place. IsLessByFaults before now was is)
+    → ((event : Event) → IsLessByFaults before now was is → IsLeftBy before now was is line event) → IfOk r (λ place. IsLeftAt before now was is line new place)
+less-asked size line old new before now was is (Ok place) asked less by = left-at before now was is asked (λ event. by event less)
+less-asked size line old new before now was is (Err none) asked less by = tt
+
+pub stepped-asked : (size most : ℕ) (old new : List Entry) (before now : ℕ → ℕ) (was is : Record) (r : Result ℕ NoMemory) → IsAsked size (Step most) old new r → IfOk r (λ place. AreStepsAnswered was is)
+    → IfOk r (λ place. IsLeftAt before now was is (Step most) new place)
+stepped-asked size most old new before now was is (Ok place) asked stepped = left-at before now was is asked (λ event. stepped)
+stepped-asked size most old new before now was is (Err none) asked stepped = tt
 
 -- ---- steps
 

@@ -19,6 +19,7 @@ pub use Rattle.openings.specs.assemble_Opening
 pub use Rattle.openings.specs.assemble_Running
 pub use Rattle.openings.specs.course_kept_the_Course
 pub use Rattle.openings.specs.growing_Replied
+pub use Rattle.growing.specs.Planned as growing_Planned
 pub use Rattle.openings.specs.region_mends_Left
 pub use Rattle.openings.specs.reshape_openings_Finding
 pub use Rattle.openings.specs.running_Calls
@@ -30,6 +31,7 @@ pub use Rattle.openings.specs.running_words_Calls
 pub use Rattle.openings.specs.running_words_Parts
 pub use Rattle.openings.specs.running_words_Plans
 pub use Rattle.openings.specs.running_words_Still
+pub use Rattle.running_words.specs.Visible as running_words_Visible
 pub use Rattle.openings.specs.still_laws_Plain
 pub use Rattle.openings.specs.array_kept_Adopting
 pub use Rattle.openings.specs.array_kept_Calls

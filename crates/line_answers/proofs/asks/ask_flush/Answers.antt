@@ -13,6 +13,7 @@ use Rattle.run_laws.proofs.running_replies_Fitting.{fits-flush}
 use Rattle.grow_asked.specs.Left.{phases_of}
 use Rattle.grow_asked.specs.declared.window.PhasesLeft.{PhasesLeft}
 use Rattle.run_laws.proofs.Turned.{told-same, told-still, asked-unstepped, asked-told}
+use Rattle.line_answers.proofs.Lefts.{left-called}
 use Rattle.line_answers.proofs.asks.ask_flush.Goals as goal
 
 pub returns-then-wants_memory-clause-asked : goal.returns-then-wants_memory-clause-asked
@@ -62,3 +63,6 @@ returns-clause-turning g c =
 
 pub returns-clause-tellable : goal.returns-clause-tellable
 returns-clause-tellable g c = asked-told AsksFlush FlushLine (returns-clause-asked g c) refl refl (λ fits. fits)
+
+pub returns-clause-left : goal.returns-clause-left
+returns-clause-left g c = left-called c.flush-answer.ensures.called c.flush-answer.ensures.active c.flush-answer.ensures.failed

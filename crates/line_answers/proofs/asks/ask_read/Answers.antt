@@ -15,6 +15,7 @@ use Rattle.run_laws.proofs.running_replies_Fitting.{fits-read}
 use Rattle.grow_asked.specs.Left.{phases_of}
 use Rattle.grow_asked.specs.declared.window.PhasesLeft.{PhasesLeft}
 use Rattle.run_laws.proofs.Turned.{told-same, told-still, asked-unstepped, asked-told}
+use Rattle.line_answers.proofs.Lefts.{left-called}
 use Rattle.line_answers.proofs.asks.ask_read.Goals as goal
 
 sectors_in : (n len : ℕ) → len ≡ n * 512 → len / 512 ≡ n
@@ -75,3 +76,6 @@ returns-clause-turning g c =
 
 pub returns-clause-tellable : goal.returns-clause-tellable
 returns-clause-tellable g c = asked-told (AsksRead c.args.at c.args.count) (ReadLine c.args.at c.args.count) (returns-clause-asked g c) refl refl (λ fits. fits)
+
+pub returns-clause-left : goal.returns-clause-left
+returns-clause-left g c = left-called c.read-answer.ensures.called c.read-answer.ensures.active c.read-answer.ensures.failed

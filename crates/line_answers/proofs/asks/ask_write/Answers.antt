@@ -19,6 +19,7 @@ use Rattle.grow_asked.specs.Left.{phases_of}
 use Rattle.grow_asked.specs.declared.window.PhasesLeft.{PhasesLeft}
 use Rattle.script.specs.Seeds.{seeded}
 use Rattle.run_laws.proofs.Turned.{told-same, told-still, asked-unstepped, told-active, write-tellable}
+use Rattle.line_answers.proofs.Lefts.{left-called}
 use Rattle.line_answers.proofs.asks.ask_write.Goals as goal
 
 pub write-answer-requires-clause-some : goal.write-answer-requires-clause-some
@@ -116,3 +117,6 @@ returns-clause-tellable g c =
     let did = c.write-answer.ensures in
     write-tellable (list_length old.parts.members.newest) c.args.at (sectors_of c.as_bytes.result.now) c.script_call-who.result old.parts.entries c.write-answer.new.self.parts.entries c.write-answer.result c.last_place.result
     did.answered (c.wants_memory.ensures.no c.if-wants_memory.false) (λ barred. told-active (is_reshaping old.parts.members.newest) (phases_of old.ahead) old.parts.entries c.requires.turning (did.barred barred)) c.last_place.ensures
+
+pub returns-clause-left : goal.returns-clause-left
+returns-clause-left g c = left-called c.write-answer.ensures.called c.write-answer.ensures.active c.write-answer.ensures.failed
