@@ -1,39 +1,44 @@
 -- What a call leaves of the array, as a line leaves it.
 use Rattle.std.proofs.Common.{◌≡◌, ◌≢◌, inl, ℕ, ◌+◌, true, Option, Some, Result, Ok, Err, List, [], ◌∷◌, ◌++◌, length, refl, sym, ◌∙◌, ap, subst}
 use Rattle.std.specs.Prelude.{IfOk, OnErr, MatchOption}
+use Rattle.md_base.specs.Sectors.{Sector}
 use Rattle.md_base.specs.declared.answers.Fault.{Fault}
 use Rattle.md_base.specs.declared.answers.Fault.TheVariants.{Refused as IsRefusedWith, NoMemory as WantsMemory}
+use Rattle.md_base.specs.declared.answers.Refusal.{Refusal}
+use Rattle.md_base.specs.declared.answers.Refusal.TheVariants.{BackupFault}
 use Rattle.md_base.specs.declared.answers.Who.{Who}
 use Rattle.md_base.specs.declared.wishes.Wish.{Wish}
 use Rattle.bank.specs.declared.bank.Operation.{Operation}
 use Rattle.bank.specs.Given.{Given}
 use Rattle.grow_plan.specs.Plans.{phases}
 use Rattle.superblocks.specs.declared.members.Members.{Members}
-use Rattle.superblocks.specs.Reading.{is_reshaping, shape_of, holder, role_state}
+use Rattle.superblocks.specs.Reading.{is_reshaping, shape_of, list_length, holder, role_state}
 use Rattle.superblocks.specs.Reads.{has_spare}
 use Rattle.row_io.specs.Rows.{reading_of}
 use Rattle.flat_history.specs.declared.events.Entry.{Entry}
 use Rattle.flat_history.specs.declared.events.Event.{Event}
-use Rattle.flat_history.specs.declared.events.Event.TheVariants.{Failed, Added, Visible, Planned, Refused}
-use Rattle.flat_history.specs.declared.events.Request.TheVariants.{Fail as AsksFail, Add as AsksAdd, Grow as AsksGrow, Visible as AsksVisible}
+use Rattle.flat_history.specs.declared.events.Event.TheVariants.{Read, Wrote, Flushed, Failed, Added, Visible, Planned, Refused}
+use Rattle.flat_history.specs.declared.events.Request.TheVariants.{Read as AsksRead, Flush as AsksFlush, Fail as AsksFail, Add as AsksAdd, Grow as AsksGrow, Visible as AsksVisible}
 use Rattle.flat_history.specs.Plain.{entries_of}
 use Rattle.flat_history.specs.World.{World}
 use Rattle.views.specs.declared.work.Work.{Work}
-use Rattle.views.specs.Lacking.{HaveRolesFailed}
+use Rattle.views.specs.Lacking.{AreTooMany, HaveRolesFailed}
 use Rattle.grow_asked.specs.declared.window.PhasesLeft.{PhasesLeft}
 use Rattle.grow_asked.specs.Left.{phases_of}
 use Rattle.run_laws.specs.growing_Planned.{IsAsBefore, IsGrowPlanned, IsReplied as IsRepliedTo}
-use Rattle.run_laws.specs.array_kept_Calls.{IsReplied, IsAnswered, IsFailedFor, IsAddedFor, by_answer}
-use Rattle.run_laws.specs.running_Calls.{running_left}
+use Rattle.run_laws.specs.array_kept_Calls.{IsReplied, IsAnswered, IsCausedBy, IsRefusedFor, IsFailedFor, IsAddedFor, by_answer}
+use Rattle.run_laws.specs.running_Calls.{running_left, IsReadLacked, IsWriteLackedIn}
+use Rattle.run_laws.specs.moving_laws_Writing.{IsWriteReplied}
 use Rattle.run_laws.specs.running_words_Adding.{IsAddCalled}
 use Rattle.run_laws.specs.running_words_Calls.{IsCalled, IsSameReshape}
 use Rattle.run_laws.specs.running_words_Parts.{RunningParts, visible_in}
 use Rattle.run_laws.specs.running_words_Visible.{IsLimitedAs}
 use Rattle.script.specs.declared.lines.Line.{Line}
-use Rattle.script.specs.declared.lines.Line.TheVariants.{Fail, Add, ArraySize, Grow}
+use Rattle.script.specs.declared.lines.Line.TheVariants.{Read as ReadLine, Write as WriteLine, Flush, Fail, Add, ArraySize, Grow, Stop}
+use Rattle.run_laws.specs.Asked.{IsAskedAt}
 use Rattle.run_laws.specs.Caused.{record_of}
 use Rattle.run_laws.specs.Records.{IsShapeKept, IsWorkKept, IsOnlyLess, IsLessByFaults, IsWithSpare, IsAsItWas, IsLeftBy, IsLeftAt}
-use Rattle.run_laws.proofs.AskLaws.{one, entries_of-append}
+use Rattle.run_laws.proofs.AskLaws.{one, entry_there, entries_of-append}
 use Rattle.run_laws.proofs.Turned.{last-there}
 
 -- ---- what each call keeps
@@ -90,11 +95,36 @@ as-planned same = record { members = same.members; resync = ap (λ (w : Work). w
 -- ---- by the answer
 
 module _ {B : Type 0} (before now : ℕ → ℕ) (old new : RunningParts B) (who : Who) (place : ℕ) (at_end : place + 1 ≡ length new.parts.entries) where
+  left-last : (line : Line) (inner : List Entry) (e : Entry) → new.parts.entries ≡ old.parts.entries ++ (inner ++ e ∷ []) → IsLeftBy before now (record_of old) (record_of new) line e.event
+      → IsLeftAt before now (record_of old) (record_of new) line new.parts.entries place
+  left-last line inner e is left =
+      subst (λ (o : Option Entry). MatchOption o ⊥ (λ x. IsLeftBy before now (record_of old) (record_of new) line x.event)) (sym (last-there old.parts.entries new.parts.entries inner e place is at_end)) left
+
   left-behind : (line : Line) (end : ℕ) (inner : List Event) (event : Event) → new.parts.entries ≡ old.parts.entries ++ entries_of who end (inner ++ event ∷ []) → IsLeftBy before now (record_of old) (record_of new) line event
       → IsLeftAt before now (record_of old) (record_of new) line new.parts.entries place
   left-behind line end inner event is left =
-      subst (λ (o : Option Entry). MatchOption o ⊥ (λ e. IsLeftBy before now (record_of old) (record_of new) line e.event))
-      (sym (last-there old.parts.entries new.parts.entries (entries_of who end inner) (one who end event) place (is ∙ ap (λ (l : List Entry). old.parts.entries ++ l) (entries_of-append who end inner (event ∷ []))) at_end)) left
+      left-last line (entries_of who end inner) (one who end event) (is ∙ ap (λ (l : List Entry). old.parts.entries ++ l) (entries_of-append who end inner (event ∷ []))) left
+
+  -- a read, a write and a flush
+  module _ (size : ℕ) (less : IsLessByFaults before now (record_of old) (record_of new)) where
+    pub left-read : (at count : ℕ) (body : List Sector) (r : Result (Unit {0}) Fault) → IsAnswered size (AsksRead at count) who old.parts.entries new.parts.entries (Read at body) r
+        → IsCausedBy (visible_in old) (at + count) (IsReadLacked old at count) old.parts.members new.parts.members r → r ≢ Err WantsMemory → IsLeftAt before now (record_of old) (record_of new) (ReadLine at count) new.parts.entries place
+    left-read at count body (Ok x) was caused some = left-behind (ReadLine at count) was.end was.inner (Read at body) was.is (less, caused)
+    left-read at count body (Err (IsRefusedWith refusal)) was caused some = left-behind (ReadLine at count) was.end was.inner (Refused refusal) was.is (less, caused)
+    left-read at count body (Err WantsMemory) was caused some = absurd (some refl)
+
+    pub left-written : (at count seed : ℕ) (body : List Sector) (r : Result (Unit {0}) Fault) → IsWriteReplied size at body who old.parts.entries new.parts.entries r
+        → IsCausedBy (visible_in old) (at + count) (IsWriteLackedIn old at count) old.parts.members new.parts.members r → r ≢ Err WantsMemory → IsLeftAt before now (record_of old) (record_of new) (WriteLine at count seed) new.parts.entries place
+    left-written at count seed body (Ok x) was caused some = left-last (WriteLine at count seed) was.call (one who was.end (Wrote at body)) was.is (less, caused)
+    left-written at count seed body (Err (IsRefusedWith BackupFault)) was caused some = left-last (WriteLine at count seed) [] (one who was.0 (Refused BackupFault)) was.1 (less, caused)
+    left-written at count seed body (Err (IsRefusedWith refusal)) was caused some = left-last (WriteLine at count seed) was.call (one who was.end (Refused refusal)) was.is (less, caused)
+    left-written at count seed body (Err WantsMemory) was caused some = absurd (some refl)
+
+    pub left-flushed : (r : Result (Unit {0}) Fault) → IsAnswered size AsksFlush who old.parts.entries new.parts.entries Flushed r
+        → IsCausedBy (list_length old.parts.members.newest) 0 AreTooMany old.parts.members new.parts.members r → r ≢ Err WantsMemory → IsLeftAt before now (record_of old) (record_of new) Flush new.parts.entries place
+    left-flushed (Ok x) was caused some = left-behind Flush was.end was.inner Flushed was.is (less, caused)
+    left-flushed (Err (IsRefusedWith refusal)) was caused some = left-behind Flush was.end was.inner (Refused refusal) was.is (less, caused)
+    left-flushed (Err WantsMemory) was caused some = absurd (some refl)
 
   -- a fail
   module _ (size role : ℕ) (less : IsOnlyLess (record_of old) (record_of new)) where
@@ -139,3 +169,10 @@ module _ {B : Type 0} (before now : ℕ → ℕ) (old new : RunningParts B) (who
   left-planned tells world after given ahead members wish (Err (IsRefusedWith refusal)) was same limit planned kept some =
       left-behind (Grow wish) was.end [] (Refused refusal) was.is (as-planned same, ap (λ (p : PhasesLeft). phases_of p) kept, limit)
   left-planned tells world after given ahead members wish (Err WantsMemory) was same limit planned kept some = absurd (some refl)
+
+-- a stop that was refused
+pub left-unstopped : {B : Type 0} {size place : ℕ} {entries later : List Entry} (before now : ℕ → ℕ) (old new : RunningParts B) (asked : IsAskedAt size Stop entries later place) (refusal : Refusal) → asked.event ≡ Refused refusal
+    → IsLessByFaults before now (record_of old) (record_of new) → IsRefusedFor (list_length old.parts.members.newest) 0 AreTooMany old.parts.members new.parts.members refusal → IsLeftAt before now (record_of old) (record_of new) Stop later place
+left-unstopped before now old new asked refusal is less why =
+    subst (λ (o : Option Entry). MatchOption o ⊥ (λ e. IsLeftBy before now (record_of old) (record_of new) Stop e.event)) (sym (entry_there asked))
+    (subst (λ (e : Event). IsLeftBy before now (record_of old) (record_of new) Stop e) (sym is) (less, why))

@@ -17,7 +17,7 @@ ghost use Rattle.run_laws.specs.Making.{is_added};
 ghost use Rattle.run_laws.specs.Asked.{IsAsked, IsSizedBy, IsWaited, script_who};
 ghost use Rattle.run_laws.specs.Replies.{leaves_more_at};
 ghost use Rattle.run_laws.specs.Caused.{Record, record_of, IsJudgedAt};
-ghost use Rattle.run_laws.specs.Records.{IsLessByFaults, AreStepsAnswered, AreAllAnswered, IsLeftAt};
+ghost use Rattle.run_laws.specs.Records.{AreStepsAnswered, AreAllAnswered, IsLeftAt};
 ghost use Rattle.run_laws.specs.Turning.{IsTellable, IsTurningTold};
 ghost use Rattle.script.specs.declared.lines.Line.TheVariants.{Read as ReadLine, Write as WriteLine, Flush as FlushLine, Fail as FailLine, Add as AddLine, ArraySize as ArraySizeLine, Grow as GrowLine, Step as StepLine};
 
@@ -72,7 +72,7 @@ pub fn ask_read<B: Bank>(
     requires turning { IsTurningTold (is_reshaping array.old.parts.members.newest) (phases_of array.old.ahead) array.old.parts.entries }
     ensures asked { IsAsked (list_length array.old.parts.members.newest) (ReadLine at count) array.old.parts.entries array.new.parts.entries result }
     ensures tellable { IfOk result (λ place. IsTellable array.new.parts.entries place) }
-    ensures left { IfOk result (λ place. IsLessByFaults (B.faults_of array.old.parts.bank) (B.faults_of array.new.parts.bank) (record_of array.old) (record_of array.new)) }
+    ensures left { IfOk result (λ place. IsLeftAt (B.faults_of array.old.parts.bank) (B.faults_of array.new.parts.bank) (record_of array.old) (record_of array.new) (ReadLine at count) array.new.parts.entries place) }
     ensures turning { IsTurningTold (is_reshaping array.new.parts.members.newest) (phases_of array.new.ahead) array.new.parts.entries }
     ensures ended { IfOk result (λ place. IsEndOf B.tells array.new.parts.first array.new.parts.entries (B.tape array.new.parts.bank)) }
     ensures unchanged { IfErr result (λ none. array.new ≡ array.old) }
@@ -112,7 +112,7 @@ pub fn ask_write<B: Bank>(
     requires turning { IsTurningTold (is_reshaping array.old.parts.members.newest) (phases_of array.old.ahead) array.old.parts.entries }
     ensures asked { IsAsked (list_length array.old.parts.members.newest) (WriteLine at count seed) array.old.parts.entries array.new.parts.entries result }
     ensures tellable { IfOk result (λ place. IsTellable array.new.parts.entries place) }
-    ensures left { IfOk result (λ place. IsLessByFaults (B.faults_of array.old.parts.bank) (B.faults_of array.new.parts.bank) (record_of array.old) (record_of array.new)) }
+    ensures left { IfOk result (λ place. IsLeftAt (B.faults_of array.old.parts.bank) (B.faults_of array.new.parts.bank) (record_of array.old) (record_of array.new) (WriteLine at count seed) array.new.parts.entries place) }
     ensures turning { IsTurningTold (is_reshaping array.new.parts.members.newest) (phases_of array.new.ahead) array.new.parts.entries }
     ensures ended { IfOk result (λ place. IsEndOf B.tells array.new.parts.first array.new.parts.entries (B.tape array.new.parts.bank)) }
     ensures unchanged { IfErr result (λ none. array.new ≡ array.old) }
@@ -145,7 +145,7 @@ pub fn ask_flush<B: Bank>(array: &mut Running<B>) -> Result<u64, NoMemory>
     requires turning { IsTurningTold (is_reshaping array.old.parts.members.newest) (phases_of array.old.ahead) array.old.parts.entries }
     ensures asked { IsAsked (list_length array.old.parts.members.newest) FlushLine array.old.parts.entries array.new.parts.entries result }
     ensures tellable { IfOk result (λ place. IsTellable array.new.parts.entries place) }
-    ensures left { IfOk result (λ place. IsLessByFaults (B.faults_of array.old.parts.bank) (B.faults_of array.new.parts.bank) (record_of array.old) (record_of array.new)) }
+    ensures left { IfOk result (λ place. IsLeftAt (B.faults_of array.old.parts.bank) (B.faults_of array.new.parts.bank) (record_of array.old) (record_of array.new) FlushLine array.new.parts.entries place) }
     ensures turning { IsTurningTold (is_reshaping array.new.parts.members.newest) (phases_of array.new.ahead) array.new.parts.entries }
     ensures ended { IfOk result (λ place. IsEndOf B.tells array.new.parts.first array.new.parts.entries (B.tape array.new.parts.bank)) }
     ensures unchanged { IfErr result (λ none. array.new ≡ array.old) }

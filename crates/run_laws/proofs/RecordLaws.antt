@@ -24,7 +24,7 @@ use Rattle.openings.specs.running_replies_Replies.{IsAnsweredWith}
 use Rattle.openings.specs.running_steps_Steps.{IsStepCount}
 use Rattle.openings.specs.running_words_Parts.{RunningParts}
 use Rattle.script.specs.declared.lines.Line.{Line}
-use Rattle.script.specs.declared.lines.Line.TheVariants.{Fail, Add, ArraySize, Grow, Step, Wait}
+use Rattle.script.specs.declared.lines.Line.TheVariants.{Read, Write, Flush, Fail, Add, ArraySize, Grow, Step, Wait, Stop}
 use Rattle.script.specs.declared.lines.Numbered.{Numbered}
 use Rattle.run_laws.specs.declared.report.Answered.{Answered}
 use Rattle.run_laws.specs.declared.report.Answered.TheVariants.{Inside, Outside as IsOutside}
@@ -118,7 +118,14 @@ module _ (first before now last : ℕ → ℕ) (early : NeverFalls first before)
   spare-wider : (slot : ℕ) (old new : Record) → IsWithSpare before now slot old new → IsWithSpare first last slot old new
   spare-wider slot old new is = record { shape = is.shape; work = is.work; limit = is.limit; held = is.held; failed = roles-wider old.parts.members new.parts.members is.failed; spares = is.spares }
 
+  less-wider : (old new : Record) → IsLessByFaults before now old new → IsLessByFaults first last old new
+  less-wider old new is = (is.0, roles-wider old.parts.members new.parts.members is.1)
+
   left-wider : (old new : Record) (line : Line) (event : Event) → IsLeftBy before now old new line event → IsLeftBy first last old new line event
+  left-wider old new (Read at count) event is = (less-wider old new is.0, is.1)
+  left-wider old new (Write at count seed) event is = (less-wider old new is.0, is.1)
+  left-wider old new Flush event is = (less-wider old new is.0, is.1)
+  left-wider old new Stop event is = (less-wider old new is.0, is.1)
   left-wider old new (Fail role) (Failed failed) is = is
   left-wider old new (Fail role) event is = is
   left-wider old new (Add slot) (Added added) is = (spare-wider slot old new is.0, is.1)
@@ -129,7 +136,7 @@ module _ (first before now last : ℕ → ℕ) (early : NeverFalls first before)
   left-wider old new (Grow wish) event is = is
   left-wider old new (Step most) event is = is
   left-wider old new Wait event is = is
-  left-wider old new line event is = (is.0, roles-wider old.parts.members new.parts.members is.1)
+  left-wider old new line event is = less-wider old new is
 
 module _ (was now : Setting) (wider : IsWider was now) where
   next-wider : (line : Line) (entries : List Entry) (event : Event) (old : Record) (new : Option Record) → IsNextRecord was line entries event old new → IsNextRecord now line entries event old new

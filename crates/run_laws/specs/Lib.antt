@@ -20,6 +20,7 @@ pub use Rattle.openings.specs.assemble_Running
 pub use Rattle.openings.specs.course_kept_the_Course
 pub use Rattle.openings.specs.growing_Replied
 pub use Rattle.growing.specs.Planned as growing_Planned
+pub use Rattle.openings.specs.moving_laws_Writing
 pub use Rattle.openings.specs.region_mends_Left
 pub use Rattle.openings.specs.reshape_openings_Finding
 pub use Rattle.openings.specs.running_Calls

@@ -1,7 +1,8 @@
 -- The record of the array that runs, from line to line: what each line leaves of it. No bank is asked.
-use Rattle.std.specs.Prelude.{◌≡◌, ℕ, ◌++◌, true, false, List, [], ◌∷◌, slice_get, Option, None, MatchOption, IsTrue}
+use Rattle.std.specs.Prelude.{◌≡◌, ℕ, ◌+◌, ◌≤◌, ◌++◌, true, false, List, [], ◌∷◌, slice_get, Option, None, MatchOption, IsTrue}
 use Rattle.std.specs.List.{list_any}
 use Rattle.md_base.specs.Search.{tabulate}
+use Rattle.md_base.specs.declared.answers.Refusal.{Refusal}
 use Rattle.md_base.specs.declared.status.Role.TheVariants.{Whole}
 use Rattle.md_base.specs.declared.status.Status.{Status}
 use Rattle.grow_plan.specs.Plans.{phases}
@@ -11,17 +12,18 @@ use Rattle.superblocks.specs.Reads.{has_spare}
 use Rattle.row_io.specs.Rows.{reading_of}
 use Rattle.flat_history.specs.declared.events.Entry.{Entry}
 use Rattle.flat_history.specs.declared.events.Event.{Event}
-use Rattle.flat_history.specs.declared.events.Event.TheVariants.{Failed, Added, Visible, Planned}
+use Rattle.flat_history.specs.declared.events.Event.TheVariants.{Failed, Added, Visible, Planned, Refused}
 use Rattle.flat_history.specs.Flat.{length_of}
 use Rattle.flat_history.specs.Reshaped.{is_planned}
-use Rattle.views.specs.Lacking.{HaveRolesFailed}
+use Rattle.views.specs.Lacking.{AreTooMany, HaveRolesFailed}
 use Rattle.views.specs.Placed.{AreStillHeld, is_vacant}
 use Rattle.grow_asked.specs.Left.{phases_of}
-use Rattle.openings.specs.array_kept_Calls.{AreSparesFewer}
-use Rattle.openings.specs.running_Calls.{running_left, IsShownAs}
+use Rattle.openings.specs.array_kept_Calls.{IsRefusedFor, AreSparesFewer}
+use Rattle.openings.specs.running_Calls.{running_left, IsReadLacked, IsWriteLackedIn, IsShownAs}
 use Rattle.openings.specs.running_replies_Going.{is_begin, AreHeldBehind}
 use Rattle.openings.specs.running_steps_Steps.{IsStepCount}
 use Rattle.openings.specs.running_words_Adding.{AreSparesBut}
+use Rattle.openings.specs.running_words_Parts.{visible_in}
 use Rattle.script.specs.declared.lines.CreateLine.{CreateLine}
 use Rattle.script.specs.declared.lines.Line.{Line}
 use Rattle.script.specs.declared.lines.Line.TheVariants.{Create, Read, Write, Flush, Fail, Add, ArraySize, Grow, Step, Wait, Stop, Halt, Detail, Mdstat, Examine, Assemble}
@@ -29,7 +31,7 @@ use Rattle.script.specs.declared.lines.Numbered.{Numbered}
 use Rattle.run_laws.specs.declared.report.Answered.{Answered}
 use Rattle.run_laws.specs.declared.report.Answered.TheVariants.{Inside, Outside as IsOutside}
 use Rattle.run_laws.specs.declared.report.LineReply.{LineReply}
-use Rattle.run_laws.specs.declared.report.Outside.TheVariants.{Created, Assembled, Examined, Refused}
+use Rattle.run_laws.specs.declared.report.Outside.TheVariants.{Created, Assembled, Examined, Refused as IsRefusedOutside}
 use Rattle.run_laws.specs.Caused.{Record, IsJudgedBy}
 use Rattle.run_laws.specs.Histories.{History, entry_at, is_end}
 use Rattle.run_laws.specs.Making.{Setting}
@@ -71,6 +73,11 @@ pub record IsWithSpare (before now : ℕ → ℕ) (slot : ℕ) (old new : Record
   pub failed : HaveRolesFailed old.parts.members new.parts.members before now
   pub spares : AreSparesBut slot old.parts.members new.parts.members
 
+-- A call that ends at `to` was refused: for an end that can't be seen, or else for what speaks against it by the members that it leaves. Or it was done, and nothing spoke against it before.
+abbrev pub IsDoneOrRefused : ℕ → ℕ → (Members → Refusal → Type 0) → Record → Record → Event → Type 0
+IsDoneOrRefused visible to why old new (Refused refusal) = IsRefusedFor visible to why old.parts.members new.parts.members refusal
+IsDoneOrRefused visible to why old new event = (to ≤ visible) × ((refusal : Refusal) → why old.parts.members refusal → ⊥)
+
 -- its members and its work are as they were
 pub record IsAsItWas (old new : Record) : Type 0 where
   pub members : new.parts.members ≡ old.parts.members
@@ -99,9 +106,13 @@ AreAllAnswered old (next ∷ others) new = (one : AreStepsAnswered old next) × 
 
 -- ---- what a line leaves
 
--- What an answered line leaves of an array, by the counts of its slots' faults before and now. A fail that is done takes the role out, and an add makes its slot a spare; where either is refused before a slot is touched, nothing is
+-- What an answered line leaves of an array, by the counts of its slots' faults before and now. A read, a write, a flush and a stop are refused only for missing roles, for what isn't resynced yet or for the backup, by what is left. A fail that is done takes the role out, and an add makes its slot a spare; where either is refused before a slot is touched, nothing is
 -- changed. A limit and a plan change nothing else.
 abbrev pub IsLeftBy : (ℕ → ℕ) → (ℕ → ℕ) → Record → Record → Line → Event → Type 0
+IsLeftBy before now old new (Read at count) event = IsLessByFaults before now old new × IsDoneOrRefused (visible_in old) (at + count) (IsReadLacked old at count) old new event
+IsLeftBy before now old new (Write at count seed) event = IsLessByFaults before now old new × IsDoneOrRefused (visible_in old) (at + count) (IsWriteLackedIn old at count) old new event
+IsLeftBy before now old new Flush event = IsLessByFaults before now old new × IsDoneOrRefused (list_length old.parts.members.newest) 0 AreTooMany old new event
+IsLeftBy before now old new Stop event = IsLessByFaults before now old new × IsDoneOrRefused (list_length old.parts.members.newest) 0 AreTooMany old new event
 IsLeftBy before now old new (Fail role) (Failed failed) = IsOnlyLess old new × (is_vacant (reading_of new.parts.members) role ≡ true)
 IsLeftBy before now old new (Fail role) event = IsOnlyLess old new × (new.parts.members ≡ old.parts.members)
 IsLeftBy before now old new (Add slot) (Added added) = IsWithSpare before now slot old new × (has_spare new.parts.members.spares slot ≡ true)
@@ -178,7 +189,7 @@ IsRecorded setting histories line (IsOutside Created) old new = MatchOption new 
 IsRecorded setting histories line (IsOutside (Assembled epoch status)) old new =
     MatchOption new ⊥ (λ array. MatchOption (slice_get histories epoch) ⊥ (λ history. IsRecordFound setting.backup history status array))
 IsRecorded setting histories line (IsOutside (Examined slot found)) old new = new ≡ old
-IsRecorded setting histories line (IsOutside (Refused refusal)) old new = new ≡ old
+IsRecorded setting histories line (IsOutside (IsRefusedOutside refusal)) old new = new ≡ old
 
 -- There is such a record before the first line and behind each.
 abbrev pub AreRecorded : Setting → List History → Option Record → List Numbered → List LineReply → Option Record → Type 0

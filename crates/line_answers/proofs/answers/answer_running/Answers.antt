@@ -68,7 +68,7 @@ returns-in-Read-clause-answered g c =
     (subst (λ (s : State g.row.B.Denot). IsTurnOrNone (setting_of g.B.Bank.tells (g.B.Bank.given array.parts.bank) (g.B.Bank.tape array.parts.bank) (g.B.Bank.tape (bank_in s)) c.args.backup (g.B.Bank.faults_of array.parts.bank) (g.B.Bank.faults_of (bank_in s))) (IsRunning array c.args.epochs) s (Read c.in-Read.at c.in-Read.count) on.result.1) (sym on.ensures.state)
     (subst (λ (r : Result Answered NoMemory). IsTurnOrNone (setting_of g.B.Bank.tells (g.B.Bank.given array.parts.bank) (g.B.Bank.tape array.parts.bank) (g.B.Bank.tape new.parts.bank) c.args.backup (g.B.Bank.faults_of array.parts.bank) (g.B.Bank.faults_of new.parts.bank)) (IsRunning array c.args.epochs) (IsRunning new c.args.epochs) (Read c.in-Read.at c.in-Read.count) r) (sym on.ensures.answer)
     (turn_of_ask (setting_of g.B.Bank.tells (g.B.Bank.given array.parts.bank) (g.B.Bank.tape array.parts.bank) (g.B.Bank.tape new.parts.bank) c.args.backup (g.B.Bank.faults_of array.parts.bank) (g.B.Bank.faults_of new.parts.bank)) array new c.args.epochs c.requires.own (losses-of (setting_of g.B.Bank.tells (g.B.Bank.given array.parts.bank) (g.B.Bank.tape array.parts.bank) (g.B.Bank.tape new.parts.bank) c.args.backup (g.B.Bank.faults_of array.parts.bank) (g.B.Bank.faults_of new.parts.bank)) (running_history new.parts) (held-before (g.B.Bank.given array.parts.bank) c.args.backup (running_history array.parts) (running_history new.parts) array.parts.members did.grows (epoch-opening same) c.requires.former.held) did.losses (told-backup c.requires.former.backup_is did.told)) same.uuid same.given same.first did.sized did.turning
-    (Read c.in-Read.at c.in-Read.count) c.ask_read.result (λ p asked. going_read c.in-Read.at c.in-Read.count asked) (grows_longer did.grows) did.ended did.tellable (same.backup ∙ c.requires.former.backup_is) (unjudged-asked (list_length array.parts.members.newest) (Read c.in-Read.at c.in-Read.count) array.parts.entries new.parts.entries (g.B.Bank.given array.parts.bank) (record_of array) c.ask_read.result did.asked (λ event. tt)) (less-asked (list_length array.parts.members.newest) (Read c.in-Read.at c.in-Read.count) array.parts.entries new.parts.entries (g.B.Bank.faults_of array.parts.bank) (g.B.Bank.faults_of new.parts.bank) (record_of array) (record_of new) c.ask_read.result did.asked did.left (λ event is. is)) did.asked)))
+    (Read c.in-Read.at c.in-Read.count) c.ask_read.result (λ p asked. going_read c.in-Read.at c.in-Read.count asked) (grows_longer did.grows) did.ended did.tellable (same.backup ∙ c.requires.former.backup_is) (unjudged-asked (list_length array.parts.members.newest) (Read c.in-Read.at c.in-Read.count) array.parts.entries new.parts.entries (g.B.Bank.given array.parts.bank) (record_of array) c.ask_read.result did.asked (λ event. tt)) did.left did.asked)))
 
 pub returns-in-Write-clause-answered : goal.returns-in-Write-clause-answered
 returns-in-Write-clause-answered g c =
@@ -81,7 +81,7 @@ returns-in-Write-clause-answered g c =
     (subst (λ (s : State g.row.B.Denot). IsTurnOrNone (setting_of g.B.Bank.tells (g.B.Bank.given array.parts.bank) (g.B.Bank.tape array.parts.bank) (g.B.Bank.tape (bank_in s)) c.args.backup (g.B.Bank.faults_of array.parts.bank) (g.B.Bank.faults_of (bank_in s))) (IsRunning array c.args.epochs) s (Write c.in-Write.at c.in-Write.count c.in-Write.seed) on.result.1) (sym on.ensures.state)
     (subst (λ (r : Result Answered NoMemory). IsTurnOrNone (setting_of g.B.Bank.tells (g.B.Bank.given array.parts.bank) (g.B.Bank.tape array.parts.bank) (g.B.Bank.tape new.parts.bank) c.args.backup (g.B.Bank.faults_of array.parts.bank) (g.B.Bank.faults_of new.parts.bank)) (IsRunning array c.args.epochs) (IsRunning new c.args.epochs) (Write c.in-Write.at c.in-Write.count c.in-Write.seed) r) (sym on.ensures.answer)
     (turn_of_ask (setting_of g.B.Bank.tells (g.B.Bank.given array.parts.bank) (g.B.Bank.tape array.parts.bank) (g.B.Bank.tape new.parts.bank) c.args.backup (g.B.Bank.faults_of array.parts.bank) (g.B.Bank.faults_of new.parts.bank)) array new c.args.epochs c.requires.own (losses-of (setting_of g.B.Bank.tells (g.B.Bank.given array.parts.bank) (g.B.Bank.tape array.parts.bank) (g.B.Bank.tape new.parts.bank) c.args.backup (g.B.Bank.faults_of array.parts.bank) (g.B.Bank.faults_of new.parts.bank)) (running_history new.parts) (held-before (g.B.Bank.given array.parts.bank) c.args.backup (running_history array.parts) (running_history new.parts) array.parts.members did.grows (epoch-opening same) c.requires.former.held) did.losses (told-backup c.requires.former.backup_is did.told)) same.uuid same.given same.first did.sized did.turning
-    (Write c.in-Write.at c.in-Write.count c.in-Write.seed) c.ask_write.result (λ p asked. going_write c.in-Write.at c.in-Write.count c.in-Write.seed asked) (grows_longer did.grows) did.ended did.tellable (same.backup ∙ c.requires.former.backup_is) (unjudged-asked (list_length array.parts.members.newest) (Write c.in-Write.at c.in-Write.count c.in-Write.seed) array.parts.entries new.parts.entries (g.B.Bank.given array.parts.bank) (record_of array) c.ask_write.result did.asked (λ event. tt)) (less-asked (list_length array.parts.members.newest) (Write c.in-Write.at c.in-Write.count c.in-Write.seed) array.parts.entries new.parts.entries (g.B.Bank.faults_of array.parts.bank) (g.B.Bank.faults_of new.parts.bank) (record_of array) (record_of new) c.ask_write.result did.asked did.left (λ event is. is)) did.asked)))
+    (Write c.in-Write.at c.in-Write.count c.in-Write.seed) c.ask_write.result (λ p asked. going_write c.in-Write.at c.in-Write.count c.in-Write.seed asked) (grows_longer did.grows) did.ended did.tellable (same.backup ∙ c.requires.former.backup_is) (unjudged-asked (list_length array.parts.members.newest) (Write c.in-Write.at c.in-Write.count c.in-Write.seed) array.parts.entries new.parts.entries (g.B.Bank.given array.parts.bank) (record_of array) c.ask_write.result did.asked (λ event. tt)) did.left did.asked)))
 
 pub returns-in-Flush-clause-answered : goal.returns-in-Flush-clause-answered
 returns-in-Flush-clause-answered g c =
@@ -94,7 +94,7 @@ returns-in-Flush-clause-answered g c =
     (subst (λ (s : State g.row.B.Denot). IsTurnOrNone (setting_of g.B.Bank.tells (g.B.Bank.given array.parts.bank) (g.B.Bank.tape array.parts.bank) (g.B.Bank.tape (bank_in s)) c.args.backup (g.B.Bank.faults_of array.parts.bank) (g.B.Bank.faults_of (bank_in s))) (IsRunning array c.args.epochs) s Flush on.result.1) (sym on.ensures.state)
     (subst (λ (r : Result Answered NoMemory). IsTurnOrNone (setting_of g.B.Bank.tells (g.B.Bank.given array.parts.bank) (g.B.Bank.tape array.parts.bank) (g.B.Bank.tape new.parts.bank) c.args.backup (g.B.Bank.faults_of array.parts.bank) (g.B.Bank.faults_of new.parts.bank)) (IsRunning array c.args.epochs) (IsRunning new c.args.epochs) Flush r) (sym on.ensures.answer)
     (turn_of_ask (setting_of g.B.Bank.tells (g.B.Bank.given array.parts.bank) (g.B.Bank.tape array.parts.bank) (g.B.Bank.tape new.parts.bank) c.args.backup (g.B.Bank.faults_of array.parts.bank) (g.B.Bank.faults_of new.parts.bank)) array new c.args.epochs c.requires.own (losses-of (setting_of g.B.Bank.tells (g.B.Bank.given array.parts.bank) (g.B.Bank.tape array.parts.bank) (g.B.Bank.tape new.parts.bank) c.args.backup (g.B.Bank.faults_of array.parts.bank) (g.B.Bank.faults_of new.parts.bank)) (running_history new.parts) (held-before (g.B.Bank.given array.parts.bank) c.args.backup (running_history array.parts) (running_history new.parts) array.parts.members did.grows (epoch-opening same) c.requires.former.held) did.losses (told-backup c.requires.former.backup_is did.told)) same.uuid same.given same.first did.sized did.turning
-    Flush c.ask_flush.result (λ p asked. going_flush asked) (grows_longer did.grows) did.ended did.tellable (same.backup ∙ c.requires.former.backup_is) (unjudged-asked (list_length array.parts.members.newest) Flush array.parts.entries new.parts.entries (g.B.Bank.given array.parts.bank) (record_of array) c.ask_flush.result did.asked (λ event. tt)) (less-asked (list_length array.parts.members.newest) Flush array.parts.entries new.parts.entries (g.B.Bank.faults_of array.parts.bank) (g.B.Bank.faults_of new.parts.bank) (record_of array) (record_of new) c.ask_flush.result did.asked did.left (λ event is. is)) did.asked)))
+    Flush c.ask_flush.result (λ p asked. going_flush asked) (grows_longer did.grows) did.ended did.tellable (same.backup ∙ c.requires.former.backup_is) (unjudged-asked (list_length array.parts.members.newest) Flush array.parts.entries new.parts.entries (g.B.Bank.given array.parts.bank) (record_of array) c.ask_flush.result did.asked (λ event. tt)) did.left did.asked)))
 
 pub returns-in-Detail-clause-answered : goal.returns-in-Detail-clause-answered
 returns-in-Detail-clause-answered g c =

@@ -25,10 +25,9 @@ use Rattle.grow_asked.specs.Left.{phases_of}
 use Rattle.grow_asked.specs.declared.window.PhasesLeft.{PhasesLeft}
 use Rattle.run_laws.specs.Caused.{record_of}
 use Rattle.run_laws.proofs.CausedLaws.{unjudged-asked}
-use Rattle.run_laws.proofs.RecordLaws.{left-at}
 use Rattle.run_laws.proofs.Turned.{told-same, told-alike, asked-tellable, stop-unstepped, stop-told}
 use Rattle.line_answers.proofs.Called.{called-length, same-epoch, epoch-opening, epoch-later}
-use Rattle.line_answers.proofs.Lefts.{left-called}
+use Rattle.line_answers.proofs.Lefts.{left-called, left-unstopped}
 use Rattle.line_answers.proofs.Turns.{turn_ended, turn_asked, no_turn, at_the_end}
 use Rattle.run_laws.specs.Written.{HasWritten}
 use Rattle.run_laws.proofs.Writing.{written_ended, written_going}
@@ -82,7 +81,8 @@ returns-in-Refused-clause-answered g c =
     (told-same asked.0 (stop-unstepped asked.0.event asked.0.fits) did.left_active (ap (λ (p : PhasesLeft). phases_of p) did.called.same.ahead) c.requires.own.turning) AsksStop c.last_place.result asked.0
     (asked-tellable asked.0 (stop-told asked.0.event asked.0.fits)) (same.backup ∙ c.requires.former.backup_is)
     (unjudged-asked size AsksStop array.parts.entries left.parts.entries setting.given (record_of array) (Ok c.last_place.result) asked.0 (λ event. tt))
-    (left-at setting.before setting.now (record_of array) (record_of left) asked.0 (λ event. left-called did.called did.left_active did.left_failed)) (λ t. at_the_end setting array.parts.entries left.parts.entries asked.0 left.parts.first t (grows_longer did.called.grows t) did.called.ended) (ap (λ (e : Event). is_end e) (asked.1)))
+    (left-unstopped setting.before setting.now array left asked.0 _ asked.1 (left-called did.called did.left_active did.left_failed)
+    (subst (λ (f : Fault). IsFaultFor size 0 AreTooMany array.parts.members left.parts.members f) c.in-Refused.is did.caused)) (λ t. at_the_end setting array.parts.entries left.parts.entries asked.0 left.parts.first t (grows_longer did.called.grows t) did.called.ended) (ap (λ (e : Event). is_end e) (asked.1)))
 
 pub returns-in-Ok-clause-former : goal.returns-in-Ok-clause-former
 returns-in-Ok-clause-former g c =
