@@ -4,7 +4,6 @@ use Rattle.std.specs.Prelude.{slice_get, IfOk, MatchBool, MatchOption}
 use Rattle.md_base.specs.declared.answers.Fault.{Fault}
 use Rattle.md_base.specs.declared.answers.Fault.TheVariants.{Refused as IsRefusedWith, NoMemory as WantsMemory}
 use Rattle.md_base.specs.declared.answers.NoMemory.{NoMemory}
-use Rattle.md_base.specs.declared.answers.Refusal.{Refusal}
 use Rattle.md_base.specs.declared.answers.Refusal.TheVariants.{SlotFault, Nothing}
 use Rattle.md_base.specs.declared.answers.Who.{Who}
 use Rattle.md_base.specs.declared.status.Status.{Status}
@@ -17,7 +16,7 @@ use Rattle.superblocks.specs.Reading.{is_reshaping, is_clean, shape_of, final_sh
 use Rattle.flat_history.specs.declared.events.Entry.{Entry}
 use Rattle.flat_history.specs.declared.events.Event.{Event}
 use Rattle.flat_history.specs.declared.events.Event.TheVariants.{Added, Failed, Visible, Planned, Stepped, Shown, Refused}
-use Rattle.flat_history.specs.declared.events.Request.TheVariants.{Add as AsksAdd, Fail as AsksFail, Grow as AsksGrow, Visible as AsksVisible, Steps as AsksSteps}
+use Rattle.flat_history.specs.declared.events.Request.TheVariants.{Add as AsksAdd, Fail as AsksFail, Visible as AsksVisible, Steps as AsksSteps}
 use Rattle.flat_history.specs.Plain.{entries_of}
 use Rattle.flat_history.specs.World.{World}
 use Rattle.openings.specs.array_kept_Calls.{IsReplied, IsAnswered, IsAddedFor, IsFailedFor, by_answer}

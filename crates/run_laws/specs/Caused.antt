@@ -1,5 +1,5 @@
 -- Why an array answers a line as it does, by the record of it: what contracts see of the array. No bank is asked.
-use Rattle.std.specs.Prelude.{◌≡◌, ℕ, ◌<◌, List, slice_get, Option, Some, None, MatchOption, ⊤}
+use Rattle.std.specs.Prelude.{◌≡◌, ℕ, ◌<◌, List, slice_get, Some, None, MatchOption, ⊤}
 use Rattle.md_base.specs.declared.answers.Refusal.{Refusal}
 use Rattle.md_base.specs.declared.answers.Refusal.TheVariants.{SlotFault}
 use Rattle.bank.specs.Given.{Given}
