@@ -8,6 +8,7 @@ pub mod Making
 pub mod Plain
 pub mod Records
 pub mod Replies
+pub mod Ruled
 pub mod Showing
 pub mod States
 pub mod Written
