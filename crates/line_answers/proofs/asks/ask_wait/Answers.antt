@@ -31,9 +31,11 @@ loop-at-preserved g c =
       waiting = waiting_on was.waiting c.in-Ok.ensures.asked (sym c.leaves_more.ensures ∙ c.if-not-leaves_more.false);
       ended = c.in-Ok.ensures.ended;
       turning = c.in-Ok.ensures.turning;
-      stepped = (was.stepped.0 ++ record_of c.ask_steps.new.array ∷ [],
-          answered-on (record_of c.args.array.now) (record_of c.loop-at.array) (record_of c.ask_steps.new.array) was.stepped.0 was.stepped.1 c.in-Ok.ensures.stepped
-          (sym (leaves-answered c.in-Ok.at c.in-Ok.ensures.stepped c.in-Ok.ensures.asked.at_end) ∙ sym c.leaves_more.ensures ∙ c.if-not-leaves_more.false));
+      stepped = (
+        was.stepped.0 ++ record_of c.ask_steps.new.array ∷ [],
+        answered-on (record_of c.args.array.now) (record_of c.loop-at.array) (record_of c.ask_steps.new.array) was.stepped.0 was.stepped.1 c.in-Ok.ensures.stepped
+            (sym (leaves-answered c.in-Ok.at c.in-Ok.ensures.stepped c.in-Ok.ensures.asked.at_end) ∙ sym c.leaves_more.ensures ∙ c.if-not-leaves_more.false),
+      );
       went = gone-then g.B.Bank.tells g.B.Bank.given g.B.Bank.tape g.B.Bank.faults_of c.args.array.now c.loop-at.array c.ask_steps.new.array was.went c.in-Ok.ensures.went;
     }
 
