@@ -26,6 +26,8 @@ use Rattle.openings.specs.running_words_Parts.{RunningParts}
 use Rattle.script.specs.declared.lines.Line.{Line}
 use Rattle.script.specs.declared.lines.Line.TheVariants.{Read, Write, Flush, Fail, Add, ArraySize, Grow, Step, Wait, Stop}
 use Rattle.script.specs.declared.lines.Numbered.{Numbered}
+use Rattle.script.specs.declared.reply.Lane.{Lane}
+use Rattle.script.specs.declared.reply.Lane.TheVariants.{Script as InScript}
 use Rattle.run_laws.specs.declared.report.Answered.{Answered}
 use Rattle.run_laws.specs.declared.report.Answered.TheVariants.{Inside, Outside as IsOutside}
 use Rattle.run_laws.specs.declared.report.LineReply.{LineReply}
@@ -34,7 +36,7 @@ use Rattle.run_laws.specs.Asked.{IsAskedAt, IsAsked}
 use Rattle.run_laws.specs.Caused.{Record, record_of, IsJudgedBy}
 use Rattle.run_laws.specs.Histories.{History, entry_at}
 use Rattle.run_laws.specs.Making.{Setting}
-use Rattle.run_laws.specs.Records.{IsLessByFaults, IsWithSpare, AreStepsAnswered, AreAllAnswered, IsLeftBy, IsLeftAt, IsRecordMade, IsRecordFound, IsNextRecord, IsRecordedBy, IsRecorded, AreRecorded}
+use Rattle.run_laws.specs.Records.{IsLessByFaults, IsWithSpare, AreStepsAnswered, AreAllAnswered, IsLeftBy, IsLeftAt, IsRecordMade, IsRecordFound, IsNextRecord, IsRecordedBy, IsRecorded, IsRecordedIn, AreRecorded}
 use Rattle.run_laws.specs.Replies.{entries_to, leaves_more, leaves_more_at}
 use Rattle.run_laws.specs.States.{IsGrown, AreGrown}
 use Rattle.run_laws.proofs.AskLaws.{one, entry_there}
@@ -157,6 +159,10 @@ module _ (was now : Setting) (wider : IsWider was now) where
   recorded-wider histories line (IsOutside (Examined slot found)) old new is = is
   recorded-wider histories line (IsOutside (Refused refusal)) old new is = is
 
+  pub in-wider : (histories : List History) (lane : Lane) (line : Line) (what : Answered) (old new : Option Record) → IsRecordedIn was histories lane line what old new → IsRecordedIn now histories lane line what old new
+  in-wider histories InScript line what old new is = recorded-wider histories line what old new is
+  in-wider histories lane line what old new is = tt
+
 -- ---- as histories grow
 
 module _ (setting : Setting) (olds news : List History) (grown : AreGrown olds news) where
@@ -199,6 +205,10 @@ module _ (setting : Setting) (olds news : List History) (grown : AreGrown olds n
   recorded-grown line (IsOutside (Examined slot found)) old new is = is
   recorded-grown line (IsOutside (Refused refusal)) old new is = is
 
+  pub in-grown : (lane : Lane) (line : Line) (what : Answered) (old new : Option Record) → IsRecordedIn setting olds lane line what old new → IsRecordedIn setting news lane line what old new
+  in-grown InScript line what old new is = recorded-grown line what old new is
+  in-grown lane line what old new is = tt
+
 -- ---- several lines
 
 pub records-stay : (was now : Setting) → IsWider was now → (olds news : List History) → AreGrown olds news → (old : Option Record) (lines : List Numbered) (replies : List LineReply) (last : Option Record) → AreRecorded was olds old lines replies last
@@ -207,11 +217,11 @@ records-stay was now wider olds news grown old [] [] last is = is
 records-stay was now wider olds news grown old [] (reply ∷ replies) last is = absurd is
 records-stay was now wider olds news grown old (line ∷ lines) [] last is = absurd is
 records-stay was now wider olds news grown old (line ∷ lines) (reply ∷ replies) last (next, here, more) =
-    (next, recorded-wider was now wider news line.line reply.what old next (recorded-grown was olds news grown line.line reply.what old next here), records-stay was now wider olds news grown next lines replies last more)
+    (next, in-wider was now wider news line.lane line.line reply.what old next (in-grown was olds news grown line.lane line.line reply.what old next here), records-stay was now wider olds news grown next lines replies last more)
 
 pub records-more : (setting : Setting) (histories : List History) (old : Option Record) (lines : List Numbered) (replies : List LineReply) (mid : Option Record) (line : Numbered) (reply : LineReply) (last : Option Record)
-    → AreRecorded setting histories old lines replies mid → IsRecorded setting histories line.line reply.what mid last → AreRecorded setting histories old (lines ++ line ∷ []) (replies ++ reply ∷ []) last
-records-more setting histories old [] [] mid line reply last is here = (last, subst (λ (o : Option Record). IsRecorded setting histories line.line reply.what o last) is here, refl)
+    → AreRecorded setting histories old lines replies mid → IsRecordedIn setting histories line.lane line.line reply.what mid last → AreRecorded setting histories old (lines ++ line ∷ []) (replies ++ reply ∷ []) last
+records-more setting histories old [] [] mid line reply last is here = (last, subst (λ (o : Option Record). IsRecordedIn setting histories line.lane line.line reply.what o last) is here, refl)
 records-more setting histories old [] (r ∷ replies) mid line reply last is here = absurd is
 records-more setting histories old (l ∷ lines) [] mid line reply last is here = absurd is
 records-more setting histories old (l ∷ lines) (r ∷ replies) mid line reply last (next, one, rest) here = (next, one, records-more setting histories next lines replies mid line reply last rest here)

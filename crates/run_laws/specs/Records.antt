@@ -1,5 +1,5 @@
 -- The record of the array that runs, from line to line: what each line leaves of it. No bank is asked.
-use Rattle.std.specs.Prelude.{◌≡◌, ℕ, ◌+◌, ◌≤◌, ◌++◌, true, false, List, [], ◌∷◌, slice_get, Option, None, MatchOption, IsTrue}
+use Rattle.std.specs.Prelude.{◌≡◌, ℕ, ◌+◌, ◌≤◌, ◌++◌, true, false, List, [], ◌∷◌, slice_get, Option, None, MatchOption, IsTrue, ⊤}
 use Rattle.std.specs.List.{list_any}
 use Rattle.md_base.specs.Search.{tabulate}
 use Rattle.md_base.specs.declared.answers.Refusal.{Refusal}
@@ -28,6 +28,8 @@ use Rattle.script.specs.declared.lines.CreateLine.{CreateLine}
 use Rattle.script.specs.declared.lines.Line.{Line}
 use Rattle.script.specs.declared.lines.Line.TheVariants.{Create, Read, Write, Flush, Fail, Add, ArraySize, Grow, Step, Wait, Stop, Halt, Detail, Mdstat, Examine, Assemble}
 use Rattle.script.specs.declared.lines.Numbered.{Numbered}
+use Rattle.script.specs.declared.reply.Lane.{Lane}
+use Rattle.script.specs.declared.reply.Lane.TheVariants.{Script as InScript}
 use Rattle.run_laws.specs.declared.report.Answered.{Answered}
 use Rattle.run_laws.specs.declared.report.Answered.TheVariants.{Inside, Outside as IsOutside}
 use Rattle.run_laws.specs.declared.report.LineReply.{LineReply}
@@ -191,10 +193,15 @@ IsRecorded setting histories line (IsOutside (Assembled epoch status)) old new =
 IsRecorded setting histories line (IsOutside (Examined slot found)) old new = new ≡ old
 IsRecorded setting histories line (IsOutside (IsRefusedOutside refusal)) old new = new ≡ old
 
+-- so it is of a line of its own; of one of a block nothing is said
+abbrev pub IsRecordedIn : Setting → List History → Lane → Line → Answered → Option Record → Option Record → Type 0
+IsRecordedIn setting histories InScript line what old new = IsRecorded setting histories line what old new
+IsRecordedIn setting histories lane line what old new = ⊤
+
 -- There is such a record before the first line and behind each.
 abbrev pub AreRecorded : Setting → List History → Option Record → List Numbered → List LineReply → Option Record → Type 0
 AreRecorded setting histories old [] [] last = last ≡ old
 AreRecorded setting histories old [] (reply ∷ replies) last = ⊥
 AreRecorded setting histories old (line ∷ lines) [] last = ⊥
 AreRecorded setting histories old (line ∷ lines) (reply ∷ replies) last =
-    (next : Option Record) × IsRecorded setting histories line.line reply.what old next × AreRecorded setting histories next lines replies last
+    (next : Option Record) × IsRecordedIn setting histories line.lane line.line reply.what old next × AreRecorded setting histories next lines replies last
