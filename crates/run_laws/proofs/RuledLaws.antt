@@ -53,7 +53,7 @@ module _ {backup : Option ℕ} {line : CreateLine} (array : Record) (is : IsNewR
   -- and no slot behind them is used
   held-below : (role slot : ℕ) → line.shape.disks ≤ slot → holder (role_state (reading_of array.parts.members) role) ≡ Some slot → ⊥
   held-below role slot unused held = elim (cases_lt role line.shape.disks) [
-    | inl lt ↦ other role slot (sym (ap holder (there role lt)) ∙ held) lt
+    | inl lt ↦ other role (sym (ap holder (there role lt)) ∙ held) lt
     | inr past ↦ none slot (sym (ap holder (state-is role ∙ get_or_past (tabulate line.shape.disks (λ role. Whole role)) role Missing (omega (arith, past, length-tabulate line.shape.disks (λ role. Whole role))))) ∙ held)
   ]
     where
@@ -63,8 +63,8 @@ module _ {backup : Option ℕ} {line : CreateLine} (array : Record) (is : IsNewR
       same : {a b : ℕ} → Some a ≡ Some b → a ≡ b
       same e = cc
 
-      other : (a b : ℕ) → Some a ≡ Some b → a < line.shape.disks → ⊥
-      other a b e lt = let at = same e in omega (arith, at, lt, unused)
+      other : (a : ℕ) → Some a ≡ Some slot → a < line.shape.disks → ⊥
+      other a e lt = let at = same e in omega (arith, at, lt, unused)
 
   not-taken : (slot : ℕ) → line.shape.disks ≤ slot → backup ≢ Some slot → IsTaken array.parts.backup array.parts.members slot → ⊥
   not-taken slot unused other (inl taken) = not-backup backup other (sym (ap (λ (b : Option ℕ). is_backup b slot) is.backup_is) ∙ taken)
