@@ -547,7 +547,7 @@ some_named (Some e) is = (e, refl)
 -- an answer names an entry that is there
 pub answer_named : (setting : Setting) (histories : List History) (course : Course) (line : Line) (end : ℕ) (what : Answered) → IsAnswer setting histories course line end what → IsNamed histories what
 answer_named setting histories course line end (Inside epoch at) is =
-    let entry = replied_there course.size at is.history.entries line course.calls is.replied in
+    let entry = replied_there course.size at is.history.entries line (course.calls InScript) is.replied in
     subst (λ (o : Option Entry). IsSome o) (sym (ap (λ (o : Option History). option_and_then (λ h. slice_get h.entries at) o) is.there ∙ entry.1)) refl
 answer_named setting histories course line end (IsOutside outside) is = tt
 
