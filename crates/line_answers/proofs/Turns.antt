@@ -287,7 +287,7 @@ module _ {B : Type 0} (setting : Setting) (old new : RunningParts B) (epochs : V
         (answered_last hs (running_history old.parts) (running_history new.parts) asked replied tellable);
     course = course_asked line asked called goes;
     recorded = subst (λ (n : ℕ). IsRecordedBy setting line (entries_to (hs ++ running_history new.parts ∷ []) n place) (entry_at (hs ++ running_history new.parts ∷ []) n place) (record_of old) (Some (record_of new))) len
-        (recorded_last hs (running_history new.parts) asked setting line (record_of old) (Some (record_of new)) (judged, backed, refl, left));
+        (recorded_last hs (running_history new.parts) asked setting line (record_of old) (Some (record_of new)) (judged, (backed, refl, left)));
   }
 
   pub turn_asked : (line : Line) (place : ℕ) (asked : IsAskedAt (list_length old.parts.members.newest) line old.parts.entries new.parts.entries place) → IsTellable new.parts.entries place
