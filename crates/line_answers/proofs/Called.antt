@@ -1,7 +1,8 @@
 -- Calls of the script, which go on with none of the former ones.
-use Rattle.std.proofs.Common.{◌≡◌, ◌≢◌, inl, ℕ, ◌+◌, ◌*◌, min, ◌<◌, ◌≤◌, Option, List, [], ◌∷◌, ◌++◌, refl, sym, ◌∙◌, ap, subst, arith, append_assoc, append-nil}
+use Rattle.std.proofs.Common.{◌≡◌, ◌≢◌, inl, ℕ, ◌+◌, ◌*◌, min, ◌<◌, ◌≤◌, Bool, Option, List, [], ◌∷◌, ◌++◌, fold, refl, sym, ◌∙◌, ap, subst, arith, append_assoc, append-nil, ne_eqb}
 use Rattle.std.proofs.lemmas.List.Sums.{fold-append}
-use Rattle.std.proofs.lemmas.List.Elements.{All-nil, All-cons, All-append, All-weaker}
+use Rattle.std.proofs.lemmas.List.Elements.{All-nil, All-cons, All-append, All-head, All-tail, All-weaker}
+use Rattle.std.specs.Prelude.{if◌then◌else◌}
 use Rattle.std.specs.List.{All}
 use Rattle.std.specs.Option.{option_map_or}
 use Rattle.flat_history.specs.declared.events.Entry.{Entry}
@@ -30,6 +31,10 @@ use Rattle.run_laws.specs.Asked.{IsSizedBy}
 use Rattle.run_laws.specs.States.{running_history}
 use Rattle.run_laws.proofs.Losses.{IsSameOpening, IsHistoryLater, AreHeldOn, on-steps}
 use Rattle.script.specs.declared.lines.Line.{Line}
+use Rattle.script.specs.declared.reply.Lane.{Lane}
+use Rattle.script.specs.declared.reply.Lane.TheVariants.{Script as InScript, A as InA, B as InB, Worker as InWorker}
+use Rattle.run_laws.specs.Blocks.{caller_of}
+use Rattle.run_laws.specs.Replies.{with_script, calls_behind}
 use Rattle.run_laws.specs.Asked.{script_who, IsAskedAt}
 use Rattle.run_laws.specs.Histories.{History}
 use Rattle.run_laws.specs.running_calls_Entered.{IsOfNewCall}
@@ -84,6 +89,44 @@ called_once {old = old} {new = new} asked =
           (All-cons P e [] (refl, omega arith, omega (arith, more)) (All-nil P));
       rises = omega (arith, more);
     }
+
+-- nobody else has called
+none-other : (c n : ℕ) (more : List Entry) → 0 ≢ c → All (λ e. e.caller ≡ 0) more → fold (number_after c) n more ≡ n
+none-other c n [] ne all = refl
+none-other c n (e ∷ more) ne all =
+    ap (λ (b : Bool). fold (number_after c) (if b then e.number + 1 else n) more) (ne_eqb e.caller c (λ is. ne (sym (All-head (λ x. x.caller ≡ 0) e more all) ∙ is)))
+    ∙ none-other c n more ne (All-tail (λ x. x.caller ≡ 0) e more all)
+
+others_still : {old new : List Entry} (c : ℕ) → 0 ≢ c → HasCalled old new → next_number c new ≡ next_number c old
+others_still {old = old} {new = new} c ne called =
+    ap (λ (l : List Entry). next_number c l) called.grown ∙ fold-append (number_after c) 0 old called.more
+    ∙ none-other c (next_number c old) called.more ne
+    (All-weaker (λ e. IsCalledBetween (next_number 0 old) (next_number 0 new) e) (λ e. e.caller ≡ 0) (λ e is. is.0) called.more called.calls)
+
+-- the next numbers of all callers
+abbrev pub calls_in : List Entry → Lane → ℕ
+calls_in entries lane = next_number (caller_of lane) entries
+
+-- behind calls of the script, the last of which is this
+pub calls_more : {size : ℕ} {line : Line} {old mid new : List Entry} {place : ℕ} (asked : IsAskedAt size line mid new place) → HasCalled old new
+    → calls_in new ≡ calls_behind (calls_in old) (one (script_who mid) asked.end asked.event)
+calls_more {old = old} {mid = mid} {new = new} asked called = λ i lane. by lane i
+  where
+    by : (lane : Lane) → next_number (caller_of lane) new ≡ number_after (caller_of lane) (next_number (caller_of lane) old) (one (script_who mid) asked.end asked.event)
+    by InScript = number_more asked
+    by InA = others_still 1 (λ is. absurd (omega (arith, is))) called
+    by InB = others_still 2 (λ is. absurd (omega (arith, is))) called
+    by InWorker = others_still 255 (λ is. absurd (omega (arith, is))) called
+
+-- behind some calls of it
+pub calls_cut : {old new : List Entry} → HasCalled old new → calls_in new ≡ with_script (next_number 0 new) (calls_in old)
+calls_cut {old = old} {new = new} called = λ i lane. by lane i
+  where
+    by : (lane : Lane) → next_number (caller_of lane) new ≡ with_script (next_number 0 new) (calls_in old) lane
+    by InScript = refl
+    by InA = others_still 1 (λ is. absurd (omega (arith, is))) called
+    by InB = others_still 2 (λ is. absurd (omega (arith, is))) called
+    by InWorker = others_still 255 (λ is. absurd (omega (arith, is))) called
 
 -- ---- the history stays the script's, and its calls apart
 

@@ -1,6 +1,4 @@
 pub mod Barred
-pub mod BlockAsks
-pub mod BlockTurns
 pub mod Called
 pub mod Ending
 pub mod Examined

@@ -56,12 +56,15 @@ use Rattle.run_laws.specs.Caused.{IsCausedAt}
 use Rattle.run_laws.specs.Turning.{IsTellable, IsTurningTold}
 use Rattle.run_laws.specs.Histories.{History, history_of, histories_of, entry_at, is_end, AreGoing}
 use Rattle.run_laws.specs.Making.{Setting, held_at, history_world, MissingAtFirst, IsStoredNew, IsStoredAs}
-use Rattle.run_laws.specs.Replies.{Course, at_rest, begun, gone_on, course_behind, entries_to, course_after, steps_at_once, IsRepliedAt, IsAnsweredInside, IsRefusedOutside, spec_of}
+use Rattle.run_laws.specs.Blocks.{caller_of}
+use Rattle.run_laws.specs.Replies.{Course, with_script, at_rest, begun, gone_on, calls_behind, course_behind, entries_to, course_after, steps_at_once, IsRepliedAt, IsAnsweredInside, IsRefusedOutside, spec_of}
+use Rattle.script.specs.declared.reply.Lane.{Lane}
+use Rattle.script.specs.declared.reply.Lane.TheVariants.{Script as InScript, A as InA, B as InB, Worker as InWorker}
 use Rattle.script.specs.Seeds.{seeded}
 use Rattle.run_laws.specs.States.{EndsBetween, AreLossesBehind, AreLossesFrom, running_history, course_with, answer_at, IsGrown, AreGrown, AreLossesSince, IsTurn, IsNoTurn, IsTurnOrNone, RunsOwn, IsOwnEntry, AreByScript, IsByScript, IsOfScript, AreOfScript}
 use Rattle.run_laws.proofs.AskLaws.{one, with_reply, entry_there, replied_at}
 use Rattle.line_answers.proofs.Ending.{gone_once, ended_once}
-use Rattle.line_answers.proofs.Called.{HasCalled, called_none, called_once, called_own, called_grown, number_more}
+use Rattle.line_answers.proofs.Called.{HasCalled, called_none, called_once, called_own, called_grown, calls_in, calls_more, calls_cut}
 use Rattle.line_answers.proofs.Waits.{waiting_at, waiting_called, waited_called, waited_reply}
 use Rattle.run_laws.proofs.Losses.{losses-kept, losses-last, losses-same, losses-came, losses-found, each-absent}
 use Rattle.line_answers.proofs.Found.{IsFoundHere, found_world, found_history, still-length, stored_made}
@@ -72,9 +75,13 @@ opening_end first [] = refl
 opening_end first (event ∷ events) = call-ends first [] opener first event events
 
 -- nor does it count as one
-opening_number : (end : ℕ) (events : List Event) (n : ℕ) → fold (number_after 0) n (entries_of opener end events) ≡ n
-opening_number end [] n = refl
-opening_number end (event ∷ events) n = opening_number end events n
+-- the opening calls as nobody else
+opening_number : (lane : Lane) (end : ℕ) (events : List Event) (n : ℕ) → fold (number_after (caller_of lane)) n (entries_of opener end events) ≡ n
+opening_number lane end [] n = refl
+opening_number InScript end (event ∷ events) n = opening_number InScript end events n
+opening_number InA end (event ∷ events) n = opening_number InA end events n
+opening_number InB end (event ∷ events) n = opening_number InB end events n
+opening_number InWorker end (event ∷ events) n = opening_number InWorker end events n
 
 -- ---- the history of the array that runs goes on
 
@@ -104,7 +111,7 @@ grown_came (h ∷ hs) new = (grown_same h, grown_came hs new)
 -- a line was answered by calls of the script, the last of them at this place, over the history of the array that runs
 module _ {size : ℕ} {line last : Line} {place : ℕ} {mid : List Entry} (asked_of : Given) (backup : Option ℕ) (hs : List History) (old new : History) (asked : IsAskedAt size last mid new.entries place) (replied : IsRepliedAt size new.entries place (next_number 0 old.entries) line)
     (tellable : IsTellable new.entries place) (caused : IsCausedAt asked_of backup size line new.entries place) where
-  pub answered_last : IsAnsweredInside asked_of backup (hs ++ new ∷ []) (record { opened = length hs + 1; running = true; calls = next_number 0 old.entries; size = size }) (length hs) place line
+  pub answered_last : IsAnsweredInside asked_of backup (hs ++ new ∷ []) (record { opened = length hs + 1; running = true; calls = calls_in old.entries; size = size; block = [] }) (length hs) place line
   answered_last = record {
     running = refl;
     latest = refl;
@@ -125,9 +132,9 @@ module _ {size : ℕ} {last : Line} {place : ℕ} {mid : List Entry} (hs : List 
   all_last = ap (λ (o : Option History). option_map_or (λ h. take (place + 1) h.entries) o []) (get_last hs new) ∙ take_all (place + 1) new.entries (omega (arith, asked.at_end))
 
   -- where the run stands behind it
-  pub course_last : (course : Course) (line : Line) → course_after (hs ++ new ∷ []) course line (Inside (length hs) place) ≡ course_behind course new.entries (one (script_who mid) asked.end asked.event)
-  course_last course line = ap (λ (o : Option Entry). option_map_or (course_behind course (entries_to (hs ++ new ∷ []) (length hs) place)) o course) entry_last
-      ∙ ap (λ (l : List Entry). course_behind course l (one (script_who mid) asked.end asked.event)) all_last
+  pub course_last : (course : Course) (line : Line) → course_after (hs ++ new ∷ []) course InScript line (Inside (length hs) place) ≡ course_behind InScript course new.entries (one (script_who mid) asked.end asked.event)
+  course_last course line = ap (λ (o : Option Entry). option_map_or (course_behind InScript course (entries_to (hs ++ new ∷ []) (length hs) place)) o course) entry_last
+      ∙ ap (λ (l : List Entry). course_behind InScript course l (one (script_who mid) asked.end asked.event)) all_last
 
   -- and when it ended
   pub between_last : (low high : ℕ) → low ≤ asked.end → asked.end ≤ high → EndsBetween low high (hs ++ new ∷ []) (Inside (length hs) place)
@@ -247,14 +254,14 @@ module _ {B : Type 0} (setting : Setting) (old new : RunningParts B) (epochs : V
   called_grown_still called = grown_last hs (running_history old.parts) (running_history new.parts) (called_grown (running_history old.parts) (running_history new.parts) called uuid given first own.script)
 
   -- where the run stands behind its last call
-  course_asked : {last : Line} {mid : List Entry} {place : ℕ} (line : Line) (asked : IsAskedAt (list_length old.parts.members.newest) last mid new.parts.entries place) → is_end asked.event ≡ false
-      → course_with k new ≡ course_after (hs ++ running_history new.parts ∷ []) (course_with k old) line (Inside k place)
-  course_asked {mid = mid} {place = place} line asked goes =
-      ap (λ (n : ℕ). record { opened = k + 1; running = true; calls = n; size = list_length new.parts.members.newest }) (number_more asked)
-      ∙ ap (λ (n : ℕ). record { opened = k + 1; running = true; calls = next_number 0 mid + 1; size = n }) (sym now_sized.0)
-      ∙ sym (ap (λ (n : ℕ). course_after (hs ++ running_history new.parts ∷ []) (course_with k old) line (Inside n place)) (sym len)
+  course_asked : {last : Line} {mid : List Entry} {place : ℕ} (line : Line) (asked : IsAskedAt (list_length old.parts.members.newest) last mid new.parts.entries place) → HasCalled old.parts.entries new.parts.entries → is_end asked.event ≡ false
+      → course_with k new ≡ course_after (hs ++ running_history new.parts ∷ []) (course_with k old) InScript line (Inside k place)
+  course_asked {mid = mid} {place = place} line asked called goes =
+      ap (λ (f : Lane → ℕ). record { opened = k + 1; running = true; calls = f; size = list_length new.parts.members.newest; block = [] }) (calls_more asked called)
+      ∙ ap (λ (n : ℕ). record { opened = k + 1; running = true; calls = calls_behind (calls_in old.parts.entries) (one (script_who mid) asked.end asked.event); size = n; block = [] }) (sym now_sized.0)
+      ∙ sym (ap (λ (n : ℕ). course_after (hs ++ running_history new.parts ∷ []) (course_with k old) InScript line (Inside n place)) (sym len)
       ∙ course_last hs (running_history new.parts) asked (course_with k old) line
-      ∙ ap (λ (b : Bool). if b then at_rest (k + 1) else gone_on (next_number 0 mid + 1) (length_of (list_length old.parts.members.newest) new.parts.entries) (course_with k old)) goes)
+      ∙ ap (λ (b : Bool). if b then at_rest (k + 1) else gone_on (calls_behind (calls_in old.parts.entries) (one (script_who mid) asked.end asked.event)) (length_of (list_length old.parts.members.newest) new.parts.entries) (course_with k old)) goes)
 
   -- it answered
   pub turn_called : {last : Line} {mid : List Entry} (line : Line) (place : ℕ) (asked : IsAskedAt (list_length old.parts.members.newest) last mid new.parts.entries place) → HasCalled old.parts.entries new.parts.entries → AreGoing new.parts.entries
@@ -266,9 +273,9 @@ module _ {B : Type 0} (setting : Setting) (old new : RunningParts B) (epochs : V
     grown = called_grown_still called;
     ends = λ t. subst (λ (n : ℕ). EndsBetween setting.began (length setting.tape) (hs ++ running_history new.parts ∷ []) (Inside n place)) len
         (between_last hs (running_history new.parts) asked setting.began (length setting.tape) (ended t).0 (ended t).1);
-    answer = subst (λ (n : ℕ). IsAnsweredInside setting.given setting.backup (hs ++ running_history new.parts ∷ []) (record { opened = n + 1; running = true; calls = next_number 0 old.parts.entries; size = list_length old.parts.members.newest }) n place line) len
+    answer = subst (λ (n : ℕ). IsAnsweredInside setting.given setting.backup (hs ++ running_history new.parts ∷ []) (record { opened = n + 1; running = true; calls = calls_in old.parts.entries; size = list_length old.parts.members.newest; block = [] }) n place line) len
         (answered_last setting.given setting.backup hs (running_history old.parts) (running_history new.parts) asked replied tellable caused);
-    course = course_asked line asked goes;
+    course = course_asked line asked called goes;
   }
 
   pub turn_asked : (line : Line) (place : ℕ) (asked : IsAskedAt (list_length old.parts.members.newest) line old.parts.entries new.parts.entries place) → IsTellable new.parts.entries place
@@ -285,8 +292,8 @@ module _ {B : Type 0} (setting : Setting) (old new : RunningParts B) (epochs : V
   }
     where
       course_same : new.parts.entries ≡ old.parts.entries → course_with k new ≡ course_with k old
-      course_same same = ap (λ (l : List Entry). record { opened = k + 1; running = true; calls = next_number 0 l; size = list_length new.parts.members.newest }) same
-          ∙ ap (λ (n : ℕ). record { opened = k + 1; running = true; calls = next_number 0 old.parts.entries; size = n }) (sym now_sized.0 ∙ ap (λ (l : List Entry). length_of (list_length old.parts.members.newest) l) same ∙ own.sized)
+      course_same same = ap (λ (l : List Entry). record { opened = k + 1; running = true; calls = calls_in l; size = list_length new.parts.members.newest; block = [] }) same
+          ∙ ap (λ (n : ℕ). record { opened = k + 1; running = true; calls = calls_in old.parts.entries; size = n; block = [] }) (sym now_sized.0 ∙ ap (λ (l : List Entry). length_of (list_length old.parts.members.newest) l) same ∙ own.sized)
 
   pub turn_of_ask : (line : Line) (r : Result ℕ NoMemory) → ((place : ℕ) (asked : IsAskedAt (list_length old.parts.members.newest) line old.parts.entries new.parts.entries place) → is_end asked.event ≡ false)
       → (setting.tells → setting.began ≤ length setting.tape) → IfOk r (λ place. IsEndOf setting.tells new.parts.first new.parts.entries setting.tape) → IfOk r (λ place. IsTellable new.parts.entries place)
@@ -311,7 +318,8 @@ module _ {B : Type 0} (setting : Setting) (old new : RunningParts B) (epochs : V
       waiting = waiting_at (list_length old.parts.members.newest) old.parts.entries new.parts.entries earlier own.script was;
       upto = length new.parts.entries;
       within = omega arith;
-      now = ap (λ (n : ℕ). gone_on (next_number 0 new.parts.entries) n (course_with k old))
+      now = ap (λ (f : Lane → ℕ). gone_on f (list_length new.parts.members.newest) (course_with k old)) (calls_cut (waiting_called (list_length old.parts.members.newest) old.parts.entries new.parts.entries earlier was))
+          ∙ ap (λ (n : ℕ). gone_on (with_script (next_number 0 new.parts.entries) (calls_in old.parts.entries)) n (course_with k old))
           (sym now_sized.0 ∙ ap (λ (l : List Entry). length_of (list_length old.parts.members.newest) l) (sym (take_all (length new.parts.entries) new.parts.entries (omega arith))));
     };
   }
@@ -369,13 +377,13 @@ module _ {B : Type 0} (setting : Setting) (old : RunningParts B) (epoch : Epoch)
             (subst (λ (n : ℕ). EndsBetween setting.began (length setting.tape) (before ++ now ∷ []) (Inside n place)) counted
             (between_last before now asked setting.began (length setting.tape) (within t).0 (within t).1));
         answer = subst (λ (l : List History). IsAnsweredInside setting.given setting.backup l (course_with count old) count place line) (sym now_are)
-            (subst (λ (n : ℕ). IsAnsweredInside setting.given setting.backup (before ++ now ∷ []) (record { opened = n + 1; running = true; calls = next_number 0 old.parts.entries; size = list_length old.parts.members.newest }) n place line) counted
+            (subst (λ (n : ℕ). IsAnsweredInside setting.given setting.backup (before ++ now ∷ []) (record { opened = n + 1; running = true; calls = calls_in old.parts.entries; size = list_length old.parts.members.newest; block = [] }) n place line) counted
             (answered_last setting.given setting.backup before (running_history old.parts) now asked (replied_at line asked) tellable caused));
         course = ap (λ (n : ℕ). at_rest n) now_many
-            ∙ sym (ap (λ (l : List History). course_after l (course_with count old) line (Inside count place)) now_are
-            ∙ ap (λ (n : ℕ). course_after (before ++ now ∷ []) (course_with count old) line (Inside n place)) (sym counted)
+            ∙ sym (ap (λ (l : List History). course_after l (course_with count old) InScript line (Inside count place)) now_are
+            ∙ ap (λ (n : ℕ). course_after (before ++ now ∷ []) (course_with count old) InScript line (Inside n place)) (sym counted)
             ∙ course_last before now asked (course_with count old) line
-            ∙ ap (λ (b : Bool). if b then at_rest (count + 1) else gone_on (next_number 0 old.parts.entries + 1) (length_of (list_length old.parts.members.newest) now.entries) (course_with count old)) ends);
+            ∙ ap (λ (b : Bool). if b then at_rest (count + 1) else gone_on (calls_behind (calls_in old.parts.entries) (one (script_who old.parts.entries) asked.end asked.event)) (length_of (list_length old.parts.members.newest) now.entries) (course_with count old)) ends);
       }
 
 -- ---- no array ran
@@ -426,10 +434,10 @@ module _ {B : Type 0} (setting : Setting) (bank : B) (olds epochs : Vec Epoch) (
     opened_there = ap (λ (n : ℕ). slice_get (histories_of epochs.items ++ running_history array.parts ∷ []) n) (ap (λ (l : List Epoch). length l) (sym same) ∙ sym (length-map epochs.items history_of))
         ∙ get_last (histories_of epochs.items) (running_history array.parts)
 
-    opened_course : (calls size : ℕ) → next_number 0 array.parts.entries ≡ calls → list_length array.parts.members.newest ≡ size → course_with (length epochs.items) array ≡ begun (length olds.items) calls size
-    opened_course calls size numbered sized = ap (λ (l : List Epoch). record { opened = length l + 1; running = true; calls = next_number 0 array.parts.entries; size = list_length array.parts.members.newest }) same
-        ∙ ap (λ (n : ℕ). record { opened = length olds.items + 1; running = true; calls = n; size = list_length array.parts.members.newest }) numbered
-        ∙ ap (λ (n : ℕ). record { opened = length olds.items + 1; running = true; calls = calls; size = n }) sized
+    opened_course : (calls size : ℕ) → ((lane : Lane) → calls_in array.parts.entries lane ≡ with_script calls (λ lane. 0) lane) → list_length array.parts.members.newest ≡ size → course_with (length epochs.items) array ≡ begun (length olds.items) calls size
+    opened_course calls size numbered sized = ap (λ (l : List Epoch). record { opened = length l + 1; running = true; calls = calls_in array.parts.entries; size = list_length array.parts.members.newest; block = [] }) same
+        ∙ ap (λ (f : Lane → ℕ). record { opened = length olds.items + 1; running = true; calls = f; size = list_length array.parts.members.newest; block = [] }) (λ i lane. numbered lane i)
+        ∙ ap (λ (n : ℕ). record { opened = length olds.items + 1; running = true; calls = with_script calls (λ lane. 0); size = n; block = [] }) sized
 
     no_entries : array.parts.entries ≡ [] → IsByScript (running_history array.parts)
     no_entries none = subst (λ (l : List Entry). AreByScript l l) (sym none) (All-nil (IsOwnEntry []))
@@ -459,10 +467,16 @@ module _ {B : Type 0} (setting : Setting) (bank : B) (olds epochs : Vec Epoch) (
           sound = λ t. subst OpensSound (world_is made.begun.backup_is) (made.sound t);
         },
       );
-      course = opened_course 0 (data_disks line.shape * line.size) (ap (λ (l : List Entry). next_number 0 l) made.quiet)
+      course = opened_course 0 (data_disks line.shape * line.size) none_called
           (still-length array.parts.members.newest made.opened.still ∙ ap (λ (s : Shape). data_disks s * array.parts.members.newest.size) made.new.shape ∙ ap (λ (n : ℕ). data_disks line.shape * n) made.new.size);
     }
       where
+        none_called : (lane : Lane) → calls_in array.parts.entries lane ≡ with_script 0 (λ lane. 0) lane
+        none_called InScript = ap (λ (l : List Entry). next_number 0 l) made.quiet
+        none_called InA = ap (λ (l : List Entry). next_number 1 l) made.quiet
+        none_called InB = ap (λ (l : List Entry). next_number 2 l) made.quiet
+        none_called InWorker = ap (λ (l : List Entry). next_number 255 l) made.quiet
+
         world_is : array.parts.backup ≡ setting.backup → world_for setting.given setting.tape array.parts ≡ history_world setting (running_history array.parts)
         world_is is = ap (λ (b : Option ℕ). record { start = setting.given.start; tape = setting.tape; scope = record { uuid = array.parts.uuid; given = array.parts.given; backup = b; sizes = sizes setting.given }; first = array.parts.first }) is
 
@@ -475,7 +489,7 @@ module _ {B : Type 0} (setting : Setting) (bank : B) (olds epochs : Vec Epoch) (
       found_entries = is.entries ∙ ap (λ (n : ℕ). entries_of opener n losses) (sym first)
 
       found_number : next_number 0 found.parts.entries ≡ 0
-      found_number = ap (λ (l : List Entry). next_number 0 l) found_entries ∙ opening_number array.parts.first losses 0
+      found_number = ap (λ (l : List Entry). next_number 0 l) found_entries ∙ opening_number InScript array.parts.first losses 0
 
       losses_own : (history : List Entry) → AreByScript history (entries_of opener array.parts.first losses)
       losses_own history = each-absent (IsOwnEntry history) opener array.parts.first is.r is.n (λ role lt missing. (inr (refl, refl, tt), inr (refl, refl, tt)))
@@ -522,7 +536,7 @@ module _ {B : Type 0} (setting : Setting) (bank : B) (olds epochs : Vec Epoch) (
             stored = λ t. subst (λ (w : World). IsStoredAs w status losses) (found_history setting found.parts (running_history array.parts) (sym is.uuid ∙ sym uuid) (sym given) (sym (first ∙ is.first t))) (is.stored status told t);
           },
         );
-        course = opened_course 1 status.length (ap (λ (l : List Entry). next_number 0 l) entries ∙ one_call) (ap (λ (m : Members). list_length m.newest) members ∙ is.shown status told);
+        course = opened_course 1 status.length called (ap (λ (m : Members). list_length m.newest) members ∙ is.shown status told);
       }
         where
           first_entry : Entry
@@ -533,6 +547,12 @@ module _ {B : Type 0} (setting : Setting) (bank : B) (olds epochs : Vec Epoch) (
 
           one_call : next_number 0 (entries_of opener array.parts.first losses ++ first_entry ∷ []) ≡ 1
           one_call = fold-append (number_after 0) 0 (entries_of opener array.parts.first losses) (first_entry ∷ [])
+
+          called : (lane : Lane) → calls_in array.parts.entries lane ≡ with_script 1 (λ lane. 0) lane
+          called InScript = ap (λ (l : List Entry). next_number 0 l) entries ∙ one_call
+          called InA = ap (λ (l : List Entry). next_number 1 l) entries ∙ fold-append (number_after 1) 0 (entries_of opener array.parts.first losses) (first_entry ∷ []) ∙ opening_number InA array.parts.first losses 0
+          called InB = ap (λ (l : List Entry). next_number 2 l) entries ∙ fold-append (number_after 2) 0 (entries_of opener array.parts.first losses) (first_entry ∷ []) ∙ opening_number InB array.parts.first losses 0
+          called InWorker = ap (λ (l : List Entry). next_number 255 l) entries ∙ fold-append (number_after 255) 0 (entries_of opener array.parts.first losses) (first_entry ∷ []) ∙ opening_number InWorker array.parts.first losses 0
 
           first_number : 0 < next_number 0 (entries_of opener array.parts.first losses ++ first_entry ∷ [])
           first_number = omega (arith, one_call)

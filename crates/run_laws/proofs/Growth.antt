@@ -1,5 +1,5 @@
 -- The replies to several lines, as the histories grow.
-use Rattle.std.proofs.Common.{◌≡◌, ℕ, zero, suc, ◌+◌, ◌*◌, ◌<◌, ◌≤◌, Bool, true, false, Option, Some, None, List, [], ◌∷◌, ◌++◌, length, take, drop, refl, sym, ◌∙◌, ap, subst, arith, append_assoc, length-append}
+use Rattle.std.proofs.Common.{◌≡◌, ◌⊎◌, inl, inr, ℕ, zero, suc, ◌+◌, ◌*◌, ◌<◌, ◌≤◌, Bool, true, false, Option, Some, None, List, [], ◌∷◌, ◌++◌, length, take, drop, refl, sym, ◌∙◌, ap, subst, arith, append_assoc, length-append}
 use Rattle.std.proofs.lemmas.List.{take-append-le, drop-append-le}
 use Rattle.std.proofs.lemmas.Option.{slice_get_within}
 use Rattle.std.specs.Prelude.{slice_get, MatchOption, if◌then◌else◌, IfSome, IsSome, IsTrue, IsFalse, nat_lt}
@@ -31,20 +31,24 @@ use Rattle.openings.specs.assemble_the_CreateSpec.{CreateSpec}
 use Rattle.script.specs.declared.lines.Line.TheVariants.{Create, Read, Write, Flush, Fail, Add, ArraySize, Grow, Step, Wait, Stop, Halt, Detail, Mdstat, Examine, Assemble}
 use Rattle.flat_history.specs.declared.events.Entry.{Entry}
 use Rattle.flat_history.specs.declared.events.Event.TheVariants.{Shown}
+use Rattle.flat_history.specs.declared.events.Request.{Request}
 use Rattle.flat_history.specs.Plain.{entries_of}
 use Rattle.openings.specs.array_kept_Adopting.{opener}
 use Rattle.flat_history.specs.Flat.{rest_of_call, is_same_call, length_of}
 use Rattle.script.specs.declared.lines.Line.{Line}
 use Rattle.script.specs.declared.lines.Numbered.{Numbered}
+use Rattle.script.specs.declared.reply.Lane.{Lane}
+use Rattle.script.specs.declared.reply.Lane.TheVariants.{Script as InScript, A as InA, B as InB, Worker as InWorker}
 use Rattle.run_laws.specs.declared.report.Outside.TheVariants.{Created, Assembled, Examined, Refused}
 use Rattle.run_laws.specs.declared.report.Answered.{Answered}
 use Rattle.run_laws.specs.declared.report.Answered.TheVariants.{Inside, Outside as IsOutside}
 use Rattle.run_laws.specs.declared.report.LineReply.{LineReply}
+use Rattle.run_laws.specs.Blocks.{IsCallersReply}
 use Rattle.run_laws.specs.Histories.{History, entry_at}
 use Rattle.run_laws.specs.Examining.{IsExaminedBy, IsUnexamined}
 use Rattle.run_laws.specs.Making.{Setting, held_at, history_world, IsUncreated, IsUnassembled, IsStoredNew, IsStoredAs, BeginsShown}
-use Rattle.run_laws.specs.Replies.{Course, spec_of, FitsLine, IsMadeBy, IsFoundBy, IsRefusedOutside, gone_on, course_behind, entries_to, course_after, course_of, leaves_more, leaves_more_at, IsReplyAt, IsWaitedAt, IsRepliedAt, IsAnsweredInside, IsAnswer, IsEnd, IsReplyTo, AreReplies}
-use Rattle.openings.specs.running_replies_Replies.{MayTellBy}
+use Rattle.run_laws.specs.Replies.{Course, spec_of, FitsLine, IsMadeBy, IsFoundBy, IsRefusedOutside, with_script, gone_on, course_behind, entries_to, course_after, course_of, leaves_more, leaves_more_at, IsReplyAt, IsWaitedAt, IsRepliedAt, IsAnsweredInside, IsAnswer, most_turns, IsWorkedAt, IsWorked, IsRepliedBeside, IsAnsweredBeside, IsAnswerBeside, IsAnswerIn, mark_reached, mark_shown, IsEnd, IsReplyTo, AreReplies}
+use Rattle.openings.specs.running_replies_Replies.{RunningFits, MayTellBy}
 use Rattle.run_laws.specs.Caused.{IsCausedFor, IsCausedAt}
 use Rattle.running_calls.specs.Turning.{may_be_active, may_be_ahead, IsTellable}
 use Rattle.run_laws.specs.States.{IsGrown, AreGrown, IsNamed, IsWaitingAt, IsCutShort}
@@ -166,11 +170,11 @@ cut_stays olds news old Wait new grown was =
       there = now.1;
       earlier = was.earlier;
       next = was.next;
-      waiting = subst (λ (l : List Entry). IsWaitingAt old.size l was.earlier old.calls was.next) (sym now.2.grown)
-          (waiting_longer old.size was.history.entries now.2.more now.2.later was.earlier old.calls was.next was.waiting);
+      waiting = subst (λ (l : List Entry). IsWaitingAt old.size l was.earlier (old.calls InScript) was.next) (sym now.2.grown)
+          (waiting_longer old.size was.history.entries now.2.more now.2.later was.earlier (old.calls InScript) was.next was.waiting);
       upto = was.upto;
       within = let more = ap (λ (l : List Entry). length l) now.2.grown in let long = length-append was.history.entries now.2.more in omega (arith, was.within, more, long);
-      now = was.now ∙ ap (λ (l : List Entry). gone_on was.next (length_of old.size l) old)
+      now = was.now ∙ ap (λ (l : List Entry). gone_on (with_script was.next old.calls) (length_of old.size l) old)
           (sym (ap (λ (l : List Entry). take was.upto l) now.2.grown ∙ take-append-le was.upto was.history.entries now.2.more was.within));
     }
 cut_stays olds news old line new grown was = absurd was
@@ -208,10 +212,89 @@ inside_stays given backup olds news course epoch place line grown was =
       latest = was.latest;
       history = now.0;
       there = now.1;
-      replied = subst (λ (l : List Entry). IsRepliedAt course.size l place course.calls line) (sym now.2.grown) (replied_longer course.size place course.calls line was.history.entries now.2.more now.2.later was.replied);
+      replied = subst (λ (l : List Entry). IsRepliedAt course.size l place (course.calls InScript) line) (sym now.2.grown) (replied_longer course.size place (course.calls InScript) line was.history.entries now.2.more now.2.later was.replied);
       tellable = subst (λ (l : List Entry). IsTellable l place) (sym now.2.grown) (tellable_longer was.history.entries now.2.more place was.tellable);
       caused = subst (λ (l : List Entry). IsCausedAt given backup course.size line l place) (sym now.2.grown) (caused_longer given backup course.size line was.history.entries now.2.more place was.tellable was.caused);
     }
+
+-- ---- a line of a block
+
+-- a caller's reply stays one, as later calls are entered
+callers_longer : {size : ℕ} {entries : List Entry} {caller number place : ℕ} {request : Request} (more : List Entry) → All (λ e. rest_of_call e more ≡ []) entries
+    → IsCallersReply size entries caller number place request → IsCallersReply size (entries ++ more) caller number place request
+callers_longer {size = size} {entries = entries} {place = place} {request = request} more later was =
+    let within = slice_get_within entries place was.entry was.there in
+    record {
+      entry = was.entry;
+      there = get_append entries more place was.entry was.there;
+      callers = was.callers;
+      numbered = was.numbered;
+      last = ap (λ (l : List Entry). rest_of_call was.entry l) (drop-append-le (place + 1) entries more (omega (arith, within)))
+          ∙ rest_append was.entry (drop (place + 1) entries) more was.last (at_place (λ e. rest_of_call e more ≡ []) entries place was.entry later was.there);
+      fits = subst (λ (l : List Entry). RunningFits size l was.entry request) (sym (take-append-le place entries more (omega (arith, within)))) was.fits;
+    }
+
+worked_longer : (size place : ℕ) (entries more : List Entry) → All (λ e. rest_of_call e more ≡ []) entries
+    → (earlier : List ℕ) (number : ℕ) → IsWorkedAt size entries earlier place number → IsWorkedAt size (entries ++ more) earlier place number
+worked_longer size place entries more later [] number (most, reply) = (most, callers_longer more later reply)
+worked_longer size place entries more later (first ∷ others) number ((most, reply), going, rest) = (
+  (most, callers_longer more later reply),
+  subst (λ (b : Bool). IsTrue b) (sym (leaves_longer entries more first reply.entry reply.there)) going,
+  worked_longer size place entries more later others (number + 1) rest,
+)
+
+-- the entry of a worker's reply is there
+worked_there : (size place : ℕ) (entries : List Entry) (earlier : List ℕ) (number : ℕ) → IsWorkedAt size entries earlier place number → (e : Entry) × (slice_get entries place ≡ Some e)
+worked_there size place entries [] number (most, reply) = (reply.entry, reply.there)
+worked_there size place entries (first ∷ others) number (reply, going, rest) = worked_there size place entries others (number + 1) rest
+
+all_worked_longer : (size place number : ℕ) (entries more : List Entry) → All (λ e. rest_of_call e more ≡ []) entries → IsWorked size entries place number → IsWorked size (entries ++ more) place number
+all_worked_longer size place number entries more later was =
+    let there = worked_there size place entries was.earlier number was.worked in
+    record {
+      earlier = was.earlier;
+      worked = worked_longer size place entries more later was.earlier number was.worked;
+      ended = by was.ended (leaves_longer entries more place there.0 there.1);
+    }
+  where
+    by : IsFalse (leaves_more_at entries place) ⊎ (length was.earlier + 1 ≡ most_turns) → leaves_more_at (entries ++ more) place ≡ leaves_more_at entries place → IsFalse (leaves_more_at (entries ++ more) place) ⊎ (length was.earlier + 1 ≡ most_turns)
+    by (inl ended) same = inl (same ∙ ended)
+    by (inr last) same = inr last
+
+beside_longer : (lane : Lane) (size place number : ℕ) (line : Line) (entries more : List Entry) → All (λ e. rest_of_call e more ≡ []) entries
+    → IsRepliedBeside lane size entries place number line → IsRepliedBeside lane size (entries ++ more) place number line
+beside_longer InWorker size place number line entries more later was = all_worked_longer size place number entries more later was
+beside_longer InScript size place number line entries more later was = callers_longer more later was
+beside_longer InA size place number line entries more later was = callers_longer more later was
+beside_longer InB size place number line entries more later was = callers_longer more later was
+
+beside_there : (lane : Lane) (size place number : ℕ) (line : Line) (entries : List Entry) → IsRepliedBeside lane size entries place number line → (e : Entry) × (slice_get entries place ≡ Some e)
+beside_there InWorker size place number line entries was = worked_there size place entries was.earlier number was.worked
+beside_there InScript size place number line entries was = (was.entry, was.there)
+beside_there InA size place number line entries was = (was.entry, was.there)
+beside_there InB size place number line entries was = (was.entry, was.there)
+
+beside_stays : (olds news : List History) (course : Course) (lane : Lane) (line : Line) (what : Answered) → AreGrown olds news → IsAnswerBeside olds course lane line what → IsAnswerBeside news course lane line what
+beside_stays olds news course lane line (Inside epoch at) grown was =
+    let now = history_stays olds news grown epoch was.history was.there in
+    record {
+      running = was.running;
+      latest = was.latest;
+      history = now.0;
+      there = now.1;
+      replied = subst (λ (l : List Entry). IsRepliedBeside lane course.size l at (course.calls lane) line) (sym now.2.grown)
+          (beside_longer lane course.size at (course.calls lane) line was.history.entries now.2.more now.2.later was.replied);
+    }
+beside_stays olds news course lane line (IsOutside Created) grown was = absurd was
+beside_stays olds news course lane line (IsOutside (Assembled epoch status)) grown was = absurd was
+beside_stays olds news course lane line (IsOutside (Examined slot found)) grown was = absurd was
+beside_stays olds news course lane line (IsOutside (Refused refusal)) grown was = was
+
+pub beside_named : (histories : List History) (course : Course) (lane : Lane) (line : Line) (what : Answered) → IsAnswerBeside histories course lane line what → IsNamed histories what
+beside_named histories course lane line (Inside epoch at) is =
+    let entry = beside_there lane course.size at (course.calls lane) line is.history.entries is.replied in
+    subst (λ (o : Option Entry). IsSome o) (sym (ap (λ (o : Option History). option_and_then (λ h. slice_get h.entries at) o) is.there ∙ entry.1)) refl
+beside_named histories course lane line (IsOutside outside) is = tt
 
 -- the same bank, over a longer time
 pub record IsWider (was now : Setting) : Type 0 where
@@ -486,25 +569,42 @@ answer_named setting histories course line end (Inside epoch at) is =
     subst (λ (o : Option Entry). IsSome o) (sym (ap (λ (o : Option History). option_and_then (λ h. slice_get h.entries at) o) is.there ∙ entry.1)) refl
 answer_named setting histories course line end (IsOutside outside) is = tt
 
+-- by its lane
+pub answer_in_named : (setting : Setting) (histories : List History) (course : Course) (lane : Lane) (line : Line) (end : ℕ) (what : Answered) → IsAnswerIn setting histories course lane line end what → IsNamed histories what
+answer_in_named setting histories course InScript line end what is = answer_named setting histories course line end what is
+answer_in_named setting histories course InA line end what is = beside_named histories course InA line what is
+answer_in_named setting histories course InB line end what is = beside_named histories course InB line what is
+answer_in_named setting histories course InWorker line end what is = beside_named histories course InWorker line what is
+
+-- it stays one over a longer time, and as the histories grow
+answer_in_stays : (was now : Setting) → IsWider was now → (olds news : List History) (course : Course) (lane : Lane) (line : Line) (reply : LineReply) → AreGrown olds news → reply.lane ≡ lane → (was.tells → mark_shown 0 reply ≤ length was.tape)
+    → IsAnswerIn was olds course lane line reply.end reply.what → IsAnswerIn now news course lane line reply.end reply.what
+answer_in_stays was now wider olds news course InScript line reply grown same within is =
+    answer_stays now olds news course line reply.end reply.what grown
+    (answer_wider was now wider reply.end reply.end (λ t. refl) (λ t. subst (λ (l : Lane). mark_reached 0 l reply.what reply.end ≤ length was.tape) same (within (wider.told t))) olds course line reply.what is)
+answer_in_stays was now wider olds news course InA line reply grown same within is = beside_stays olds news course InA line reply.what grown is
+answer_in_stays was now wider olds news course InB line reply grown same within is = beside_stays olds news course InB line reply.what grown is
+answer_in_stays was now wider olds news course InWorker line reply grown same within is = beside_stays olds news course InWorker line reply.what grown is
+
 -- the run stands where it stood
-pub course_stays : (olds news : List History) (course : Course) (line : Line) (what : Answered) → AreGrown olds news → IsNamed olds what → course_after news course line what ≡ course_after olds course line what
-course_stays olds news course line (Inside epoch at) grown named =
+pub course_stays : (olds news : List History) (course : Course) (lane : Lane) (line : Line) (what : Answered) → AreGrown olds news → IsNamed olds what → course_after news course lane line what ≡ course_after olds course lane line what
+course_stays olds news course lane line (Inside epoch at) grown named =
     let is = some_named (entry_at olds epoch at) named in
     let same : entry_at news epoch at ≡ entry_at olds epoch at = named_stays olds news grown epoch at is.0 (is.1) ∙ sym (is.1) in
-    ap (λ (o : Option Entry). option_map_or (course_behind course (entries_to news epoch at)) o course) same
-    ∙ ap (λ (l : List Entry). option_map_or (course_behind course l) (entry_at olds epoch at) course) (to_stays olds news grown epoch at is.0 (is.1))
-course_stays olds news course line (IsOutside Created) grown named = refl
-course_stays olds news course line (IsOutside (Assembled epoch status)) grown named = refl
-course_stays olds news course line (IsOutside (Examined slot found)) grown named = refl
-course_stays olds news course line (IsOutside (Refused refusal)) grown named = refl
+    ap (λ (o : Option Entry). option_map_or (course_behind lane course (entries_to news epoch at)) o course) same
+    ∙ ap (λ (l : List Entry). option_map_or (course_behind lane course l) (entry_at olds epoch at) course) (to_stays olds news grown epoch at is.0 (is.1))
+course_stays olds news course lane line (IsOutside Created) grown named = refl
+course_stays olds news course lane line (IsOutside (Assembled epoch status)) grown named = refl
+course_stays olds news course lane line (IsOutside (Examined slot found)) grown named = refl
+course_stays olds news course lane line (IsOutside (Refused refusal)) grown named = refl
 
 pub courses_stay : (setting : Setting) (olds news : List History) (course : Course) (lines : List Numbered) (replies : List LineReply) → AreGrown olds news → AreReplies setting olds course lines replies
     → course_of news course lines replies ≡ course_of olds course lines replies
 courses_stay setting olds news course [] replies grown was = refl
 courses_stay setting olds news course (line ∷ lines) [] grown was = refl
 courses_stay setting olds news course (line ∷ lines) (reply ∷ replies) grown (one, rest) =
-    ap (λ (c : Course). course_of news c lines replies) (course_stays olds news course line.line reply.what grown (answer_named setting olds course line.line reply.end reply.what one.answer))
-    ∙ courses_stay setting olds news (course_after olds course line.line reply.what) lines replies grown rest
+    ap (λ (c : Course). course_of news c lines replies) (course_stays olds news course line.lane line.line reply.what grown (answer_in_named setting olds course line.lane line.line reply.end reply.what one.answer))
+    ∙ courses_stay setting olds news (course_after olds course line.lane line.line reply.what) lines replies grown rest
 
 end_stays : (olds news : List History) (reply : LineReply) (what : Answered) → AreGrown olds news → IsEnd olds reply what → IsEnd news reply what
 end_stays olds news reply (Inside epoch at) grown was = by_entry (entry_at olds epoch at) refl was
@@ -525,10 +625,10 @@ replies_stay was now wider olds news course (line ∷ lines) (reply ∷ replies)
     lane = one.lane;
     end = end_stays olds news reply reply.what grown one.end;
     within = λ t. omega (arith, one.within (wider.told t), longer was now wider t);
-    answer = answer_stays now olds news course line.line reply.end reply.what grown (answer_wider was now wider reply.end reply.end (λ t. refl) (λ t. one.within (wider.told t)) olds course line.line reply.what one.answer);
+    answer = answer_in_stays was now wider olds news course line.lane line.line reply grown one.lane one.within one.answer;
   },
-  subst (λ (c : Course). AreReplies now news c lines replies) (sym (course_stays olds news course line.line reply.what grown (answer_named was olds course line.line reply.end reply.what one.answer)))
-      (replies_stay was now wider olds news (course_after olds course line.line reply.what) lines replies grown rest),
+  subst (λ (c : Course). AreReplies now news c lines replies) (sym (course_stays olds news course line.lane line.line reply.what grown (answer_in_named was olds course line.lane line.line reply.end reply.what one.answer)))
+      (replies_stay was now wider olds news (course_after olds course line.lane line.line reply.what) lines replies grown rest),
 )
 
 -- one reply more
@@ -538,7 +638,7 @@ pub replies_more : (setting : Setting) (histories : List History) (course : Cour
 replies_more setting histories course [] [] line reply was one = (one, was)
 replies_more setting histories course [] (r ∷ replies) line reply was one = absurd was
 replies_more setting histories course (l ∷ lines) [] line reply was one = absurd was
-replies_more setting histories course (l ∷ lines) (r ∷ replies) line reply (first, rest) one = (first, replies_more setting histories (course_after histories course l.line r.what) lines replies line reply rest one)
+replies_more setting histories course (l ∷ lines) (r ∷ replies) line reply (first, rest) one = (first, replies_more setting histories (course_after histories course l.lane l.line r.what) lines replies line reply rest one)
 
 -- the first so many replies answer the first so many lines
 pub replies_front : (setting : Setting) (histories : List History) (course : Course) (n m : ℕ) (lines : List Numbered) (replies : List LineReply) → n ≤ m
@@ -549,11 +649,27 @@ replies_front setting histories course (suc n) (suc m) [] [] le was = was
 replies_front setting histories course (suc n) (suc m) [] (r ∷ replies) le was = absurd was
 replies_front setting histories course (suc n) (suc m) (l ∷ lines) [] le was = absurd was
 replies_front setting histories course (suc n) (suc m) (l ∷ lines) (r ∷ replies) le (first, rest) =
-    (first, replies_front setting histories (course_after histories course l.line r.what) n m lines replies (omega (arith, le)) rest)
+    (first, replies_front setting histories (course_after histories course l.lane l.line r.what) n m lines replies (omega (arith, le)) rest)
 
 pub course_more : (histories : List History) (course : Course) (lines : List Numbered) (replies : List LineReply) (line : Numbered) (reply : LineReply) → length lines ≡ length replies
-    → course_of histories course (lines ++ line ∷ []) (replies ++ reply ∷ []) ≡ course_after histories (course_of histories course lines replies) line.line reply.what
+    → course_of histories course (lines ++ line ∷ []) (replies ++ reply ∷ []) ≡ course_after histories (course_of histories course lines replies) line.lane line.line reply.what
 course_more histories course [] [] line reply same = refl
 course_more histories course [] (r ∷ replies) line reply same = absurd (omega (arith, same))
 course_more histories course (l ∷ lines) [] line reply same = absurd (omega (arith, same))
-course_more histories course (l ∷ lines) (r ∷ replies) line reply same = course_more histories (course_after histories course l.line r.what) lines replies line reply (omega (arith, same))
+course_more histories course (l ∷ lines) (r ∷ replies) line reply same = course_more histories (course_after histories course l.lane l.line r.what) lines replies line reply (omega (arith, same))
+
+-- several replies more
+pub replies_both : (setting : Setting) (histories : List History) (course : Course) (lines : List Numbered) (replies : List LineReply) (more : List Numbered) (others : List LineReply)
+    → AreReplies setting histories course lines replies → AreReplies setting histories (course_of histories course lines replies) more others
+    → AreReplies setting histories course (lines ++ more) (replies ++ others)
+replies_both setting histories course [] [] more others was next = next
+replies_both setting histories course [] (r ∷ replies) more others was next = absurd was
+replies_both setting histories course (l ∷ lines) [] more others was next = absurd was
+replies_both setting histories course (l ∷ lines) (r ∷ replies) more others (first, rest) next = (first, replies_both setting histories (course_after histories course l.lane l.line r.what) lines replies more others rest next)
+
+pub course_both : (histories : List History) (course : Course) (lines : List Numbered) (replies : List LineReply) (more : List Numbered) (others : List LineReply) → length lines ≡ length replies
+    → course_of histories course (lines ++ more) (replies ++ others) ≡ course_of histories (course_of histories course lines replies) more others
+course_both histories course [] [] more others same = refl
+course_both histories course [] (r ∷ replies) more others same = absurd (omega (arith, same))
+course_both histories course (l ∷ lines) [] more others same = absurd (omega (arith, same))
+course_both histories course (l ∷ lines) (r ∷ replies) more others same = course_both histories (course_after histories course l.lane l.line r.what) lines replies more others (omega (arith, same))

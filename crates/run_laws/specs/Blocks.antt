@@ -1,11 +1,11 @@
 -- A block of lanes: what the lines of its lanes and its worker are answered, and what it leaves of the array's history.
-use Rattle.std.specs.Prelude.{◌≡◌, ◌⊎◌, ℕ, ◌+◌, ◌++◌, Bool, List, [], ◌∷◌, map, take, drop, slice_get, Some, ⊤}
+use Rattle.std.specs.Prelude.{◌≡◌, ◌⊎◌, ℕ, ◌+◌, ◌++◌, Bool, List, [], ◌∷◌, length, map, take, drop, slice_get, Some, ⊤}
 use Rattle.std.specs.List.{All}
 use Rattle.flat_history.specs.declared.events.Entry.{Entry}
-use Rattle.flat_history.specs.declared.events.Event.{Event}
 use Rattle.flat_history.specs.declared.events.Request.{Request}
 use Rattle.flat_history.specs.declared.events.Request.TheVariants.{Read as AsksRead, Write as AsksWrite, Flush as AsksFlush, Fail as AsksFail}
 use Rattle.flat_history.specs.Flat.{rest_of_call, next_number}
+use Rattle.flat_history.specs.Seen.{reply_places}
 use Rattle.openings.specs.running_replies_Replies.{RunningFits}
 use Rattle.running_calls.specs.Entered.{IsOfNewCall}
 use Rattle.running_calls.specs.declared.reply.Reply.{Reply}
@@ -45,35 +45,35 @@ is_allowed numbered = is_within_limits numbered.line
 abbrev pub is_in_lane : Numbered → Bool
 is_in_lane numbered = is_for_lanes numbered.line
 
--- The entry at a place is the last of this caller's call of this number. It tells this event, and is the reply to the request.
-pub record IsCallersReply (size : ℕ) (entries : List Entry) (caller number place : ℕ) (request : Request) (event : Event) : Type 0 where
+-- The entry at a place is the last of this caller's call of this number, and is the reply to the request.
+pub record IsCallersReply (size : ℕ) (entries : List Entry) (caller number place : ℕ) (request : Request) : Type 0 where
   pub entry : Entry
   pub there : slice_get entries place ≡ Some entry
   pub callers : entry.caller ≡ caller
   pub numbered : entry.number ≡ number
   pub last : rest_of_call entry (drop (place + 1) entries) ≡ []
-  pub told : entry.event ≡ event
   pub fits : RunningFits size (take place entries) entry request
 
--- The requests were made one after another, in the caller's calls from this number on, and each was answered so, up to one for which memory was short.
+-- The requests were made one after another, in the caller's calls from this number on, and each was answered so, by the event that its reply tells, up to one for which memory was short.
 abbrev pub AreCallersReplies : ℕ → List Entry → ℕ → ℕ → List Request → List Reply → Type 0
 AreCallersReplies size entries caller number [] [] = ⊤
 AreCallersReplies size entries caller number (request ∷ requests) (Done place event ∷ replies) =
-    IsCallersReply size entries caller number place request event × AreCallersReplies size entries caller (number + 1) requests replies
+    ((reply : IsCallersReply size entries caller number place request) × (reply.entry.event ≡ event)) × AreCallersReplies size entries caller (number + 1) requests replies
 AreCallersReplies size entries caller number (request ∷ requests) (Short ∷ []) = ⊤
 AreCallersReplies size entries caller number requests replies = ⊥
 
--- how many calls these replies tell: none where memory was short
-abbrev pub calls_told : List Reply → ℕ
-calls_told [] = 0
-calls_told (Done place event ∷ replies) = 1 + calls_told replies
-calls_told (Short ∷ replies) = calls_told replies
+-- the places that these replies tell, up to one for which memory was short
+abbrev pub places_told : List Reply → List ℕ
+places_told [] = []
+places_told (Done place event ∷ replies) = place ∷ places_told replies
+places_told (Short ∷ replies) = []
 
--- From the old entries to the new ones a caller has made these requests in its next calls, each once and in their order, and no others. A list
+-- From the old entries to the new ones a caller has made these requests in its next calls, each once and in their order, and no others: its calls since end where the replies tell. A list
 -- that was of so many sectors at first gives the replies.
 pub record HasRunLane (size : ℕ) (old new : List Entry) (caller : ℕ) (requests : List Request) (replies : List Reply) : Type 0 where
   pub replied : AreCallersReplies size new caller (next_number caller old) requests replies
-  pub calls : next_number caller new ≡ next_number caller old + calls_told replies
+  pub places : places_told replies ≡ reply_places caller (length old) (drop (length old) new)
+  pub calls : next_number caller new ≡ next_number caller old + length (places_told replies)
 
 -- the callers of a block: its two lanes and its worker
 abbrev pub IsOfBlock : ℕ → Type 0

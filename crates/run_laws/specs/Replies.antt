@@ -1,5 +1,5 @@
 -- The replies to the lines of a script, over the histories of its arrays.
-use Rattle.std.specs.Prelude.{◌≡◌, ℕ, ◌+◌, ◌*◌, ◌≤◌, Bool, true, false, if◌then◌else◌, nat_lt, List, [], ◌∷◌, length, drop, take, slice_get, Option, Some, None, MatchOption, IfSome, IsTrue, IsFalse, ⊤}
+use Rattle.std.specs.Prelude.{◌≡◌, ◌⊎◌, ℕ, ◌+◌, ◌*◌, ◌^◌, ◌≤◌, Bool, true, false, if◌then◌else◌, nat_lt, List, [], ◌∷◌, length, drop, take, slice_get, Option, Some, None, MatchOption, IfSome, IsTrue, IsFalse, ⊤}
 use Rattle.std.specs.Option.{option_map_or}
 use Rattle.md_base.specs.declared.answers.Refusal.{Refusal}
 use Rattle.md_base.specs.declared.answers.Refusal.TheVariants.{Running, NotRunning}
@@ -12,7 +12,7 @@ use Rattle.flat_history.specs.declared.events.Entry.{Entry}
 use Rattle.flat_history.specs.declared.events.Event.{Event}
 use Rattle.flat_history.specs.declared.events.Event.TheVariants.{Stepped}
 use Rattle.flat_history.specs.declared.events.Request.TheVariants.{Read as AsksRead, Write as AsksWrite, Flush as AsksFlush, Fail as AsksFail, Add as AsksAdd, Visible as AsksVisible, Grow as AsksGrow, Steps as AsksSteps}
-use Rattle.flat_history.specs.Flat.{rest_of_call, length_of}
+use Rattle.flat_history.specs.Flat.{rest_of_call, number_after, length_of}
 use Rattle.flat_history.specs.Fits.{FitsStop, FitsHalt}
 use Rattle.openings.specs.running_replies_Replies.{RunningFits}
 use Rattle.flat_history.specs.World.{opening_list}
@@ -25,12 +25,14 @@ use Rattle.openings.specs.assemble_Running.{OpensWithZeros}
 use Rattle.script.specs.declared.lines.Line.{Line}
 use Rattle.script.specs.declared.lines.Line.TheVariants.{Create, Read, Write, Flush, Fail, Add, ArraySize, Grow, Step, Wait, Stop, Halt, Detail, Mdstat, Examine, Assemble}
 use Rattle.script.specs.declared.lines.Numbered.{Numbered}
-use Rattle.script.specs.declared.reply.Lane.TheVariants.{Script as InScript}
+use Rattle.script.specs.declared.reply.Lane.{Lane}
+use Rattle.script.specs.declared.reply.Lane.TheVariants.{Script as InScript, Worker}
 use Rattle.script.specs.Seeds.{seeded}
 use Rattle.run_laws.specs.declared.report.Outside.TheVariants.{Created, Assembled, Examined, Refused}
 use Rattle.run_laws.specs.declared.report.Answered.{Answered}
 use Rattle.run_laws.specs.declared.report.Answered.TheVariants.{Inside, Outside as IsOutside}
 use Rattle.run_laws.specs.declared.report.LineReply.{LineReply}
+use Rattle.run_laws.specs.Blocks.{caller_of, request_of, IsCallersReply}
 use Rattle.run_laws.specs.Histories.{History, entry_at, is_end}
 use Rattle.run_laws.specs.Showing.{IsShown}
 use Rattle.run_laws.specs.Caused.{IsCausedAt}
@@ -61,22 +63,28 @@ FitsLine size before e Mdstat = IsShown size before e.event
 FitsLine size before e (Examine slot) = ⊥
 FitsLine size before e (Assemble uuid) = ⊥
 
--- where a run stands between two lines: how many arrays were opened, whether the last one runs, and while it does, how many
--- calls the script has made on it, and the sectors that its list has now
+-- where a run stands between two lines: how many arrays were opened, whether the last one runs, and while it does, the next number of each of its callers, the sectors that its list has now, and,
+-- within a block, where these are those of before it, the entries up to the latest of the block's replies so far
 pub record Course : Type 0 where
   pub opened : ℕ
   pub running : Bool
-  pub calls : ℕ
+  pub calls : Lane → ℕ
   pub size : ℕ
+  pub block : List Entry
+
+-- the script's next number, beside those of the others
+abbrev pub with_script : ℕ → (Lane → ℕ) → Lane → ℕ
+with_script n calls InScript = n
+with_script n calls lane = calls lane
 
 abbrev pub at_rest : ℕ → Course
-at_rest opened = record { opened = opened; running = false; calls = 0; size = 0 }
+at_rest opened = record { opened = opened; running = false; calls = λ lane. 0; size = 0; block = [] }
 
 abbrev pub begun : ℕ → ℕ → ℕ → Course
-begun opened calls size = record { opened = opened + 1; running = true; calls = calls; size = size }
+begun opened calls size = record { opened = opened + 1; running = true; calls = with_script calls (λ lane. 0); size = size; block = [] }
 
-abbrev pub gone_on : ℕ → ℕ → Course → Course
-gone_on calls size course = record { opened = course.opened; running = course.running; calls = calls; size = size }
+abbrev pub gone_on : (Lane → ℕ) → ℕ → Course → Course
+gone_on calls size course = record { opened = course.opened; running = course.running; calls = calls; size = size; block = [] }
 
 -- the sectors of the list that a line makes
 abbrev pub size_made : Line → ℕ
@@ -97,27 +105,38 @@ size_made Mdstat = 0
 size_made (Examine slot) = 0
 size_made (Assemble uuid) = 0
 
--- where it stands behind an entry that answers a line, which is the last of these: its call is the last, and may have ended the array, and what is entered may have changed the
--- length of its list
-abbrev pub course_behind : Course → List Entry → Entry → Course
-course_behind course entries e = if is_end e.event then at_rest course.opened else gone_on (e.number + 1) (length_of course.size entries) course
+-- the next numbers behind an entry
+abbrev pub calls_behind : (Lane → ℕ) → Entry → Lane → ℕ
+calls_behind calls e lane = number_after (caller_of lane) (calls lane) e
+
+-- the longer of two beginnings of a history
+abbrev pub longer_of : List Entry → List Entry → List Entry
+longer_of first second = if nat_lt (length first) (length second) then second else first
+
+-- Where it stands behind an entry that answers a line, which is the last of these. The entry of a line of its own is the last of all: its call may have ended the array, and what is entered may have changed the
+-- length of its list. In a block an entry that is shown later may have been made earlier: how long the list is behind the block is told by the entries up to the latest of all its replies.
+abbrev pub course_behind : Lane → Course → List Entry → Entry → Course
+course_behind InScript course entries e = if is_end e.event then at_rest course.opened else gone_on (calls_behind course.calls e) (length_of course.size entries) course
+course_behind Worker course entries e = gone_on (calls_behind course.calls e) (length_of course.size (longer_of course.block entries)) course
+course_behind lane course entries e =
+    record { opened = course.opened; running = course.running; calls = calls_behind course.calls e; size = course.size; block = longer_of course.block entries }
 
 -- the entries of a history up to this place
 abbrev pub entries_to : List History → ℕ → ℕ → List Entry
 entries_to histories epoch at = option_map_or (λ h. take (at + 1) h.entries) (slice_get histories epoch) []
 
 -- where it stands after an answer to a line, and after several; an array that was found was asked for its status
-abbrev pub course_after : List History → Course → Line → Answered → Course
-course_after histories course line (Inside epoch at) = option_map_or (course_behind course (entries_to histories epoch at)) (entry_at histories epoch at) course
-course_after histories course line (IsOutside Created) = begun course.opened 0 (size_made line)
-course_after histories course line (IsOutside (Assembled epoch status)) = begun course.opened 1 status.length
-course_after histories course line (IsOutside (Examined slot found)) = course
-course_after histories course line (IsOutside (Refused refusal)) = course
+abbrev pub course_after : List History → Course → Lane → Line → Answered → Course
+course_after histories course lane line (Inside epoch at) = option_map_or (course_behind lane course (entries_to histories epoch at)) (entry_at histories epoch at) course
+course_after histories course lane line (IsOutside Created) = begun course.opened 0 (size_made line)
+course_after histories course lane line (IsOutside (Assembled epoch status)) = begun course.opened 1 status.length
+course_after histories course lane line (IsOutside (Examined slot found)) = course
+course_after histories course lane line (IsOutside (Refused refusal)) = course
 
 abbrev pub course_of : List History → Course → List Numbered → List LineReply → Course
 course_of histories course [] replies = course
 course_of histories course (line ∷ lines) [] = course
-course_of histories course (line ∷ lines) (reply ∷ replies) = course_of histories (course_after histories course line.line reply.what) lines replies
+course_of histories course (line ∷ lines) (reply ∷ replies) = course_of histories (course_after histories course line.lane line.line reply.what) lines replies
 
 -- The entry at a place is the last of the script's call of this number, and its reply to the line.
 pub record IsReplyAt (size : ℕ) (entries : List Entry) (place number : ℕ) (line : Line) : Type 0 where
@@ -158,7 +177,7 @@ pub record IsAnsweredInside (given : Given) (backup : Option ℕ) (histories : L
   pub latest : epoch + 1 ≡ course.opened
   pub history : History
   pub there : slice_get histories epoch ≡ Some history
-  pub replied : IsRepliedAt course.size history.entries place course.calls line
+  pub replied : IsRepliedAt course.size history.entries place (course.calls InScript) line
   pub tellable : IsTellable history.entries place
   pub caused : IsCausedAt given backup course.size line history.entries place
 
@@ -273,18 +292,71 @@ IsAnswer setting histories course line end (IsOutside (Assembled epoch status)) 
 IsAnswer setting histories course line end (IsOutside (Examined slot found)) = IsExaminedBy setting end line slot found
 IsAnswer setting histories course line end (IsOutside (Refused refusal)) = IsRefusedOutside setting course.running end line refusal
 
+-- ---- a line of a block
+
+-- The worker's calls from this number on have their replies at these places: each is to a request for some steps, and those before the last leave more to do.
+abbrev pub IsWorkedAt : ℕ → List Entry → List ℕ → ℕ → ℕ → Type 0
+IsWorkedAt size entries [] place number = (most : ℕ) × IsCallersReply size entries (caller_of Worker) number place (AsksSteps most)
+IsWorkedAt size entries (first ∷ others) place number =
+    ((most : ℕ) × IsCallersReply size entries (caller_of Worker) number first (AsksSteps most)) × IsTrue (leaves_more_at entries first) × IsWorkedAt size entries others place (number + 1)
+
+-- after so many turns a worker ends, whatever is left
+abbrev pub most_turns : ℕ
+most_turns = 2 ^ 40
+
+-- The worker is answered by the last of its calls, which leaves nothing to do, or was refused, or is the last turn that it may have.
+pub record IsWorked (size : ℕ) (entries : List Entry) (place number : ℕ) : Type 0 where
+  pub earlier : List ℕ
+  pub worked : IsWorkedAt size entries earlier place number
+  pub ended : IsFalse (leaves_more_at entries place) ⊎ (length earlier + 1 ≡ most_turns)
+
+-- the entry at a place replies to a line of a block, in its caller's call of this number
+abbrev pub IsRepliedBeside : Lane → ℕ → List Entry → ℕ → ℕ → Line → Type 0
+IsRepliedBeside Worker size entries place number line = IsWorked size entries place number
+IsRepliedBeside lane size entries place number line = IsCallersReply size entries (caller_of lane) number place (request_of line)
+
+-- A line of a block is answered by an entry of the array that runs, in its caller's next call, by the list as it was before the block and the entries since.
+pub record IsAnsweredBeside (histories : List History) (course : Course) (epoch place : ℕ) (lane : Lane) (line : Line) : Type 0 where
+  pub running : IsTrue course.running
+  pub latest : epoch + 1 ≡ course.opened
+  pub history : History
+  pub there : slice_get histories epoch ≡ Some history
+  pub replied : IsRepliedBeside lane course.size history.entries place (course.calls lane) line
+
+-- or it is refused where no array runs
+abbrev pub IsAnswerBeside : List History → Course → Lane → Line → Answered → Type 0
+IsAnswerBeside histories course lane line (Inside epoch at) = IsAnsweredBeside histories course epoch at lane line
+IsAnswerBeside histories course lane line (IsOutside (Refused refusal)) = IsFalse course.running × (refusal ≡ NotRunning)
+IsAnswerBeside histories course lane line what = ⊥
+
+-- an answer to a line, by its lane
+abbrev pub IsAnswerIn : Setting → List History → Course → Lane → Line → ℕ → Answered → Type 0
+IsAnswerIn setting histories course InScript line end what = IsAnswer setting histories course line end what
+IsAnswerIn setting histories course lane line end what = IsAnswerBeside histories course lane line what
+
+-- ---- replies
+
 -- a reply that an entry gives was made when the entry ended
 abbrev pub IsEnd : List History → LineReply → Answered → Type 0
 IsEnd histories reply (Inside epoch at) = MatchOption (entry_at histories epoch at) ⊥ (λ entry. reply.end ≡ entry.end)
 IsEnd histories reply (IsOutside outside) = ⊤
 
--- the reply to a line of the script
+-- The mark that the run has reached where a reply is shown. An entry of a block tells none, since it may have been made before one that was shown earlier.
+abbrev pub mark_reached : ℕ → Lane → Answered → ℕ → ℕ
+mark_reached low InScript what end = end
+mark_reached low lane (Inside epoch at) end = low
+mark_reached low lane (IsOutside outside) end = end
+
+abbrev pub mark_shown : ℕ → LineReply → ℕ
+mark_shown low reply = mark_reached low reply.lane reply.what reply.end
+
+-- the reply to a line of the script, or of one of its blocks
 pub record IsReplyTo (setting : Setting) (histories : List History) (course : Course) (numbered : Numbered) (reply : LineReply) : Type 0 where
   pub line : reply.line ≡ numbered.number
-  pub lane : reply.lane ≡ InScript
+  pub lane : reply.lane ≡ numbered.lane
   pub end : IsEnd histories reply reply.what
-  pub within : setting.tells → reply.end ≤ length setting.tape
-  pub answer : IsAnswer setting histories course numbered.line reply.end reply.what
+  pub within : setting.tells → mark_shown 0 reply ≤ length setting.tape
+  pub answer : IsAnswerIn setting histories course numbered.lane numbered.line reply.end reply.what
 
 -- the replies answer the lines, one after another
 abbrev pub AreReplies : Setting → List History → Course → List Numbered → List LineReply → Type 0
@@ -292,9 +364,9 @@ AreReplies setting histories course [] [] = ⊤
 AreReplies setting histories course [] (reply ∷ replies) = ⊥
 AreReplies setting histories course (line ∷ lines) [] = ⊥
 AreReplies setting histories course (line ∷ lines) (reply ∷ replies) =
-    IsReplyTo setting histories course line reply × AreReplies setting histories (course_after histories course line.line reply.what) lines replies
+    IsReplyTo setting histories course line reply × AreReplies setting histories (course_after histories course line.lane line.line reply.what) lines replies
 
--- each reply was made at the mark of the one before it or later, the first at `low` or later, and the last at `high` or before
+-- Each reply was made at the mark of the one before it or later, the first at `low` or later, and the last at `high` or before. The entries of a block were made at the mark of what was shown before the block or later.
 abbrev pub AreInOrder : ℕ → ℕ → List LineReply → Type 0
 AreInOrder low high [] = low ≤ high
-AreInOrder low high (reply ∷ replies) = (low ≤ reply.end) × AreInOrder reply.end high replies
+AreInOrder low high (reply ∷ replies) = (low ≤ reply.end) × AreInOrder (mark_shown low reply) high replies

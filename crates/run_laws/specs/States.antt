@@ -18,14 +18,16 @@ use Rattle.openings.specs.running_words_Parts.{RunningParts}
 use Rattle.openings.specs.running_replies_Replies.{IsRefusalBy}
 use Rattle.script.specs.declared.lines.Line.{Line}
 use Rattle.script.specs.declared.lines.Line.TheVariants.{Step, Wait}
+use Rattle.script.specs.declared.lines.Numbered.{Numbered}
+use Rattle.script.specs.declared.reply.Lane.TheVariants.{Script as InScript}
 use Rattle.run_laws.specs.declared.report.Answered.{Answered}
 use Rattle.run_laws.specs.declared.report.Answered.TheVariants.{Inside, Outside}
 use Rattle.run_laws.specs.declared.states.State.{State}
 use Rattle.run_laws.specs.declared.states.State.TheVariants.{Idle, Running}
-use Rattle.run_laws.specs.Blocks.{IsOfBlock}
+use Rattle.run_laws.specs.Blocks.{caller_of, IsOfBlock}
 use Rattle.run_laws.specs.Histories.{History, histories_of, entry_at, AreGoing, EndsOnce}
 use Rattle.run_laws.specs.Making.{Setting, history_world, MayHaveHeld, MissingAtFirst}
-use Rattle.run_laws.specs.Replies.{Course, at_rest, gone_on, course_after, steps_at_once, leaves_more_at, IsReplyAt, IsAnswer}
+use Rattle.run_laws.specs.Replies.{Course, with_script, at_rest, gone_on, course_after, steps_at_once, leaves_more_at, IsReplyAt, IsAnswer, IsAnswerBeside}
 use Rattle.running_calls.specs.Turning.{IsTurningTold}
 
 -- the history of an array that runs
@@ -48,7 +50,7 @@ entries_in (Running array epochs) = array.parts.entries
 
 -- where a run stands while an array runs, behind so many others
 abbrev pub course_with : {B : Type 0} → ℕ → RunningParts B → Course
-course_with before array = record { opened = before + 1; running = true; calls = next_number 0 array.parts.entries; size = list_length array.parts.members.newest }
+course_with before array = record { opened = before + 1; running = true; calls = λ lane. next_number (caller_of lane) array.parts.entries; size = list_length array.parts.members.newest; block = [] }
 
 -- where the run stands
 abbrev pub course_in : {B : Type 0} → State B → Course
@@ -181,10 +183,10 @@ pub record IsWaitCut (histories : List History) (old new : Course) : Type 0 wher
   pub there : slice_get histories place ≡ Some history
   pub earlier : List ℕ
   pub next : ℕ
-  pub waiting : IsWaitingAt old.size history.entries earlier old.calls next
+  pub waiting : IsWaitingAt old.size history.entries earlier (old.calls InScript) next
   pub upto : ℕ
   pub within : upto ≤ length history.entries
-  pub now : new ≡ gone_on next (length_of old.size (take upto history.entries)) old
+  pub now : new ≡ gone_on (with_script next old.calls) (length_of old.size (take upto history.entries)) old
 
 -- a line that was cut short is a wait
 abbrev pub IsCutShort : List History → Course → Line → Course → Type 0
@@ -207,7 +209,7 @@ pub record IsTurn {B : Type 0} (setting : Setting) (old new : State B) (line : L
   pub grown : AreGrown (histories_in old) (histories_in new)
   pub ends : setting.tells → EndsBetween setting.began (length setting.tape) (histories_in new) what
   pub answer : IsAnswer setting (histories_in new) (course_in old) line (length setting.tape) what
-  pub course : course_in new ≡ course_after (histories_in new) (course_in old) line what
+  pub course : course_in new ≡ course_after (histories_in new) (course_in old) InScript line what
 
 -- memory was short: nothing was entered, but for the calls of a wait before the one that it was short for
 pub record IsNoTurn {B : Type 0} (setting : Setting) (old new : State B) (line : Line) : Type 0 where
@@ -220,13 +222,47 @@ abbrev pub IsTurnOrNone : {B : Type 0} → Setting → State B → State B → L
 IsTurnOrNone setting old new line (Ok what) = IsTurn setting old new line what
 IsTurnOrNone setting old new line (Err fault) = IsNoTurn setting old new line
 
--- A block was run, or cut short where memory was short: what was entered is the script's still, each loss and refusal has its cause, and the run stands
--- where it stood, but that its list may have another length.
+-- ---- a block
+
+-- the same array runs, or none does, and the script has called nothing
+pub record IsBeside (old new : Course) : Type 0 where
+  pub opened : new.opened ≡ old.opened
+  pub running : new.running ≡ old.running
+  pub script : new.calls InScript ≡ old.calls InScript
+
+-- A block was run, or cut short where memory was short: what was entered is the script's still, each loss and refusal has its cause, and for the script the
+-- run stands where it stood.
 pub record IsBlockTurn {B : Type 0} (setting : Setting) (old new : State B) : Type 0 where
   pub own : RunsOwn new
   pub losses : AreLossesFrom setting (histories_in old) (histories_in new)
   pub grown : AreGrown (histories_in old) (histories_in new)
-  pub course : course_in new ≡ gone_on (course_in old).calls (course_in new).size (course_in old)
+  pub course : IsBeside (course_in old) (course_in new)
+
+-- the answers to the first lines of a block, each where the run stands behind those before it
+abbrev pub AreAnswersBeside : List History → Course → List Numbered → List Answered → Type 0
+AreAnswersBeside histories course lines [] = ⊤
+AreAnswersBeside histories course [] (what ∷ whats) = ⊥
+AreAnswersBeside histories course (line ∷ lines) (what ∷ whats) =
+    IsAnswerBeside histories course line.lane line.line what × AreAnswersBeside histories (course_after histories course line.lane line.line what) lines whats
+
+-- where it stands behind them
+abbrev pub course_beside : List History → Course → List Numbered → List Answered → Course
+course_beside histories course lines [] = course
+course_beside histories course [] (what ∷ whats) = course
+course_beside histories course (line ∷ lines) (what ∷ whats) = course_beside histories (course_after histories course line.lane line.line what) lines whats
+
+-- the entry that an answer names, if it names one, was made at this mark or later
+abbrev pub EndsFrom : ℕ → List History → Answered → Type 0
+EndsFrom low histories (Inside epoch at) = MatchOption (entry_at histories epoch at) ⊥ (λ e. low ≤ e.end)
+EndsFrom low histories (Outside outside) = ⊤
+
+-- The lines of a block were answered, or the first of them, up to one for which memory was short. Behind all of them the run stands where the answers tell.
+pub record IsBlockAnswered {B : Type 0} (setting : Setting) (old new : State B) (lines : List Numbered) (whats : List Answered) : Type 0 where
+  pub turn : IsBlockTurn setting old new
+  pub few : length whats ≤ length lines
+  pub answers : AreAnswersBeside (histories_in new) (course_in old) lines whats
+  pub ends : setting.tells → All (EndsFrom setting.began (histories_in new)) whats
+  pub course : length whats ≡ length lines → course_in new ≡ course_beside (histories_in new) (course_in old) lines whats
 
 -- the answer by the entry at this place
 abbrev pub answer_at : ℕ → Result ℕ NoMemory → Result Answered NoMemory

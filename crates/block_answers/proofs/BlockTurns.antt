@@ -169,5 +169,5 @@ module _ {B tells : Type 0} (given : B → Given) (tape : B → List Operation) 
       };
       losses = losses-last setting (histories_of epochs.items) (running_history old.parts) (running_history new.parts) lost;
       grown = grown_last (histories_of epochs.items) (running_history old.parts) (running_history new.parts) grown;
-      course = ap (λ (n : ℕ). record { opened = length epochs.items + 1; running = true; calls = n; size = list_length new.parts.members.newest }) calls;
+      course = record { opened = refl; running = refl; script = calls };
     }

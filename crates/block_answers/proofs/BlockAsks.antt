@@ -2,6 +2,7 @@
 use Rattle.std.proofs.Common.{◌≡◌, ◌≢◌, inl, inr, ℕ, ◌+◌, ◌<◌, ◌≤◌, ◌==◌, ◌^◌, Bool, true, false, Option, Some, None, List, [], ◌∷◌, length, map, take, drop, slice_get, MatchOption, refl, sym, ◌∙◌, ap, subst, arith, append-nil}
 use Rattle.std.proofs.Math.Seq.{drop-append_seam}
 use Rattle.std.proofs.lemmas.Bool.Decides.{nat_tests}
+use Rattle.std.proofs.lemmas.List.{length-map}
 use Rattle.std.proofs.lemmas.List.Elements.{All-nil, All-cons, All-head, All-tail, All-weaker}
 use Rattle.std.specs.Prelude.{IsFalse, ⊤, nat_le, nat_lt, ◌&&◌}
 use Rattle.std.specs.List.{All, AllPass}
@@ -31,7 +32,7 @@ use Rattle.run_laws.specs.running_calls_the_Reply.{Reply}
 use Rattle.run_laws.specs.running_calls_the_Reply_TheVariants.{Done, NoMemory as Short}
 use Rattle.run_laws.specs.running_replies_Replies.{RunningFits}
 use Rattle.run_laws.specs.running_words_Parts.{RunningParts}
-use Rattle.run_laws.specs.Blocks.{is_allowed, is_in_lane, request_of, requests_in, IsCallersReply, AreCallersReplies, calls_told, HasRunLane, IsOfBlock, IsBlockEntered}
+use Rattle.run_laws.specs.Blocks.{is_allowed, is_in_lane, request_of, requests_in, IsCallersReply, AreCallersReplies, places_told, HasRunLane, IsOfBlock, IsBlockEntered}
 use Rattle.run_laws.specs.Histories.{is_end}
 
 -- ---- what a lane asks
@@ -108,17 +109,19 @@ fits-plain size before e (AsksSteps most) plain fits = fits
 
 one-reply : (size : ℕ) (entries : List Entry) (caller number place : ℕ) (request : Request) (event : Event) → IsPlain request → (found : Option Entry) → slice_get entries place ≡ found
     → MatchOption found ⊥ (λ e. (e.caller ≡ caller) × (e.event ≡ event)) → MatchOption found ⊥ (λ e. IsReplyTo size (take place entries) e request)
-    → MatchOption found ⊥ (λ e. IsLastOf caller number (drop (place + 1) entries) e) → IsCallersReply size entries caller number place request event
+    → MatchOption found ⊥ (λ e. IsLastOf caller number (drop (place + 1) entries) e) → (reply : IsCallersReply size entries caller number place request) × (reply.entry.event ≡ event)
 one-reply size entries caller number place request event plain None is told fits last = absurd told
-one-reply size entries caller number place request event plain (Some e) is told fits last = record {
-  entry = e;
-  there = is;
-  callers = last.0;
-  numbered = last.1;
-  last = last.2;
-  told = told.1;
-  fits = fits-plain size (take place entries) e request plain fits;
-}
+one-reply size entries caller number place request event plain (Some e) is told fits last = (
+  record {
+    entry = e;
+    there = is;
+    callers = last.0;
+    numbered = last.1;
+    last = last.2;
+    fits = fits-plain size (take place entries) e request plain fits;
+  },
+  told.1,
+)
 
 replies : (size : ℕ) (entries : List Entry) (caller number : ℕ) (requests : List Request) (replies : List Reply) → All IsPlain requests → AreOneEach requests replies → All (StandsIn caller entries) replies
     → AreReplied size entries (done_of requests replies) → AreNumbered caller number entries (done_of requests replies) → AreCallersReplies size entries caller number requests replies
@@ -132,17 +135,21 @@ replies size entries caller number (q ∷ qs) (Done place event ∷ rs) plain ea
 replies size entries caller number (q ∷ qs) (Short ∷ []) plain each told fits last = tt
 replies size entries caller number (q ∷ qs) (Short ∷ r ∷ rs) plain each told fits last = absurd each
 
-counts : (requests : List Request) (replies : List Reply) → AreOneEach requests replies → length (done_of requests replies) ≡ calls_told replies
-counts [] [] each = refl
-counts [] (r ∷ rs) each = absurd each
-counts (q ∷ qs) [] each = absurd each
-counts (q ∷ qs) (Done place event ∷ rs) each = let more = counts qs rs each in omega (arith, more)
-counts (q ∷ qs) (Short ∷ []) each = none qs
+-- where they stand
+abbrev place_of : Request × ℕ → ℕ
+place_of request = request.1
+
+places : (requests : List Request) (replies : List Reply) → AreOneEach requests replies → map place_of (done_of requests replies) ≡ places_told replies
+places [] [] each = refl
+places [] (r ∷ rs) each = absurd each
+places (q ∷ qs) [] each = absurd each
+places (q ∷ qs) (Done place event ∷ rs) each = ap (λ (l : List ℕ). place ∷ l) (places qs rs each)
+places (q ∷ qs) (Short ∷ []) each = none qs
   where
-    none : (requests : List Request) → length (done_of requests []) ≡ 0
+    none : (requests : List Request) → map place_of (done_of requests []) ≡ []
     none [] = refl
     none (q ∷ qs) = refl
-counts (q ∷ qs) (Short ∷ r ∷ rs) each = absurd each
+places (q ∷ qs) (Short ∷ r ∷ rs) each = absurd each
 
 module _ {B : Type 0} (start now : RunningParts B) (few : length now.parts.entries ≤ 2 ^ 61) (caller : ℕ) where
   lane : (requests : List Request) (rs : List Reply) → All IsPlain requests → HasRun start now caller requests rs → HasRunLane (sectors_of start) start.parts.entries now.parts.entries caller requests rs
@@ -150,7 +157,9 @@ module _ {B : Type 0} (start now : RunningParts B) (few : length now.parts.entri
       let called = ran.made few in
       record {
         replied = replies (sectors_of start) now.parts.entries caller (next_number caller start.parts.entries) requests rs plain ran.each ran.told ran.fits called.numbers;
-        calls = called.next ∙ ap (λ (n : ℕ). next_number caller start.parts.entries + n) (counts requests rs ran.each);
+        places = sym (places requests rs ran.each) ∙ called.places;
+        calls = called.next
+            ∙ ap (λ (n : ℕ). next_number caller start.parts.entries + n) (sym (length-map (done_of requests rs) place_of) ∙ ap (λ (l : List ℕ). length l) (places requests rs ran.each));
       }
 
   pub lane-run : (lines : List Numbered) (requests : List Request) (rs : List Reply) → requests ≡ requests_in lines → HasRun start now caller requests rs

@@ -1,0 +1,3 @@
+mod BlockAnswers
+mod BlockAsks
+mod BlockTurns
