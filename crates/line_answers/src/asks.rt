@@ -24,8 +24,7 @@ ghost use Rattle.script.specs.declared.lines.Line.TheVariants.{Read as ReadLine,
 use bank::Bank;
 use flat_history::Event;
 use md_base::{Fault, NoMemory, Who, Wish};
-use run_laws::running::Running;
-use run_laws::running_steps::steps;
+use run_laws::{Running, steps};
 use script::seed_sectors;
 use std::alloc::Global;
 

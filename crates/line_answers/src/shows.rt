@@ -19,7 +19,7 @@ ghost use Rattle.script.specs.declared.lines.Line.TheVariants.{Detail as DetailL
 use crate::asks::{last_place, script_call};
 use bank::Bank;
 use md_base::NoMemory;
-use run_laws::running::Running;
+use run_laws::Running;
 
 /// Asks what the array tells of itself. Ok is the place of the reply entry. It makes no device call.
 pub fn ask_show<B: Bank>(array: &mut Running<B>) -> Result<u64, NoMemory>
