@@ -64,7 +64,7 @@ refusal_more histories (l ∷ lines) (r ∷ replies) nothing line reply lt here 
     or_assoc false b c = refl
 
 -- several replies more
-or_and_or : (a b c : Bool) → (a || (b || c)) ≡ ((a || b) || c)
+pub or_and_or : (a b c : Bool) → (a || (b || c)) ≡ ((a || b) || c)
 or_and_or true b c = refl
 or_and_or false b c = refl
 

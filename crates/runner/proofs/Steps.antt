@@ -149,7 +149,7 @@ module _ {B bank_tells : Type 0} {given : Given} {backup : Option ℕ} {first_ta
 
       course_new : course_in new.state ≡ course_of (histories_in new.state) (at_rest 0) (take (length new.replies.items) lines) new.replies.items
       course_new = is.replied.turn.course ∙ ap (λ (c : Course). course_after (histories_in new.state) c InScript numbered.line is.made.reply.what) (course_still is.replied.turn.grown)
-            ∙ ap (λ (l : Lane). course_after (histories_in new.state) (told_before (histories_in new.state)) l numbered.line is.made.reply.what) (sym script)
+          ∙ ap (λ (l : Lane). course_after (histories_in new.state) (told_before (histories_in new.state)) l numbered.line is.made.reply.what) (sym script)
           ∙ sym (course_more (histories_in new.state) (at_rest 0) lines_before old.replies.items numbered is.made.reply (length-take-le (length old.replies.items) lines (omega (arith, lt))))
           ∙ ap (λ (ls : List Numbered). course_of (histories_in new.state) (at_rest 0) ls (old.replies.items ++ is.made.reply ∷ [])) (sym lines_taken)
           ∙ ap (λ (rs : List LineReply). course_of (histories_in new.state) (at_rest 0) (take (length new.replies.items) lines) rs) (sym is.more)
@@ -203,7 +203,7 @@ module _ {B bank_tells : Type 0} {given : Given} {backup : Option ℕ} {first_ta
         by_course (inl is) = inl (is ∙ course_still none.grown)
         by_course (inr next) = inr (subst (λ (ls : List Numbered). IsCourseBehind (histories_in new.state) ls (told_before (histories_in new.state)) (course_in new.state)) (sym first_behind)
             (subst (λ (c : Course). IsCutIn numbered.lane (histories_in new.state) c numbered.line (course_in new.state)) (course_still none.grown)
-              (subst (λ (l : Lane). IsCutIn l (histories_in new.state) (course_in old.state) numbered.line (course_in new.state)) (sym script) next)))
+            (subst (λ (l : Lane). IsCutIn l (histories_in new.state) (course_in old.state) numbered.line (course_in new.state)) (sym script) next)))
 
     module _ {tells : Type 0} {first before : List ℕ} {first_faults before_faults : ℕ} (after : List ℕ) (after_faults : ℕ) (shown : IsShownTo tells lines old first before first_faults before_faults) where
       taken_before : tells → before ≡ first ++ report_text (histories_in old.state) lines old.replies.items

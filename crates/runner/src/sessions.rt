@@ -19,8 +19,8 @@ ghost use Rattle.script.specs.declared.reply.Lane.TheVariants.{Script as InScrip
 
 use crate::blocks::{block_length, perform_block};
 use bank::Bank;
-use flat_history::Event;
 use block_answers::lane_blocks::lanes::Pace;
+use flat_history::Event;
 use line_answers::run_laws::{Answered, LineReply, Outside, State};
 use line_answers::{answer, entry_of};
 use md_base::{NoMemory, Refusal};
@@ -92,12 +92,7 @@ fn push_wait(text: &mut Vec<u8>, lane: Lane, event: &Event) -> Result<(), AllocE
 }
 
 // Appends the text of an entry that answers a line.
-fn push_entry(
-    text: &mut Vec<u8>,
-    lane: Lane,
-    line: Line,
-    event: &Event,
-) -> Result<(), AllocError>
+fn push_entry(text: &mut Vec<u8>, lane: Lane, line: Line, event: &Event) -> Result<(), AllocError>
     requires { IsShort event.now }
     ensures appended { Appends text.old text.new result (entry_text lane line event.now) }
     ensures short { AppendsFew longest_answer text.old text.new result }
@@ -211,12 +206,7 @@ fn push_reply<B: Bank>(
 }
 
 // Puts the text of a reply in place of what the buffer held, which has room for every reply.
-pub(crate) fn put_text<B: Bank>(
-    text: &mut Vec<u8>,
-    state: &State<B>,
-    line: Line,
-    reply: &LineReply,
-)
+pub(crate) fn put_text<B: Bank>(text: &mut Vec<u8>, state: &State<B>, line: Line, reply: &LineReply)
     requires named { IsNamed (histories_in state.now) reply.now.what }
     requires short { IsAnswerShort (histories_in state.now) reply.now.what }
     requires room { longest_reply ≤ vec_capacity text.old }
