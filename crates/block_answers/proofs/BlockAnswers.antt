@@ -216,13 +216,16 @@ module _ (size : ℕ) (entries : List Entry) where
       → (earlier : List ℕ) × IsWorkedAt size entries earlier at number × (places_told (map replied (before ++ (most, Done at event) ∷ [])) ≡ earlier ++ at ∷ []) × (length earlier ≡ length before) × (leaves_more_at entries at ≡ leaves_more event)
   worked-at answers turn left number [] most at event ((reply, told), done) turns = ([], (most, reply), refl, refl, leaves-at reply told)
   worked-at answers turn left number ((m, Short) ∷ before) most at event was turns = absurd (not-empty before (most, Done at event) turns.1)
-  worked-at answers turn left number ((m, Done p ev) ∷ before) most at event ((reply, told), rest) turns = by (left_behind (Done p ev)) refl turns.1
+  worked-at answers turn left number ((m, Done p ev) ∷ before) most at event ((reply, told), rest) turns =
+      by (left_behind (Done p ev)) refl turns.1 (λ more next. worked-at answers (turn + 1) more (number + 1) before most at event rest next)
     where
       by : (o : Option ℕ) → left_behind (Done p ev) ≡ o → MatchOption o (before ++ (most, Done at event) ∷ [] ≡ []) (λ more. AreTurns answers (turn + 1) more (before ++ (most, Done at event) ∷ []))
+          → ((more : ℕ) → AreTurns answers (turn + 1) more (before ++ (most, Done at event) ∷ []) → (earlier : List ℕ) × IsWorkedAt size entries earlier at (number + 1)
+          × (places_told (map replied (before ++ (most, Done at event) ∷ [])) ≡ earlier ++ at ∷ []) × (length earlier ≡ length before) × (leaves_more_at entries at ≡ leaves_more event))
           → (earlier : List ℕ) × IsWorkedAt size entries earlier at number × (places_told (map replied ((m, Done p ev) ∷ before ++ (most, Done at event) ∷ [])) ≡ earlier ++ at ∷ []) × (length earlier ≡ length ((m, Done p ev) ∷ before)) × (leaves_more_at entries at ≡ leaves_more event)
-      by None is none = absurd (not-empty before (most, Done at event) none)
-      by (Some more) is turns =
-          let now = worked-at answers (turn + 1) more (number + 1) before most at event rest turns in
+      by None is none again = absurd (not-empty before (most, Done at event) none)
+      by (Some more) is turns again =
+          let now = again more turns in
           let count = now.3 in (
             p ∷ now.0,
             ((m, reply), leaves-at reply told ∙ leaves-told p ev more is, now.1),

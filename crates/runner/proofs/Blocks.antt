@@ -103,27 +103,30 @@ tail-worker line lines lane turns =
       within = omega (arith, one);
     }
 
+-- a line of lane b before the others
+one-second : (line : Numbered) (lines : List Numbered) → line.lane ≡ InB → IsTail lines → IsTail (line ∷ lines)
+one-second line lines lane rest =
+    let one : block_length (line ∷ lines) ≡ suc (block_length lines) = ap (λ (l : Lane). if is_of_worker l then 1 else block_length lines + 1) lane ∙ (let s : block_length lines + 1 ≡ suc (block_length lines) = omega arith in s) in
+    let within = rest.within in
+    record {
+      second = line ∷ rest.second;
+      worker = rest.worker;
+      is = ap (λ (n : ℕ). take n (line ∷ lines)) one ∙ ap (λ (l : List Numbered). line ∷ l) rest.is;
+      second_lane = All-cons (λ line. line.lane ≡ InB) line rest.second lane rest.second_lane;
+      worker_lane = rest.worker_lane;
+      turns = ap (λ (n : ℕ). are_in_turn InScript (drop n (line ∷ lines))) one ∙ rest.turns;
+      within = omega (arith, one, within);
+    }
+
 in-b : (lines : List Numbered) → are_in_turn InB lines ≡ true → IsTail lines
 in-b [] is = absurd (cc)
-in-b (line ∷ lines) is = by line.lane refl is
+in-b (line ∷ lines) is = by line.lane refl is (λ next. in-b lines next)
   where
-    by : (lane : Lane) → line.lane ≡ lane → (may_follow InB lane && are_in_turn lane lines) ≡ true → IsTail (line ∷ lines)
-    by InScript lane is = absurd (cc)
-    by InA lane is = absurd (cc)
-    by InWorker lane is = tail-worker line lines lane is
-    by InB lane is =
-        let rest = in-b lines is in
-        let one : block_length (line ∷ lines) ≡ suc (block_length lines) = ap (λ (l : Lane). if is_of_worker l then 1 else block_length lines + 1) lane ∙ (let s : block_length lines + 1 ≡ suc (block_length lines) = omega arith in s) in
-        let within = rest.within in
-        record {
-          second = line ∷ rest.second;
-          worker = rest.worker;
-          is = ap (λ (n : ℕ). take n (line ∷ lines)) one ∙ ap (λ (l : List Numbered). line ∷ l) rest.is;
-          second_lane = All-cons (λ line. line.lane ≡ InB) line rest.second lane rest.second_lane;
-          worker_lane = rest.worker_lane;
-          turns = ap (λ (n : ℕ). are_in_turn InScript (drop n (line ∷ lines))) one ∙ rest.turns;
-          within = omega (arith, one, within);
-        }
+    by : (lane : Lane) → line.lane ≡ lane → (may_follow InB lane && are_in_turn lane lines) ≡ true → (are_in_turn InB lines ≡ true → IsTail lines) → IsTail (line ∷ lines)
+    by InScript lane is again = absurd (cc)
+    by InA lane is again = absurd (cc)
+    by InWorker lane is again = tail-worker line lines lane is
+    by InB lane is again = one-second line lines lane (again is)
 
 -- what begins with a block, and goes on with the script
 pub record BeginsWithBlock (lines : List Numbered) : Type 0 where
@@ -157,30 +160,15 @@ one-more line lines lane rest =
       within = omega (arith, one, within);
     }
 
--- a line of lane b before the others
-one-second : (line : Numbered) (lines : List Numbered) → line.lane ≡ InB → IsTail lines → IsTail (line ∷ lines)
-one-second line lines lane rest =
-    let one : block_length (line ∷ lines) ≡ suc (block_length lines) = ap (λ (l : Lane). if is_of_worker l then 1 else block_length lines + 1) lane ∙ (let s : block_length lines + 1 ≡ suc (block_length lines) = omega arith in s) in
-    let within = rest.within in
-    record {
-      second = line ∷ rest.second;
-      worker = rest.worker;
-      is = ap (λ (n : ℕ). take n (line ∷ lines)) one ∙ ap (λ (l : List Numbered). line ∷ l) rest.is;
-      second_lane = All-cons (λ line. line.lane ≡ InB) line rest.second lane rest.second_lane;
-      worker_lane = rest.worker_lane;
-      turns = ap (λ (n : ℕ). are_in_turn InScript (drop n (line ∷ lines))) one ∙ rest.turns;
-      within = omega (arith, one, within);
-    }
-
 in-a : (lines : List Numbered) → are_in_turn InA lines ≡ true → BeginsWithBlock lines
 in-a [] is = absurd (cc)
-in-a (line ∷ lines) is = by line.lane refl is
+in-a (line ∷ lines) is = by line.lane refl is (λ next. in-a lines next)
   where
-    by : (lane : Lane) → line.lane ≡ lane → (may_follow InA lane && are_in_turn lane lines) ≡ true → BeginsWithBlock (line ∷ lines)
-    by InScript lane is = absurd (cc)
-    by InA lane is = one-more line lines lane (in-a lines is)
-    by InB lane is = of-tail (line ∷ lines) (one-second line lines lane (in-b lines is))
-    by InWorker lane is = of-tail (line ∷ lines) (tail-worker line lines lane is)
+    by : (lane : Lane) → line.lane ≡ lane → (may_follow InA lane && are_in_turn lane lines) ≡ true → (are_in_turn InA lines ≡ true → BeginsWithBlock lines) → BeginsWithBlock (line ∷ lines)
+    by InScript lane is again = absurd (cc)
+    by InA lane is again = one-more line lines lane (again is)
+    by InB lane is again = of-tail (line ∷ lines) (one-second line lines lane (in-b lines is))
+    by InWorker lane is again = of-tail (line ∷ lines) (tail-worker line lines lane is)
 
 -- lines in turn, the first of which isn't the script's own, begin with a block
 pub begins-block : (line : Numbered) (lines : List Numbered) → line.lane ≢ InScript → are_in_turn InScript (line ∷ lines) ≡ true → BeginsWithBlock (line ∷ lines)
