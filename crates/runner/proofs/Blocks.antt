@@ -360,18 +360,18 @@ module _ (lines : List Numbered) (block : IsBlock lines) where
   front-within = omega (arith, front-length, whole-length)
 
   pub first-part : take (front_length lines) lines ≡ block.first
-  first-part = (λ i. take (front-length i) (block.is i)) ∙ take-append_seam block.first (block.second ++ block.worker ∷ [])
+  first-part = ap (λ (n : ℕ). take n lines) front-length ∙ ap (λ (l : List Numbered). take (length block.first) l) block.is ∙ take-append_seam block.first (block.second ++ block.worker ∷ [])
 
   pub second-part : take (length lines - 1 - front_length lines) (drop (front_length lines) lines) ≡ block.second
   second-part =
       let long : length lines - 1 - front_length lines ≡ length block.second = omega (arith, front-length, whole-length) in
-      (λ i. take (long i) (drop (front-length i) (block.is i)))
-      ∙ ap (take (length block.second)) (drop-append_seam block.first (block.second ++ block.worker ∷ [])) ∙ take-append_seam block.second (block.worker ∷ [])
+      ap (λ (n : ℕ). take n (drop (front_length lines) lines)) long ∙ ap (λ (n : ℕ). take (length block.second) (drop n lines)) front-length
+      ∙ ap (λ (l : List Numbered). take (length block.second) (drop (length block.first) l)) block.is ∙ ap (take (length block.second)) (drop-append_seam block.first (block.second ++ block.worker ∷ [])) ∙ take-append_seam block.second (block.worker ∷ [])
 
   pub worker-part : (nothing : Numbered) → get_or lines (length lines - 1) nothing ≡ block.worker
   worker-part nothing =
       let last : length lines - 1 ≡ length block.first + length block.second = omega (arith, whole-length) in
-      (λ i. get_or (block.is i) (last i) nothing)
+      ap (λ (n : ℕ). get_or lines n nothing) last ∙ ap (λ (l : List Numbered). get_or l (length block.first + length block.second) nothing) block.is
       ∙ get_or-append-add block.first (block.second ++ block.worker ∷ []) (length block.second) nothing ∙ get_or-append_seam block.second block.worker [] nothing
 
   -- what each of its lanes may ask
