@@ -20,9 +20,10 @@ use Rattle.shared_lanes.specs.seen_laws_Callers.{AreReplied, HasCalled}
 use Rattle.shared_lanes.proofs.seen_laws_PlaceLaws.{there, still-replied}
 use Rattle.shared_lanes.specs.lanes_the_Worked.{Worked}
 use Rattle.shared_lanes.specs.lanes_Lane.{StandsIn, done_of}
-use Rattle.shared_lanes.specs.Serving.{most_entries, sectors_of, IsEarlier, HasMade, requests_of, array_ways}
-use Rattle.shared_lanes.specs.Lanes.{known_of, own_requests}
-use Rattle.lane_blocks.specs.Blocks.{HasRun, HasPassed, HasWorkedBy}
+use Rattle.shared_lanes.specs.Serving.{most_entries, sectors_of, IsEarlier, IsSound, HasMade, requests_of, array_ways}
+use Rattle.shared_lanes.specs.Lanes.{known_of, own_requests, carried_by}
+use Rattle.lane_threads.specs.Threads.{HasPassed, HasWorkedBy}
+use Rattle.lane_blocks.specs.Blocks.{HasRun}
 
 -- what holds of what is known
 known-has : {T : Type 0} (known : Option T) (some : is_some known ≡ true) (P : T → Type 0) → MatchOption known ⊥ P → P (known_of known some)
@@ -65,7 +66,7 @@ module _ {B : Type 0} where
 
 module _ {B : Type 0} {tells : Type 0} {given : B → Given} {tape : B → List Operation} {faults : B → ℕ → ℕ} (start now : RunningParts B) (caller : ℕ) (old new : Pass (RunningParts B) Request)
     (whose : old.caller ≡ caller) (none : own_requests old ≡ []) (begun : (known_of old.seat.me.0.known old.live).start ≡ start) (requests : List Request) (replies : List Reply)
-    (passed : HasPassed tells given tape old new requests replies) (mine : List (Call Request)) (own : mine ≡ mine_of new.seat.me.0.hands)
+    (passed : HasPassed tells (carried_by given tape old) (carried_by given tape new) requests replies) (mine : List (Call Request)) (own : mine ≡ mine_of new.seat.me.0.hands)
     (earlier : IsEarlier tells given tape (known_of new.seat.me.0.known new.live).seen now) (made : HasMade tells given tape faults start now caller mine) where
   abbrev seen : RunningParts B
   seen = (known_of new.seat.me.0.known new.live).seen
@@ -133,12 +134,12 @@ module _ {B : Type 0} {tells : Type 0} {given : B → Given} {tape : B → List 
   is-255 : c.caller ≡ 255
   is-255 = same.2 ∙ new.3.3.0
 
-  pub first-ran : (requests : List Request) (replies : List Reply) → HasPassed tells given tape x a requests replies → HasRun start now 1 requests replies
+  pub first-ran : (requests : List Request) (replies : List Reply) → HasPassed tells (carried_by given tape x) (carried_by given tape a) requests replies → HasRun start now 1 requests replies
   first-ran requests replies passed =
       has-run start now 1 x a new.0 (none-yet x 1 new.2) (begun-with x 1 new.2) requests replies passed (calls_by 1 back) (calls-of 1 a (b ∷ c ∷ []) is-1)
       (later-than a ended.seen.0) (ended.made 1)
 
-  pub second-ran : (requests : List Request) (replies : List Reply) → HasPassed tells given tape y b requests replies → HasRun start now 2 requests replies
+  pub second-ran : (requests : List Request) (replies : List Reply) → HasPassed tells (carried_by given tape y) (carried_by given tape b) requests replies → HasRun start now 2 requests replies
   second-ran requests replies passed =
       has-run start now 2 y b new.3.0 (none-yet y 2 new.3.2) (begun-with y 2 new.3.2) requests replies passed (calls_by 2 back)
       (calls-past 2 a (b ∷ c ∷ []) (λ e. absurd (apart (sym is-1 ∙ e))) ∙ calls-of 2 b (c ∷ []) is-2)
@@ -147,7 +148,7 @@ module _ {B : Type 0} {tells : Type 0} {given : B → Given} {tape : B → List 
       apart : ◌≡◌ {A = ℕ} 1 2 → ⊥
       apart e = omega (arith, e)
 
-  pub worker-ran : (requests : List Request) (replies : List Reply) → HasPassed tells given tape z c requests replies → HasRun start now 255 requests replies
+  pub worker-ran : (requests : List Request) (replies : List Reply) → HasPassed tells (carried_by given tape z) (carried_by given tape c) requests replies → HasRun start now 255 requests replies
   worker-ran requests replies passed =
       has-run start now 255 z c new.3.3.0 (none-yet z 255 new.3.3.2) (begun-with z 255 new.3.3.2) requests replies passed (calls_by 255 back)
       (calls-past 255 a (b ∷ c ∷ []) (λ e. absurd (apart (sym is-1 ∙ e))) ∙ (calls-past 255 b (c ∷ []) (λ e. absurd (apart' (sym is-2 ∙ e))) ∙ calls-of 255 c [] is-255))
@@ -167,32 +168,36 @@ module _ {B : Type 0} {tells : Type 0} {given : B → Given} {tape : B → List 
       (ended.made n)
 
 -- what the passes of a block tell
-pub record AreTold {B : Type 0} (tells : Type 0) (given : B → Given) (tape : B → List Operation) (faults : B → ℕ → ℕ) (start now : RunningParts B) (asked other : List Request) (one two : List Reply) (answers : ℕ → ℕ → ℕ → Type 0) (left : ℕ) (did : Worked) : Type 0 where
+pub record AreTold {B : Type 0} (tells : Type 0) (given : B → Given) (tape : B → List Operation) (faults : B → ℕ → ℕ) (start now : RunningParts B)
+    (asked other : List Request) (one two : List Reply) (answers : ℕ → ℕ → ℕ → Type 0) (left : ℕ) (did : Worked) : Type 0 where
+  pub later : IsEarlier tells given tape start now
+  pub went : HasGoneOn tells given tape faults start now
+  pub entered : HasEntered start now
+  pub ended : IsSound tells tape now
   pub first : HasRun start now 1 asked one
   pub second : HasRun start now 2 other two
   pub worked : HasWorkedBy (HasRun start now 255) answers left did
   pub others : (caller : ℕ) → caller ≢ 1 → caller ≢ 2 → caller ≢ 255 → HasMade tells given tape faults start now caller []
-  pub went : HasGoneOn tells given tape faults start now
-  pub entered : HasEntered start now
 
 pub all-told : {B : Type 0} {tells : Type 0} {given : B → Given} {tape : B → List Operation} {faults : B → ℕ → ℕ} (id : LockId) (key start now : RunningParts B)
-    (passes : List (Pass (RunningParts B) Request)) (x y z a b c : Pass (RunningParts B) Request) (asked other : List Request) (one two : List Reply)
-    (answers : ℕ → ℕ → ℕ → Type 0) (left : ℕ) (did : Worked)
-    → key ≡ start → AreNew id start (1 ∷ 2 ∷ 255 ∷ []) passes → passes ≡ x ∷ y ∷ z ∷ []
-    → Ended (array_ways tells given tape faults) key (a ∷ b ∷ c ∷ []) now
-    → HasPassed tells given tape x a asked one → HasPassed tells given tape y b other two → HasWorkedBy (HasPassed tells given tape z c) answers left did
+    (x y z a b c : Pass (RunningParts B) Request) (asked other : List Request) (one two : List Reply) (answers : ℕ → ℕ → ℕ → Type 0) (found left : ℕ) (did : Worked)
+    → key ≡ start → AreNew id start (1 ∷ 2 ∷ 255 ∷ []) (x ∷ y ∷ z ∷ []) → Ended (array_ways tells given tape faults) key (a ∷ b ∷ c ∷ []) now
+    → HasPassed tells (carried_by given tape x) (carried_by given tape a) asked one → HasPassed tells (carried_by given tape y) (carried_by given tape b) other two
+    → found ≡ left → HasWorkedBy (HasPassed tells (carried_by given tape z) (carried_by given tape c)) answers found did
     → AreTold tells given tape faults start now asked other one two answers left did
-all-told {B} {tells} {given} {tape} {faults} id key start now passes x y z a b c asked other one two answers left did key-is new three ended p q w =
-    let these : AreNew id start (1 ∷ 2 ∷ 255 ∷ []) (x ∷ y ∷ z ∷ []) = subst (λ (l : List (Pass (RunningParts B) Request)). AreNew id start (1 ∷ 2 ∷ 255 ∷ []) l) three new in
+all-told {B} {tells} {given} {tape} {faults} id key start now x y z a b c asked other one two answers found left did key-is new ended p q left-is w =
     let at-end : Ended (array_ways tells given tape faults) start (a ∷ b ∷ c ∷ []) now =
     subst (λ (v : RunningParts B). Ended (array_ways tells given tape faults) v (a ∷ b ∷ c ∷ []) now) key-is ended in
     let same : (a.caller ≡ x.caller) × (b.caller ≡ y.caller) × (c.caller ≡ z.caller) = (p.later.caller, q.later.caller, w.made.later.caller) in
     record {
-      first = first-ran id start now x y z a b c these at-end same asked one p;
-      second = second-ran id start now x y z a b c these at-end same other two q;
-      worked = worked-by (HasPassed tells given tape z c) (HasRun start now 255) answers left did
-          (λ requests replies. worker-ran id start now x y z a b c these at-end same requests replies) w;
-      others = none-else id start now x y z a b c these at-end same;
+      later = at-end.begins;
       went = (at-end.made 1).went;
       entered = (at-end.made 1).entered;
+      ended = at-end.sound;
+      first = first-ran id start now x y z a b c new at-end same asked one p;
+      second = second-ran id start now x y z a b c new at-end same other two q;
+      worked = worked-by (HasPassed tells (carried_by given tape z) (carried_by given tape c)) (HasRun start now 255) answers left did
+          (λ requests replies. worker-ran id start now x y z a b c new at-end same requests replies)
+          (subst (λ (n : ℕ). HasWorkedBy (HasPassed tells (carried_by given tape z) (carried_by given tape c)) answers n did) left-is w);
+      others = none-else id start now x y z a b c new at-end same;
     }

@@ -1,4 +1,5 @@
 pub mod Blocks
+pub use Rattle.lane_threads.specs.Threads as lane_threads_Threads
 pub use Rattle.shared_lanes.specs.lanes_Pace
 pub use Rattle.shared_lanes.specs.running_calls_Entered
 pub use Rattle.shared_lanes.specs.running_calls_Going

@@ -1,24 +1,21 @@
 //! A block of lanes, from the start of the sharing to its end.
-ghost use Rattle.std.specs.Prelude.{◌≡◌, ◌≢◌, ◌≤◌, ℕ, [], ◌∷◌, IfOk, IfErr, vec_capacity};
+ghost use Rattle.std.specs.Prelude.{◌≡◌, ◌≢◌, ℕ, [], IfOk, IfErr};
 ghost use Rattle.std.specs.List.{All};
 ghost use Rattle.shared_lanes.specs.array_kept_Calls.{IsEndOf};
 ghost use Rattle.shared_lanes.specs.running_calls_Entered.{HasEntered};
 ghost use Rattle.shared_lanes.specs.running_calls_Going.{HasGoneOn};
 ghost use Rattle.shared_lanes.specs.running_calls_Replies.{IsAskable};
 ghost use Rattle.shared_lanes.specs.running_Calls.{running_left};
-ghost use Rattle.turn_lock.specs.Passes.{Ended};
 ghost use Rattle.shared_lanes.specs.lanes_Pace.{AnswersSteps, asked_by};
-ghost use Rattle.shared_lanes.specs.Serving.{IsEarlier, HasMade, array_ways};
+ghost use Rattle.shared_lanes.specs.Serving.{IsEarlier, HasMade};
 ghost use Rattle.lane_blocks.specs.Blocks.{HasRun, HasWorkedBy};
 
-use crate::rows::{put_back, taken};
-use crate::threads::at_once;
+use crate::sharing::{begun, closed, ran, rooms};
 use bank::Bank;
 use flat_history::Request;
 use shared_lanes::lanes::{Pace, Worked};
 use shared_lanes::running::Running;
 use shared_lanes::running_calls::Reply;
-use shared_lanes::{Pass, Shared};
 use std::alloc::Global;
 use std::sync::Wait;
 use std::thread::Threads;
@@ -30,21 +27,6 @@ pub struct Joined<B: Bank> {
     pub first: Vec<Reply>,
     pub second: Vec<Reply>,
     pub worked: Worked,
-}
-
-// The array, once the passes of the three callers are back.
-fn closed<B: Bank + Drop>(
-    shared: Shared<B>,
-    row: Vec<Pass<B>>,
-    passes: (Pass<B>, Pass<B>, Pass<B>),
-) -> Running<B>
-    requires three { shared.lock.table.shared.key.callers.items ≡ 1 ∷ 2 ∷ 255 ∷ [] }
-    requires locks { (passes.0.seat.table_id ≡ shared.lock.table.shared.table_id) × (passes.1.seat.table_id ≡ shared.lock.table.shared.table_id) × (passes.2.seat.table_id ≡ shared.lock.table.shared.table_id) }
-    requires empty { row.items ≡ [] }
-    requires room { 3 ≤ vec_capacity row }
-    ensures { Ended (array_ways B.tells B.given B.tape B.faults_of) shared.lock.table.shared.key.value (passes.0 ∷ passes.1 ∷ passes.2 ∷ []) result }
-{
-    shared.close(put_back(row, passes))
 }
 
 /// Runs a block of lanes: the requests of the first lane, as caller 1, those of the second, as caller 2, and a worker, as caller 255,
@@ -73,16 +55,12 @@ pub fn run_block<B: Bank + Drop + Send, F: Fn(u64, u64) -> u64 + Sync, R: Thread
     ensures worked { IfOk result (λ t. HasWorkedBy (HasRun array t.array 255) (F.post (asked_by pace.now)) (running_left array) t.worked) }
     ensures others { IfOk result (λ t. (caller : ℕ) → caller ≢ 1 → caller ≢ 2 → caller ≢ 255 → HasMade B.tells B.given B.tape B.faults_of array t.array caller []) }
 {
-    let Ok(one) = Vec::with_capacity(alloc, first.len()) else {
-        return Err(array);
-    };
-    let Ok(two) = Vec::with_capacity(alloc, second.len()) else {
+    let Some((one, two)) = rooms(alloc, &first, &second) else {
         return Err(array);
     };
     let left = array.left();
-    let (shared, passes) = Shared::start(alloc, array, &[1, 2, 255])?;
-    let (passes, row) = taken(passes);
-    let (passes, (first, second, worked)) = at_once(
+    let (shared, passes, row) = begun(alloc, array)?;
+    let (passes, (first, second, worked)) = ran(
         rt,
         &shared,
         passes,

@@ -3,7 +3,7 @@
 
 mod block;
 mod rows;
-mod threads;
+mod sharing;
 
 pub use block::{Joined, run_block};
 pub use shared_lanes;

@@ -23,7 +23,7 @@ use Rattle.running.specs.Calls.{running_left, MayEndSteps}
 use Rattle.running_steps.specs.Steps.{IsStepDone, IsStepRefused}
 use Rattle.running_steps.proofs.Events.{IsStepEntries}
 use Rattle.running_steps.proofs.Went.{epoch-of, long-same, held-only}
-use Rattle.running_steps.proofs.Plain.{open-moving, active-runs, fewer-as, IsPlainStep, plain-done, plain-refused}
+use Rattle.running_steps.proofs.Plain.{active-runs, fewer-as, IsPlainStep, plain-done, plain-refused}
 use Rattle.running_steps.proofs.Refusals.{many-so, moved-ends}
 use Rattle.running_steps.proofs.Own.{step-entries}
 
@@ -57,7 +57,7 @@ module _ {B : Type 0} (tells : Type 0) (given : B → Given) (tape : B → List 
       plain-done tells given tape faults who old new (Held old.parts.members) (moved-did tells given tape faults old new was given_is active)
       (subst (λ (n : ℕ). IsStepEntries who old.parts.entries new.parts.entries n) (sym (active-runs new later))
       (step-entries who old.parts.entries new.parts.entries (kind_of due) (left_in new.parts.work new.parts.members new.course new.ahead) (due-kind due (left_in new.parts.work new.parts.members new.course new.ahead) ne) behind))
-      (open-moving old who active goes) (later ∙ sym active)
+      goes (later ∙ sym active)
       (fewer-as old.parts.entries new.parts.entries (left_in old.parts.work old.parts.members old.course old.ahead) (left_in new.parts.work new.parts.members new.course new.ahead) (running_left old) (running_left new) (active-runs old active) (active-runs new later)
       (record { one = λ quiet. one; some = λ quiet. omega (arith, one) }))
       (λ none. absurd (let both : true ≡ false = sym later ∙ none in cc))

@@ -24,13 +24,13 @@ use Rattle.running.specs.still_steps_Resyncing.{is_at_end}
 use Rattle.running.specs.still_steps_Resyncing as resync
 use Rattle.running.specs.still_steps_Stepping.{IsUndone, IsHeldOrDue, IsStepEntered}
 use Rattle.running.proofs.still_steps_NextLaws.{due-may}
-use Rattle.running.specs.turning_Begun.{HasKeptLength}
+use Rattle.kept_history.specs.Recorded.{IsCallGoing}
 use Rattle.running.specs.running_replies_Going.{is_finish}
 use Rattle.running.specs.Calls.{running_left, MayEndSteps}
 use Rattle.running_steps.specs.Steps.{IsStepDone, IsStepRefused}
 use Rattle.running_steps.proofs.Events.{IsOfStep, IsStepEntries, entries-behind, entries-lost}
 use Rattle.running_steps.proofs.Went.{epoch-of, long-same}
-use Rattle.running_steps.proofs.Plain.{open-still, still-runs, fewer-as, IsPlainStep, plain-done, plain-refused}
+use Rattle.running_steps.proofs.Plain.{still-runs, fewer-as, IsPlainStep, plain-done, plain-refused}
 use Rattle.running_steps.proofs.Refusals.{own-ends, own-cause}
 
 own-did : {B : Type 0} (tells : Type 0) (given : B → Given) (tape : B → List Operation) (faults : B → ℕ → ℕ) (old new : RunningParts B)
@@ -101,7 +101,7 @@ own-behind T who old new work members members' left refusal = by work.resync
     by None was = was
     by (Some n) was = was
 
-module _ {B : Type 0} (tells : Type 0) (given : B → Given) (tape : B → List Operation) (faults : B → ℕ → ℕ) (who : Who) (old new : RunningParts B) (open_ : HasKeptLength old.parts.entries who)
+module _ {B : Type 0} (tells : Type 0) (given : B → Given) (tape : B → List Operation) (faults : B → ℕ → ℕ) (who : Who) (old new : RunningParts B) (goes : IsCallGoing old.parts.entries who)
     (still : is_reshaping old.parts.members.newest ≡ false) (later : is_reshaping new.parts.members.newest ≡ false)
     (was : IsStepped tells (given old.parts.bank) (tape old.parts.bank) (tape new.parts.bank) (IsHeldOrDue old.parts.work old.parts.members) (faults old.parts.bank) (faults new.parts.bank) old new)
     (held : AreHeldOrSpare old.parts.members new.parts.members) (given_is : given new.parts.bank ≡ given old.parts.bank) where
@@ -111,13 +111,13 @@ module _ {B : Type 0} (tells : Type 0) (given : B → Given) (tape : B → List 
       plain-done tells given tape faults who old new (IsHeldOrDue old.parts.work old.parts.members) (own-did tells given tape faults old new was held given_is later)
       (subst (λ (n : ℕ). IsStepEntries who old.parts.entries new.parts.entries n) (sym (still-runs new later))
       (own-entries who old.parts.entries new.parts.entries old.parts.work old.parts.members new.parts.members (still_left new.parts.work new.parts.members new.ahead) x entered))
-      (open-still old who still open_) (later ∙ sym still)
+      goes (later ∙ sym still)
       (fewer-as old.parts.entries new.parts.entries (still_left old.parts.work old.parts.members old.ahead) (still_left new.parts.work new.parts.members new.ahead) (running_left old) (running_left new) (still-runs old still) (still-runs new later) fewer) (λ none. closes)
 
   pub own-refused : (T : Type 0) (refusal : Refusal) → IsStepEntered {T = T} who old.parts.entries new.parts.entries old.parts.work old.parts.members new.parts.members (still_left new.parts.work new.parts.members new.ahead) (Err (IsRefusedWith refusal))
       → IsRefusedFor (list_length old.parts.members.newest) 0 (IsUndone old.parts.work old.parts.members) old.parts.members new.parts.members refusal → MayEndSteps new refusal → IsStepRefused tells given tape faults who old new refusal
   own-refused T refusal entered caused right =
       plain-refused tells given tape faults who old new (IsHeldOrDue old.parts.work old.parts.members) refusal (own-did tells given tape faults old new was held given_is later)
-      (own-behind T who old.parts.entries new.parts.entries old.parts.work old.parts.members new.parts.members (still_left new.parts.work new.parts.members new.ahead) refusal entered) open_.goes
+      (own-behind T who old.parts.entries new.parts.entries old.parts.work old.parts.members new.parts.members (still_left new.parts.work new.parts.members new.ahead) refusal entered) goes
       (own-ends (list_length old.parts.members.newest) old.parts.work old.parts.members new.parts.members refusal caused)
       (own-cause (list_length old.parts.members.newest) old.parts.work old.parts.members new.parts.members refusal old.parts.backup (faults old.parts.bank) (faults new.parts.bank) caused) right

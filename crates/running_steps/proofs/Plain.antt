@@ -88,10 +88,10 @@ pub record IsPlainStep {B : Type 0} (tells : Type 0) (given : B → Given) (tape
   pub ended : IsEndOf tells new.parts.first new.parts.entries (tape new.parts.bank)
 
 module _ {B : Type 0} (tells : Type 0) (given : B → Given) (tape : B → List Operation) (faults : B → ℕ → ℕ) (who : Who) (old new : RunningParts B) where
-  pub plain-done : (Had : ℕ → ℕ → Type 0) → IsPlainStep tells given tape faults Had old new → IsStepEntries who old.parts.entries new.parts.entries (running_left new) → IsOpenFor old who
+  pub plain-done : (Had : ℕ → ℕ → Type 0) → IsPlainStep tells given tape faults Had old new → IsStepEntries who old.parts.entries new.parts.entries (running_left new) → IsCallGoing old.parts.entries who
       → is_reshaping new.parts.members.newest ≡ is_reshaping old.parts.members.newest → AreStepsFewer old.parts.entries new.parts.entries (running_left old) (running_left new)
       → (is_reshaping new.parts.members.newest ≡ false → IsClosable new) → IsStepDone tells given tape faults who old new false
-  plain-done Had did so open_ same fewer closable = record {
+  plain-done Had did so goes same fewer closable = record {
     inner = so.inner;
     is = so.is;
     own = own;
@@ -99,7 +99,7 @@ module _ {B : Type 0} (tells : Type 0) (given : B → Given) (tape : B → List 
     one = so.one;
     over_told = sym (any-none is_finish (IsOfStep (running_left new)) (of-unfinished (running_left new)) so.inner each);
     left = λ still. fewer;
-    next_open = λ still some kept. subst (λ (b : Bool). MatchBool b (IsCallGoing new.parts.entries who) (HasKeptLength new.parts.entries who)) (sym same) (by (is_reshaping old.parts.members.newest) open_ some);
+    next_open = λ still some kept. subst (λ (b : Bool). MatchBool b (IsCallGoing new.parts.entries who) (HasKeptLength new.parts.entries who)) (sym same) (by (is_reshaping old.parts.members.newest) kept some);
     going = going;
     closable = closable;
     went = record {
@@ -134,7 +134,7 @@ module _ {B : Type 0} (tells : Type 0) (given : B → Given) (tape : B → List 
       lengthless = any-none is_resize (IsOfStep (running_left new)) (of-lengthless (running_left new)) so.inner each
 
       going : IsCallGoing new.parts.entries who
-      going = going-more so.inner (going-of old who open_) so.is own
+      going = going-more so.inner goes so.is own
 
       by : (b : Bool) → MatchBool b (IsCallGoing old.parts.entries who) (HasKeptLength old.parts.entries who) → 0 < running_left new → MatchBool b (IsCallGoing new.parts.entries who) (HasKeptLength new.parts.entries who)
       by true was some = going

@@ -99,6 +99,11 @@ pub record AreStepsOf (who : Who) (old new : List Entry) (done : ℕ) : Type 0 w
   pub counted : count_by (λ e. is_step_event e.event) inner ≤ done
   pub not_more : done ≤ count_by (λ e. is_step_event e.event) inner + count_by (λ e. is_lost_event e.event) inner
 
+-- to so many steps one more was added, which was done, or refused
+abbrev pub IsCountedBehind : ℕ → Result Bool Refusal → ℕ → Option Refusal → Type 0
+IsCountedBehind before (Ok over) done ended = (done ≡ before + 1) × (ended ≡ None)
+IsCountedBehind before (Err refusal) done ended = (done ≡ before) × (ended ≡ Some refusal)
+
 -- Behind the end of a reshape, after so many steps of a call: no more was done, or one step more, or that was refused.
 abbrev pub IsGoneOn : {B : Type 0} → Type 0 → (B → Given) → (B → List Operation) → (B → ℕ → ℕ) → Who → RunningParts B → RunningParts B → ℕ → ℕ → Option Refusal → Type 0
 IsGoneOn tells given tape faults who old new before done None = ((done ≡ before) × (new ≡ old)) ⊎ ((done ≡ before + 1) × IsStepDone tells given tape faults who old new false)

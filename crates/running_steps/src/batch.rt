@@ -1,6 +1,6 @@
 //! As many background steps as a caller asks for.
 
-ghost use Rattle.std.specs.Prelude.{◌≡◌, ◌≢◌, ◌⊎◌, ◌+◌, ◌<◌, ◌≤◌, [], true, false, None, IfOk, IfErr, IfSome, MatchOption, ⊤};
+ghost use Rattle.std.specs.Prelude.{◌≡◌, ◌≢◌, ◌⊎◌, ◌+◌, ◌<◌, ◌≤◌, ◌^◌, [], true, false, None, IfOk, IfErr, IfSome, MatchOption, ⊤};
 ghost use Rattle.superblocks.specs.Reading.{is_reshaping, list_length};
 ghost use Rattle.flat_history.specs.Flat.{next_number};
 ghost use Rattle.flat_history.specs.declared.events.Request.TheVariants.{Steps as AsksSteps};
@@ -11,10 +11,10 @@ ghost use Rattle.running.specs.still_laws_Steps.{IsClosable};
 ghost use Rattle.running.specs.running_replies_Replies.{IsAnsweredWith, EndsRunningSteps, MayTellBy, IsRefusalBy};
 ghost use Rattle.running.specs.running_replies_Going.{HasNoReshape, HasRunOn};
 ghost use Rattle.running.specs.Calls.{running_left, MayEndSteps};
-ghost use Rattle.running_steps.specs.Steps.{IsOpenFor, AreStepsOf, IsGoneOn, IsStepCount, has_finished};
+ghost use Rattle.running_steps.specs.Steps.{IsOpenFor, AreStepsOf, IsCountedBehind, IsGoneOn, IsStepCount, has_finished};
 
 use crate::stepping::take_step;
-use crate::turns::take;
+use crate::turns::{own_step, take};
 use bank::Bank;
 use core::mem::replace_with;
 use flat_history::Event;
@@ -28,8 +28,25 @@ struct Batch {
     ended: Option<Refusal>,
 }
 
-// Behind the end of a reshape, after so many of these steps, the level is taken over where that is next and one more step was asked
-// for; there is room for it, and for one more entry.
+// So many steps, and one more, which was done or refused.
+fn counted(done: u64, taken: Result<bool, Refusal>) -> Batch
+    requires fits { done + 1 < 2 ^ 64 }
+    ensures { IsCountedBehind done taken result.done result.ended }
+{
+    match taken {
+        Ok(_) => {
+            let done = done + 1;
+            Batch { done, ended: None }
+        }
+        Err(refusal) => {
+            let ended = Some(refusal);
+            Batch { done, ended }
+        }
+    }
+}
+
+// Behind the end of a reshape, after so many of these steps, one more is done where it was asked for: the level is taken over, or a
+// spare gets a role that was lost on the way. There is room for it, and for one more entry.
 fn go_on_behind<B: Bank>(array: &mut Running<B>, who: Who, count: u64, done: u64) -> Batch
     requires going { IsCallGoing array.old.parts.entries who }
     requires caller { who.caller ≢ 254 }
@@ -43,24 +60,20 @@ fn go_on_behind<B: Bank>(array: &mut Running<B>, who: Who, count: u64, done: u64
     if done == count {
         return Batch { done, ended: None };
     }
-    let Next::Take(to) = array.next() else {
-        return Batch { done, ended: None };
-    };
-    match replace_with(array, (who, to), take) {
-        Ok(true) => unreachable!(),
-        Ok(false) => {
-            let done = done + 1;
-            Batch { done, ended: None }
+    match array.next() {
+        Next::Take(to) => counted(done, replace_with(array, (who, to), take)),
+        Next::Own => {
+            if array.recovers() {
+                return Batch { done, ended: None };
+            }
+            counted(done, own_step(array, who))
         }
-        Err(refusal) => {
-            let ended = Some(refusal);
-            Batch { done, ended }
-        }
+        _ => Batch { done, ended: None },
     }
 }
 
-// So many steps, unless none is left, one is refused, or a reshape ends with no takeover next; there is room for them, for one more at the end of a
-// reshape, and for one more entry.
+// So many steps, unless none is left, one is refused, or a reshape ends, behind which one more is done at most; there is room for them, for
+// one more at the end of a reshape, and for one more entry.
 fn take_steps<B: Bank>(array: &mut Running<B>, who: Who, count: u64) -> Batch
     requires open { IsOpenFor array.old who }
     requires caller { who.caller ≢ 254 }
@@ -104,8 +117,8 @@ fn take_steps<B: Bank>(array: &mut Running<B>, who: Who, count: u64) -> Batch
 }
 
 /// Answers the request for at most so many background steps: does them until so many are done, or as many as were left at its start;
-/// until none is left, one is refused, or a reshape has ended, and the takeover behind it, where that is next. Ok is a copy of the reply's event, which tells `Nothing` where
-/// none was left. Memory is wanted before the first step alone. A backup ends steps only in a reshape or where phases are ahead,
+/// until none is left, one is refused, or a reshape has ended, and one step behind it: the takeover of the level, or the first step of the
+/// rebuild of a role that was lost on the way. Ok is a copy of the reply's event, which tells `Nothing` where none was left. Memory is wanted before the first step alone. A backup ends steps only in a reshape or where phases are ahead,
 /// and a missing role or want of spares only where some are; and where none is left, there is neither.
 pub fn steps<B: Bank>(array: &mut Running<B>, who: Who, most: u64) -> Result<Event, NoMemory>
     requires next { who.number ≡ next_number who.caller array.old.parts.entries }

@@ -4,11 +4,13 @@ ghost use Rattle.std.specs.Prelude.{◌≡◌, ◌≢◌, ◌+◌, ◌<◌, ◌�
 ghost use Rattle.md_base.specs.declared.wishes.Phase.{Phase};
 ghost use Rattle.md_base.specs.declared.wishes.Phase.TheVariants.{Reshape};
 ghost use Rattle.superblocks.specs.Reading.{is_reshaping};
+ghost use Rattle.flat_history.specs.declared.events.StepKind.TheVariants.{RebuildEnded as EndsRebuild};
 ghost use Rattle.views.specs.Status.{left_of};
 ghost use Rattle.grow_asked.specs.Left.{phases_of};
 ghost use Rattle.kept_history.specs.Recorded.{IsCallGoing};
 ghost use Rattle.running.specs.moving_state_Due.{due_of};
 ghost use Rattle.running.specs.moving_state_the_Due_TheVariants.{Finish as EndsReshape};
+ghost use Rattle.running.specs.still_steps_Stepping.{next_kind};
 ghost use Rattle.running.specs.turning_Begun.{HasKeptLength};
 ghost use Rattle.takeover.specs.TakenOver.{IsTakeoverNext};
 ghost use Rattle.running_steps.specs.Steps.{IsStepTaken};
@@ -19,12 +21,14 @@ use running::Running;
 
 // The next step without a reshape.
 pub(crate) fn own_step<B: Bank>(array: &mut Running<B>, who: Who) -> Result<bool, Refusal>
-    requires open { HasKeptLength array.old.parts.entries who }
+    requires open { IsCallGoing array.old.parts.entries who }
+    requires unbroken { next_kind array.old.parts.work array.old.parts.members ≡ EndsRebuild → HasKeptLength array.old.parts.entries who }
     requires caller { who.caller ≢ 254 }
     requires still { is_reshaping array.old.parts.members.newest ≡ false }
     requires pending { 0 < left_of array.old.parts.work array.old.parts.members }
     requires room { 1 ≤ array.old.parts.steps }
     ensures taken { IsStepTaken B.tells B.given B.tape B.faults_of who array.old array.new result }
+    ensures on { result ≢ Ok true }
     ensures room { array.new.parts.steps + 1 ≡ array.old.parts.steps }
 {
     match array.mend_or_rebuild(who) {

@@ -8,8 +8,8 @@ use md_base::Role;
 use still::safe_updates::roles::is_spare;
 use superblocks::Members;
 
-// The lowest role that a slot recovers, of so many.
-pub(crate) fn first_recovering(members: &Members, disks: u32) -> Option<u32>
+/// The lowest role that a slot recovers, of so many.
+pub fn first_recovering(members: &Members, disks: u32) -> Option<u32>
     requires disks { disks ≡ (shape_of members.now.newest).disks }
     requires roles { disks ≤ length members.now.roles }
     ensures { result ≡ first_recovering members.now }

@@ -6,7 +6,7 @@ mod rebuilding;
 mod resyncing;
 mod stepping;
 
-pub use choosing::first_spare;
+pub use choosing::{first_recovering, first_spare};
 pub use stepping::still_step;
 pub use still;
 pub use still::{array_state, safe_updates};

@@ -27,7 +27,8 @@ use still::Still;
 // end; or else gives the lowest role that no slot holds to the lowest spare. Where the slot that is rebuilt is lost, this
 // ends the rebuild, and only the loss is entered. Refusals: `TooManyMissing`. It takes no memory.
 pub(crate) fn rebuild_step<B: Bank>(still: &mut Still<B>, who: Who) -> Result<(), Fault>
-    requires open { IsCallUnbroken B.tells (moving_world (B.given still.old.parts.bank) (B.tape still.old.parts.bank) still.old) still.old.parts.entries who }
+    requires open { IsCallGoing still.old.parts.entries who }
+    requires unbroken { rebuild_kind still.old.parts.work still.old.parts.members ≡ EndsRebuild → IsCallUnbroken B.tells (moving_world (B.given still.old.parts.bank) (B.tape still.old.parts.bank) still.old) still.old.parts.entries who }
     requires caller { who.caller ≢ 254 }
     requires synced { still.old.parts.work.resync ≡ None }
     requires pending { IsRebuildNext still.old.parts.members }

@@ -31,7 +31,8 @@ use still::Still;
 /// pending, or else of a rebuild. Where the slot that is rebuilt is lost, only the loss is entered. Refusals: `TooManyMissing`, and at a
 /// stripe of a resync `NotResynced`. It takes no memory.
 pub fn still_step<B: Bank>(still: &mut Still<B>, who: Who) -> Result<(), Fault>
-    requires open { IsCallUnbroken B.tells (moving_world (B.given still.old.parts.bank) (B.tape still.old.parts.bank) still.old) still.old.parts.entries who }
+    requires open { IsCallGoing still.old.parts.entries who }
+    requires unbroken { next_kind still.old.parts.work still.old.parts.members ≡ EndsRebuild → IsCallUnbroken B.tells (moving_world (B.given still.old.parts.bank) (B.tape still.old.parts.bank) still.old) still.old.parts.entries who }
     requires caller { who.caller ≢ 254 }
     requires pending { 0 < left_of still.old.parts.work still.old.parts.members }
     requires plans { ArePlansKept B.tells (moving_world (B.given still.old.parts.bank) (B.tape still.old.parts.bank) still.old) still.old }

@@ -17,21 +17,35 @@ ghost use Rattle.growing.specs.running_words_Parts.{still_left};
 ghost use Rattle.growing.specs.running_words_Calls.{moving_world};
 ghost use Rattle.growing.specs.still_laws_Steps.{IsStepped, IsClosable, IsCallUnbroken};
 ghost use Rattle.growing.specs.still_steps_Resyncing.{is_at_end};
-ghost use Rattle.growing.specs.still_steps_Rebuilding.{rebuilt_role, IsGivenToSpare};
+ghost use Rattle.growing.specs.still_steps_Rebuilding.{first_recovering, rebuilt_role, IsGivenToSpare};
 ghost use Rattle.growing.specs.still_steps_Stepping.{IsUndone, IsEnd, IsStepEntered, next_kind, after_step, IsHeldOrDue};
 ghost use Rattle.running.specs.Calls.{IsRefusedInStep};
 
 use crate::state::{Running, State, check_still};
 use bank::Bank;
-use growing::still_steps::still_step;
+use growing::still_steps::{first_recovering, still_step};
 use md_base::{Fault, Who};
 
 impl<B: Bank> Running<B> {
+    /// Whether a slot recovers a role, so that the next step of a rebuild isn't its first one. In a reshape none does.
+    pub fn recovers(&self) -> bool
+        ensures { is_reshaping self.now.parts.members.newest ≡ false → result ≡ is_some (first_recovering self.now.parts.members) }
+    {
+        match &self.state {
+            State::Still(still) => {
+                let disks = still.disks();
+                first_recovering(still.members(), disks).is_some()
+            }
+            State::Moving(_) => false,
+        }
+    }
+
     /// Does the next step of an array without a reshape, of which one is left besides those of the phases ahead: of the resync where one
     /// is pending, or else of a rebuild. Where the slot that is rebuilt is lost, only the loss is entered. Refusals: `TooManyMissing`,
     /// and at a stripe of a resync `NotResynced`. It takes no memory.
     pub fn mend_or_rebuild(&mut self, who: Who) -> Result<(), Fault>
-        requires open { IsCallUnbroken B.tells (moving_world (B.given self.old.parts.bank) (B.tape self.old.parts.bank) self.old) self.old.parts.entries who }
+        requires open { IsCallGoing self.old.parts.entries who }
+        requires unbroken { next_kind self.old.parts.work self.old.parts.members ≡ EndsRebuild → IsCallUnbroken B.tells (moving_world (B.given self.old.parts.bank) (B.tape self.old.parts.bank) self.old) self.old.parts.entries who }
         requires caller { who.caller ≢ 254 }
         requires still { is_reshaping self.old.parts.members.newest ≡ false }
         requires pending { 0 < left_of self.old.parts.work self.old.parts.members }

@@ -3,8 +3,10 @@ use Rattle.running.proofs.turning_Begun.{unturned-open}
 use Rattle.running_steps.proofs.Own.{own-done, own-refused}
 use Rattle.running_steps.proofs.turns.own_step.Goals as goal
 
-pub mend_or_rebuild-requires-clause-open : goal.mend_or_rebuild-requires-clause-open
-mend_or_rebuild-requires-clause-open g c = record { goes = c.requires.open.goes; kept = λ t right. unturned-open _ c.args.array.now.parts.entries c.args.who c.requires.open }
+pub mend_or_rebuild-requires-clause-unbroken : goal.mend_or_rebuild-requires-clause-unbroken
+mend_or_rebuild-requires-clause-unbroken g c = λ ends.
+    let kept = c.requires.unbroken ends in
+    record { goes = kept.goes; kept = λ t right. unturned-open _ c.args.array.now.parts.entries c.args.who kept }
 
 pub returns-in-Ok-clause-taken : goal.returns-in-Ok-clause-taken
 returns-in-Ok-clause-taken g c =

@@ -23,6 +23,11 @@ pub fill_stripe-requires-clause-pending : goal.fill_stripe-requires-clause-pendi
 fill_stripe-requires-clause-pending g c =
     (found-recovered c.args.still.now.parts.members c.in-Some.role (found c.first_recovering.ensures c.members.ensures c.in-Some.is), omega (arith, c.if-rebuilt-stripes.true, c.rebuilt.ensures, c.stripes.ensures))
 
+pub end_rebuild-requires-clause-open : goal.end_rebuild-requires-clause-open
+end_rebuild-requires-clause-open g c =
+    c.requires.unbroken (kind-ended c.args.still.now.parts.work c.args.still.now.parts.members c.in-Some.role (found c.first_recovering.ensures c.members.ensures c.in-Some.is)
+    (omega (arith, c.if-rebuilt-stripes.false, c.rebuilt.ensures, c.stripes.ensures)))
+
 pub end_rebuild-requires-clause-pending : goal.end_rebuild-requires-clause-pending
 end_rebuild-requires-clause-pending g c =
     (found-recovered c.args.still.now.parts.members c.in-Some.role (found c.first_recovering.ensures c.members.ensures c.in-Some.is), omega (arith, c.if-rebuilt-stripes.false, c.rebuilt.ensures, c.stripes.ensures))

@@ -4,7 +4,7 @@ use Rattle.views.specs.Rebuilding.{Held}
 use Rattle.still_steps.specs.Rebuilding.{IsHeldOrNext}
 use Rattle.still_steps.specs.Stepping.{IsHeldOrDue}
 use Rattle.still_steps.proofs.ResyncLaws.{ok-so}
-use Rattle.still_steps.proofs.NextLaws.{next-rebuild, held-due, resync-end, rebuild-end, undone-caused, stepped-wider}
+use Rattle.still_steps.proofs.NextLaws.{next-rebuild, next-same, held-due, resync-end, rebuild-end, undone-caused, stepped-wider}
 use Rattle.still_steps.proofs.stepping.still_step.Goals as goal
 
 -- no resync is pending, as was found
@@ -25,6 +25,10 @@ returns-then-is_some-clause-stepped g c =
     let b = c.resync_step.new.still in
     stepped-wider g.B.Bank.tells (g.B.Bank.given a.parts.bank) (g.B.Bank.tape a.parts.bank) (g.B.Bank.tape b.parts.bank) (IsHeldOrDue a.parts.work a.parts.members) (Held a.parts.members)
     (g.B.Bank.faults_of a.parts.bank) (g.B.Bank.faults_of b.parts.bank) a b (λ role slot held. inl held) c.resync_step.ensures.stepped
+
+pub rebuild_step-requires-clause-unbroken : goal.rebuild_step-requires-clause-unbroken
+rebuild_step-requires-clause-unbroken g c = λ ends.
+    c.requires.unbroken (next-same c.args.still.now.parts.work c.args.still.now.parts.members (none-pending c.resync.ensures.resync c.is_some.ensures c.if-is_some.false) ∙ ends)
 
 pub rebuild_step-requires-clause-pending : goal.rebuild_step-requires-clause-pending
 rebuild_step-requires-clause-pending g c = next-rebuild c.args.still.now.parts.work c.args.still.now.parts.members (none-pending c.resync.ensures.resync c.is_some.ensures c.if-is_some.false) c.requires.pending

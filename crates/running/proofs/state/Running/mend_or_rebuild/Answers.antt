@@ -1,5 +1,9 @@
-use Rattle.std.proofs.Common.{◌<◌, length, ap, sym, ◌∙◌, subst}
+use Rattle.std.proofs.Common.{◌≡◌, ◌<◌, length, ap, sym, ◌∙◌, subst}
+use Rattle.flat_history.specs.declared.events.StepKind.TheVariants.{RebuildEnded as EndsRebuild}
 use Rattle.views.specs.Status.{left_of}
+use Rattle.growing.specs.running_words_Calls.{moving_world}
+use Rattle.growing.specs.still_laws_Steps.{IsCallUnbroken}
+use Rattle.growing.specs.still_steps_Stepping.{next_kind}
 use Rattle.running.specs.State.{parts_in}
 use Rattle.running.proofs.Closed.{closed-stepped}
 use Rattle.running.proofs.Entered.{add-stepped}
@@ -9,6 +13,11 @@ use Rattle.running.proofs.state.Running.mend_or_rebuild.Goals as goal
 
 pub still_step-done-requires-clause-plans : goal.still_step-done-requires-clause-plans
 still_step-done-requires-clause-plans g c = let was = rw c.in-Still.is at c.self.invariant in was.plans
+
+pub still_step-done-requires-clause-unbroken : goal.still_step-done-requires-clause-unbroken
+still_step-done-requires-clause-unbroken g c =
+    subst (λ p. next_kind p.parts.work p.parts.members ≡ EndsRebuild → IsCallUnbroken g.B.Bank.tells (moving_world (g.B.Bank.given p.parts.bank) (g.B.Bank.tape p.parts.bank) p) p.parts.entries c.args.who)
+    (sym c.self.view_is ∙ ap (λ s. parts_in s) c.in-Still.is) c.requires.unbroken
 
 pub invariant_of-self : goal.invariant_of-self
 invariant_of-self g c =

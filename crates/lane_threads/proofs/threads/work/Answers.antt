@@ -1,4 +1,4 @@
-use Rattle.lane_blocks.proofs.threads.work.Goals as goal
+use Rattle.lane_threads.proofs.threads.work.Goals as goal
 
 pub returns-clause-worked : goal.returns-clause-worked
 returns-clause-worked g c =

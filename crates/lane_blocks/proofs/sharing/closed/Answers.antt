@@ -1,0 +1,6 @@
+use Rattle.shared_lanes.specs.Serving.{array_ways}
+use Rattle.lane_blocks.proofs.Rows.{each-as, as-many, ended-as}
+use Rattle.lane_blocks.proofs.sharing.closed.Goals as goal
+
+pub returns : goal.returns
+returns g c = ended-as (array_ways g.B.Bank.tells g.B.Bank.given g.B.Bank.tape g.B.Bank.faults_of) c.args.shared.lock.table.shared.key.value _ _ c.close.result c.put_back.ensures c.close.ensures
