@@ -112,11 +112,11 @@ fn show_answers<B: Bank, K: Sink>(
         }
         i += 1;
     }
-    session.stopped = if i < lines.len() {
-        Some(Stop::NoMemory)
-    } else {
-        None
-    };
+    if i < lines.len() {
+        session.stopped = Some(Stop::NoMemory);
+        return session;
+    }
+    session.stopped = None;
     session
 }
 
