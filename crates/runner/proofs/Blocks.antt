@@ -2,7 +2,7 @@
 use Rattle.std.proofs.Common.{◌≡◌, ◌≢◌, ◌⊎◌, inl, inr, ℕ, zero, suc, ◌+◌, ◌-◌, ◌<◌, ◌≤◌, ◌&&◌, Bool, true, false, Option, Some, None, List, [], ◌∷◌, ◌++◌, length, take, drop, MatchOption, refl, sym, ◌∙◌, ap, subst, arith, length-append}
 use Rattle.std.proofs.lemmas.List.Elements.{All-nil, All-cons, All-append, All-head, All-tail, All-weaker}
 use Rattle.std.proofs.Math.ListN.{get_or}
-use Rattle.std.proofs.Math.Seq.{take-append_seam, drop-append_seam, get_or-append_seam, get_or-append-add}
+use Rattle.std.proofs.Math.Seq.{drop-cons, take-append_seam, drop-append_seam, get_or-append_seam, get_or-append-add}
 use Rattle.std.specs.Prelude.{if◌then◌else◌, IsTrue, IsFalse}
 use Rattle.std.specs.List.{All, AllPass}
 use Rattle.flat_history.specs.declared.events.Entry.{Entry}
@@ -183,6 +183,27 @@ begins-block line lines ne is = by line.lane refl ne is
 -- behind a line of its own the others are in turn
 pub behind-line : (line : Numbered) (lines : List Numbered) → line.lane ≡ InScript → are_in_turn InScript (line ∷ lines) ≡ true → are_in_turn InScript lines ≡ true
 behind-line line lines lane is = both-true (may_follow InScript InScript) (are_in_turn InScript lines) (sym (ap (λ (l : Lane). may_follow InScript l && are_in_turn l lines) lane) ∙ is)
+
+-- so it is of a list that isn't empty
+pub begins : (lines : List Numbered) (nothing : Numbered) → 1 ≤ length lines → (get_or lines 0 nothing).lane ≢ InScript → are_in_turn InScript lines ≡ true → BeginsWithBlock lines
+begins [] nothing some ne is = absurd (omega (arith, some))
+begins (line ∷ lines) nothing some ne is = begins-block line lines ne is
+
+pub behind-first : (lines : List Numbered) (nothing : Numbered) → 1 ≤ length lines → (get_or lines 0 nothing).lane ≡ InScript → are_in_turn InScript lines ≡ true → are_in_turn InScript (drop 1 lines) ≡ true
+behind-first [] nothing some lane is = absurd (omega (arith, some))
+behind-first (line ∷ lines) nothing some lane is = behind-line line lines lane is
+
+pub first-alone : (lines : List Numbered) (nothing : Numbered) → 1 ≤ length lines → take 1 lines ≡ get_or lines 0 nothing ∷ []
+first-alone [] nothing some = absurd (omega (arith, some))
+first-alone (line ∷ lines) nothing some = refl
+
+-- ---- what is counted
+
+pub front-at : (lines : List Numbered) (i : ℕ) (nothing : Numbered) → i < length lines → front_length (drop i lines) ≡ (if is_of_a (get_or lines i nothing).lane then front_length (drop (suc i) lines) + 1 else 0)
+front-at lines i nothing lt = ap (λ (l : List Numbered). front_length l) (drop-cons lines i nothing lt)
+
+pub block-at : (lines : List Numbered) (i : ℕ) (nothing : Numbered) → i < length lines → block_length (drop i lines) ≡ (if is_of_worker (get_or lines i nothing).lane then 1 else block_length (drop (suc i) lines) + 1)
+block-at lines i nothing lt = ap (λ (l : List Numbered). block_length l) (drop-cons lines i nothing lt)
 
 -- ---- replies
 
