@@ -27,6 +27,14 @@ use std::alloc::Global;
 use std::sync::Wait;
 use std::thread::Threads;
 
+// The number of the epoch behind these.
+fn number_behind(epochs: &Vec<Epoch>) -> u32
+    requires few { length epochs.now.items < 2 ^ 32 }
+    ensures { result ≡ length epochs.now.items }
+{
+    epochs.len() as u32
+}
+
 // Appends the answers by a caller's replies, up to one for which memory was short. The room for them is there.
 fn push_places(whats: &mut Vec<Answered>, epoch: u32, replies: &[Reply])
     requires room { length whats.old.items + length replies.now ≤ vec_capacity whats.old }
@@ -115,7 +123,7 @@ fn answer_running<B: Bank + Drop + Send, F: Fn(u64, u64) -> u64 + Sync, R: Threa
 {
     let _ = backup;
     let _ = worker;
-    let epoch = epochs.len() as u32;
+    let epoch = number_behind(&epochs);
     let (array, answer) = ask_together(rt, alloc, array, first, second, pace);
     match answer {
         Ok(together) => {
