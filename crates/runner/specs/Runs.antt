@@ -5,8 +5,9 @@ use Rattle.std.specs.Option.{option_map_or}
 use Rattle.flat_history.specs.declared.events.Epoch.{Epoch}
 use Rattle.flat_history.specs.declared.events.Event.TheVariants.{Halted}
 use Rattle.flat_history.specs.Flat.{last_of}
-use Rattle.script.specs.Script.{script_of}
+use Rattle.script.specs.Script.{script_with}
 use Rattle.script.specs.declared.lines.Numbered.{Numbered}
+use Rattle.script.specs.declared.reply.Lane.TheVariants.{Script as InScript}
 use Rattle.line_answers.specs.run_laws_the_LineReply.{LineReply}
 use Rattle.runner.specs.declared.sessions.Stop.{Stop}
 use Rattle.runner.specs.declared.sessions.Stop.TheVariants.{WriteFault, NoMemory as WantsMemory}
@@ -40,7 +41,7 @@ IsHalted number history = MatchOption (last_of history.entries) ⊥ (λ e. (e.ca
 -- There are as many histories as arrays were opened. Where the last array still ran, it was halted by the call behind the script's others.
 pub record AreHalted (course : Course) (histories : List History) : Type 0 where
   pub count : length histories ≡ course.opened
-  pub halted : IsTrue course.running → MatchOption (slice_get histories (length histories - 1)) ⊥ (λ history. IsHalted course.calls history)
+  pub halted : IsTrue course.running → MatchOption (slice_get histories (length histories - 1)) ⊥ (λ history. IsHalted (course.calls InScript) history)
 
 -- The lines were performed one after another, up to the last or to where the run stopped, and the array was halted. The replies are
 -- there but for that of a line for which memory was short. From line to line there is a record of the array that runs, by which each answer has its cause.
@@ -83,7 +84,7 @@ pub record IsScriptPerformed (source_tells : Type 0) (old new : List ℕ) (setti
   pub text : List ℕ
   pub read : IsTextOf source_tells old new text
   pub asked : List Numbered
-  pub parsed : script_of text ≡ Ok asked
+  pub parsed : script_with true text ≡ Ok asked
   pub performed : AreLinesPerformed setting asked (stop_of status) epochs lines
   pub shown : AreShown sunk status asked epochs lines
 
@@ -91,7 +92,7 @@ pub record IsScriptPerformed (source_tells : Type 0) (old new : List ℕ) (setti
 pub record IsScriptBad (tells : Type 0) (old new : List ℕ) (line : ℕ) : Type 0 where
   pub text : List ℕ
   pub read : IsTextOf tells old new text
-  pub bad : script_of text ≡ Err line
+  pub bad : script_with true text ≡ Err line
 
 -- each loss and each refusal that is told has its cause, by the entries before it
 abbrev pub AreLossesFailed : Setting → List Epoch → Type 0
