@@ -1,8 +1,9 @@
 -- The records of the array that runs, from line to line: what a call leaves, that they stay such as histories grow and over a longer time, and that one line more has one more.
-use Rattle.std.proofs.Common.{◌≡◌, inl, inr, ℕ, ◌+◌, false, Option, Some, None, Result, Ok, Err, List, [], ◌∷◌, ◌++◌, length, drop, refl, sym, ◌∙◌, ap, subst, append_assoc}
+use Rattle.std.proofs.Common.{◌≡◌, ◌≢◌, inl, inr, ℕ, ◌+◌, ◌≤◌, false, Option, Some, None, Result, Ok, Err, List, [], ◌∷◌, ◌++◌, length, take, drop, refl, sym, ◌∙◌, ap, subst, arith, append_assoc}
 use Rattle.std.proofs.Math.Seq.{drop-append_seam}
+use Rattle.std.proofs.lemmas.List.Elements.{All-head, All-tail}
 use Rattle.std.specs.Prelude.{slice_get, IfOk, IsTrue, MatchOption}
-use Rattle.std.specs.List.{list_any}
+use Rattle.std.specs.List.{All, list_any}
 use Rattle.std.specs.Option.{option_map_or}
 use Rattle.md_base.specs.declared.answers.NoMemory.{NoMemory}
 use Rattle.md_base.specs.declared.answers.Who.{Who}
@@ -219,9 +220,39 @@ records-stay was now wider olds news grown old (line ∷ lines) [] last is = abs
 records-stay was now wider olds news grown old (line ∷ lines) (reply ∷ replies) last (next, here, more) =
     (next, in-wider was now wider news line.lane line.line reply.what old next (in-grown was olds news grown line.lane line.line reply.what old next here), records-stay was now wider olds news grown next lines replies last more)
 
-pub records-more : (setting : Setting) (histories : List History) (old : Option Record) (lines : List Numbered) (replies : List LineReply) (mid : Option Record) (line : Numbered) (reply : LineReply) (last : Option Record)
-    → AreRecorded setting histories old lines replies mid → IsRecordedIn setting histories line.lane line.line reply.what mid last → AreRecorded setting histories old (lines ++ line ∷ []) (replies ++ reply ∷ []) last
-records-more setting histories old [] [] mid line reply last is here = (last, subst (λ (o : Option Record). IsRecordedIn setting histories line.lane line.line reply.what o last) is here, refl)
-records-more setting histories old [] (r ∷ replies) mid line reply last is here = absurd is
-records-more setting histories old (l ∷ lines) [] mid line reply last is here = absurd is
-records-more setting histories old (l ∷ lines) (r ∷ replies) mid line reply last (next, one, rest) here = (next, one, records-more setting histories next lines replies mid line reply last rest here)
+-- one part behind another
+pub records-both : (setting : Setting) (histories : List History) (old mid last : Option Record) (lines : List Numbered) (replies : List LineReply) (others : List Numbered) (more : List LineReply)
+    → AreRecorded setting histories old lines replies mid → AreRecorded setting histories mid others more last → AreRecorded setting histories old (lines ++ others) (replies ++ more) last
+records-both setting histories old mid last [] [] others more is behind = subst (λ (o : Option Record). AreRecorded setting histories o others more last) is behind
+records-both setting histories old mid last [] (r ∷ replies) others more is behind = absurd is
+records-both setting histories old mid last (l ∷ lines) [] others more is behind = absurd is
+records-both setting histories old mid last (l ∷ lines) (r ∷ replies) others more (next, one, rest) behind = (next, one, records-both setting histories next mid last lines replies others more rest behind)
+
+-- those of a block's lines: of none is anything said, so the first may leave any
+in-block : (setting : Setting) (histories : List History) (lane : Lane) (line : Line) (what : Answered) (old new : Option Record) → lane ≢ InScript → IsRecordedIn setting histories lane line what old new
+in-block setting histories InScript line what old new ne = absurd (ne refl)
+in-block setting histories lane line what old new ne = tt
+
+records-same : (setting : Setting) (histories : List History) (now : Option Record) (lines : List Numbered) (replies : List LineReply) → length replies ≤ length lines → All (λ line. line.lane ≢ InScript) lines
+    → AreRecorded setting histories now (take (length replies) lines) replies now
+records-same setting histories now lines [] few lanes = refl
+records-same setting histories now [] (reply ∷ replies) few lanes = absurd (omega (arith, few))
+records-same setting histories now (line ∷ lines) (reply ∷ replies) few lanes = (
+  now,
+  in-block setting histories line.lane line.line reply.what now now (All-head (λ line. line.lane ≢ InScript) line lines lanes),
+  records-same setting histories now lines replies (omega (arith, few)) (All-tail (λ line. line.lane ≢ InScript) line lines lanes),
+)
+
+pub records-beside : (setting : Setting) (histories : List History) (old new : Option Record) (lines : List Numbered) (replies : List LineReply) → length replies ≤ length lines → All (λ line. line.lane ≢ InScript) lines
+    → (last : Option Record) × AreRecorded setting histories old (take (length replies) lines) replies last × (1 ≤ length replies → last ≡ new)
+records-beside setting histories old new lines [] few lanes = (old, refl, λ some. absurd (omega (arith, some)))
+records-beside setting histories old new [] (reply ∷ replies) few lanes = absurd (omega (arith, few))
+records-beside setting histories old new (line ∷ lines) (reply ∷ replies) few lanes = (
+  new,
+  (
+    new,
+    in-block setting histories line.lane line.line reply.what old new (All-head (λ line. line.lane ≢ InScript) line lines lanes),
+    records-same setting histories new lines replies (omega (arith, few)) (All-tail (λ line. line.lane ≢ InScript) line lines lanes),
+  ),
+  λ some. refl,
+)
