@@ -37,7 +37,7 @@ use Rattle.line_answers.proofs.run_laws_Growth.{IsWider, answer_wider, replies_s
 use Rattle.line_answers.specs.run_laws_Caused.{Record}
 use Rattle.line_answers.specs.run_laws_Records.{IsRecorded, IsRecordedIn, AreRecorded}
 use Rattle.line_answers.proofs.run_laws_RecordLaws.{recorded-wider, records-stay, records-both, records-beside}
-use Rattle.runner.proofs.Blocks.{block-lanes, made-few, made-replies, made-course, made-beside, ordered, order-then, all-at}
+use Rattle.runner.proofs.BlockReplies.{block-lanes, made-few, made-replies, made-course, made-beside, ordered, order-then, all-at}
 use Rattle.runner.proofs.ShownLaws.{shown_stays, text_more, text_both, text_front, refusal_more, refusal_both, refusal_front}
 use Rattle.runner.specs.Writes.{AreWritesPlaced}
 use Rattle.line_answers.proofs.run_laws_Losses.{losses_add}
