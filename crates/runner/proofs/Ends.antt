@@ -38,6 +38,7 @@ use Rattle.line_answers.proofs.run_laws_AskLaws.{one, with_reply}
 use Rattle.line_answers.proofs.run_laws_Legal.{grows_longer}
 use Rattle.runner.proofs.WritesPlaced.{placed-end, quiet-between}
 use Rattle.line_answers.proofs.run_laws_Growth.{IsWider, replies_stay, replies_front, courses_stay, cut_stays}
+use Rattle.line_answers.proofs.run_laws_RecordLaws.{records-stay}
 use Rattle.runner.proofs.ShownLaws.{shown_stays}
 use Rattle.line_answers.proofs.run_laws_Turned.{asked-tellable, halt-told}
 use Rattle.line_answers.proofs.run_laws_Losses.{losses-halted, losses-whole, losses-kept, losses-last, losses_add}
@@ -163,6 +164,9 @@ module _ {B bank_tells : Type 0} {given : Given} {backup : Option ℕ} {tape : L
     all = λ going. all (sym is_stop ∙ going);
     replies = replies_stay (setting_of bank_tells given first_tape tape backup start now) (setting_of bank_tells given first_tape tape backup start now) same_setting (histories_in session.state) (histories_of epochs) (at_rest 0) (take (length session.replies.items) lines) session.replies.items
         ended.grown performed.replies;
+    last = performed.last;
+    recorded = records-stay (setting_of bank_tells given first_tape tape backup start now) (setting_of bank_tells given first_tape tape backup start now) same_setting (histories_in session.state) (histories_of epochs) ended.grown None (take (length session.replies.items) lines) session.replies.items
+        performed.last performed.recorded;
     course = course_in session.state;
     told = subst (λ (o : Option Stop). IsCourse o (histories_of epochs) behind (told_by (histories_of epochs)) (course_in session.state)) (sym is_stop) (by_stop session.stopped performed.course);
     halted = ended.halted;

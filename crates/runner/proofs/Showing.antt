@@ -14,7 +14,7 @@ use Rattle.runner.specs.declared.sessions.Stop.{Stop}
 use Rattle.runner.specs.declared.sessions.Stop.TheVariants.{WriteFault, NoMemory as WantsMemory}
 use Rattle.runner.specs.Shown.{reply_text, report_text, is_refusal, has_refusal}
 use Rattle.runner.specs.Sessions.{counted, taken_whole, IsTaken, IsMadeOf, AreMadeOf, IsTextShown, IsOneShown, IsShownBy, AreShownOf, AreAllMade}
-use Rattle.runner.proofs.Blocks.{made-more}
+use Rattle.runner.proofs.BlockReplies.{made-more}
 use Rattle.runner.proofs.ShownLaws.{text_more, refusal_more, or_and_or}
 use Rattle.runner.proofs.Steps.{counted_more}
 

@@ -31,10 +31,13 @@ use Rattle.line_answers.specs.run_laws_Making.{Setting, setting_of}
 use Rattle.line_answers.proofs.run_laws_Legal.{grows_longer}
 use Rattle.line_answers.specs.run_laws_Replies.{Course, at_rest, course_after, course_of, IsAnswer, IsAnswerIn, mark_reached, mark_shown, IsEnd, IsReplyTo, AreReplies, AreInOrder}
 use Rattle.runner.specs.Shown.{reply_text, report_text, has_refusal}
-use Rattle.line_answers.specs.run_laws_States.{histories_in, course_in, RunsOwn, IsOfScript, AreOfScript, AreLossesFrom, AreGrown, EndsBetween, IsCourseShort, IsBeside, AreAnswersBeside, course_beside}
+use Rattle.line_answers.specs.run_laws_States.{histories_in, course_in, record_in, RunsOwn, IsOfScript, AreOfScript, AreLossesFrom, AreGrown, EndsBetween, IsCourseShort, IsBeside, AreAnswersBeside, course_beside}
 use Rattle.runner.specs.Sessions.{counted, IsEndNow, IsUnreplied, IsReplyMore, IsStep, IsLineStep, IsBlockStep, IsTurnStep, AreAllMade, IsCourse, IsCutIn, IsInBlock, taken_whole, IsTaken, IsStopCause, IsCourseBehind, IsPerformed, IsShownTo}
 use Rattle.line_answers.proofs.run_laws_Growth.{IsWider, answer_wider, replies_stay, replies_more, replies_both, course_more, course_both, courses_stay}
-use Rattle.runner.proofs.Blocks.{block-lanes, made-few, made-replies, made-course, made-beside, ordered, order-then, all-at}
+use Rattle.line_answers.specs.run_laws_Caused.{Record}
+use Rattle.line_answers.specs.run_laws_Records.{IsRecorded, IsRecordedIn, AreRecorded}
+use Rattle.line_answers.proofs.run_laws_RecordLaws.{recorded-wider, records-stay, records-both, records-beside}
+use Rattle.runner.proofs.BlockReplies.{block-lanes, made-few, made-replies, made-course, made-beside, ordered, order-then, all-at}
 use Rattle.runner.proofs.ShownLaws.{shown_stays, text_more, text_both, text_front, refusal_more, refusal_both, refusal_front}
 use Rattle.runner.specs.Writes.{AreWritesPlaced}
 use Rattle.line_answers.proofs.run_laws_Losses.{losses_add}
@@ -97,6 +100,11 @@ module _ {B bank_tells : Type 0} {given : Given} {backup : Option ℕ} {first_ta
       replies_stay (setting_of bank_tells given first_tape mid_tape backup start mid) (setting_of bank_tells given first_tape tape backup start now) wider_was (histories_in old.state) (histories_in new.state) (at_rest 0) (take (length old.replies.items) lines) old.replies.items grown
       performed.replies
 
+  -- and so do the records between them
+  pub records_still : AreGrown (histories_in old.state) (histories_in new.state) → AreRecorded (setting_of bank_tells given first_tape tape backup start now) (histories_in new.state) None lines_before old.replies.items performed.last
+  records_still grown =
+      records-stay (setting_of bank_tells given first_tape mid_tape backup start mid) (setting_of bank_tells given first_tape tape backup start now) wider_was (histories_in old.state) (histories_in new.state) grown None lines_before old.replies.items performed.last performed.recorded
+
   pub shown_still : AreGrown (histories_in old.state) (histories_in new.state)
       → (report_text (histories_in new.state) lines old.replies.items ≡ report_text (histories_in old.state) lines old.replies.items)
       × (has_refusal (histories_in new.state) lines old.replies.items ≡ has_refusal (histories_in old.state) lines old.replies.items)
@@ -147,6 +155,17 @@ module _ {B bank_tells : Type 0} {given : Given} {backup : Option ℕ} {first_ta
           (subst (λ (rs : List LineReply). AreReplies (setting_of bank_tells given first_tape tape backup start now) (histories_in new.state) (at_rest 0) (take (length old.replies.items) lines ++ numbered ∷ []) rs) (sym is.more)
           (replies_more (setting_of bank_tells given first_tape tape backup start now) (histories_in new.state) (at_rest 0) (take (length old.replies.items) lines) old.replies.items numbered is.made.reply (replies_still is.replied.turn.grown) reply_to))
 
+      recorded_here : IsRecordedIn (setting_of bank_tells given first_tape tape backup start now) (histories_in new.state) numbered.lane numbered.line is.made.reply.what performed.last (record_in new.state)
+      recorded_here = subst (λ (l : Lane). IsRecordedIn (setting_of bank_tells given first_tape tape backup start now) (histories_in new.state) l numbered.line is.made.reply.what performed.last (record_in new.state)) (sym script)
+          (recorded-wider (setting_of bank_tells given mid_tape tape backup mid now) (setting_of bank_tells given first_tape tape backup start now) wider_step (histories_in new.state) numbered.line is.made.reply.what performed.last (record_in new.state)
+          (subst (λ (o : Option Record). IsRecorded (setting_of bank_tells given mid_tape tape backup mid now) (histories_in new.state) numbered.line is.made.reply.what o (record_in new.state)) (sym (performed.recorded_now going)) is.replied.turn.recorded))
+
+      recorded_new : AreRecorded (setting_of bank_tells given first_tape tape backup start now) (histories_in new.state) None (take (length new.replies.items) lines) new.replies.items (record_in new.state)
+      recorded_new = subst (λ (ls : List Numbered). AreRecorded (setting_of bank_tells given first_tape tape backup start now) (histories_in new.state) None ls new.replies.items (record_in new.state)) (sym lines_taken)
+          (subst (λ (rs : List LineReply). AreRecorded (setting_of bank_tells given first_tape tape backup start now) (histories_in new.state) None (take (length old.replies.items) lines ++ numbered ∷ []) rs (record_in new.state)) (sym is.more)
+          (records-both (setting_of bank_tells given first_tape tape backup start now) (histories_in new.state) None performed.last (record_in new.state) (take (length old.replies.items) lines) old.replies.items (numbered ∷ []) (is.made.reply ∷ []) (records_still is.replied.turn.grown)
+          (record_in new.state, recorded_here, refl)))
+
       course_new : course_in new.state ≡ course_of (histories_in new.state) (at_rest 0) (take (length new.replies.items) lines) new.replies.items
       course_new = is.replied.turn.course ∙ ap (λ (c : Course). course_after (histories_in new.state) c InScript numbered.line is.made.reply.what) (course_still is.replied.turn.grown)
           ∙ ap (λ (l : Lane). course_after (histories_in new.state) (told_before (histories_in new.state)) l numbered.line is.made.reply.what) (sym script)
@@ -167,6 +186,9 @@ module _ {B bank_tells : Type 0} {given : Given} {backup : Option ℕ} {first_ta
         replies = replies_new;
         course = subst (λ (x : Option Stop). IsCourse x (histories_in new.state) (drop (length new.replies.items) lines) (course_of (histories_in new.state) (at_rest 0) (take (length new.replies.items) lines) new.replies.items) (course_in new.state)) (sym stop)
             (course (course_of (histories_in new.state) (at_rest 0) (take (length new.replies.items) lines) new.replies.items) (course_in new.state) course_new);
+        last = record_in new.state;
+        recorded = recorded_new;
+        recorded_now = λ none. refl;
         losses = losses_add (setting_of bank_tells given first_tape mid_tape backup start mid) (setting_of bank_tells given mid_tape tape backup mid now) (setting_of bank_tells given first_tape tape backup start now) wider_was wider_step (histories_in old.state) (histories_in new.state) is.replied.turn.grown performed.losses is.replied.turn.losses;
         ends = ends_new;
         refused = refused_new;
@@ -187,6 +209,9 @@ module _ {B bank_tells : Type 0} {given : Given} {backup : Option ℕ} {first_ta
       replies = subst (λ (rs : List LineReply). AreReplies (setting_of bank_tells given first_tape tape backup start now) (histories_in new.state) (at_rest 0) (take (length rs) lines) rs) (sym same) (replies_still none.grown);
       course = subst (λ (x : Option Stop). IsCourse x (histories_in new.state) (drop (length new.replies.items) lines) (course_of (histories_in new.state) (at_rest 0) (take (length new.replies.items) lines) new.replies.items) (course_in new.state)) (sym stop)
           (subst (λ (rs : List LineReply). IsCourse (Some WantsMemory) (histories_in new.state) (drop (length rs) lines) (course_of (histories_in new.state) (at_rest 0) (take (length rs) lines) rs) (course_in new.state)) (sym same) (by_course none.course));
+      last = performed.last;
+      recorded = subst (λ (rs : List LineReply). AreRecorded (setting_of bank_tells given first_tape tape backup start now) (histories_in new.state) None (take (length rs) lines) rs performed.last) (sym same) (records_still none.grown);
+      recorded_now = λ going_on. absurd (let both : Some WantsMemory ≡ None = sym stop ∙ going_on in cc);
       losses = losses_add (setting_of bank_tells given first_tape mid_tape backup start mid) (setting_of bank_tells given mid_tape tape backup mid now) (setting_of bank_tells given first_tape tape backup start now) wider_was wider_step (histories_in old.state) (histories_in new.state) none.grown performed.losses none.losses;
       ends = λ t. subst (λ (rs : List LineReply). AreInOrder (length first_tape) (length tape) rs) (sym same) (order_later (length first_tape) (length mid_tape) (length tape) old.replies.items (grows_longer grew t) (performed.ends t));
       refused = refused ∙ performed.refused ∙ sym ((shown_still none.grown).1) ∙ ap (λ (rs : List LineReply). has_refusal (histories_in new.state) lines rs) (sym same);
@@ -335,6 +360,23 @@ module _ {B bank_tells : Type 0} {given : Given} {backup : Option ℕ} {first_ta
         (replies_both wide hs (at_rest 0) (take n lines) old.replies.items (take m rest) made (replies_still grown)
         (subst (λ (ls : List Numbered). AreReplies wide hs (told_before hs) ls made) front (made-replies wide hs (told_before hs) block did.whats made lanes answers did.shown.shown.told))))
 
+    -- the record behind them is any: where the run goes on, that of the array that runs now
+    beside_records : (last : Option Record) × AreRecorded wide hs performed.last (take m block) made last × (1 ≤ m → last ≡ record_in new.state)
+    beside_records = records-beside wide hs performed.last (record_in new.state) block made few.0 lanes
+
+    abbrev last_now : Option Record
+    last_now = beside_records.0
+
+    block_recorded : AreRecorded wide hs None (take (length new.replies.items) lines) new.replies.items last_now
+    block_recorded = subst (λ (ls : List Numbered). AreRecorded wide hs None ls new.replies.items last_now) (sym lines_are)
+        (subst (λ (rs : List LineReply). AreRecorded wide hs None (take n lines ++ take m rest) rs last_now) (sym did.shown.shown.more)
+        (records-both wide hs None performed.last last_now (take n lines) old.replies.items (take m rest) made (records_still grown)
+        (subst (λ (ls : List Numbered). AreRecorded wide hs performed.last ls made last_now) front beside_records.1)))
+
+    last_is : (o : Option Stop) → o ≡ None → AreAllMade o (length block) m → last_now ≡ record_in new.state
+    last_is None goes all = beside_records.2 (omega (arith, all, block_long, some))
+    last_is (Some stop) goes all = absurd (cc)
+
     -- where the run stands by the replies
     abbrev told_now : Course
     told_now = course_of hs (at_rest 0) (take (length new.replies.items) lines) new.replies.items
@@ -402,6 +444,9 @@ module _ {B bank_tells : Type 0} {given : Given} {backup : Option ℕ} {first_ta
       few = omega (arith, longer, few_made, fits);
       replies = block_replies;
       course = block_course new.stopped did.shown.all;
+      last = last_now;
+      recorded = block_recorded;
+      recorded_now = λ goes. last_is new.stopped goes did.shown.all;
       losses = losses_add (setting_of bank_tells given first_tape mid_tape backup start mid) (setting_of bank_tells given mid_tape tape backup mid now) wide wider_was wider_step (histories_in old.state) hs grown performed.losses did.answered.turn.losses;
       ends = block_ends;
       refused = block_refused;
@@ -516,6 +561,9 @@ performed_none {B = B} {bank_tells = bank_tells} {given = given} {backup = backu
   replies = subst (λ (rs : List LineReply). AreReplies (setting_of bank_tells given tape tape backup start start) (histories_in session.state) (at_rest 0) (take (length rs) lines) rs) (sym none) tt;
   course = subst (λ (o : Option Stop). IsCourse o (histories_in session.state) (drop (length session.replies.items) lines) (course_of (histories_in session.state) (at_rest 0) (take (length session.replies.items) lines) session.replies.items) (course_in session.state)) (sym going)
       (course_told _ _ _ _ o (ap (λ (s : State B). course_in s) idle ∙ ap (λ (l : List Epoch). at_rest (length l)) empty ∙ ap (λ (rs : List LineReply). course_of (histories_in session.state) (at_rest 0) (take (length rs) lines) rs) (sym none)));
+  last = None;
+  recorded = subst (λ (rs : List LineReply). AreRecorded (setting_of bank_tells given tape tape backup start start) (histories_in session.state) None (take (length rs) lines) rs None) (sym none) refl;
+  recorded_now = λ going_on. sym (ap (λ (s : State B). record_in s) idle);
   losses = subst (λ (s : State B). AreLossesFrom (setting_of bank_tells given tape tape backup start start) [] (histories_in s)) (sym idle) (subst (λ (l : List Epoch). AreLossesFrom (setting_of bank_tells given tape tape backup start start) [] (histories_of l)) (sym empty) tt);
   ends = λ t. subst (λ (rs : List LineReply). AreInOrder (length tape) (length tape) rs) (sym none) (omega arith);
   refused = refused ∙ ap (λ (rs : List LineReply). has_refusal (histories_in session.state) lines rs) (sym none);

@@ -18,9 +18,11 @@ use Rattle.runner.specs.declared.sessions.Stop.TheVariants.{WriteFault, NoMemory
 use Rattle.runner.specs.declared.sessions.Session.{Session}
 use Rattle.line_answers.specs.run_laws_Histories.{History}
 use Rattle.line_answers.specs.run_laws_Making.{Setting}
+use Rattle.line_answers.specs.run_laws_Caused.{Record}
+use Rattle.line_answers.specs.run_laws_Records.{AreRecorded}
 use Rattle.line_answers.specs.run_laws_Replies.{Course, at_rest, course_of, IsEnd, AreReplies, AreInOrder}
 use Rattle.runner.specs.Shown.{reply_text, report_text, is_refusal, has_refusal}
-use Rattle.line_answers.specs.run_laws_States.{histories_in, course_in, RunsOwn, AreLossesFrom, AreGrown, IsCutShort, IsCourseShort, IsTurn, IsBeside, IsBlockAnswered}
+use Rattle.line_answers.specs.run_laws_States.{histories_in, course_in, record_in, RunsOwn, AreLossesFrom, AreGrown, IsCutShort, IsCourseShort, IsTurn, IsBeside, IsBlockAnswered}
 use Rattle.line_answers.specs.run_laws_Written.{MayWrite, HasWritten, IsWritten}
 use Rattle.runner.specs.Writes.{AreWritesPlaced}
 
@@ -221,13 +223,16 @@ IsStopCause None before now = ⊤
 IsStopCause (Some WriteFault) before now = HasRisen before now
 IsStopCause (Some WantsMemory) before now = ⊤
 
--- The first lines were performed, from a bank without an array on, and each got its reply.
+-- The first lines were performed, from a bank without an array on, and each got its reply; there is a record of the array that runs from line to line, the last of which is what it is now.
 pub record IsPerformed {B : Type 0} (setting : Setting) (lines : List Numbered) (session : Session B) : Type 0 where
   pub own : RunsOwn session.state
   pub few : length session.replies.items ≤ length lines
   pub replies : AreReplies setting (histories_in session.state) (at_rest 0) (take (length session.replies.items) lines) session.replies.items
   pub course : IsCourse session.stopped (histories_in session.state) (drop (length session.replies.items) lines)
       (course_of (histories_in session.state) (at_rest 0) (take (length session.replies.items) lines) session.replies.items) (course_in session.state)
+  pub last : Option Record
+  pub recorded : AreRecorded setting (histories_in session.state) None (take (length session.replies.items) lines) session.replies.items last
+  pub recorded_now : session.stopped ≡ None → last ≡ record_in session.state
   pub losses : AreLossesFrom setting [] (histories_in session.state)
   pub ends : setting.tells → AreInOrder setting.began (length setting.tape) session.replies.items
   pub refused : session.refused ≡ has_refusal (histories_in session.state) lines session.replies.items
