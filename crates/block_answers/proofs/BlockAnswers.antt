@@ -51,7 +51,7 @@ snoc-length : {X : Type 0} (xs : List X) (x : X) → length (xs ++ x ∷ []) ≡
 snoc-length xs x = length-append xs (x ∷ [])
 
 not-empty : {X : Type 0} (xs : List X) (x : X) → xs ++ x ∷ [] ≡ [] → ⊥
-not-empty xs x is = absurd (let long = ap (λ l. length l) is in let one = snoc-length xs x in omega (arith, long, one))
+not-empty {X = X} xs x is = absurd (let long = ap (λ (l : List X). length l) is in let one = snoc-length xs x in omega (arith, long, one))
 
 -- the last of these numbers
 abbrev last_of_them : List ℕ → ℕ
@@ -63,6 +63,9 @@ last-snoc : (xs : List ℕ) (x : ℕ) → last_of_them (xs ++ x ∷ []) ≡ x
 last-snoc [] x = refl
 last-snoc (y ∷ []) x = refl
 last-snoc (y ∷ z ∷ xs) x = last-snoc (z ∷ xs) x
+
+differ : (n m : ℕ) → (n == m) ≡ false → n ≢ m
+differ n m is same = absurd (let both : (n == m) ≡ true = eq-eqb n m same in let clash : true ≡ false = sym both ∙ is in cc)
 
 -- a list is empty, or has a last element
 split-last : (xs : List Entry) → (xs ≡ []) ⊎ ((front : List Entry) × (e : Entry) × (xs ≡ front ++ e ∷ []))
@@ -111,22 +114,20 @@ here (x ∷ xs) e more = here xs e more
 -- so it is of each reply
 ends-from : (before xs : List Entry) (c start mark : ℕ) → start ≡ length before → RepliesFrom mark xs → All (WasFrom mark (before ++ xs)) (reply_places c start xs)
 ends-from before [] c start mark same from = All-nil (WasFrom mark (before ++ []))
-ends-from before (e ∷ xs) c start mark same (first, from) = by (e.caller == c) (ends_call e xs) refl
+ends-from before (e ∷ xs) c start mark same (first, from) =
+    by
+    (subst (λ (l : List Entry). All (WasFrom mark l) (reply_places c (start + 1) xs)) (append_assoc before (e ∷ []) xs)
+    (ends-from (before ++ e ∷ []) xs c (start + 1) mark (let long = snoc-length before e in omega (arith, long, same)) from))
+    (e.caller == c) (ends_call e xs) refl
   where
-    apart : (before ++ e ∷ []) ++ xs ≡ before ++ e ∷ xs
-    apart = append_assoc before (e ∷ []) xs
-
-    rest : All (WasFrom mark (before ++ e ∷ xs)) (reply_places c (start + 1) xs)
-    rest = subst (λ (l : List Entry). All (WasFrom mark l) (reply_places c (start + 1) xs)) apart
-        (ends-from (before ++ e ∷ []) xs c (start + 1) mark (let long = snoc-length before e in omega (arith, long, same)) from)
-
     there : mark ≤ e.end → WasFrom mark (before ++ e ∷ xs) start
     there le = subst (λ (n : ℕ). WasFrom mark (before ++ e ∷ xs) n) (sym same) (subst (λ (o : Option Entry). MatchOption o ⊥ (λ e. mark ≤ e.end)) (sym (here before e xs)) le)
 
-    by : (a b : Bool) → ends_call e xs ≡ b → All (WasFrom mark (before ++ e ∷ xs)) (if a && b then start ∷ reply_places c (start + 1) xs else reply_places c (start + 1) xs)
-    by true true is = All-cons (WasFrom mark (before ++ e ∷ xs)) start (reply_places c (start + 1) xs) (there (first is)) rest
-    by true false is = rest
-    by false b is = rest
+    by : All (WasFrom mark (before ++ e ∷ xs)) (reply_places c (start + 1) xs) → (a b : Bool) → ends_call e xs ≡ b
+        → All (WasFrom mark (before ++ e ∷ xs)) (if a && b then start ∷ reply_places c (start + 1) xs else reply_places c (start + 1) xs)
+    by rest true true is = All-cons (WasFrom mark (before ++ e ∷ xs)) start (reply_places c (start + 1) xs) (there (first is)) rest
+    by rest true false is = rest
+    by rest false b is = rest
 
 -- ---- how far replies reach
 
@@ -216,13 +217,16 @@ module _ (size : ℕ) (entries : List Entry) where
       → (earlier : List ℕ) × IsWorkedAt size entries earlier at number × (places_told (map replied (before ++ (most, Done at event) ∷ [])) ≡ earlier ++ at ∷ []) × (length earlier ≡ length before) × (leaves_more_at entries at ≡ leaves_more event)
   worked-at answers turn left number [] most at event ((reply, told), done) turns = ([], (most, reply), refl, refl, leaves-at reply told)
   worked-at answers turn left number ((m, Short) ∷ before) most at event was turns = absurd (not-empty before (most, Done at event) turns.1)
-  worked-at answers turn left number ((m, Done p ev) ∷ before) most at event ((reply, told), rest) turns = by (left_behind (Done p ev)) refl turns.1
+  worked-at answers turn left number ((m, Done p ev) ∷ before) most at event ((reply, told), rest) turns =
+      by (left_behind (Done p ev)) refl turns.1 (λ more next. worked-at answers (turn + 1) more (number + 1) before most at event rest next)
     where
       by : (o : Option ℕ) → left_behind (Done p ev) ≡ o → MatchOption o (before ++ (most, Done at event) ∷ [] ≡ []) (λ more. AreTurns answers (turn + 1) more (before ++ (most, Done at event) ∷ []))
+          → ((more : ℕ) → AreTurns answers (turn + 1) more (before ++ (most, Done at event) ∷ []) → (earlier : List ℕ) × IsWorkedAt size entries earlier at (number + 1)
+          × (places_told (map replied (before ++ (most, Done at event) ∷ [])) ≡ earlier ++ at ∷ []) × (length earlier ≡ length before) × (leaves_more_at entries at ≡ leaves_more event))
           → (earlier : List ℕ) × IsWorkedAt size entries earlier at number × (places_told (map replied ((m, Done p ev) ∷ before ++ (most, Done at event) ∷ [])) ≡ earlier ++ at ∷ []) × (length earlier ≡ length ((m, Done p ev) ∷ before)) × (leaves_more_at entries at ≡ leaves_more event)
-      by None is none = absurd (not-empty before (most, Done at event) none)
-      by (Some more) is turns =
-          let now = worked-at answers (turn + 1) more (number + 1) before most at event rest turns in
+      by None is none again = absurd (not-empty before (most, Done at event) none)
+      by (Some more) is turns again =
+          let now = again more turns in
           let count = now.3 in (
             p ∷ now.0,
             ((m, reply), leaves-at reply told ∙ leaves-told p ev more is, now.1),
@@ -233,10 +237,13 @@ module _ (size : ℕ) (entries : List Entry) where
 
   -- the last of them
   worked-last : (earlier : List ℕ) (at number : ℕ) → IsWorkedAt size entries earlier at number → (most : ℕ) × IsCallersReply size entries 255 (number + length earlier) at (AsksSteps most)
-  worked-last [] at number (most, reply) = (most, subst (λ (n : ℕ). IsCallersReply size entries 255 n at (AsksSteps most)) (omega arith) reply)
+  worked-last [] at number (most, reply) =
+      let same : number ≡ number + 0 = omega arith in
+      (most, subst (λ (n : ℕ). IsCallersReply size entries 255 n at (AsksSteps most)) same reply)
   worked-last (first ∷ others) at number (one, going, rest) =
       let last = worked-last others at (number + 1) rest in
-      (last.0, subst (λ (n : ℕ). IsCallersReply size entries 255 n at (AsksSteps last.0)) (omega arith) last.1)
+      let same : number + 1 + length others ≡ number + length (first ∷ others) = omega arith in
+      (last.0, subst (λ (n : ℕ). IsCallersReply size entries 255 n at (AsksSteps last.0)) same last.1)
 
 -- ---- the lanes
 
@@ -295,7 +302,8 @@ module _ {B : Type 0} (old new : RunningParts B) (epochs : Vec Epoch) where
   -- the latest of two beginnings
   longer-is : (r place : ℕ) → r ≤ length entries → place < length entries → longer_of (take r entries) (take (place + 1) entries) ≡ take (reach r place) entries
   longer-is r place le lt =
-      (λ i. if nat_lt (length-take-le r entries le i) (length-take-le (place + 1) entries (omega (arith, lt)) i) then take (place + 1) entries else take r entries)
+      ap (λ (n : ℕ). if nat_lt n (length (take (place + 1) entries)) then take (place + 1) entries else take r entries) (length-take-le r entries le)
+      ∙ ap (λ (n : ℕ). if nat_lt r n then take (place + 1) entries else take r entries) (length-take-le (place + 1) entries (omega (arith, lt)))
       ∙ by (nat_lt r (place + 1))
     where
       by : (b : Bool) → (if b then take (place + 1) entries else take r entries) ≡ take (if b then place + 1 else r) entries
@@ -473,7 +481,7 @@ module _ {B : Type 0} (old new : RunningParts B) (epochs : Vec Epoch) where
     mid = course_beside hs start first (insides k places_one)
 
     second_calls : mid.calls InB ≡ next_number 2 old.parts.entries
-    second_calls = lane_one.1.others InB (λ is. absurd (omega (arith, is)))
+    second_calls = lane_one.1.others InB (differ 2 1 refl)
 
     lane_two : AreAnswersBeside hs mid second (insides k places_two) × LaneBehind k size entries InB mid lane_one.1.reached places_two (course_beside hs mid second (insides k places_two))
     lane_two = lane-behind InB tt second second_lane two mid lane_one.1.reached lane_one.1.stands
@@ -596,7 +604,7 @@ module _ {B : Type 0} (old new : RunningParts B) (epochs : Vec Epoch) where
                   inr (omega (arith, full, count, long, same))
 
           worker_calls : far.calls InWorker ≡ next_number 255 old.parts.entries
-          worker_calls = lane_two.1.others InWorker (λ is. absurd (omega (arith, is))) ∙ lane_one.1.others InWorker (λ is. absurd (omega (arith, is)))
+          worker_calls = lane_two.1.others InWorker (differ 255 2 refl) ∙ lane_one.1.others InWorker (differ 255 1 refl)
 
           worker_answer : IsAnswerBeside hs far worker.lane worker.line (Inside k at)
           worker_answer = subst (λ (l : Lane). IsAnswerBeside hs far l worker.line (Inside k at)) (sym worker_lane)
@@ -622,23 +630,26 @@ module _ {B : Type 0} (old new : RunningParts B) (epochs : Vec Epoch) where
           calls_are = λ i lane. by lane i
             where
               by : (lane : Lane) → calls_behind far.calls e lane ≡ calls_in entries lane
-              by InScript = unbumped (far.calls InScript) 255 0 e reply.1.callers (λ is. absurd (omega (arith, is)))
-                  ∙ lane_two.1.others InScript (λ is. absurd (omega (arith, is))) ∙ lane_one.1.others InScript (λ is. absurd (omega (arith, is))) ∙ sym turn.course.script
-              by InA = unbumped (far.calls InA) 255 1 e reply.1.callers (λ is. absurd (omega (arith, is))) ∙ lane_two.1.others InA (λ is. absurd (omega (arith, is))) ∙ lane_one.1.own ∙ sym ran_one.calls
-              by InB = unbumped (far.calls InB) 255 2 e reply.1.callers (λ is. absurd (omega (arith, is))) ∙ lane_two.1.own ∙ ap (λ (n : ℕ). n + length places_two) second_calls ∙ sym ran_two.calls
+              by InScript = unbumped (far.calls InScript) 255 0 e reply.1.callers (differ 0 255 refl)
+                  ∙ lane_two.1.others InScript (differ 0 2 refl) ∙ lane_one.1.others InScript (differ 0 1 refl) ∙ sym turn.course.script
+              by InA = unbumped (far.calls InA) 255 1 e reply.1.callers (differ 1 255 refl) ∙ lane_two.1.others InA (differ 1 2 refl) ∙ lane_one.1.own ∙ sym ran_one.calls
+              by InB = unbumped (far.calls InB) 255 2 e reply.1.callers (differ 2 255 refl) ∙ lane_two.1.own ∙ ap (λ (n : ℕ). n + length places_two) second_calls ∙ sym ran_two.calls
               by InWorker =
                   let next = worker_ran.calls in
                   let long = ap (λ (l : List ℕ). length l) facts.2 ∙ snoc-length earlier at in
                   bumped (far.calls InWorker) (next_number 255 old.parts.entries + length earlier) 255 e reply.1.callers reply.1.numbered
                   ∙ (let x : next_number 255 old.parts.entries + length earlier + 1 ≡ next_number 255 entries = omega (arith, next, long) in x)
 
+          abbrev standing : ℕ → Course
+          standing n = record { opened = k + 1; running = true; calls = calls_in entries; size = n; block = [] }
+
           course_is : course_with k new ≡ course_after hs far worker.lane worker.line (Inside k at)
-          course_is = sym (ap (λ (l : Lane). course_after hs far l worker.line (Inside k at)) worker_lane ∙ behind-is far InWorker worker.line at e reply.1.there
-              ∙ (λ i. record { opened = far_stands.opened i; running = far_stands.running i; calls = calls_are i; size = length_of (far_stands.size_is i) (block_is i); block = [] })
-              ∙ ap (λ (n : ℕ). record { opened = k + 1; running = true; calls = calls_in entries; size = n; block = [] }) sized)
-            where
-              far_stands : Stands k size entries far lane_two.1.reached
-              far_stands = lane_two.1.stands
+          course_is =
+              let stood : Stands k size entries far lane_two.1.reached = lane_two.1.stands in
+              let parts : gone_on (calls_behind far.calls e) (length_of far.size (longer_of far.block (take (at + 1) entries))) far ≡ standing (length_of size entries) =
+              λ i. record { opened = stood.opened i; running = stood.running i; calls = calls_are i; size = length_of (stood.size_is i) (block_is i); block = [] } in
+              let whole : standing (length_of size entries) ≡ course_with k new = ap standing sized in
+              sym (ap (λ (l : Lane). course_after hs far l worker.line (Inside k at)) worker_lane ∙ behind-is far InWorker worker.line at e reply.1.there ∙ parts ∙ whole)
 
           answered : IsBlockAnswered setting (Running old epochs) (Running new epochs) lines (insides k (places_one ++ places_two ++ at ∷ []))
           answered = record {

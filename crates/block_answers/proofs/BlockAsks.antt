@@ -1,6 +1,6 @@
 -- A block of lanes that was asked, by what its lanes and its worker were answered.
 use Rattle.std.proofs.Common.{◌≡◌, ◌≢◌, inl, inr, ℕ, ◌+◌, ◌<◌, ◌≤◌, ◌==◌, ◌^◌, Bool, true, false, Option, Some, None, List, [], ◌∷◌, length, map, take, drop, slice_get, MatchOption, refl, sym, ◌∙◌, ap, subst, arith, append-nil}
-use Rattle.std.proofs.Math.Seq.{drop-append_seam}
+use Rattle.std.proofs.Math.Seq.{drop-append_seam, drop-length}
 use Rattle.std.proofs.lemmas.Bool.Decides.{nat_tests}
 use Rattle.std.proofs.lemmas.List.{length-map}
 use Rattle.std.proofs.lemmas.List.Elements.{All-nil, All-cons, All-head, All-tail, All-weaker}
@@ -24,8 +24,8 @@ use Rattle.script.specs.Seeds.{seed_sector}
 use Rattle.lane_blocks.specs.Blocks.{HasRun, HasWorkedBy}
 use Rattle.lane_blocks.specs.lanes_Lane.{AreOneEach, StandsIn, done_of}
 use Rattle.lane_blocks.specs.lanes_the_Worked.{Worked}
-use Rattle.lane_blocks.specs.seen_laws_Callers.{IsReplyTo, AreReplied, IsLastOf, AreNumbered}
-use Rattle.lane_blocks.specs.shared_lanes_Serving.{sectors_of, HasMade}
+use Rattle.lane_blocks.specs.seen_laws_Callers.{IsReplyTo, AreReplied, IsLastOf, AreNumbered, RepliesFrom}
+use Rattle.lane_blocks.specs.shared_lanes_Serving.{sectors_of, IsEarlier, HasMade}
 use Rattle.run_laws.specs.running_calls_Entered.{GoesOn, IsOfNewCall, HasEntered}
 use Rattle.run_laws.specs.running_calls_Replies.{IsAskable}
 use Rattle.run_laws.specs.running_calls_the_Reply.{Reply}
@@ -230,3 +230,14 @@ block-none entries = record {
   callers = All-nil (λ e. IsOfBlock e.caller);
   going = All-nil (λ e. IsFalse (is_end e.event));
 }
+
+-- ---- when it was answered
+
+pub block-later : {B tells : Type 0} {given : B → Given} {tape : B → List Operation} (old new : RunningParts B) → IsEarlier tells given tape old new → tells
+    → RepliesFrom (length (tape old.parts.bank)) (drop (length old.parts.entries) new.parts.entries)
+block-later {tape = tape} old new earlier t =
+    let more = earlier.before.begins.entries in
+    subst (λ (l : List Entry). RepliesFrom (length (tape old.parts.bank)) l) (sym (ap (drop (length old.parts.entries)) more.1 ∙ drop-append_seam old.parts.entries more.0)) (earlier.before.later t)
+
+pub none-later : (mark : ℕ) (entries : List Entry) → RepliesFrom mark (drop (length entries) entries)
+none-later mark entries = subst (λ (l : List Entry). RepliesFrom mark l) (sym (drop-length entries)) tt

@@ -28,7 +28,9 @@ use Rattle.run_laws.specs.Blocks.{IsOfBlock, IsBlockEntered}
 use Rattle.run_laws.specs.Ended.{IsGoing}
 use Rattle.run_laws.specs.Histories.{History, histories_of, is_end}
 use Rattle.run_laws.specs.Making.{Setting, setting_of, world_at, history_world, is_added, IsSpareSince, MayHaveHeld, AreHeldSince}
-use Rattle.run_laws.specs.States.{running_history, IsCaller, IsGrown, AreLossesBehind, AreLossesSince, RunsOwn, IsBlockTurn}
+use Rattle.run_laws.specs.Written.{IsWritten}
+use Rattle.run_laws.proofs.Writing.{written-inside}
+use Rattle.run_laws.specs.States.{running_history, histories_in, IsCaller, IsGrown, AreLossesBehind, AreLossesSince, RunsOwn, IsBlockTurn}
 use Rattle.run_laws.specs.Turning.{IsTurningTold}
 use Rattle.run_laws.proofs.Apart.{apart-all, own-all}
 use Rattle.run_laws.proofs.Legal.{grows_longer, former_grown, accepted-grown}
@@ -127,6 +129,13 @@ module _ {B tells : Type 0} (given : B → Given) (tape : B → List Operation) 
         (held-before (given old.parts.bank) backup (running_history old.parts) (running_history new.parts) old.parts.members went.grows later.same was.held t) new.parts.members went.held);
     ended = ended;
   }
+
+  -- each write since is inside the epoch
+  pub block-written : IsEndOf tells new.parts.first new.parts.entries (tape new.parts.bank) → tells
+      → IsWritten (setting_of tells (given old.parts.bank) (tape old.parts.bank) (tape new.parts.bank) backup (faults old.parts.bank) (faults new.parts.bank)) (histories_in (Running old epochs)) (histories_in (Running new epochs)) (λ slot. ⊥)
+  block-written ended t =
+      written-inside (setting_of tells (given old.parts.bank) (tape old.parts.bank) (tape new.parts.bank) backup (faults old.parts.bank) (faults new.parts.bank)) (histories_of epochs.items) (running_history old.parts) (running_history new.parts) (λ slot. ⊥)
+      went.same.first (was.begun t) (grows_longer went.grows t) (was.ended t) (ended t)
 
   module _ (own : RunsOwn (Running old epochs)) (entered : IsBlockEntered old.parts.entries new.parts.entries) (turning : IsTurningTold (is_reshaping new.parts.members.newest) (phases_of new.ahead) new.parts.entries) where
     abbrev setting : Setting

@@ -1,3 +1,3 @@
-mod BlockAnswers
+pub mod BlockAnswers
 mod BlockAsks
 mod BlockTurns

@@ -1,6 +1,6 @@
 -- The answers to a block, by the replies of its callers.
 use Rattle.std.specs.Prelude.{ℕ, nat_lt, if◌then◌else◌, List, [], ◌∷◌, ◌++◌, length, map}
-use Rattle.lane_blocks.specs.running_calls_the_Reply.{Reply}
+use Rattle.run_laws.specs.running_calls_the_Reply.{Reply}
 use Rattle.run_laws.specs.declared.report.Answered.{Answered}
 use Rattle.run_laws.specs.declared.report.Answered.TheVariants.{Inside, Outside}
 use Rattle.run_laws.specs.declared.report.Outside.TheVariants.{Refused}

@@ -25,6 +25,14 @@ use std::alloc::Global;
 use std::sync::Wait;
 use std::thread::Threads;
 
+// The number of the epoch behind these.
+fn number_behind(epochs: &Vec<Epoch>) -> u32
+    requires few { length epochs.now.items < 2 ^ 32 }
+    ensures { result ≡ length epochs.now.items }
+{
+    epochs.len() as u32
+}
+
 // Appends the answers by a caller's replies, up to one for which memory was short. The room for them is there.
 fn push_places(whats: &mut Vec<Answered>, epoch: u32, replies: &[Reply])
     requires room { length whats.old.items + length replies.now ≤ vec_capacity whats.old }
@@ -113,13 +121,15 @@ fn answer_running<B: Bank + Drop + Send, F: Fn(u64, u64) -> u64 + Sync, R: Threa
 {
     let _ = backup;
     let _ = worker;
-    let epoch = epochs.len() as u32;
+    let epoch = number_behind(&epochs);
     let (array, answer) = ask_together(rt, alloc, array, first, second, pace);
-    let whats = match answer {
-        Ok(together) => answers_of(whats, epoch, first.len(), second.len(), &together),
-        Err(_) => whats,
-    };
-    (State::Running(array, epochs), whats)
+    match answer {
+        Ok(together) => {
+            let whats = answers_of(whats, epoch, first.len(), second.len(), &together);
+            (State::Running(array, epochs), whats)
+        }
+        Err(_) => (State::Running(array, epochs), whats),
+    }
 }
 
 /// Answers a block: the lines of lane a, those of lane b, and the line of the worker, which asks for steps as many at a time as the pace

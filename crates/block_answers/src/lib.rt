@@ -5,5 +5,5 @@ mod answering;
 mod together;
 
 pub use answering::answer_block;
-pub use lane_blocks;
+pub use lane_blocks::Pace;
 pub use together::{Together, ask_together};

@@ -1,4 +1,5 @@
 pub use Rattle.run_laws.specs.Asked as run_laws_Asked
+pub use Rattle.run_laws.specs.Blocks as run_laws_Blocks
 pub use Rattle.run_laws.specs.Caused as run_laws_Caused
 pub use Rattle.run_laws.specs.Ended as run_laws_Ended
 pub use Rattle.run_laws.specs.Histories as run_laws_Histories

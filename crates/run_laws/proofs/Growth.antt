@@ -1,5 +1,5 @@
 -- The replies to several lines, as the histories grow.
-use Rattle.std.proofs.Common.{◌≡◌, ◌⊎◌, inl, inr, ℕ, zero, suc, ◌+◌, ◌*◌, ◌<◌, ◌≤◌, Bool, true, false, Option, Some, None, List, [], ◌∷◌, ◌++◌, length, take, drop, refl, sym, ◌∙◌, ap, subst, arith, append_assoc, length-append}
+use Rattle.std.proofs.Common.{◌≡◌, ◌≢◌, ◌⊎◌, inl, inr, ℕ, zero, suc, ◌+◌, ◌*◌, ◌<◌, ◌≤◌, Bool, true, false, Option, Some, None, List, [], ◌∷◌, ◌++◌, length, take, drop, refl, sym, ◌∙◌, ap, subst, arith, append_assoc, length-append, ne_eqb}
 use Rattle.std.proofs.lemmas.List.{take-append-le, drop-append-le}
 use Rattle.std.proofs.lemmas.Option.{slice_get_within}
 use Rattle.std.specs.Prelude.{slice_get, MatchOption, if◌then◌else◌, IfSome, IsSome, IsTrue, IsFalse, nat_lt}
@@ -34,7 +34,7 @@ use Rattle.flat_history.specs.declared.events.Event.TheVariants.{Shown}
 use Rattle.flat_history.specs.declared.events.Request.{Request}
 use Rattle.flat_history.specs.Plain.{entries_of}
 use Rattle.openings.specs.array_kept_Adopting.{opener}
-use Rattle.flat_history.specs.Flat.{rest_of_call, is_same_call, length_of}
+use Rattle.flat_history.specs.Flat.{rest_of_call, is_same_call, number_after, length_of}
 use Rattle.script.specs.declared.lines.Line.{Line}
 use Rattle.script.specs.declared.lines.Numbered.{Numbered}
 use Rattle.script.specs.declared.reply.Lane.{Lane}
@@ -43,14 +43,14 @@ use Rattle.run_laws.specs.declared.report.Outside.TheVariants.{Created, Assemble
 use Rattle.run_laws.specs.declared.report.Answered.{Answered}
 use Rattle.run_laws.specs.declared.report.Answered.TheVariants.{Inside, Outside as IsOutside}
 use Rattle.run_laws.specs.declared.report.LineReply.{LineReply}
-use Rattle.run_laws.specs.Blocks.{IsCallersReply}
+use Rattle.run_laws.specs.Blocks.{caller_of, IsCallersReply}
 use Rattle.run_laws.specs.Histories.{History, entry_at}
 use Rattle.run_laws.specs.Examining.{IsExaminedBy, IsUnexamined}
 use Rattle.run_laws.specs.Making.{Setting, held_at, history_world, IsUncreated, IsUnassembled, IsStoredNew, IsStoredAs, BeginsShown}
 use Rattle.run_laws.specs.Replies.{Course, spec_of, FitsLine, IsMadeBy, IsFoundBy, IsRefusedOutside, with_script, gone_on, course_behind, entries_to, course_after, course_of, leaves_more, leaves_more_at, IsReplyAt, IsWaitedAt, IsRepliedAt, IsAnsweredInside, IsAnswer, most_turns, IsWorkedAt, IsWorked, IsRepliedBeside, IsAnsweredBeside, IsAnswerBeside, IsAnswerIn, mark_reached, mark_shown, IsEnd, IsReplyTo, AreReplies}
 use Rattle.openings.specs.running_replies_Replies.{RunningFits, MayTellBy}
 use Rattle.running_calls.specs.Turning.{may_be_active, may_be_ahead, IsTellable}
-use Rattle.run_laws.specs.States.{IsGrown, AreGrown, IsNamed, IsWaitingAt, IsCutShort}
+use Rattle.run_laws.specs.States.{IsGrown, AreGrown, IsNamed, IsWaitingAt, IsCutShort, IsBeside}
 use Rattle.run_laws.proofs.Causes.{faulted-wider, given-wider, create-later, assemble-later}
 use Rattle.run_laws.proofs.Worlds.{list-same, alike-later, sound-later, new-later, stored-later}
 
@@ -227,9 +227,9 @@ worked_longer size place entries more later (first ∷ others) number ((most, re
   worked_longer size place entries more later others (number + 1) rest,
 )
 
--- the entry of a worker's reply is there
-worked_there : (size place : ℕ) (entries : List Entry) (earlier : List ℕ) (number : ℕ) → IsWorkedAt size entries earlier place number → (e : Entry) × (slice_get entries place ≡ Some e)
-worked_there size place entries [] number (most, reply) = (reply.entry, reply.there)
+-- the entry of a worker's reply is there, and is the worker's
+worked_there : (size place : ℕ) (entries : List Entry) (earlier : List ℕ) (number : ℕ) → IsWorkedAt size entries earlier place number → (e : Entry) × (slice_get entries place ≡ Some e) × (e.caller ≡ 255)
+worked_there size place entries [] number (most, reply) = (reply.entry, reply.there, reply.callers)
 worked_there size place entries (first ∷ others) number (reply, going, rest) = worked_there size place entries others (number + 1) rest
 
 all_worked_longer : (size place number : ℕ) (entries more : List Entry) → All (λ e. rest_of_call e more ≡ []) entries → IsWorked size entries place number → IsWorked size (entries ++ more) place number
@@ -252,11 +252,13 @@ beside_longer InScript size place number line entries more later was = callers_l
 beside_longer InA size place number line entries more later was = callers_longer more later was
 beside_longer InB size place number line entries more later was = callers_longer more later was
 
-beside_there : (lane : Lane) (size place number : ℕ) (line : Line) (entries : List Entry) → IsRepliedBeside lane size entries place number line → (e : Entry) × (slice_get entries place ≡ Some e)
+-- the entry of a reply in a block is there, and is its caller's
+beside_there : (lane : Lane) (size place number : ℕ) (line : Line) (entries : List Entry) → IsRepliedBeside lane size entries place number line
+    → (e : Entry) × (slice_get entries place ≡ Some e) × (e.caller ≡ caller_of lane)
 beside_there InWorker size place number line entries was = worked_there size place entries was.earlier number was.worked
-beside_there InScript size place number line entries was = (was.entry, was.there)
-beside_there InA size place number line entries was = (was.entry, was.there)
-beside_there InB size place number line entries was = (was.entry, was.there)
+beside_there InScript size place number line entries was = (was.entry, was.there, was.callers)
+beside_there InA size place number line entries was = (was.entry, was.there, was.callers)
+beside_there InB size place number line entries was = (was.entry, was.there, was.callers)
 
 beside_stays : (olds news : List History) (course : Course) (lane : Lane) (line : Line) (what : Answered) → AreGrown olds news → IsAnswerBeside olds course lane line what → IsAnswerBeside news course lane line what
 beside_stays olds news course lane line (Inside epoch at) grown was =
@@ -279,6 +281,26 @@ beside_named histories course lane line (Inside epoch at) is =
     let entry = beside_there lane course.size at (course.calls lane) line is.history.entries is.replied in
     subst (λ (o : Option Entry). IsSome o) (sym (ap (λ (o : Option History). option_and_then (λ h. slice_get h.entries at) o) is.there ∙ entry.1)) refl
 beside_named histories course lane line (IsOutside outside) is = tt
+
+-- an answer in a block leaves the run where it stands for the script
+pub beside_after : (histories : List History) (course : Course) (lane : Lane) → lane ≢ InScript → (line : Line) (what : Answered) → IsAnswerBeside histories course lane line what → IsBeside course (course_after histories course lane line what)
+beside_after histories course lane ne line (Inside epoch at) is =
+    let found = beside_there lane course.size at (course.calls lane) line is.history.entries is.replied in
+    let there : entry_at histories epoch at ≡ Some found.0 = ap (λ (o : Option History). option_and_then (λ h. slice_get h.entries at) o) is.there ∙ found.1 in
+    subst (λ (o : Option Entry). IsBeside course (option_map_or (course_behind lane course (entries_to histories epoch at)) o course)) (sym there) (by lane ne found.0 found.2)
+  where
+    uncounted : (c : ℕ) (e : Entry) → c ≢ 0 → e.caller ≡ c → number_after 0 (course.calls InScript) e ≡ course.calls InScript
+    uncounted c e other callers = ap (λ (b : Bool). if b then e.number + 1 else course.calls InScript) (ne_eqb e.caller 0 (λ none. other (sym callers ∙ none)))
+
+    by : (lane : Lane) → lane ≢ InScript → (e : Entry) → e.caller ≡ caller_of lane → IsBeside course (course_behind lane course (entries_to histories epoch at) e)
+    by InScript ne e callers = absurd (ne refl)
+    by InA ne e callers = record { opened = refl; running = refl; script = uncounted 1 e (λ none. absurd (omega (arith, none))) callers }
+    by InB ne e callers = record { opened = refl; running = refl; script = uncounted 2 e (λ none. absurd (omega (arith, none))) callers }
+    by InWorker ne e callers = record { opened = refl; running = refl; script = uncounted 255 e (λ none. absurd (omega (arith, none))) callers }
+beside_after histories course lane ne line (IsOutside Created) is = absurd is
+beside_after histories course lane ne line (IsOutside (Assembled epoch status)) is = absurd is
+beside_after histories course lane ne line (IsOutside (Examined slot found)) is = absurd is
+beside_after histories course lane ne line (IsOutside (Refused refusal)) is = record { opened = refl; running = refl; script = refl }
 
 -- the same bank, over a longer time
 pub record IsWider (was now : Setting) : Type 0 where
