@@ -1,0 +1,11 @@
+pub mod BlockReplies
+pub mod Ends
+pub mod Marks
+pub mod Reopening
+pub mod Replied
+pub mod Shortness
+pub mod ShownLaws
+pub mod Showing
+pub mod Steps
+pub mod Texts
+pub mod WritesPlaced
