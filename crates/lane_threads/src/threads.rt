@@ -6,8 +6,7 @@ ghost use Rattle.lanes.specs.Pace.{AnswersSteps, asked_by};
 ghost use Rattle.lane_threads.specs.Threads.{HasPassed, HasWorkedBy};
 
 use flat_history::Request;
-use lanes::running_calls::Reply;
-use lanes::{Pace, Service, Worked, run_lane, run_worker};
+use lanes::{Pace, Reply, Service, Worked, run_lane, run_worker};
 use std::sync::Wait;
 use std::thread::{Threads, join};
 

@@ -4,8 +4,7 @@
 mod serving;
 mod sharing;
 
-pub use lanes;
-pub use lanes::running_calls;
-pub use lanes::running_calls::running;
+pub use lanes::{Pace, Reply, Service, Worked};
+pub use running_calls::Running;
 pub use serving::Answering;
 pub use sharing::{Pass, Shared};
