@@ -19,7 +19,7 @@ use bank::Bank;
 use flat_history::Request;
 use lane_blocks::{Joined, Pace, Reply, Worked, run_block};
 use md_base::NoMemory;
-use run_laws::running::Running;
+use run_laws::Running;
 use script::{Line, Numbered, seed_sectors};
 use std::alloc::{AllocError, Global};
 use std::sync::Wait;

@@ -55,11 +55,7 @@ pub(crate) fn begun<B: Bank + Drop>(
 }
 
 // Both lanes and the worker, at once.
-pub(crate) fn ran<
-    B: Bank + Drop + Send,
-    F: Fn(u64, u64) -> u64 + Sync,
-    R: Threads + Wait + Sync,
->(
+pub(crate) fn ran<B: Bank + Drop + Send, F: Fn(u64, u64) -> u64 + Sync, R: Threads + Wait + Sync>(
     rt: &R,
     shared: &Shared<B>,
     passes: (Pass<B>, Pass<B>, Pass<B>),

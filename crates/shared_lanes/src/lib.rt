@@ -4,7 +4,6 @@
 mod serving;
 mod sharing;
 
-pub use lanes::{Pace, Reply, Service, Worked};
-pub use running_calls::Running;
+pub use lanes::{Pace, Reply, Running, Worked};
 pub use serving::Answering;
 pub use sharing::{Pass, Shared};

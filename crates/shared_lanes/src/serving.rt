@@ -3,8 +3,8 @@ ghost use Rattle.std.specs.Prelude.{◌≡◌};
 
 use bank::Bank;
 use flat_history::Request;
+use lanes::{Reply, Running, perform, tells_sizes};
 use md_base::Who;
-use running_calls::{Reply, Running, perform, tells_sizes};
 use std::alloc::Global;
 use std::marker::Model;
 use turn_lock::Served;
