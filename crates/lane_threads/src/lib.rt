@@ -3,5 +3,4 @@
 
 mod threads;
 
-pub use lanes;
 pub use threads::at_once;
