@@ -17,11 +17,9 @@ ghost use Rattle.block_answers.specs.Answers.{insides, block_places, refusals};
 use crate::together::{Together, ask_together};
 use bank::Bank;
 use flat_history::Epoch;
-use lane_blocks::lanes::Pace;
-use lane_blocks::running_calls::Reply;
+use lane_blocks::{Pace, Reply};
 use md_base::Refusal;
-use run_laws::running::Running;
-use run_laws::{Answered, Outside, State};
+use run_laws::{Answered, Outside, Running, State};
 use script::Numbered;
 use std::alloc::Global;
 use std::sync::Wait;
@@ -85,11 +83,7 @@ fn refuse_lines(mut whats: Vec<Answered>, lines: &[Numbered]) -> Vec<Answered>
 }
 
 // The answers of the array that runs behind these epochs.
-fn answer_running<
-    B: Bank + Drop + Send,
-    F: Fn(u64, u64) -> u64 + Sync,
-    R: Threads + Wait + Sync,
->(
+fn answer_running<B: Bank + Drop + Send, F: Fn(u64, u64) -> u64 + Sync, R: Threads + Wait + Sync>(
     rt: &R,
     alloc: Global,
     array: Running<B>,
@@ -131,11 +125,7 @@ fn answer_running<
 /// Answers a block: the lines of lane a, those of lane b, and the line of the worker, which asks for steps as many at a time as the pace
 /// answers. The lanes and the worker run at once, in threads, where an array runs, and it may wait. The answers are those to the first
 /// lines; where there are fewer, memory was short for the next one.
-pub fn answer_block<
-    B: Bank + Drop + Send,
-    F: Fn(u64, u64) -> u64 + Sync,
-    R: Threads + Wait + Sync,
->(
+pub fn answer_block<B: Bank + Drop + Send, F: Fn(u64, u64) -> u64 + Sync, R: Threads + Wait + Sync>(
     rt: &R,
     alloc: Global,
     state: State<B>,

@@ -17,11 +17,9 @@ ghost use Rattle.lane_blocks.specs.seen_laws_Callers.{RepliesFrom};
 
 use bank::Bank;
 use flat_history::Request;
-use lane_blocks::lanes::{Pace, Worked};
-use lane_blocks::running_calls::Reply;
-use lane_blocks::{Joined, run_block};
+use lane_blocks::{Joined, Pace, Reply, Worked, run_block};
 use md_base::NoMemory;
-use run_laws::running::Running;
+use run_laws::Running;
 use script::{Line, Numbered, seed_sectors};
 use std::alloc::{AllocError, Global};
 use std::sync::Wait;

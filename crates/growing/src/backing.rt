@@ -7,8 +7,7 @@ use bank::Bank;
 use running_replies::safe_updates::roles::is_spare;
 use superblocks::Members;
 use superblocks::sets::contains;
-use turning::array_state::holders::holds_role;
-use turning::still::Still;
+use turning::{Still, holds_role};
 
 // Whether the slot was found sound, holds no role and is no spare.
 fn is_aside(members: &Members, given: u32, slot: u32) -> bool

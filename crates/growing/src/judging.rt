@@ -15,7 +15,7 @@ use bank::Bank;
 use grow_asked::{PhasesLeft, judge_grow};
 use md_base::{Refusal, Wish};
 use superblocks::Members;
-use turning::still::Still;
+use turning::Still;
 
 // How many sectors the backup slot has; none where the bank has no such slot.
 fn backup_sectors<B: Bank>(bank: &B, backup: Option<u32>) -> Option<u64>

@@ -10,8 +10,9 @@ mod refusing;
 pub use backing::can_back;
 pub use planning::{PlannedGrow, plan_grow};
 pub use refusing::{refuse_grow, refuse_limit};
-pub use running_replies::safe_updates;
-pub use turning;
+pub use running_replies::safe_updates::roles::{final_in, shape_in};
 pub use turning::{
-    array_state, course_kept, moving, moving_state, moving_steps, still, still_steps,
+    Course, Due, Moving, Opened, Room, Still, answer, begin_reshape, due_step, enter_all_absent,
+    finish_reshape, first_recovering, found_numbers, list_sectors, make_room, room_for, steps_left,
+    still_step, zeros,
 };

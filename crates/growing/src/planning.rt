@@ -21,8 +21,7 @@ use flat_history::Event;
 use grow_asked::plan_of;
 use grow_asked::planning::all_left;
 use md_base::{Fault, Refusal, Who, Wish};
-use turning::array_state::room::zeros;
-use turning::still::Still;
+use turning::{Still, zeros};
 
 /// What a plan answers: how many steps are left, and a buffer for each of its windows.
 #[derive(Drop)]

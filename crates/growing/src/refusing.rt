@@ -20,7 +20,7 @@ use bank::Bank;
 use call_entries::calls::{check_number, enter};
 use flat_history::Event;
 use md_base::{BusyKind, Fault, NoMemory, Refusal, Who, Wish};
-use turning::moving::Moving;
+use turning::Moving;
 
 // Enters that a request is refused for the reshape. Want of memory changes nothing.
 fn enter_busy<B: Bank>(moving: Moving<B>, who: Who) -> (Moving<B>, Result<(), NoMemory>)

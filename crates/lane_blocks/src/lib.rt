@@ -6,5 +6,4 @@ mod rows;
 mod sharing;
 
 pub use block::{Joined, run_block};
-pub use shared_lanes;
-pub use shared_lanes::{lanes, running, running_calls};
+pub use shared_lanes::{Pace, Reply, Running, Worked};

@@ -13,10 +13,7 @@ use crate::rows::{put_back, taken};
 use bank::Bank;
 use flat_history::Request;
 use lane_threads::at_once;
-use shared_lanes::lanes::{Pace, Worked};
-use shared_lanes::running::Running;
-use shared_lanes::running_calls::Reply;
-use shared_lanes::{Pass, Shared};
+use shared_lanes::{Pace, Pass, Reply, Running, Shared, Worked};
 use std::alloc::Global;
 use std::sync::Wait;
 use std::thread::Threads;
@@ -58,11 +55,7 @@ pub(crate) fn begun<B: Bank + Drop>(
 }
 
 // Both lanes and the worker, at once.
-pub(crate) fn ran<
-    B: Bank + Drop + Send,
-    F: Fn(u64, u64) -> u64 + Sync,
-    R: Threads + Wait + Sync,
->(
+pub(crate) fn ran<B: Bank + Drop + Send, F: Fn(u64, u64) -> u64 + Sync, R: Threads + Wait + Sync>(
     rt: &R,
     shared: &Shared<B>,
     passes: (Pass<B>, Pass<B>, Pass<B>),

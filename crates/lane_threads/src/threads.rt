@@ -6,8 +6,7 @@ ghost use Rattle.lanes.specs.Pace.{AnswersSteps, asked_by};
 ghost use Rattle.lane_threads.specs.Threads.{HasPassed, HasWorkedBy};
 
 use flat_history::Request;
-use lanes::running_calls::Reply;
-use lanes::{Pace, Service, Worked, run_lane, run_worker};
+use lanes::{Pace, Reply, Service, Worked, run_lane, run_worker};
 use std::sync::Wait;
 use std::thread::{Threads, join};
 
@@ -54,8 +53,8 @@ fn work<R: Wait, S: Service, F: Fn(u64, u64) -> u64>(
 fn join_three<
     R: Threads + Sync,
     F: FnOnce() -> A + Send,
-    G: FnOnce() -> B + Send,
-    H: FnOnce() -> C,
+    G: FnOnce() -> B + Send + Drop,
+    H: FnOnce() -> C + Drop,
     A: Send,
     B: Send,
     C,
@@ -96,7 +95,7 @@ pub fn at_once<R, S, F>(
 where
     R: Threads + Wait + Sync,
     S: Service + Sync,
-    S::Pass: Send,
+    S::Pass: Send + Drop,
     F: Fn(u64, u64) -> u64 + Sync,
     requires locks { (S.lock_of passes.0 ≡ S.lock service.now) × (S.lock_of passes.1 ≡ S.lock service.now) × (S.lock_of passes.2 ≡ S.lock service.now) }
     requires callers { ((S.carried passes.0).caller ≢ 254) × ((S.carried passes.1).caller ≢ 254) × ((S.carried passes.2).caller ≢ 254) }

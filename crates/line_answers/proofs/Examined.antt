@@ -74,6 +74,7 @@ module _ {B : Type 0} (setting : Setting) (bank left : B) (epochs : Vec Epoch) (
     ends = longer;
     answer = is;
     course = refl;
+    recorded = refl;
   }
 
   pub examined_idle : (r : Result (Option Sb) BankFault) → IfOk r (λ found. IsExamined setting (length setting.tape) slot found) → OnErr r (IsFaulted slot setting.before setting.now)
@@ -85,6 +86,7 @@ module _ {B : Type 0} (setting : Setting) (bank left : B) (epochs : Vec Epoch) (
     ends = longer;
     answer = (refl, is);
     course = refl;
+    recorded = refl;
   }
   examined_idle (Err fault) is faulted = unexamined_idle (SlotFault slot) (refl, faulted)
 
@@ -99,6 +101,7 @@ module _ {B : Type 0} (setting : Setting) (array : RunningParts B) (epochs : Vec
     ends = longer;
     answer = is;
     course = refl;
+    recorded = refl;
   }
 
   pub examined_running : (left : B) (r : Result (Option Sb) BankFault) → IfOk r (λ found. IsExamined setting (length setting.tape) slot found) → OnErr r (IsFaulted slot setting.before setting.now)
@@ -110,6 +113,7 @@ module _ {B : Type 0} (setting : Setting) (array : RunningParts B) (epochs : Vec
     ends = longer;
     answer = (refl, is);
     course = refl;
+    recorded = refl;
   }
   examined_running left (Err fault) is faulted = record {
     own = own;
@@ -118,4 +122,5 @@ module _ {B : Type 0} (setting : Setting) (array : RunningParts B) (epochs : Vec
     ends = longer;
     answer = (refl, faulted);
     course = refl;
+    recorded = refl;
   }

@@ -3,6 +3,7 @@ pub mod Called
 pub mod Ending
 pub mod Examined
 pub mod Found
+pub mod Lefts
 pub mod Statuses
 pub mod Turns
 pub mod Waits
@@ -13,6 +14,7 @@ pub use Rattle.run_laws.proofs.Growth as run_laws_Growth
 pub use Rattle.run_laws.proofs.Legal as run_laws_Legal
 pub use Rattle.run_laws.proofs.Losses as run_laws_Losses
 pub use Rattle.run_laws.proofs.Plain as run_laws_Plain
+pub use Rattle.run_laws.proofs.RecordLaws as run_laws_RecordLaws
 pub use Rattle.run_laws.proofs.Turned as run_laws_Turned
 pub use Rattle.run_laws.proofs.Worlds as run_laws_Worlds
 pub use Rattle.run_laws.proofs.Writing as run_laws_Writing

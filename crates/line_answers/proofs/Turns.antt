@@ -21,6 +21,8 @@ use Rattle.run_laws.specs.running_words_Parts.{RunningParts}
 use Rattle.run_laws.specs.running_replies_Replies.{RunningAnswers}
 use Rattle.run_laws.specs.running_Calls.{IsShownAs}
 use Rattle.run_laws.proofs.Sizes.{leaves-all, sized-now}
+use Rattle.run_laws.proofs.CausedLaws.{shown-record, judged-asked}
+use Rattle.run_laws.proofs.RecordLaws.{left-asked}
 use Rattle.run_laws.proofs.Turned.{found-told}
 use Rattle.flat_history.specs.declared.events.Entry.{Entry}
 use Rattle.flat_history.specs.declared.events.Epoch.{Epoch}
@@ -37,8 +39,9 @@ use Rattle.history_laws.proofs.OneShapeGrowing.{call-ends}
 use Rattle.flat_history.specs.World.{World, opening_list}
 use Rattle.flat_history.specs.Epochs.{OpensAlike}
 use Rattle.flat_history.specs.Opened.{OpensSound}
-use Rattle.bank.specs.Given.{Given, sizes}
+use Rattle.bank.specs.Given.{sizes}
 use Rattle.superblocks.specs.declared.members.Members.{Members}
+use Rattle.views.specs.declared.work.Work.{Work}
 use Rattle.run_laws.specs.array_kept_Adopting.{opener, absent_losses}
 use Rattle.run_laws.specs.array_kept_Calls.{IsEndOf, IsEntered, world_for}
 use Rattle.run_laws.specs.assemble_Creating.{create_refusal}
@@ -52,7 +55,8 @@ use Rattle.run_laws.specs.declared.report.Outside.TheVariants.{Created, Assemble
 use Rattle.run_laws.specs.declared.report.Answered.TheVariants.{Inside, Outside as IsOutside}
 use Rattle.run_laws.specs.declared.states.State.TheVariants.{Idle, Running}
 use Rattle.run_laws.specs.Asked.{script_who, IsAskedAt, IsAsked, IsStillWaiting, IsWaited, IsSizedBy}
-use Rattle.run_laws.specs.Caused.{IsCausedAt}
+use Rattle.run_laws.specs.Caused.{Record, record_of, IsJudgedBy, IsJudgedAt}
+use Rattle.run_laws.specs.Records.{AreAllAnswered, IsLeftBy, IsLeftAt, IsRecordFound, IsRecordedBy}
 use Rattle.run_laws.specs.Turning.{IsTellable, IsTurningTold}
 use Rattle.run_laws.specs.Histories.{History, history_of, histories_of, entry_at, is_end, AreGoing}
 use Rattle.run_laws.specs.Making.{Setting, held_at, history_world, MissingAtFirst, IsStoredNew, IsStoredAs}
@@ -109,9 +113,9 @@ grown_came [] new = tt
 grown_came (h ∷ hs) new = (grown_same h, grown_came hs new)
 
 -- a line was answered by calls of the script, the last of them at this place, over the history of the array that runs
-module _ {size : ℕ} {line last : Line} {place : ℕ} {mid : List Entry} (asked_of : Given) (backup : Option ℕ) (hs : List History) (old new : History) (asked : IsAskedAt size last mid new.entries place) (replied : IsRepliedAt size new.entries place (next_number 0 old.entries) line)
-    (tellable : IsTellable new.entries place) (caused : IsCausedAt asked_of backup size line new.entries place) where
-  pub answered_last : IsAnsweredInside asked_of backup (hs ++ new ∷ []) (record { opened = length hs + 1; running = true; calls = calls_in old.entries; size = size; block = [] }) (length hs) place line
+module _ {size : ℕ} {line last : Line} {place : ℕ} {mid : List Entry} (hs : List History) (old new : History) (asked : IsAskedAt size last mid new.entries place) (replied : IsRepliedAt size new.entries place (next_number 0 old.entries) line)
+    (tellable : IsTellable new.entries place) where
+  pub answered_last : IsAnsweredInside (hs ++ new ∷ []) (record { opened = length hs + 1; running = true; calls = calls_in old.entries; size = size; block = [] }) (length hs) place line
   answered_last = record {
     running = refl;
     latest = refl;
@@ -119,7 +123,6 @@ module _ {size : ℕ} {line last : Line} {place : ℕ} {mid : List Entry} (asked
     there = get_last hs new;
     replied = replied;
     tellable = tellable;
-    caused = caused;
   }
 
 -- the entry of its reply
@@ -130,6 +133,13 @@ module _ {size : ℕ} {last : Line} {place : ℕ} {mid : List Entry} (hs : List 
   -- all entries stand up to it
   all_last : entries_to (hs ++ new ∷ []) (length hs) place ≡ new.entries
   all_last = ap (λ (o : Option History). option_map_or (λ h. take (place + 1) h.entries) o []) (get_last hs new) ∙ take_all (place + 1) new.entries (omega (arith, asked.at_end))
+
+  -- the record before it, and that behind it
+  pub recorded_last : (setting : Setting) (line : Line) (old : Record) (next : Option Record) → IsRecordedBy setting line new.entries (Some (one (script_who mid) asked.end asked.event)) old next
+      → IsRecordedBy setting line (entries_to (hs ++ new ∷ []) (length hs) place) (entry_at (hs ++ new ∷ []) (length hs) place) old next
+  recorded_last setting line old next is =
+      subst (λ (o : Option Entry). IsRecordedBy setting line (entries_to (hs ++ new ∷ []) (length hs) place) o old next) (sym entry_last)
+      (subst (λ (l : List Entry). IsRecordedBy setting line l (Some (one (script_who mid) asked.end asked.event)) old next) (sym all_last) is)
 
   -- where the run stands behind it
   pub course_last : (course : Course) (line : Line) → course_after (hs ++ new ∷ []) course InScript line (Inside (length hs) place) ≡ course_behind InScript course new.entries (one (script_who mid) asked.end asked.event)
@@ -265,22 +275,27 @@ module _ {B : Type 0} (setting : Setting) (old new : RunningParts B) (epochs : V
 
   -- it answered
   pub turn_called : {last : Line} {mid : List Entry} (line : Line) (place : ℕ) (asked : IsAskedAt (list_length old.parts.members.newest) last mid new.parts.entries place) → HasCalled old.parts.entries new.parts.entries → AreGoing new.parts.entries
-      → IsRepliedAt (list_length old.parts.members.newest) new.parts.entries place (next_number 0 old.parts.entries) line → IsTellable new.parts.entries place → IsCausedAt setting.given setting.backup (list_length old.parts.members.newest) line new.parts.entries place → (setting.tells → EndsWithin setting asked.end)
-      → is_end asked.event ≡ false → IsTurn setting (Running old epochs) (Running new epochs) line (Inside k place)
-  turn_called line place asked called going replied tellable caused ended goes = record {
+      → IsRepliedAt (list_length old.parts.members.newest) new.parts.entries place (next_number 0 old.parts.entries) line → IsTellable new.parts.entries place → new.parts.backup ≡ setting.backup → IsJudgedBy setting.given (record_of old) line asked.event → IsLeftBy setting.before setting.now (record_of old) (record_of new) line asked.event
+      → (setting.tells → EndsWithin setting asked.end) → is_end asked.event ≡ false → IsTurn setting (Running old epochs) (Running new epochs) line (Inside k place)
+  turn_called line place asked called going replied tellable backed judged left ended goes = record {
     own = called_own_still called going;
     losses = losses-last setting hs (running_history old.parts) (running_history new.parts) lost;
     grown = called_grown_still called;
     ends = λ t. subst (λ (n : ℕ). EndsBetween setting.began (length setting.tape) (hs ++ running_history new.parts ∷ []) (Inside n place)) len
         (between_last hs (running_history new.parts) asked setting.began (length setting.tape) (ended t).0 (ended t).1);
-    answer = subst (λ (n : ℕ). IsAnsweredInside setting.given setting.backup (hs ++ running_history new.parts ∷ []) (record { opened = n + 1; running = true; calls = calls_in old.parts.entries; size = list_length old.parts.members.newest; block = [] }) n place line) len
-        (answered_last setting.given setting.backup hs (running_history old.parts) (running_history new.parts) asked replied tellable caused);
+    answer = subst (λ (n : ℕ). IsAnsweredInside (hs ++ running_history new.parts ∷ []) (record { opened = n + 1; running = true; calls = calls_in old.parts.entries; size = list_length old.parts.members.newest; block = [] }) n place line) len
+        (answered_last hs (running_history old.parts) (running_history new.parts) asked replied tellable);
     course = course_asked line asked called goes;
+    recorded = subst (λ (n : ℕ). IsRecordedBy setting line (entries_to (hs ++ running_history new.parts ∷ []) n place) (entry_at (hs ++ running_history new.parts ∷ []) n place) (record_of old) (Some (record_of new))) len
+        (recorded_last hs (running_history new.parts) asked setting line (record_of old) (Some (record_of new)) (judged, (backed, refl, left)));
   }
 
   pub turn_asked : (line : Line) (place : ℕ) (asked : IsAskedAt (list_length old.parts.members.newest) line old.parts.entries new.parts.entries place) → IsTellable new.parts.entries place
-      → IsCausedAt setting.given setting.backup (list_length old.parts.members.newest) line new.parts.entries place → (setting.tells → EndsWithin setting asked.end) → is_end asked.event ≡ false → IsTurn setting (Running old epochs) (Running new epochs) line (Inside k place)
-  turn_asked line place asked tellable caused ended goes = turn_called line place asked (called_once asked) (gone_once asked goes own.going) (replied_at line asked) tellable caused ended goes
+      → new.parts.backup ≡ setting.backup → IsJudgedAt setting.given (record_of old) line new.parts.entries place → IsLeftAt setting.before setting.now (record_of old) (record_of new) line new.parts.entries place
+      → (setting.tells → EndsWithin setting asked.end) → is_end asked.event ≡ false → IsTurn setting (Running old epochs) (Running new epochs) line (Inside k place)
+  turn_asked line place asked tellable backed judged left ended goes =
+      turn_called line place asked (called_once asked) (gone_once asked goes own.going) (replied_at line asked) tellable backed (judged-asked setting.given (record_of old) asked judged)
+      (left-asked setting.before setting.now (record_of old) (record_of new) asked left) ended goes
 
   -- memory was short for it
   pub no_turn : (line : Line) → new.parts.entries ≡ old.parts.entries → IsNoTurn setting (Running old epochs) (Running new epochs) line
@@ -297,9 +312,10 @@ module _ {B : Type 0} (setting : Setting) (old new : RunningParts B) (epochs : V
 
   pub turn_of_ask : (line : Line) (r : Result ℕ NoMemory) → ((place : ℕ) (asked : IsAskedAt (list_length old.parts.members.newest) line old.parts.entries new.parts.entries place) → is_end asked.event ≡ false)
       → (setting.tells → setting.began ≤ length setting.tape) → IfOk r (λ place. IsEndOf setting.tells new.parts.first new.parts.entries setting.tape) → IfOk r (λ place. IsTellable new.parts.entries place)
-      → IfOk r (λ place. IsCausedAt setting.given setting.backup (list_length old.parts.members.newest) line new.parts.entries place) → IsAsked (list_length old.parts.members.newest) line old.parts.entries new.parts.entries r → IsTurnOrNone setting (Running old epochs) (Running new epochs) line (answer_at k r)
-  turn_of_ask line (Ok place) going longer ended tellable caused asked = turn_asked line place asked tellable caused (λ t. at_the_end setting old.parts.entries new.parts.entries asked new.parts.first t (longer t) ended) (going place asked)
-  turn_of_ask line (Err fault) going longer ended tellable caused asked = no_turn line asked
+      → new.parts.backup ≡ setting.backup → IfOk r (λ place. IsJudgedAt setting.given (record_of old) line new.parts.entries place) → IfOk r (λ place. IsLeftAt setting.before setting.now (record_of old) (record_of new) line new.parts.entries place)
+      → IsAsked (list_length old.parts.members.newest) line old.parts.entries new.parts.entries r → IsTurnOrNone setting (Running old epochs) (Running new epochs) line (answer_at k r)
+  turn_of_ask line (Ok place) going longer ended tellable backed judged left asked = turn_asked line place asked tellable backed judged left (λ t. at_the_end setting old.parts.entries new.parts.entries asked new.parts.first t (longer t) ended) (going place asked)
+  turn_of_ask line (Err fault) going longer ended tellable backed judged left asked = no_turn line asked
 
   -- memory was short for one of the calls of a wait
   no_turn_waiting : (earlier : List ℕ) → IsStillWaiting (list_length old.parts.members.newest) old.parts.entries earlier new.parts.entries → IsNoTurn setting (Running old epochs) (Running new epochs) Wait
@@ -325,12 +341,13 @@ module _ {B : Type 0} (setting : Setting) (old new : RunningParts B) (epochs : V
   }
 
   pub turn_of_wait : (r : Result ℕ NoMemory) → (setting.tells → setting.began ≤ length setting.tape) → IsEndOf setting.tells new.parts.first new.parts.entries setting.tape → IfOk r (λ place. IsTellable new.parts.entries place)
-      → IsWaited (list_length old.parts.members.newest) old.parts.entries new.parts.entries r → IsTurnOrNone setting (Running old epochs) (Running new epochs) Wait (answer_at k r)
-  turn_of_wait (Ok place) longer ended tellable was =
+      → new.parts.backup ≡ setting.backup → IfOk r (λ place. (others : List Record) × AreAllAnswered (record_of old) others (record_of new)) → IsWaited (list_length old.parts.members.newest) old.parts.entries new.parts.entries r
+      → IsTurnOrNone setting (Running old epochs) (Running new epochs) Wait (answer_at k r)
+  turn_of_wait (Ok place) longer ended tellable backed stepped was =
       turn_called Wait place was.asked (waited_called was)
       (gone_once was.asked (going_steps steps_at_once was.asked) (gone_waiting (list_length old.parts.members.newest) old.parts.entries was.between was.earlier was.waiting own.going))
-      (waited_reply own.script was) tellable tt (λ t. at_the_end setting was.between new.parts.entries was.asked new.parts.first t (longer t) ended) (going_steps steps_at_once was.asked)
-  turn_of_wait (Err fault) longer ended tellable (earlier, was) = no_turn_waiting earlier was
+      (waited_reply own.script was) tellable backed tt stepped (λ t. at_the_end setting was.between new.parts.entries was.asked new.parts.first t (longer t) ended) (going_steps steps_at_once was.asked)
+  turn_of_wait (Err fault) longer ended tellable backed stepped (earlier, was) = no_turn_waiting earlier was
 
 -- it was not called, and goes on
 pub turn_refused : {B : Type 0} (setting : Setting) (array : RunningParts B) (epochs : Vec Epoch) (line : Line) → RunsOwn (Running array epochs) → (setting.tells → setting.began ≤ length setting.tape) → IsRefusedOutside setting true (length setting.tape) line IsRunning
@@ -342,6 +359,7 @@ turn_refused setting array epochs line own longer refused = record {
   ends = longer;
   answer = refused;
   course = refl;
+  recorded = refl;
 }
 
 -- ---- the array that ran has ended
@@ -364,8 +382,8 @@ module _ {B : Type 0} (setting : Setting) (old : RunningParts B) (epoch : Epoch)
   now_many = ap (λ (l : List Epoch). length l) items ∙ length-append epochs.items (epoch ∷ [])
 
   pub turn_ended : (line : Line) (place : ℕ) (asked : IsAskedAt (list_length old.parts.members.newest) line old.parts.entries epoch.entries.items place) → IsTellable epoch.entries.items place
-      → IsCausedAt setting.given setting.backup (list_length old.parts.members.newest) line epoch.entries.items place → (setting.tells → EndsWithin setting asked.end) → is_end asked.event ≡ true → IsTurn setting (Running old epochs) (Idle bank ended) line (Inside count place)
-  turn_ended line place asked tellable caused within ends =
+      → IsJudgedBy setting.given (record_of old) line asked.event → (setting.tells → EndsWithin setting asked.end) → is_end asked.event ≡ true → IsTurn setting (Running old epochs) (Idle bank ended) line (Inside count place)
+  turn_ended line place asked tellable judged within ends =
       let now = history_of epoch in
       let called = called_once asked in
       record {
@@ -376,14 +394,17 @@ module _ {B : Type 0} (setting : Setting) (old : RunningParts B) (epoch : Epoch)
         ends = λ t. subst (λ (l : List History). EndsBetween setting.began (length setting.tape) l (Inside count place)) (sym now_are)
             (subst (λ (n : ℕ). EndsBetween setting.began (length setting.tape) (before ++ now ∷ []) (Inside n place)) counted
             (between_last before now asked setting.began (length setting.tape) (within t).0 (within t).1));
-        answer = subst (λ (l : List History). IsAnsweredInside setting.given setting.backup l (course_with count old) count place line) (sym now_are)
-            (subst (λ (n : ℕ). IsAnsweredInside setting.given setting.backup (before ++ now ∷ []) (record { opened = n + 1; running = true; calls = calls_in old.parts.entries; size = list_length old.parts.members.newest; block = [] }) n place line) counted
-            (answered_last setting.given setting.backup before (running_history old.parts) now asked (replied_at line asked) tellable caused));
+        answer = subst (λ (l : List History). IsAnsweredInside l (course_with count old) count place line) (sym now_are)
+            (subst (λ (n : ℕ). IsAnsweredInside (before ++ now ∷ []) (record { opened = n + 1; running = true; calls = calls_in old.parts.entries; size = list_length old.parts.members.newest; block = [] }) n place line) counted
+            (answered_last before (running_history old.parts) now asked (replied_at line asked) tellable));
         course = ap (λ (n : ℕ). at_rest n) now_many
             ∙ sym (ap (λ (l : List History). course_after l (course_with count old) InScript line (Inside count place)) now_are
             ∙ ap (λ (n : ℕ). course_after (before ++ now ∷ []) (course_with count old) InScript line (Inside n place)) (sym counted)
             ∙ course_last before now asked (course_with count old) line
             ∙ ap (λ (b : Bool). if b then at_rest (count + 1) else gone_on (calls_behind (calls_in old.parts.entries) (one (script_who old.parts.entries) asked.end asked.event)) (length_of (list_length old.parts.members.newest) now.entries) (course_with count old)) ends);
+        recorded = subst (λ (l : List History). IsRecordedBy setting line (entries_to l count place) (entry_at l count place) (record_of old) None) (sym now_are)
+            (subst (λ (n : ℕ). IsRecordedBy setting line (entries_to (before ++ now ∷ []) n place) (entry_at (before ++ now ∷ []) n place) (record_of old) None) counted
+            (recorded_last before now asked setting line (record_of old) None (judged, ends)));
       }
 
 -- ---- no array ran
@@ -398,6 +419,7 @@ module _ {B : Type 0} (setting : Setting) (bank : B) (olds epochs : Vec Epoch) (
     ends = longer;
     answer = is;
     course = ap (λ (l : List Epoch). at_rest (length l)) same;
+    recorded = refl;
   }
 
   -- memory was short
@@ -442,10 +464,10 @@ module _ {B : Type 0} (setting : Setting) (bank : B) (olds epochs : Vec Epoch) (
     no_entries : array.parts.entries ≡ [] → IsByScript (running_history array.parts)
     no_entries none = subst (λ (l : List Entry). AreByScript l l) (sym none) (All-nil (IsOwnEntry []))
 
-    pub turn_created : (line : CreateLine) → create_refusal setting.given setting.backup (spec_of line) ≡ None → IsCreated setting.tells setting.given setting.tape setting.backup (spec_of line) array.parts → phases_of array.ahead ≡ []
+    pub turn_created : (line : CreateLine) → create_refusal setting.given setting.backup (spec_of line) ≡ None → IsCreated setting.tells setting.given setting.tape setting.backup (spec_of line) array.parts → phases_of array.ahead ≡ [] → array.limit ≡ None
         → (setting.tells → used_slot (scope_of setting.given setting.backup array.parts.given line.uuid) (held_at setting (length setting.tape)) line.shape.disks ≡ None)
         → IsTurn setting (Idle bank olds) (Running array epochs) (Create line) (IsOutside Created)
-    turn_created line unrefused made planless free = record {
+    turn_created line unrefused made planless unlimited free = record {
       own = opened_own (no_entries made.quiet) (subst (λ (l : List Entry). AreGoing l) (sym made.quiet) (All-nil (λ e. IsFalse (is_end e.event)))) (ap (λ (l : List Entry). length_of (list_length array.parts.members.newest) l) made.quiet) (record { active_told = λ none. made.opened.still; ahead_told = λ none. planless });
       losses = opened_losses (losses-same setting [] (running_history array.parts) made.quiet);
       grown = opened_grown;
@@ -469,6 +491,18 @@ module _ {B : Type 0} (setting : Setting) (bank : B) (olds epochs : Vec Epoch) (
       );
       course = opened_course 0 (data_disks line.shape * line.size) none_called
           (still-length array.parts.members.newest made.opened.still ∙ ap (λ (s : Shape). data_disks s * array.parts.members.newest.size) made.new.shape ∙ ap (λ (n : ℕ). data_disks line.shape * n) made.new.size);
+      recorded = record {
+        backup_is = made.begun.backup_is;
+        quiet = made.quiet;
+        shape = made.new.shape;
+        size = made.new.size;
+        still = made.opened.still;
+        roles = made.new.members.roles;
+        spares = made.new.members.spares;
+        resync = ap (λ (w : Work). w.resync) made.begun.work ∙ ap (λ (b : Bool). if b then None else Some 0) made.new.clean;
+        planless = planless;
+        unlimited = unlimited;
+      };
     }
       where
         none_called : (lane : Lane) → calls_in array.parts.entries lane ≡ with_script 0 (λ lane. 0) lane
@@ -512,8 +546,8 @@ module _ {B : Type 0} (setting : Setting) (bank : B) (olds epochs : Vec Epoch) (
 
       -- it was asked for its status
       pub turn_found : (status : Status) → IsShownAs found status → IsEntered setting.tells setting.tape (script_who found.parts.entries) found.parts.entries array.parts.entries (Shown status ∷ []) → array.parts.members ≡ found.parts.members → array.ahead ≡ found.ahead
-          → IsTurn setting (Idle bank olds) (Running array epochs) (Assemble asked) (IsOutside (Assembled (length epochs.items) status))
-      turn_found status told entered members ahead = record {
+          → array.parts.backup ≡ found.parts.backup → IsShownAs array status → IsTurn setting (Idle bank olds) (Running array epochs) (Assemble asked) (IsOutside (Assembled (length epochs.items) status))
+      turn_found status told entered members ahead backed shown = record {
         own = opened_own (subst (λ (l : List Entry). AreByScript l l) (sym entries)
             (All-push (IsOwnEntry (entries_of opener array.parts.first losses ++ first_entry ∷ [])) (entries_of opener array.parts.first losses) first_entry (losses_own (entries_of opener array.parts.first losses ++ first_entry ∷ [])) (inl (inl refl, first_number))))
             (subst (λ (l : List Entry). AreGoing l) (sym entries) (All-push (λ e. IsFalse (is_end e.event)) (entries_of opener array.parts.first losses) first_entry losses_go refl))
@@ -537,8 +571,18 @@ module _ {B : Type 0} (setting : Setting) (bank : B) (olds epochs : Vec Epoch) (
           },
         );
         course = opened_course 1 status.length called (ap (λ (m : Members). list_length m.newest) members ∙ is.shown status told);
+        recorded = subst (λ (o : Option History). MatchOption o ⊥ (λ history. IsRecordFound setting.backup history status (record_of array))) (sym last_there) (record {
+          backup_is = backed ∙ is.backup_is;
+          more = [];
+          begins = sym (append-nil array.parts.entries);
+          shown = shown-record array status shown;
+          planless = ap (λ (p : PhasesLeft). phases_of p) ahead ∙ is.planless;
+        });
       }
         where
+          last_there : slice_get (histories_of epochs.items ++ running_history array.parts ∷ []) (length epochs.items) ≡ Some (running_history array.parts)
+          last_there = ap (λ (n : ℕ). slice_get (histories_of epochs.items ++ running_history array.parts ∷ []) n) (sym (length-map epochs.items history_of)) ∙ get_last (histories_of epochs.items) (running_history array.parts)
+
           first_entry : Entry
           first_entry = record { caller = 0; number = 0; end = entered.end; event = Shown status }
 

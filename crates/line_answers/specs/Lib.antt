@@ -1,7 +1,9 @@
 pub use Rattle.run_laws.specs.Asked as run_laws_Asked
+pub use Rattle.run_laws.specs.Caused as run_laws_Caused
 pub use Rattle.run_laws.specs.Ended as run_laws_Ended
 pub use Rattle.run_laws.specs.Histories as run_laws_Histories
 pub use Rattle.run_laws.specs.Making as run_laws_Making
+pub use Rattle.run_laws.specs.Records as run_laws_Records
 pub use Rattle.run_laws.specs.Replies as run_laws_Replies
 pub use Rattle.run_laws.specs.Showing as run_laws_Showing
 pub use Rattle.run_laws.specs.States as run_laws_States

@@ -23,10 +23,7 @@ use crate::shows::ask_show;
 use bank::Bank;
 use flat_history::{Entry, Epoch};
 use md_base::{Fault, NoMemory, Refusal};
-use run_laws::assemble::CreateSpec;
-use run_laws::openings::open_running;
-use run_laws::running::Running;
-use run_laws::{Answered, Outside, State, openings};
+use run_laws::{Answered, CreateSpec, Outside, Running, State, create_array, open_running};
 use script::{CreateLine, Line};
 use std::alloc::Global;
 
@@ -213,7 +210,7 @@ fn create_array<B: Bank>(
         size: line.size,
         offset: line.offset,
     };
-    let left = match openings::create_array(alloc, bank, backup, spec) {
+    let left = match create_array(alloc, bank, backup, spec) {
         Ok(array) => {
             return (
                 State::Running(array, epochs),

@@ -1,6 +1,6 @@
 //! One request of the script to a running array.
 
-ghost use Rattle.std.specs.Prelude.{◌≡◌, ◌≢◌, ◌⊎◌, ◌+◌, ◌*◌, ◌/◌, ◌<◌, ◌≤◌, ◌^◌, ℕ, true, length, slice_get, Err, IfOk, IfErr, IsTrue, IsFalse, IsSome};
+ghost use Rattle.std.specs.Prelude.{◌≡◌, ◌≢◌, ◌⊎◌, ◌+◌, ◌*◌, ◌/◌, ◌<◌, ◌≤◌, ◌^◌, ℕ, true, List, length, slice_get, Err, IfOk, IfErr, IsTrue, IsFalse, IsSome};
 ghost use Rattle.md_base.specs.declared.answers.Fault.TheVariants.{NoMemory as WantsMemory};
 ghost use Rattle.bank.specs.Given.{NeverFalls};
 ghost use Rattle.md_base.specs.Sectors.{IsWhole};
@@ -16,15 +16,15 @@ ghost use Rattle.run_laws.specs.running_replies_Replies.{HasToldBy};
 ghost use Rattle.run_laws.specs.Making.{is_added};
 ghost use Rattle.run_laws.specs.Asked.{IsAsked, IsSizedBy, IsWaited, script_who};
 ghost use Rattle.run_laws.specs.Replies.{leaves_more_at};
-ghost use Rattle.run_laws.specs.Caused.{IsJudgedAt};
+ghost use Rattle.run_laws.specs.Caused.{Record, record_of, IsJudgedAt};
+ghost use Rattle.run_laws.specs.Records.{AreStepsAnswered, AreAllAnswered, IsLeftAt};
 ghost use Rattle.run_laws.specs.Turning.{IsTellable, IsTurningTold};
 ghost use Rattle.script.specs.declared.lines.Line.TheVariants.{Read as ReadLine, Write as WriteLine, Flush as FlushLine, Fail as FailLine, Add as AddLine, ArraySize as ArraySizeLine, Grow as GrowLine, Step as StepLine};
 
 use bank::Bank;
 use flat_history::Event;
 use md_base::{Fault, NoMemory, Who, Wish};
-use run_laws::running::Running;
-use run_laws::running_steps::steps;
+use run_laws::{Running, steps};
 use script::seed_sectors;
 use std::alloc::Global;
 
@@ -71,6 +71,7 @@ pub fn ask_read<B: Bank>(
     requires turning { IsTurningTold (is_reshaping array.old.parts.members.newest) (phases_of array.old.ahead) array.old.parts.entries }
     ensures asked { IsAsked (list_length array.old.parts.members.newest) (ReadLine at count) array.old.parts.entries array.new.parts.entries result }
     ensures tellable { IfOk result (λ place. IsTellable array.new.parts.entries place) }
+    ensures left { IfOk result (λ place. IsLeftAt (B.faults_of array.old.parts.bank) (B.faults_of array.new.parts.bank) (record_of array.old) (record_of array.new) (ReadLine at count) array.new.parts.entries place) }
     ensures turning { IsTurningTold (is_reshaping array.new.parts.members.newest) (phases_of array.new.ahead) array.new.parts.entries }
     ensures ended { IfOk result (λ place. IsEndOf B.tells array.new.parts.first array.new.parts.entries (B.tape array.new.parts.bank)) }
     ensures unchanged { IfErr result (λ none. array.new ≡ array.old) }
@@ -110,6 +111,7 @@ pub fn ask_write<B: Bank>(
     requires turning { IsTurningTold (is_reshaping array.old.parts.members.newest) (phases_of array.old.ahead) array.old.parts.entries }
     ensures asked { IsAsked (list_length array.old.parts.members.newest) (WriteLine at count seed) array.old.parts.entries array.new.parts.entries result }
     ensures tellable { IfOk result (λ place. IsTellable array.new.parts.entries place) }
+    ensures left { IfOk result (λ place. IsLeftAt (B.faults_of array.old.parts.bank) (B.faults_of array.new.parts.bank) (record_of array.old) (record_of array.new) (WriteLine at count seed) array.new.parts.entries place) }
     ensures turning { IsTurningTold (is_reshaping array.new.parts.members.newest) (phases_of array.new.ahead) array.new.parts.entries }
     ensures ended { IfOk result (λ place. IsEndOf B.tells array.new.parts.first array.new.parts.entries (B.tape array.new.parts.bank)) }
     ensures unchanged { IfErr result (λ none. array.new ≡ array.old) }
@@ -142,6 +144,7 @@ pub fn ask_flush<B: Bank>(array: &mut Running<B>) -> Result<u64, NoMemory>
     requires turning { IsTurningTold (is_reshaping array.old.parts.members.newest) (phases_of array.old.ahead) array.old.parts.entries }
     ensures asked { IsAsked (list_length array.old.parts.members.newest) FlushLine array.old.parts.entries array.new.parts.entries result }
     ensures tellable { IfOk result (λ place. IsTellable array.new.parts.entries place) }
+    ensures left { IfOk result (λ place. IsLeftAt (B.faults_of array.old.parts.bank) (B.faults_of array.new.parts.bank) (record_of array.old) (record_of array.new) FlushLine array.new.parts.entries place) }
     ensures turning { IsTurningTold (is_reshaping array.new.parts.members.newest) (phases_of array.new.ahead) array.new.parts.entries }
     ensures ended { IfOk result (λ place. IsEndOf B.tells array.new.parts.first array.new.parts.entries (B.tape array.new.parts.bank)) }
     ensures unchanged { IfErr result (λ none. array.new ≡ array.old) }
@@ -168,7 +171,8 @@ pub fn ask_fail<B: Bank>(array: &mut Running<B>, role: u32) -> Result<u64, NoMem
     requires turning { IsTurningTold (is_reshaping array.old.parts.members.newest) (phases_of array.old.ahead) array.old.parts.entries }
     ensures asked { IsAsked (list_length array.old.parts.members.newest) (FailLine role) array.old.parts.entries array.new.parts.entries result }
     ensures tellable { IfOk result (λ place. IsTellable array.new.parts.entries place) }
-    ensures judged { IfOk result (λ place. IsJudgedAt (B.given array.old.parts.bank) array.old (FailLine role) array.new.parts.entries place) }
+    ensures judged { IfOk result (λ place. IsJudgedAt (B.given array.old.parts.bank) (record_of array.old) (FailLine role) array.new.parts.entries place) }
+    ensures left { IfOk result (λ place. IsLeftAt (B.faults_of array.old.parts.bank) (B.faults_of array.new.parts.bank) (record_of array.old) (record_of array.new) (FailLine role) array.new.parts.entries place) }
     ensures turning { IsTurningTold (is_reshaping array.new.parts.members.newest) (phases_of array.new.ahead) array.new.parts.entries }
     ensures ended { IfOk result (λ place. IsEndOf B.tells array.new.parts.first array.new.parts.entries (B.tape array.new.parts.bank)) }
     ensures unchanged { IfErr result (λ none. array.new ≡ array.old) }
@@ -195,7 +199,8 @@ pub fn ask_add<B: Bank>(array: &mut Running<B>, slot: u32) -> Result<u64, NoMemo
     requires turning { IsTurningTold (is_reshaping array.old.parts.members.newest) (phases_of array.old.ahead) array.old.parts.entries }
     ensures asked { IsAsked (list_length array.old.parts.members.newest) (AddLine slot) array.old.parts.entries array.new.parts.entries result }
     ensures tellable { IfOk result (λ place. IsTellable array.new.parts.entries place) }
-    ensures judged { IfOk result (λ place. IsJudgedAt (B.given array.old.parts.bank) array.old (AddLine slot) array.new.parts.entries place) }
+    ensures judged { IfOk result (λ place. IsJudgedAt (B.given array.old.parts.bank) (record_of array.old) (AddLine slot) array.new.parts.entries place) }
+    ensures left { IfOk result (λ place. IsLeftAt (B.faults_of array.old.parts.bank) (B.faults_of array.new.parts.bank) (record_of array.old) (record_of array.new) (AddLine slot) array.new.parts.entries place) }
     ensures turning { IsTurningTold (is_reshaping array.new.parts.members.newest) (phases_of array.new.ahead) array.new.parts.entries }
     ensures ended { IfOk result (λ place. IsEndOf B.tells array.new.parts.first array.new.parts.entries (B.tape array.new.parts.bank)) }
     ensures unchanged { IfErr result (λ none. array.new ≡ array.old) }
@@ -222,7 +227,8 @@ pub fn ask_visible<B: Bank>(array: &mut Running<B>, limit: Option<u64>) -> Resul
     requires turning { IsTurningTold (is_reshaping array.old.parts.members.newest) (phases_of array.old.ahead) array.old.parts.entries }
     ensures asked { IsAsked (list_length array.old.parts.members.newest) (ArraySizeLine limit) array.old.parts.entries array.new.parts.entries result }
     ensures tellable { IfOk result (λ place. IsTellable array.new.parts.entries place) }
-    ensures judged { IfOk result (λ place. IsJudgedAt (B.given array.old.parts.bank) array.old (ArraySizeLine limit) array.new.parts.entries place) }
+    ensures judged { IfOk result (λ place. IsJudgedAt (B.given array.old.parts.bank) (record_of array.old) (ArraySizeLine limit) array.new.parts.entries place) }
+    ensures left { IfOk result (λ place. IsLeftAt (B.faults_of array.old.parts.bank) (B.faults_of array.new.parts.bank) (record_of array.old) (record_of array.new) (ArraySizeLine limit) array.new.parts.entries place) }
     ensures turning { IsTurningTold (is_reshaping array.new.parts.members.newest) (phases_of array.new.ahead) array.new.parts.entries }
     ensures ended { IfOk result (λ place. IsEndOf B.tells array.new.parts.first array.new.parts.entries (B.tape array.new.parts.bank)) }
     ensures unchanged { IfErr result (λ none. array.new ≡ array.old) }
@@ -241,7 +247,8 @@ pub fn ask_grow<B: Bank>(array: &mut Running<B>, wish: Wish) -> Result<u64, NoMe
     requires turning { IsTurningTold (is_reshaping array.old.parts.members.newest) (phases_of array.old.ahead) array.old.parts.entries }
     ensures asked { IsAsked (list_length array.old.parts.members.newest) (GrowLine wish) array.old.parts.entries array.new.parts.entries result }
     ensures tellable { IfOk result (λ place. IsTellable array.new.parts.entries place) }
-    ensures judged { IfOk result (λ place. IsJudgedAt (B.given array.old.parts.bank) array.old (GrowLine wish) array.new.parts.entries place) }
+    ensures judged { IfOk result (λ place. IsJudgedAt (B.given array.old.parts.bank) (record_of array.old) (GrowLine wish) array.new.parts.entries place) }
+    ensures left { IfOk result (λ place. IsLeftAt (B.faults_of array.old.parts.bank) (B.faults_of array.new.parts.bank) (record_of array.old) (record_of array.new) (GrowLine wish) array.new.parts.entries place) }
     ensures turning { IsTurningTold (is_reshaping array.new.parts.members.newest) (phases_of array.new.ahead) array.new.parts.entries }
     ensures ended { IfOk result (λ place. IsEndOf B.tells array.new.parts.first array.new.parts.entries (B.tape array.new.parts.bank)) }
     ensures unchanged { IfErr result (λ none. array.new ≡ array.old) }
@@ -263,7 +270,8 @@ pub fn ask_steps<B: Bank>(array: &mut Running<B>, most: u32) -> Result<u64, NoMe
     requires turning { IsTurningTold (is_reshaping array.old.parts.members.newest) (phases_of array.old.ahead) array.old.parts.entries }
     ensures asked { IsAsked (list_length array.old.parts.members.newest) (StepLine most) array.old.parts.entries array.new.parts.entries result }
     ensures tellable { IfOk result (λ place. IsTellable array.new.parts.entries place) }
-    ensures judged { IfOk result (λ place. IsJudgedAt (B.given array.old.parts.bank) array.old (StepLine most) array.new.parts.entries place) }
+    ensures judged { IfOk result (λ place. IsJudgedAt (B.given array.old.parts.bank) (record_of array.old) (StepLine most) array.new.parts.entries place) }
+    ensures stepped { IfOk result (λ place. AreStepsAnswered (record_of array.old) (record_of array.new)) }
     ensures turning { IsTurningTold (is_reshaping array.new.parts.members.newest) (phases_of array.new.ahead) array.new.parts.entries }
     ensures more { IfOk result (λ place. length array.old.parts.entries < length array.new.parts.entries) }
     ensures ended { IfOk result (λ place. IsEndOf B.tells array.new.parts.first array.new.parts.entries (B.tape array.new.parts.bank)) }
@@ -299,6 +307,7 @@ pub fn ask_wait<B: Bank>(array: &mut Running<B>) -> Result<u64, NoMemory>
     requires turning { IsTurningTold (is_reshaping array.old.parts.members.newest) (phases_of array.old.ahead) array.old.parts.entries }
     ensures asked { IsWaited (list_length array.old.parts.members.newest) array.old.parts.entries array.new.parts.entries result }
     ensures tellable { IfOk result (λ place. IsTellable array.new.parts.entries place) }
+    ensures stepped { IfOk result (λ place. (others : List Record) × AreAllAnswered (record_of array.old) others (record_of array.new)) }
     ensures turning { IsTurningTold (is_reshaping array.new.parts.members.newest) (phases_of array.new.ahead) array.new.parts.entries }
     ensures ended { IsEndOf B.tells array.new.parts.first array.new.parts.entries (B.tape array.new.parts.bank) }
     ensures went { HasRunOn B.tells B.given B.tape B.faults_of array.old array.new }

@@ -18,8 +18,7 @@ use bank::{Bank, BankFault};
 use election::reads::read_superblock;
 use flat_history::Epoch;
 use md_base::{NoMemory, Refusal};
-use run_laws::running::Running;
-use run_laws::{Answered, Outside, State};
+use run_laws::{Answered, Outside, Running, State};
 use sb1::Sb;
 
 // What is answered where the slot was looked at.

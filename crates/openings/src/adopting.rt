@@ -20,13 +20,10 @@ use grow_asked::{PhasesLeft, Window};
 use md_base::{Fault, Refusal};
 use moving_opens::reshape_openings::{find_window, lose_recovering};
 use pieces::Pieces;
-use running_steps::array_state::absent::enter_all_absent;
-use running_steps::array_state::room::{Room, room_for, zeros};
-use running_steps::array_state::work::found_numbers;
-use running_steps::course_kept::Course;
-use running_steps::moving::Moving;
-use running_steps::moving_state::reshape::list_sectors;
-use running_steps::safe_updates::roles::{final_in, shape_in};
+use running_steps::{
+    Course, Moving, Room, enter_all_absent, final_in, found_numbers, list_sectors, room_for,
+    shape_in, zeros,
+};
 use std::alloc::Global;
 use superblocks::Members;
 use superblocks::says::is_clean;

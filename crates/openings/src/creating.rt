@@ -17,7 +17,7 @@ use crate::finding::run_still;
 use assemble::{CreateSpec, make};
 use bank::Bank;
 use md_base::Fault;
-use running_steps::running::Running;
+use running_steps::Running;
 use std::alloc::Global;
 
 /// Makes an array as `make` of `assemble` does, with every role whole and its list zero, and runs it; it has neither a plan nor a limit. A refusal hands

@@ -20,9 +20,7 @@ use crate::adopting::adopt_moving;
 use assemble::{Opened, find};
 use bank::Bank;
 use md_base::Fault;
-use running_steps::running::Running;
-use running_steps::still;
-use running_steps::still::Still;
+use running_steps::{Opened as OpenedStill, Running, Still};
 use std::alloc::Global;
 use superblocks::says::is_reshaping;
 
@@ -43,7 +41,7 @@ pub(crate) fn run_still<B: Bank>(
     ensures short { IfErr result (λ e. e.1 ≡ WantsMemory) }
 {
     let Opened { members, given } = found;
-    let opened = still::Opened {
+    let opened = OpenedStill {
         backup,
         members,
         given,

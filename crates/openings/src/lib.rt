@@ -6,8 +6,7 @@ mod creating;
 mod finding;
 
 pub use adopting::adopt_moving;
-pub use assemble;
+pub use assemble::CreateSpec;
 pub use creating::create_array;
 pub use finding::open_running;
-pub use running_steps;
-pub use running_steps::running;
+pub use running_steps::{Running, steps};

@@ -49,7 +49,6 @@ use Rattle.run_laws.specs.Examining.{IsExaminedBy, IsUnexamined}
 use Rattle.run_laws.specs.Making.{Setting, held_at, history_world, IsUncreated, IsUnassembled, IsStoredNew, IsStoredAs, BeginsShown}
 use Rattle.run_laws.specs.Replies.{Course, spec_of, FitsLine, IsMadeBy, IsFoundBy, IsRefusedOutside, with_script, gone_on, course_behind, entries_to, course_after, course_of, leaves_more, leaves_more_at, IsReplyAt, IsWaitedAt, IsRepliedAt, IsAnsweredInside, IsAnswer, most_turns, IsWorkedAt, IsWorked, IsRepliedBeside, IsAnsweredBeside, IsAnswerBeside, IsAnswerIn, mark_reached, mark_shown, IsEnd, IsReplyTo, AreReplies}
 use Rattle.openings.specs.running_replies_Replies.{RunningFits, MayTellBy}
-use Rattle.run_laws.specs.Caused.{IsCausedFor, IsCausedAt}
 use Rattle.running_calls.specs.Turning.{may_be_active, may_be_ahead, IsTellable}
 use Rattle.run_laws.specs.States.{IsGrown, AreGrown, IsNamed, IsWaitingAt, IsCutShort}
 use Rattle.run_laws.proofs.Causes.{faulted-wider, given-wider, create-later, assemble-later}
@@ -190,22 +189,8 @@ tellable_longer entries more place was = by_entry (slice_get entries place) refl
         subst (λ (o : Option Entry). MatchOption o ⊥ (λ x. MayTellBy (IsTrue (may_be_active (take place (entries ++ more)))) (IsTrue (may_be_ahead (take place (entries ++ more)))) x.event)) (sym (get_append entries more place e is))
         (subst (λ (l : List Entry). MayTellBy (IsTrue (may_be_active l)) (IsTrue (may_be_ahead l)) e.event) (sym (take-append-le place entries more (omega (arith, within)))) told)
 
--- nor is what it was judged by another
-caused_longer : (given : Given) (backup : Option ℕ) (size : ℕ) (line : Line) (entries more : List Entry) (place : ℕ) → IsTellable entries place → IsCausedAt given backup size line entries place
-    → IsCausedAt given backup size line (entries ++ more) place
-caused_longer given backup size line entries more place there was = by_entry (slice_get entries place) refl there
-  where
-    by_entry : (o : Option Entry) → slice_get entries place ≡ o → MatchOption o ⊥ (λ e. MayTellBy (IsTrue (may_be_active (take place entries))) (IsTrue (may_be_ahead (take place entries))) e.event)
-        → IsCausedAt given backup size line (entries ++ more) place
-    by_entry None is told = absurd told
-    by_entry (Some e) is told =
-        let within = slice_get_within entries place e is in
-        subst (λ (o : Option Entry). IsCausedFor given backup size line (take place (entries ++ more)) o) (is ∙ sym (get_append entries more place e is))
-        (subst (λ (l : List Entry). IsCausedFor given backup size line l (slice_get entries place)) (sym (take-append-le place entries more (omega (arith, within)))) was)
-
-inside_stays : (given : Given) (backup : Option ℕ) (olds news : List History) (course : Course) (epoch place : ℕ) (line : Line) → AreGrown olds news
-    → IsAnsweredInside given backup olds course epoch place line → IsAnsweredInside given backup news course epoch place line
-inside_stays given backup olds news course epoch place line grown was =
+inside_stays : (olds news : List History) (course : Course) (epoch place : ℕ) (line : Line) → AreGrown olds news → IsAnsweredInside olds course epoch place line → IsAnsweredInside news course epoch place line
+inside_stays olds news course epoch place line grown was =
     let now = history_stays olds news grown epoch was.history was.there in
     record {
       running = was.running;
@@ -214,7 +199,6 @@ inside_stays given backup olds news course epoch place line grown was =
       there = now.1;
       replied = subst (λ (l : List Entry). IsRepliedAt course.size l place (course.calls InScript) line) (sym now.2.grown) (replied_longer course.size place (course.calls InScript) line was.history.entries now.2.more now.2.later was.replied);
       tellable = subst (λ (l : List Entry). IsTellable l place) (sym now.2.grown) (tellable_longer was.history.entries now.2.more place was.tellable);
-      caused = subst (λ (l : List Entry). IsCausedAt given backup course.size line l place) (sym now.2.grown) (caused_longer given backup course.size line was.history.entries now.2.more place was.tellable was.caused);
     }
 
 -- ---- a line of a block
@@ -460,9 +444,7 @@ module _ (was now : Setting) (wider : IsWider was now) (end later : ℕ) (moved 
 
   -- an answer stays one over a longer time
   pub answer_wider : (histories : List History) (course : Course) (line : Line) (what : Answered) → IsAnswer was histories course line end what → IsAnswer now histories course line later what
-  answer_wider histories course line (Inside epoch at) is =
-      subst (λ (o : Option ℕ). IsAnsweredInside now.given o histories course epoch at line) (sym wider.backup)
-      (subst (λ (g : Given). IsAnsweredInside g was.backup histories course epoch at line) (sym wider.given) is)
+  answer_wider histories course line (Inside epoch at) is = is
   answer_wider histories course line (IsOutside Created) (idle, made) = (idle, made_wider histories course.opened line made)
   answer_wider histories course line (IsOutside (Assembled epoch status)) (idle, next, found) = (idle, next, found_wider histories course.opened line status found)
   answer_wider histories course line (IsOutside (Examined slot found)) is = examined_wider line slot found is
@@ -552,7 +534,7 @@ found_stays setting olds news grown epoch end (Assemble asked) status is =
 
 -- and as the histories grow
 answer_stays : (setting : Setting) (olds news : List History) (course : Course) (line : Line) (end : ℕ) (what : Answered) → AreGrown olds news → IsAnswer setting olds course line end what → IsAnswer setting news course line end what
-answer_stays setting olds news course line end (Inside epoch at) grown is = inside_stays setting.given setting.backup olds news course epoch at line grown is
+answer_stays setting olds news course line end (Inside epoch at) grown is = inside_stays olds news course epoch at line grown is
 answer_stays setting olds news course line end (IsOutside Created) grown (idle, made) = (idle, made_stays setting olds news grown course.opened end line made)
 answer_stays setting olds news course line end (IsOutside (Assembled epoch status)) grown (idle, next, found) = (idle, next, found_stays setting olds news grown course.opened end line status found)
 answer_stays setting olds news course line end (IsOutside (Examined slot found)) grown is = is
@@ -565,7 +547,7 @@ some_named (Some e) is = (e, refl)
 -- an answer names an entry that is there
 pub answer_named : (setting : Setting) (histories : List History) (course : Course) (line : Line) (end : ℕ) (what : Answered) → IsAnswer setting histories course line end what → IsNamed histories what
 answer_named setting histories course line end (Inside epoch at) is =
-    let entry = replied_there course.size at is.history.entries line course.calls is.replied in
+    let entry = replied_there course.size at is.history.entries line (course.calls InScript) is.replied in
     subst (λ (o : Option Entry). IsSome o) (sym (ap (λ (o : Option History). option_and_then (λ h. slice_get h.entries at) o) is.there ∙ entry.1)) refl
 answer_named setting histories course line end (IsOutside outside) is = tt
 

@@ -7,6 +7,8 @@ pub mod Legal
 pub mod Losses
 pub mod Plain
 pub mod PlainReplies
+pub mod RecordLaws
+pub mod RuledLaws
 pub mod Told
 pub mod Turned
 pub mod Worlds

@@ -6,7 +6,9 @@ pub mod Examining
 pub mod Histories
 pub mod Making
 pub mod Plain
+pub mod Records
 pub mod Replies
+pub mod Ruled
 pub mod Showing
 pub mod States
 pub mod Written
@@ -18,6 +20,8 @@ pub use Rattle.openings.specs.assemble_Opening
 pub use Rattle.openings.specs.assemble_Running
 pub use Rattle.openings.specs.course_kept_the_Course
 pub use Rattle.openings.specs.growing_Replied
+pub use Rattle.growing.specs.Planned as growing_Planned
+pub use Rattle.openings.specs.moving_laws_Writing
 pub use Rattle.openings.specs.region_mends_Left
 pub use Rattle.openings.specs.reshape_openings_Finding
 pub use Rattle.openings.specs.running_Calls
@@ -29,6 +33,7 @@ pub use Rattle.openings.specs.running_words_Calls
 pub use Rattle.openings.specs.running_words_Parts
 pub use Rattle.openings.specs.running_words_Plans
 pub use Rattle.openings.specs.running_words_Still
+pub use Rattle.running_words.specs.Visible as running_words_Visible
 pub use Rattle.openings.specs.still_laws_Plain
 pub use Rattle.openings.specs.array_kept_Adopting
 pub use Rattle.openings.specs.array_kept_Calls

@@ -5,7 +5,6 @@ use Rattle.md_base.specs.declared.answers.Refusal.{Refusal}
 use Rattle.md_base.specs.declared.answers.Refusal.TheVariants.{Running, NotRunning}
 use Rattle.md_base.specs.declared.status.Status.{Status}
 use Rattle.md_base.specs.Shapes.{data_disks, has_slot}
-use Rattle.bank.specs.Given.{Given}
 use Rattle.openings.specs.assemble_the_CreateSpec.{CreateSpec}
 use Rattle.script.specs.declared.lines.CreateLine.{CreateLine}
 use Rattle.flat_history.specs.declared.events.Entry.{Entry}
@@ -35,7 +34,6 @@ use Rattle.run_laws.specs.declared.report.LineReply.{LineReply}
 use Rattle.run_laws.specs.Blocks.{caller_of, request_of, IsCallersReply}
 use Rattle.run_laws.specs.Histories.{History, entry_at, is_end}
 use Rattle.run_laws.specs.Showing.{IsShown}
-use Rattle.run_laws.specs.Caused.{IsCausedAt}
 use Rattle.running_calls.specs.Turning.{IsTellable}
 use Rattle.run_laws.specs.Examining.{IsExaminedBy, IsUnexamined}
 use Rattle.run_laws.specs.Making.{Setting, held_at, history_world, IsUncreated, IsUnassembled, IsStoredNew, IsStoredAs, BeginsShown}
@@ -171,15 +169,14 @@ abbrev pub IsRepliedAt : ℕ → List Entry → ℕ → ℕ → Line → Type 0
 IsRepliedAt size entries place number Wait = (earlier : List ℕ) × IsWaitedAt size entries earlier place number
 IsRepliedAt size entries place number line = IsReplyAt size entries place number line
 
--- The line is answered by an entry of the array that runs, in the script's next call, which tells nothing that only a reshape could, unless by the entries before it one may be active, or ahead; and a record of the array that its history allows judges so.
-pub record IsAnsweredInside (given : Given) (backup : Option ℕ) (histories : List History) (course : Course) (epoch place : ℕ) (line : Line) : Type 0 where
+-- The line is answered by an entry of the array that runs, in the script's next call, which tells nothing that only a reshape could, unless by the entries before it one may be active, or ahead.
+pub record IsAnsweredInside (histories : List History) (course : Course) (epoch place : ℕ) (line : Line) : Type 0 where
   pub running : IsTrue course.running
   pub latest : epoch + 1 ≡ course.opened
   pub history : History
   pub there : slice_get histories epoch ≡ Some history
   pub replied : IsRepliedAt course.size history.entries place (course.calls InScript) line
   pub tellable : IsTellable history.entries place
-  pub caused : IsCausedAt given backup course.size line history.entries place
 
 -- The next history is that of an array that was made as the line asks: nothing spoke against it, it has the uuid, all slots are given,
 -- and it begins where the reply was made; there its list is zero, it is sound, its superblocks are alike and say what was asked for, and
@@ -285,7 +282,7 @@ IsRefusedOutside setting false end (Examine slot) refusal = IsUnexamined setting
 
 -- an answer to a line, given at this mark, where the run stands at this point
 abbrev pub IsAnswer : Setting → List History → Course → Line → ℕ → Answered → Type 0
-IsAnswer setting histories course line end (Inside epoch at) = IsAnsweredInside setting.given setting.backup histories course epoch at line
+IsAnswer setting histories course line end (Inside epoch at) = IsAnsweredInside histories course epoch at line
 IsAnswer setting histories course line end (IsOutside Created) = IsFalse course.running × IsMadeBy setting histories course.opened end line
 IsAnswer setting histories course line end (IsOutside (Assembled epoch status)) =
     IsFalse course.running × (epoch ≡ course.opened) × IsFoundBy setting histories course.opened end line status

@@ -1,5 +1,5 @@
 -- The bank of a run with or without an array on it, and what a line does to it.
-use Rattle.std.specs.Prelude.{◌≡◌, ◌⊎◌, ℕ, ◌+◌, ◌<◌, ◌≤◌, ◌^◌, ◌++◌, Bool, true, List, [], ◌∷◌, length, take, slice_get, vec_capacity, Option, Some, MatchOption, Result, Ok, Err, IfSome, IsSome, IsTrue, ⊤}
+use Rattle.std.specs.Prelude.{◌≡◌, ◌⊎◌, ℕ, ◌+◌, ◌<◌, ◌≤◌, ◌^◌, ◌++◌, Bool, true, List, [], ◌∷◌, length, take, slice_get, vec_capacity, Option, Some, None, MatchOption, Result, Ok, Err, IfSome, IsSome, IsTrue, ⊤}
 use Rattle.std.specs.List.{All}
 use Rattle.md_base.specs.declared.answers.NoMemory.{NoMemory}
 use Rattle.md_base.specs.declared.answers.Refusal.{Refusal}
@@ -25,8 +25,10 @@ use Rattle.run_laws.specs.declared.report.Answered.TheVariants.{Inside, Outside}
 use Rattle.run_laws.specs.declared.states.State.{State}
 use Rattle.run_laws.specs.declared.states.State.TheVariants.{Idle, Running}
 use Rattle.run_laws.specs.Blocks.{caller_of, IsOfBlock}
+use Rattle.run_laws.specs.Caused.{Record, record_of}
 use Rattle.run_laws.specs.Histories.{History, histories_of, entry_at, AreGoing, EndsOnce}
 use Rattle.run_laws.specs.Making.{Setting, history_world, MayHaveHeld, MissingAtFirst}
+use Rattle.run_laws.specs.Records.{IsRecorded}
 use Rattle.run_laws.specs.Replies.{Course, with_script, at_rest, gone_on, course_after, steps_at_once, leaves_more_at, IsReplyAt, IsAnswer, IsAnswerBeside}
 use Rattle.running_calls.specs.Turning.{IsTurningTold}
 
@@ -56,6 +58,11 @@ course_with before array = record { opened = before + 1; running = true; calls =
 abbrev pub course_in : {B : Type 0} → State B → Course
 course_in (Idle bank epochs) = at_rest (length epochs.items)
 course_in (Running array epochs) = course_with (length epochs.items) array
+
+-- the record of the array that runs, if one does
+abbrev pub record_in : {B : Type 0} → State B → Option Record
+record_in (Idle bank epochs) = None
+record_in (Running array epochs) = Some (record_of array)
 
 -- the event tells a role that an opening didn't find whole
 abbrev pub IsAbsence : Event → Type 0
@@ -210,6 +217,7 @@ pub record IsTurn {B : Type 0} (setting : Setting) (old new : State B) (line : L
   pub ends : setting.tells → EndsBetween setting.began (length setting.tape) (histories_in new) what
   pub answer : IsAnswer setting (histories_in new) (course_in old) line (length setting.tape) what
   pub course : course_in new ≡ course_after (histories_in new) (course_in old) InScript line what
+  pub recorded : IsRecorded setting (histories_in new) line what (record_in old) (record_in new)
 
 -- memory was short: nothing was entered, but for the calls of a wait before the one that it was short for
 pub record IsNoTurn {B : Type 0} (setting : Setting) (old new : State B) (line : Line) : Type 0 where

@@ -1,6 +1,7 @@
 //! The laws of replies.
 
 ghost use Rattle.run_laws.specs.Plain.{PlainRepliesFit, RestTellsPlainly, PlainListsStay};
+ghost use Rattle.run_laws.specs.Ruled.{NewRolesFail, UnusedSlotsAreFree, PlansAreStepped};
 
 /// Where neither a limit was told nor a reshape planned, begun or ended in its call before it, a reply that tells no failed backup, and
 /// no refusal of a reshape, fits its request as one of an array of one shape, unless that asks for a limit or a reshape.
@@ -17,4 +18,19 @@ pub fn rest_tells_plainly()
 /// Where the entries of a history tell nothing of a reshape, the list stays as long as it is.
 pub fn plain_lists_stay()
     ensures { PlainListsStay }
+{}
+
+/// By its record, a role of an array that was just made can be failed: `NoSuchRole` is ruled out.
+pub fn new_roles_fail()
+    ensures { NewRolesFail }
+{}
+
+/// A slot that an array which was just made doesn't use, and that isn't its backup, isn't taken.
+pub fn unused_slots_are_free()
+    ensures { UnusedSlotsAreFree }
+{}
+
+/// A step behind a plan with steps isn't refused as having nothing to do.
+pub fn plans_are_stepped()
+    ensures { PlansAreStepped }
 {}

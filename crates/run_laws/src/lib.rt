@@ -6,7 +6,6 @@ pub mod laws;
 mod report;
 mod states;
 
-pub use openings;
-pub use openings::{assemble, running, running_steps};
+pub use openings::{CreateSpec, Running, create_array, open_running, steps};
 pub use report::{Answered, LineReply, Outside};
 pub use states::State;

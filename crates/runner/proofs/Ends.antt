@@ -37,7 +37,6 @@ use Rattle.line_answers.proofs.run_laws_Legal.{grows_longer}
 use Rattle.runner.proofs.WritesPlaced.{placed-end, quiet-between}
 use Rattle.line_answers.proofs.run_laws_Growth.{IsWider, replies_stay, replies_front, courses_stay, cut_stays}
 use Rattle.runner.proofs.ShownLaws.{shown_stays}
-use Rattle.line_answers.proofs.run_laws_CausedLaws.{unjudged-at}
 use Rattle.line_answers.proofs.run_laws_Turned.{asked-tellable, halt-told}
 use Rattle.line_answers.proofs.run_laws_Losses.{losses-halted, losses-whole, losses-kept, losses-last, losses_add}
 use Rattle.line_answers.proofs.Turns.{now_are, turn_ended, grown_kept, get_last}
@@ -53,7 +52,7 @@ pub ended_running : {B tells : Type 0} {tape : List Operation} {place : ℕ} (se
     → IsEnded setting (Running array epochs) array.parts.bank ended.items
 ended_running {place = place} setting who array epoch epochs ended items own entered uuid given first asked halts =
     let still : Setting = record { tells = ⊥; given = record { slots = 0; sectors = λ s. 0; start = λ s k. [] }; tape = []; backup = array.parts.backup; began = 0; before = λ s. 0; now = λ s. 0 } in
-    let turn = turn_ended still array epoch array.parts.bank epochs ended items own (losses-halted still who (history_of epoch) entered) uuid given first Halt place asked (asked-tellable asked (halt-told asked.event asked.fits)) (unjudged-at still.given still.backup array refl own.turning Halt epoch.entries.items place asked (λ before event. tt)) (λ t. absurd t) (ap is_end halts) in
+    let turn = turn_ended still array epoch array.parts.bank epochs ended items own (losses-halted still who (history_of epoch) entered) uuid given first Halt place asked (asked-tellable asked (halt-told asked.event asked.fits)) tt (λ t. absurd t) (ap is_end halts) in
     let are = now_are still array epoch array.parts.bank epochs ended items own (losses-halted still who (history_of epoch) entered) uuid given first in
     let many : length (histories_of ended.items) ≡ length (histories_of epochs.items) + 1 =
     ap (λ (l : List History). length l) are ∙ length-append (histories_of epochs.items) (history_of epoch ∷ []) in

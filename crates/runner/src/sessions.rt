@@ -17,8 +17,7 @@ ghost use Rattle.script.specs.declared.reply.Lane.TheVariants.{Script as InScrip
 
 use bank::Bank;
 use flat_history::Event;
-use line_answers::run_laws::{Answered, LineReply, Outside, State};
-use line_answers::{answer, entry_of};
+use line_answers::{Answered, LineReply, Outside, State, answer, entry_of};
 use md_base::{NoMemory, Refusal};
 use script::{
     Lane, Line, Numbered, push_assembled, push_created, push_event, push_lane, push_refusal,

@@ -3,5 +3,8 @@
 
 mod state;
 
-pub use growing::{array_state, course_kept, moving, moving_state, safe_updates, still};
+pub use growing::{
+    Course, Moving, Opened, Room, Still, enter_all_absent, final_in, found_numbers, list_sectors,
+    room_for, shape_in, zeros,
+};
 pub use state::{Next, Running};

@@ -32,8 +32,7 @@ mod writing;
 use bank::Bank;
 pub use choosing::Next;
 use core::mem::replace_with;
-use growing::moving::Moving;
-use growing::still::Still;
+use growing::{Moving, Still};
 use std::alloc::Global;
 use std::marker::Model;
 

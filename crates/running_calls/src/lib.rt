@@ -4,7 +4,6 @@
 mod performing;
 mod reply;
 
-pub use openings::running_steps;
-pub use openings::running_steps::running;
+pub use openings::Running;
 pub use performing::{perform, tells_sizes};
 pub use reply::Reply;

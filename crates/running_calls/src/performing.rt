@@ -14,8 +14,7 @@ use crate::reply::Reply;
 use bank::Bank;
 use flat_history::{Event, Request};
 use md_base::{Fault, NoMemory, Sectors, Who, Wish};
-use openings::running_steps::running::Running;
-use openings::running_steps::steps;
+use openings::{Running, steps};
 use std::alloc::Global;
 
 /// It does nothing: its contract says what a running array keeps.

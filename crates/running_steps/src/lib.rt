@@ -6,6 +6,8 @@ mod stepping;
 mod turns;
 
 pub use batch::steps;
-pub use running;
-pub use running::{array_state, course_kept, moving, moving_state, safe_updates, still};
+pub use running::{
+    Course, Moving, Opened, Room, Running, Still, enter_all_absent, final_in, found_numbers,
+    list_sectors, room_for, shape_in, zeros,
+};
 pub use stepping::step;

@@ -4,8 +4,6 @@
 mod serving;
 mod sharing;
 
-pub use lanes;
-pub use lanes::running_calls;
-pub use lanes::running_calls::running;
+pub use lanes::{Pace, Reply, Running, Worked};
 pub use serving::Answering;
 pub use sharing::{Pass, Shared};

@@ -3,8 +3,7 @@ ghost use Rattle.std.specs.Prelude.{◌≡◌};
 
 use bank::Bank;
 use flat_history::Request;
-use lanes::running_calls::running::Running;
-use lanes::running_calls::{Reply, perform, tells_sizes};
+use lanes::{Reply, Running, perform, tells_sizes};
 use md_base::Who;
 use std::alloc::Global;
 use std::marker::Model;

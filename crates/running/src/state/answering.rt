@@ -14,8 +14,7 @@ use crate::state::{Running, State, check_moving, check_still};
 use bank::Bank;
 use core::mem::replace_with;
 use flat_history::Event;
-use growing::moving::Moving;
-use growing::moving_steps;
+use growing::{Moving, answer};
 use md_base::Who;
 
 // Answers in an array in a reshape.
@@ -32,7 +31,7 @@ fn answer_in<B: Bank>(moving: Moving<B>, reply: (Who, Event)) -> (Moving<B>, ())
     ensures called { IsCalled B.tells (B.given moving.parts.bank) (B.tape moving.parts.bank) (B.tape result.0.parts.bank) (B.faults_of moving.parts.bank) (B.faults_of result.0.parts.bank) moving result.0 }
 {
     let (who, event) = reply;
-    (moving_steps::answer(moving, who, event), ())
+    (answer(moving, who, event), ())
 }
 
 impl<B: Bank> Running<B> {

@@ -15,7 +15,7 @@ ghost use Rattle.running.specs.Calls.{MayEndSteps};
 use crate::state::choosing::phases_behind;
 use crate::state::{Running, State, check_moving, check_still};
 use bank::Bank;
-use growing::turning::begin_reshape;
+use growing::begin_reshape;
 use md_base::{Refusal, Shape, Who};
 
 impl<B: Bank> Running<B> {

@@ -12,10 +12,7 @@ use crate::state::{Running, State, check_moving, check_still};
 use bank::Bank;
 use core::mem::replace_with;
 use grow_asked::PhasesLeft;
-use growing::array_state::asking::steps_left;
-use growing::moving::Moving;
-use growing::moving_state::stepping::{Due, due_step};
-use growing::still::Still;
+use growing::{Due, Moving, Still, due_step, steps_left};
 use md_base::{Phase, Shape};
 
 /// What is next to do in a running array: nothing; a step of a resync or of a rebuild, without a reshape; the reshape to this shape

@@ -15,7 +15,7 @@ ghost use Rattle.running.specs.Calls.{MayEndSteps};
 
 use crate::state::{Running, State, check_moving, check_still};
 use bank::Bank;
-use growing::turning::finish_reshape;
+use growing::finish_reshape;
 use md_base::{Refusal, Who};
 
 impl<B: Bank> Running<B> {

@@ -20,8 +20,7 @@ ghost use Rattle.growing.specs.Planned.{IsJudged, IsReplied};
 use crate::state::{Running, State, check_moving, check_still};
 use bank::Bank;
 use core::mem::replace_with;
-use growing::moving::Moving;
-use growing::refuse_limit;
+use growing::{Moving, refuse_limit};
 use md_base::{Fault, Who};
 
 // Refuses the limit of a caller, in a reshape.

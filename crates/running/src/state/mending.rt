@@ -23,7 +23,7 @@ ghost use Rattle.running.specs.Calls.{IsRefusedInStep};
 
 use crate::state::{Running, State, check_still};
 use bank::Bank;
-use growing::still_steps::{first_recovering, still_step};
+use growing::{first_recovering, still_step};
 use md_base::{Fault, Who};
 
 impl<B: Bank> Running<B> {

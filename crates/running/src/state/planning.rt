@@ -20,9 +20,7 @@ ghost use Rattle.running.specs.Calls.{running_left};
 use crate::state::{Running, State, check_moving, check_still};
 use bank::Bank;
 use core::mem::replace_with;
-use growing::moving::Moving;
-use growing::still::Still;
-use growing::{PlannedGrow, plan_grow, refuse_grow};
+use growing::{Moving, PlannedGrow, Still, plan_grow, refuse_grow};
 use md_base::{Fault, Who, Wish};
 
 // The wish of a caller, of an array without a reshape.

@@ -5,8 +5,7 @@ ghost use Rattle.std.specs.Prelude.{◌≡◌, OnOk, OnErr};
 use crate::state::{Running, State, check_moving, check_still};
 use bank::Bank;
 use core::mem::replace_with;
-use growing::moving::Moving;
-use growing::moving_steps;
+use growing::{Moving, make_room};
 use md_base::NoMemory;
 
 // Makes room in an array in a reshape.
@@ -14,7 +13,7 @@ fn room_in<B: Bank>(moving: Moving<B>, steps: u64) -> (Moving<B>, Result<(), NoM
     ensures room { OnOk result.1 (result.0 ≡ record moving { parts = record moving.parts { steps = steps } }) }
     ensures unchanged { OnErr result.1 (result.0 ≡ moving) }
 {
-    moving_steps::make_room(moving, steps)
+    make_room(moving, steps)
 }
 
 impl<B: Bank> Running<B> {

@@ -1,4 +1,4 @@
-use Rattle.std.proofs.Common.{◌≡◌, true, length, Result, refl, sym, subst, arith}
+use Rattle.std.proofs.Common.{◌≡◌, true, length, Result, refl, sym, ◌∙◌, subst, arith}
 use Rattle.bank.specs.Given.{NeverFalls}
 use Rattle.md_base.specs.declared.answers.NoMemory.{NoMemory}
 use Rattle.script.specs.declared.lines.Line.{Line}
@@ -14,7 +14,10 @@ use Rattle.run_laws.specs.Ended.{IsRunKept}
 use Rattle.run_laws.proofs.Legal.{grows_longer, going_grown, going_asked}
 use Rattle.run_laws.proofs.Losses.{losses-of, losses-steps, held-before, on-lost, on-added}
 use Rattle.line_answers.proofs.Called.{epoch-opening, epoch-later, ran-sized, ran-later, ran-on, parts-unchanged, told-backup}
-use Rattle.run_laws.proofs.CausedLaws.{caused-asked, unjudged-asked}
+use Rattle.superblocks.specs.Reading.{list_length}
+use Rattle.run_laws.specs.Caused.{record_of}
+use Rattle.run_laws.proofs.CausedLaws.{unjudged-asked, detail-judged, mdstat-judged}
+use Rattle.run_laws.proofs.RecordLaws.{less-asked, stepped-asked}
 use Rattle.line_answers.proofs.Turns.{turn_of_ask, turn_of_wait, turn_refused, going_read, going_write, going_flush, going_fail, going_add, going_visible, going_grow, going_steps}
 use Rattle.line_answers.proofs.Statuses.{going_detail, going_mdstat}
 use Rattle.run_laws.specs.Written.{HasWritten}
@@ -65,7 +68,7 @@ returns-in-Read-clause-answered g c =
     (subst (λ (s : State g.row.B.Denot). IsTurnOrNone (setting_of g.B.Bank.tells (g.B.Bank.given array.parts.bank) (g.B.Bank.tape array.parts.bank) (g.B.Bank.tape (bank_in s)) c.args.backup (g.B.Bank.faults_of array.parts.bank) (g.B.Bank.faults_of (bank_in s))) (IsRunning array c.args.epochs) s (Read c.in-Read.at c.in-Read.count) on.result.1) (sym on.ensures.state)
     (subst (λ (r : Result Answered NoMemory). IsTurnOrNone (setting_of g.B.Bank.tells (g.B.Bank.given array.parts.bank) (g.B.Bank.tape array.parts.bank) (g.B.Bank.tape new.parts.bank) c.args.backup (g.B.Bank.faults_of array.parts.bank) (g.B.Bank.faults_of new.parts.bank)) (IsRunning array c.args.epochs) (IsRunning new c.args.epochs) (Read c.in-Read.at c.in-Read.count) r) (sym on.ensures.answer)
     (turn_of_ask (setting_of g.B.Bank.tells (g.B.Bank.given array.parts.bank) (g.B.Bank.tape array.parts.bank) (g.B.Bank.tape new.parts.bank) c.args.backup (g.B.Bank.faults_of array.parts.bank) (g.B.Bank.faults_of new.parts.bank)) array new c.args.epochs c.requires.own (losses-of (setting_of g.B.Bank.tells (g.B.Bank.given array.parts.bank) (g.B.Bank.tape array.parts.bank) (g.B.Bank.tape new.parts.bank) c.args.backup (g.B.Bank.faults_of array.parts.bank) (g.B.Bank.faults_of new.parts.bank)) (running_history new.parts) (held-before (g.B.Bank.given array.parts.bank) c.args.backup (running_history array.parts) (running_history new.parts) array.parts.members did.grows (epoch-opening same) c.requires.former.held) did.losses (told-backup c.requires.former.backup_is did.told)) same.uuid same.given same.first did.sized did.turning
-    (Read c.in-Read.at c.in-Read.count) c.ask_read.result (λ p asked. going_read c.in-Read.at c.in-Read.count asked) (grows_longer did.grows) did.ended did.tellable (unjudged-asked (g.B.Bank.given array.parts.bank) c.args.backup array c.requires.former.backup_is c.requires.own.turning (Read c.in-Read.at c.in-Read.count) new.parts.entries c.ask_read.result did.asked (λ before event. tt)) did.asked)))
+    (Read c.in-Read.at c.in-Read.count) c.ask_read.result (λ p asked. going_read c.in-Read.at c.in-Read.count asked) (grows_longer did.grows) did.ended did.tellable (same.backup ∙ c.requires.former.backup_is) (unjudged-asked (list_length array.parts.members.newest) (Read c.in-Read.at c.in-Read.count) array.parts.entries new.parts.entries (g.B.Bank.given array.parts.bank) (record_of array) c.ask_read.result did.asked (λ event. tt)) did.left did.asked)))
 
 pub returns-in-Write-clause-answered : goal.returns-in-Write-clause-answered
 returns-in-Write-clause-answered g c =
@@ -78,7 +81,7 @@ returns-in-Write-clause-answered g c =
     (subst (λ (s : State g.row.B.Denot). IsTurnOrNone (setting_of g.B.Bank.tells (g.B.Bank.given array.parts.bank) (g.B.Bank.tape array.parts.bank) (g.B.Bank.tape (bank_in s)) c.args.backup (g.B.Bank.faults_of array.parts.bank) (g.B.Bank.faults_of (bank_in s))) (IsRunning array c.args.epochs) s (Write c.in-Write.at c.in-Write.count c.in-Write.seed) on.result.1) (sym on.ensures.state)
     (subst (λ (r : Result Answered NoMemory). IsTurnOrNone (setting_of g.B.Bank.tells (g.B.Bank.given array.parts.bank) (g.B.Bank.tape array.parts.bank) (g.B.Bank.tape new.parts.bank) c.args.backup (g.B.Bank.faults_of array.parts.bank) (g.B.Bank.faults_of new.parts.bank)) (IsRunning array c.args.epochs) (IsRunning new c.args.epochs) (Write c.in-Write.at c.in-Write.count c.in-Write.seed) r) (sym on.ensures.answer)
     (turn_of_ask (setting_of g.B.Bank.tells (g.B.Bank.given array.parts.bank) (g.B.Bank.tape array.parts.bank) (g.B.Bank.tape new.parts.bank) c.args.backup (g.B.Bank.faults_of array.parts.bank) (g.B.Bank.faults_of new.parts.bank)) array new c.args.epochs c.requires.own (losses-of (setting_of g.B.Bank.tells (g.B.Bank.given array.parts.bank) (g.B.Bank.tape array.parts.bank) (g.B.Bank.tape new.parts.bank) c.args.backup (g.B.Bank.faults_of array.parts.bank) (g.B.Bank.faults_of new.parts.bank)) (running_history new.parts) (held-before (g.B.Bank.given array.parts.bank) c.args.backup (running_history array.parts) (running_history new.parts) array.parts.members did.grows (epoch-opening same) c.requires.former.held) did.losses (told-backup c.requires.former.backup_is did.told)) same.uuid same.given same.first did.sized did.turning
-    (Write c.in-Write.at c.in-Write.count c.in-Write.seed) c.ask_write.result (λ p asked. going_write c.in-Write.at c.in-Write.count c.in-Write.seed asked) (grows_longer did.grows) did.ended did.tellable (unjudged-asked (g.B.Bank.given array.parts.bank) c.args.backup array c.requires.former.backup_is c.requires.own.turning (Write c.in-Write.at c.in-Write.count c.in-Write.seed) new.parts.entries c.ask_write.result did.asked (λ before event. tt)) did.asked)))
+    (Write c.in-Write.at c.in-Write.count c.in-Write.seed) c.ask_write.result (λ p asked. going_write c.in-Write.at c.in-Write.count c.in-Write.seed asked) (grows_longer did.grows) did.ended did.tellable (same.backup ∙ c.requires.former.backup_is) (unjudged-asked (list_length array.parts.members.newest) (Write c.in-Write.at c.in-Write.count c.in-Write.seed) array.parts.entries new.parts.entries (g.B.Bank.given array.parts.bank) (record_of array) c.ask_write.result did.asked (λ event. tt)) did.left did.asked)))
 
 pub returns-in-Flush-clause-answered : goal.returns-in-Flush-clause-answered
 returns-in-Flush-clause-answered g c =
@@ -91,7 +94,7 @@ returns-in-Flush-clause-answered g c =
     (subst (λ (s : State g.row.B.Denot). IsTurnOrNone (setting_of g.B.Bank.tells (g.B.Bank.given array.parts.bank) (g.B.Bank.tape array.parts.bank) (g.B.Bank.tape (bank_in s)) c.args.backup (g.B.Bank.faults_of array.parts.bank) (g.B.Bank.faults_of (bank_in s))) (IsRunning array c.args.epochs) s Flush on.result.1) (sym on.ensures.state)
     (subst (λ (r : Result Answered NoMemory). IsTurnOrNone (setting_of g.B.Bank.tells (g.B.Bank.given array.parts.bank) (g.B.Bank.tape array.parts.bank) (g.B.Bank.tape new.parts.bank) c.args.backup (g.B.Bank.faults_of array.parts.bank) (g.B.Bank.faults_of new.parts.bank)) (IsRunning array c.args.epochs) (IsRunning new c.args.epochs) Flush r) (sym on.ensures.answer)
     (turn_of_ask (setting_of g.B.Bank.tells (g.B.Bank.given array.parts.bank) (g.B.Bank.tape array.parts.bank) (g.B.Bank.tape new.parts.bank) c.args.backup (g.B.Bank.faults_of array.parts.bank) (g.B.Bank.faults_of new.parts.bank)) array new c.args.epochs c.requires.own (losses-of (setting_of g.B.Bank.tells (g.B.Bank.given array.parts.bank) (g.B.Bank.tape array.parts.bank) (g.B.Bank.tape new.parts.bank) c.args.backup (g.B.Bank.faults_of array.parts.bank) (g.B.Bank.faults_of new.parts.bank)) (running_history new.parts) (held-before (g.B.Bank.given array.parts.bank) c.args.backup (running_history array.parts) (running_history new.parts) array.parts.members did.grows (epoch-opening same) c.requires.former.held) did.losses (told-backup c.requires.former.backup_is did.told)) same.uuid same.given same.first did.sized did.turning
-    Flush c.ask_flush.result (λ p asked. going_flush asked) (grows_longer did.grows) did.ended did.tellable (unjudged-asked (g.B.Bank.given array.parts.bank) c.args.backup array c.requires.former.backup_is c.requires.own.turning Flush new.parts.entries c.ask_flush.result did.asked (λ before event. tt)) did.asked)))
+    Flush c.ask_flush.result (λ p asked. going_flush asked) (grows_longer did.grows) did.ended did.tellable (same.backup ∙ c.requires.former.backup_is) (unjudged-asked (list_length array.parts.members.newest) Flush array.parts.entries new.parts.entries (g.B.Bank.given array.parts.bank) (record_of array) c.ask_flush.result did.asked (λ event. tt)) did.left did.asked)))
 
 pub returns-in-Detail-clause-answered : goal.returns-in-Detail-clause-answered
 returns-in-Detail-clause-answered g c =
@@ -104,7 +107,7 @@ returns-in-Detail-clause-answered g c =
     (subst (λ (s : State g.row.B.Denot). IsTurnOrNone (setting_of g.B.Bank.tells (g.B.Bank.given array.parts.bank) (g.B.Bank.tape array.parts.bank) (g.B.Bank.tape (bank_in s)) c.args.backup (g.B.Bank.faults_of array.parts.bank) (g.B.Bank.faults_of (bank_in s))) (IsRunning array c.args.epochs) s Detail on.result.1) (sym on.ensures.state)
     (subst (λ (r : Result Answered NoMemory). IsTurnOrNone (setting_of g.B.Bank.tells (g.B.Bank.given array.parts.bank) (g.B.Bank.tape array.parts.bank) (g.B.Bank.tape new.parts.bank) c.args.backup (g.B.Bank.faults_of array.parts.bank) (g.B.Bank.faults_of new.parts.bank)) (IsRunning array c.args.epochs) (IsRunning new c.args.epochs) Detail r) (sym on.ensures.answer)
     (turn_of_ask (setting_of g.B.Bank.tells (g.B.Bank.given array.parts.bank) (g.B.Bank.tape array.parts.bank) (g.B.Bank.tape new.parts.bank) c.args.backup (g.B.Bank.faults_of array.parts.bank) (g.B.Bank.faults_of new.parts.bank)) array new c.args.epochs c.requires.own (losses-of (setting_of g.B.Bank.tells (g.B.Bank.given array.parts.bank) (g.B.Bank.tape array.parts.bank) (g.B.Bank.tape new.parts.bank) c.args.backup (g.B.Bank.faults_of array.parts.bank) (g.B.Bank.faults_of new.parts.bank)) (running_history new.parts) (held-before (g.B.Bank.given array.parts.bank) c.args.backup (running_history array.parts) (running_history new.parts) array.parts.members did.grows (epoch-opening same) c.requires.former.held) did.losses (told-backup c.requires.former.backup_is did.told)) same.uuid same.given same.first did.sized did.turning
-    Detail c.ask_show.result (λ p asked. going_detail asked) (grows_longer did.grows) did.ended did.tellable (caused-asked (g.B.Bank.given array.parts.bank) c.args.backup array c.requires.former.backup_is c.requires.own.turning Detail new.parts.entries c.ask_show.result did.asked did.shown) did.asked)))
+    Detail c.ask_show.result (λ p asked. going_detail asked) (grows_longer did.grows) did.ended did.tellable (same.backup ∙ c.requires.former.backup_is) (detail-judged (g.B.Bank.given array.parts.bank) array new.parts.entries c.ask_show.result did.shown) (less-asked (list_length array.parts.members.newest) Detail array.parts.entries new.parts.entries (g.B.Bank.faults_of array.parts.bank) (g.B.Bank.faults_of new.parts.bank) (record_of array) (record_of new) c.ask_show.result did.asked did.left (λ event is. is)) did.asked)))
 
 pub returns-in-Mdstat-clause-answered : goal.returns-in-Mdstat-clause-answered
 returns-in-Mdstat-clause-answered g c =
@@ -117,7 +120,7 @@ returns-in-Mdstat-clause-answered g c =
     (subst (λ (s : State g.row.B.Denot). IsTurnOrNone (setting_of g.B.Bank.tells (g.B.Bank.given array.parts.bank) (g.B.Bank.tape array.parts.bank) (g.B.Bank.tape (bank_in s)) c.args.backup (g.B.Bank.faults_of array.parts.bank) (g.B.Bank.faults_of (bank_in s))) (IsRunning array c.args.epochs) s Mdstat on.result.1) (sym on.ensures.state)
     (subst (λ (r : Result Answered NoMemory). IsTurnOrNone (setting_of g.B.Bank.tells (g.B.Bank.given array.parts.bank) (g.B.Bank.tape array.parts.bank) (g.B.Bank.tape new.parts.bank) c.args.backup (g.B.Bank.faults_of array.parts.bank) (g.B.Bank.faults_of new.parts.bank)) (IsRunning array c.args.epochs) (IsRunning new c.args.epochs) Mdstat r) (sym on.ensures.answer)
     (turn_of_ask (setting_of g.B.Bank.tells (g.B.Bank.given array.parts.bank) (g.B.Bank.tape array.parts.bank) (g.B.Bank.tape new.parts.bank) c.args.backup (g.B.Bank.faults_of array.parts.bank) (g.B.Bank.faults_of new.parts.bank)) array new c.args.epochs c.requires.own (losses-of (setting_of g.B.Bank.tells (g.B.Bank.given array.parts.bank) (g.B.Bank.tape array.parts.bank) (g.B.Bank.tape new.parts.bank) c.args.backup (g.B.Bank.faults_of array.parts.bank) (g.B.Bank.faults_of new.parts.bank)) (running_history new.parts) (held-before (g.B.Bank.given array.parts.bank) c.args.backup (running_history array.parts) (running_history new.parts) array.parts.members did.grows (epoch-opening same) c.requires.former.held) did.losses (told-backup c.requires.former.backup_is did.told)) same.uuid same.given same.first did.sized did.turning
-    Mdstat c.ask_show-in-Mdstat.result (λ p asked. going_mdstat asked) (grows_longer did.grows) did.ended did.tellable (caused-asked (g.B.Bank.given array.parts.bank) c.args.backup array c.requires.former.backup_is c.requires.own.turning Mdstat new.parts.entries c.ask_show-in-Mdstat.result did.asked_brief did.shown) did.asked_brief)))
+    Mdstat c.ask_show-in-Mdstat.result (λ p asked. going_mdstat asked) (grows_longer did.grows) did.ended did.tellable (same.backup ∙ c.requires.former.backup_is) (mdstat-judged (g.B.Bank.given array.parts.bank) array new.parts.entries c.ask_show-in-Mdstat.result did.shown) (less-asked (list_length array.parts.members.newest) Mdstat array.parts.entries new.parts.entries (g.B.Bank.faults_of array.parts.bank) (g.B.Bank.faults_of new.parts.bank) (record_of array) (record_of new) c.ask_show-in-Mdstat.result did.asked_brief did.left (λ event is. is)) did.asked_brief)))
 
 pub returns-in-Fail-clause-answered : goal.returns-in-Fail-clause-answered
 returns-in-Fail-clause-answered g c =
@@ -130,7 +133,7 @@ returns-in-Fail-clause-answered g c =
     (subst (λ (s : State g.row.B.Denot). IsTurnOrNone (setting_of g.B.Bank.tells (g.B.Bank.given array.parts.bank) (g.B.Bank.tape array.parts.bank) (g.B.Bank.tape (bank_in s)) c.args.backup (g.B.Bank.faults_of array.parts.bank) (g.B.Bank.faults_of (bank_in s))) (IsRunning array c.args.epochs) s (Fail c.in-Fail.role) on.result.1) (sym on.ensures.state)
     (subst (λ (r : Result Answered NoMemory). IsTurnOrNone (setting_of g.B.Bank.tells (g.B.Bank.given array.parts.bank) (g.B.Bank.tape array.parts.bank) (g.B.Bank.tape new.parts.bank) c.args.backup (g.B.Bank.faults_of array.parts.bank) (g.B.Bank.faults_of new.parts.bank)) (IsRunning array c.args.epochs) (IsRunning new c.args.epochs) (Fail c.in-Fail.role) r) (sym on.ensures.answer)
     (turn_of_ask (setting_of g.B.Bank.tells (g.B.Bank.given array.parts.bank) (g.B.Bank.tape array.parts.bank) (g.B.Bank.tape new.parts.bank) c.args.backup (g.B.Bank.faults_of array.parts.bank) (g.B.Bank.faults_of new.parts.bank)) array new c.args.epochs c.requires.own (losses-of (setting_of g.B.Bank.tells (g.B.Bank.given array.parts.bank) (g.B.Bank.tape array.parts.bank) (g.B.Bank.tape new.parts.bank) c.args.backup (g.B.Bank.faults_of array.parts.bank) (g.B.Bank.faults_of new.parts.bank)) (running_history new.parts) (held-before (g.B.Bank.given array.parts.bank) c.args.backup (running_history array.parts) (running_history new.parts) array.parts.members did.grows (epoch-opening same) c.requires.former.held) did.losses (told-backup c.requires.former.backup_is did.told)) same.uuid same.given same.first did.sized did.turning
-    (Fail c.in-Fail.role) c.ask_fail.result (λ p asked. going_fail c.in-Fail.role asked) (grows_longer did.grows) did.ended did.tellable (caused-asked (g.B.Bank.given array.parts.bank) c.args.backup array c.requires.former.backup_is c.requires.own.turning (Fail c.in-Fail.role) new.parts.entries c.ask_fail.result did.asked did.judged) did.asked)))
+    (Fail c.in-Fail.role) c.ask_fail.result (λ p asked. going_fail c.in-Fail.role asked) (grows_longer did.grows) did.ended did.tellable (same.backup ∙ c.requires.former.backup_is) did.judged did.left did.asked)))
 
 pub returns-in-Add-clause-answered : goal.returns-in-Add-clause-answered
 returns-in-Add-clause-answered g c =
@@ -143,7 +146,7 @@ returns-in-Add-clause-answered g c =
     (subst (λ (s : State g.row.B.Denot). IsTurnOrNone (setting_of g.B.Bank.tells (g.B.Bank.given array.parts.bank) (g.B.Bank.tape array.parts.bank) (g.B.Bank.tape (bank_in s)) c.args.backup (g.B.Bank.faults_of array.parts.bank) (g.B.Bank.faults_of (bank_in s))) (IsRunning array c.args.epochs) s (Add c.in-Add.slot) on.result.1) (sym on.ensures.state)
     (subst (λ (r : Result Answered NoMemory). IsTurnOrNone (setting_of g.B.Bank.tells (g.B.Bank.given array.parts.bank) (g.B.Bank.tape array.parts.bank) (g.B.Bank.tape new.parts.bank) c.args.backup (g.B.Bank.faults_of array.parts.bank) (g.B.Bank.faults_of new.parts.bank)) (IsRunning array c.args.epochs) (IsRunning new c.args.epochs) (Add c.in-Add.slot) r) (sym on.ensures.answer)
     (turn_of_ask (setting_of g.B.Bank.tells (g.B.Bank.given array.parts.bank) (g.B.Bank.tape array.parts.bank) (g.B.Bank.tape new.parts.bank) c.args.backup (g.B.Bank.faults_of array.parts.bank) (g.B.Bank.faults_of new.parts.bank)) array new c.args.epochs c.requires.own (losses-of (setting_of g.B.Bank.tells (g.B.Bank.given array.parts.bank) (g.B.Bank.tape array.parts.bank) (g.B.Bank.tape new.parts.bank) c.args.backup (g.B.Bank.faults_of array.parts.bank) (g.B.Bank.faults_of new.parts.bank)) (running_history new.parts) (held-before (g.B.Bank.given array.parts.bank) c.args.backup (running_history array.parts) (running_history new.parts) array.parts.members did.grows (epoch-opening same) c.requires.former.held) did.losses (told-backup c.requires.former.backup_is did.told)) same.uuid same.given same.first did.sized did.turning
-    (Add c.in-Add.slot) c.ask_add.result (λ p asked. going_add c.in-Add.slot asked) (grows_longer did.grows) did.ended did.tellable (caused-asked (g.B.Bank.given array.parts.bank) c.args.backup array c.requires.former.backup_is c.requires.own.turning (Add c.in-Add.slot) new.parts.entries c.ask_add.result did.asked did.judged) did.asked)))
+    (Add c.in-Add.slot) c.ask_add.result (λ p asked. going_add c.in-Add.slot asked) (grows_longer did.grows) did.ended did.tellable (same.backup ∙ c.requires.former.backup_is) did.judged did.left did.asked)))
 
 pub returns-in-ArraySize-clause-answered : goal.returns-in-ArraySize-clause-answered
 returns-in-ArraySize-clause-answered g c =
@@ -157,7 +160,7 @@ returns-in-ArraySize-clause-answered g c =
     (subst (λ (s : State g.row.B.Denot). IsTurnOrNone (setting_of g.B.Bank.tells (g.B.Bank.given array.parts.bank) (g.B.Bank.tape array.parts.bank) (g.B.Bank.tape (bank_in s)) c.args.backup (g.B.Bank.faults_of array.parts.bank) (g.B.Bank.faults_of (bank_in s))) (IsRunning array c.args.epochs) s (ArraySize c.in-ArraySize.limit) on.result.1) (sym on.ensures.state)
     (subst (λ (r : Result Answered NoMemory). IsTurnOrNone (setting_of g.B.Bank.tells (g.B.Bank.given array.parts.bank) (g.B.Bank.tape array.parts.bank) (g.B.Bank.tape new.parts.bank) c.args.backup (g.B.Bank.faults_of array.parts.bank) (g.B.Bank.faults_of new.parts.bank)) (IsRunning array c.args.epochs) (IsRunning new c.args.epochs) (ArraySize c.in-ArraySize.limit) r) (sym on.ensures.answer)
     (turn_of_ask (setting_of g.B.Bank.tells (g.B.Bank.given array.parts.bank) (g.B.Bank.tape array.parts.bank) (g.B.Bank.tape new.parts.bank) c.args.backup (g.B.Bank.faults_of array.parts.bank) (g.B.Bank.faults_of new.parts.bank)) array new c.args.epochs c.requires.own (losses-steps (setting_of g.B.Bank.tells (g.B.Bank.given array.parts.bank) (g.B.Bank.tape array.parts.bank) (g.B.Bank.tape new.parts.bank) c.args.backup (g.B.Bank.faults_of array.parts.bank) (g.B.Bank.faults_of new.parts.bank)) array.parts.entries (running_history new.parts) array.parts.members (held-before (g.B.Bank.given array.parts.bank) c.args.backup (running_history array.parts) (running_history new.parts) array.parts.members went.grows (epoch-opening same) c.requires.former.held) went.more went.grown went.losses (told-backup c.requires.former.backup_is went.refusals)) same.uuid same.given same.first (ran-sized went) did.turning
-    (ArraySize c.in-ArraySize.limit) c.ask_visible.result (λ p asked. going_visible c.in-ArraySize.limit asked) (grows_longer went.grows) did.ended did.tellable (caused-asked (g.B.Bank.given array.parts.bank) c.args.backup array c.requires.former.backup_is c.requires.own.turning (ArraySize c.in-ArraySize.limit) new.parts.entries c.ask_visible.result did.asked did.judged) did.asked)))
+    (ArraySize c.in-ArraySize.limit) c.ask_visible.result (λ p asked. going_visible c.in-ArraySize.limit asked) (grows_longer went.grows) did.ended did.tellable (same.backup ∙ c.requires.former.backup_is) did.judged did.left did.asked)))
 
 pub returns-in-Grow-clause-answered : goal.returns-in-Grow-clause-answered
 returns-in-Grow-clause-answered g c =
@@ -171,7 +174,7 @@ returns-in-Grow-clause-answered g c =
     (subst (λ (s : State g.row.B.Denot). IsTurnOrNone (setting_of g.B.Bank.tells (g.B.Bank.given array.parts.bank) (g.B.Bank.tape array.parts.bank) (g.B.Bank.tape (bank_in s)) c.args.backup (g.B.Bank.faults_of array.parts.bank) (g.B.Bank.faults_of (bank_in s))) (IsRunning array c.args.epochs) s (Grow c.in-Grow.wish) on.result.1) (sym on.ensures.state)
     (subst (λ (r : Result Answered NoMemory). IsTurnOrNone (setting_of g.B.Bank.tells (g.B.Bank.given array.parts.bank) (g.B.Bank.tape array.parts.bank) (g.B.Bank.tape new.parts.bank) c.args.backup (g.B.Bank.faults_of array.parts.bank) (g.B.Bank.faults_of new.parts.bank)) (IsRunning array c.args.epochs) (IsRunning new c.args.epochs) (Grow c.in-Grow.wish) r) (sym on.ensures.answer)
     (turn_of_ask (setting_of g.B.Bank.tells (g.B.Bank.given array.parts.bank) (g.B.Bank.tape array.parts.bank) (g.B.Bank.tape new.parts.bank) c.args.backup (g.B.Bank.faults_of array.parts.bank) (g.B.Bank.faults_of new.parts.bank)) array new c.args.epochs c.requires.own (losses-steps (setting_of g.B.Bank.tells (g.B.Bank.given array.parts.bank) (g.B.Bank.tape array.parts.bank) (g.B.Bank.tape new.parts.bank) c.args.backup (g.B.Bank.faults_of array.parts.bank) (g.B.Bank.faults_of new.parts.bank)) array.parts.entries (running_history new.parts) array.parts.members (held-before (g.B.Bank.given array.parts.bank) c.args.backup (running_history array.parts) (running_history new.parts) array.parts.members went.grows (epoch-opening same) c.requires.former.held) went.more went.grown went.losses (told-backup c.requires.former.backup_is went.refusals)) same.uuid same.given same.first (ran-sized went) did.turning
-    (Grow c.in-Grow.wish) c.ask_grow.result (λ p asked. going_grow c.in-Grow.wish asked) (grows_longer went.grows) did.ended did.tellable (caused-asked (g.B.Bank.given array.parts.bank) c.args.backup array c.requires.former.backup_is c.requires.own.turning (Grow c.in-Grow.wish) new.parts.entries c.ask_grow.result did.asked did.judged) did.asked)))
+    (Grow c.in-Grow.wish) c.ask_grow.result (λ p asked. going_grow c.in-Grow.wish asked) (grows_longer went.grows) did.ended did.tellable (same.backup ∙ c.requires.former.backup_is) did.judged did.left did.asked)))
 
 pub returns-in-Step-clause-answered : goal.returns-in-Step-clause-answered
 returns-in-Step-clause-answered g c =
@@ -185,7 +188,7 @@ returns-in-Step-clause-answered g c =
     (subst (λ (s : State g.row.B.Denot). IsTurnOrNone (setting_of g.B.Bank.tells (g.B.Bank.given array.parts.bank) (g.B.Bank.tape array.parts.bank) (g.B.Bank.tape (bank_in s)) c.args.backup (g.B.Bank.faults_of array.parts.bank) (g.B.Bank.faults_of (bank_in s))) (IsRunning array c.args.epochs) s (Step c.in-Step.most) on.result.1) (sym on.ensures.state)
     (subst (λ (r : Result Answered NoMemory). IsTurnOrNone (setting_of g.B.Bank.tells (g.B.Bank.given array.parts.bank) (g.B.Bank.tape array.parts.bank) (g.B.Bank.tape new.parts.bank) c.args.backup (g.B.Bank.faults_of array.parts.bank) (g.B.Bank.faults_of new.parts.bank)) (IsRunning array c.args.epochs) (IsRunning new c.args.epochs) (Step c.in-Step.most) r) (sym on.ensures.answer)
     (turn_of_ask (setting_of g.B.Bank.tells (g.B.Bank.given array.parts.bank) (g.B.Bank.tape array.parts.bank) (g.B.Bank.tape new.parts.bank) c.args.backup (g.B.Bank.faults_of array.parts.bank) (g.B.Bank.faults_of new.parts.bank)) array new c.args.epochs c.requires.own (losses-steps (setting_of g.B.Bank.tells (g.B.Bank.given array.parts.bank) (g.B.Bank.tape array.parts.bank) (g.B.Bank.tape new.parts.bank) c.args.backup (g.B.Bank.faults_of array.parts.bank) (g.B.Bank.faults_of new.parts.bank)) array.parts.entries (running_history new.parts) array.parts.members (held-before (g.B.Bank.given array.parts.bank) c.args.backup (running_history array.parts) (running_history new.parts) array.parts.members went.grows (epoch-opening same) c.requires.former.held) went.more went.grown went.losses (told-backup c.requires.former.backup_is went.refusals)) same.uuid same.given same.first (ran-sized went) did.turning
-    (Step c.in-Step.most) c.ask_steps.result (λ p asked. going_steps c.in-Step.most asked) (grows_longer went.grows) did.ended did.tellable (caused-asked (g.B.Bank.given array.parts.bank) c.args.backup array c.requires.former.backup_is c.requires.own.turning (Step c.in-Step.most) new.parts.entries c.ask_steps.result did.asked did.judged) did.asked)))
+    (Step c.in-Step.most) c.ask_steps.result (λ p asked. going_steps c.in-Step.most asked) (grows_longer went.grows) did.ended did.tellable (same.backup ∙ c.requires.former.backup_is) did.judged (stepped-asked (list_length array.parts.members.newest) c.in-Step.most array.parts.entries new.parts.entries (g.B.Bank.faults_of array.parts.bank) (g.B.Bank.faults_of new.parts.bank) (record_of array) (record_of new) c.ask_steps.result did.asked did.stepped) did.asked)))
 
 pub returns-in-Wait-clause-answered : goal.returns-in-Wait-clause-answered
 returns-in-Wait-clause-answered g c =
@@ -199,7 +202,7 @@ returns-in-Wait-clause-answered g c =
     (subst (λ (s : State g.row.B.Denot). IsTurnOrNone (setting_of g.B.Bank.tells (g.B.Bank.given array.parts.bank) (g.B.Bank.tape array.parts.bank) (g.B.Bank.tape (bank_in s)) c.args.backup (g.B.Bank.faults_of array.parts.bank) (g.B.Bank.faults_of (bank_in s))) (IsRunning array c.args.epochs) s Wait on.result.1) (sym on.ensures.state)
     (subst (λ (r : Result Answered NoMemory). IsTurnOrNone (setting_of g.B.Bank.tells (g.B.Bank.given array.parts.bank) (g.B.Bank.tape array.parts.bank) (g.B.Bank.tape new.parts.bank) c.args.backup (g.B.Bank.faults_of array.parts.bank) (g.B.Bank.faults_of new.parts.bank)) (IsRunning array c.args.epochs) (IsRunning new c.args.epochs) Wait r) (sym on.ensures.answer)
     (turn_of_wait (setting_of g.B.Bank.tells (g.B.Bank.given array.parts.bank) (g.B.Bank.tape array.parts.bank) (g.B.Bank.tape new.parts.bank) c.args.backup (g.B.Bank.faults_of array.parts.bank) (g.B.Bank.faults_of new.parts.bank)) array new c.args.epochs c.requires.own (losses-steps (setting_of g.B.Bank.tells (g.B.Bank.given array.parts.bank) (g.B.Bank.tape array.parts.bank) (g.B.Bank.tape new.parts.bank) c.args.backup (g.B.Bank.faults_of array.parts.bank) (g.B.Bank.faults_of new.parts.bank)) array.parts.entries (running_history new.parts) array.parts.members (held-before (g.B.Bank.given array.parts.bank) c.args.backup (running_history array.parts) (running_history new.parts) array.parts.members went.grows (epoch-opening same) c.requires.former.held) went.more went.grown went.losses (told-backup c.requires.former.backup_is went.refusals)) same.uuid same.given same.first (ran-sized went) did.turning
-    c.ask_wait.result (grows_longer went.grows) did.ended did.tellable did.asked)))
+    c.ask_wait.result (grows_longer went.grows) did.ended did.tellable (same.backup ∙ c.requires.former.backup_is) did.stepped did.asked)))
 
 pub returns-in-Create-clause-answered : goal.returns-in-Create-clause-answered
 returns-in-Create-clause-answered g c =

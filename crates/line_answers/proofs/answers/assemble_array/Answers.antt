@@ -22,6 +22,7 @@ use Rattle.run_laws.specs.declared.states.State.TheVariants.{Idle as IsIdle, Run
 use Rattle.run_laws.proofs.Causes.{flushes-grow, grows-none, assemble-refused, backup-known}
 use Rattle.run_laws.proofs.Legal.{grows_longer, idle_grown, accepted-grown, going_begun}
 use Rattle.superblocks.specs.declared.members.Members.{Members}
+use Rattle.run_laws.proofs.CausedLaws.{shown-later}
 use Rattle.line_answers.proofs.Found.{found_here}
 use Rattle.run_laws.proofs.Losses.{held-later}
 use Rattle.line_answers.proofs.Turns.{turn_found, turn_idle, no_turn_idle}
@@ -49,7 +50,8 @@ returns-in-Ok-status-clause-answered g c =
     (subst (λ (n : ℕ). IsTurn setting (IsIdle c.args.bank c.args.epochs) (IsRunning array c.has_room.new.epochs) (AsksAssemble c.args.uuid) (AnsweredOutside (Assembled n c.in-Ok-status.status))) (sym c.next_epoch-epoch.ensures)
     (turn_found setting c.args.bank c.args.epochs c.has_room.new.epochs c.has_room.ensures.same c.requires.own array
     (c.has_room.ensures.room yes) (c.has_room.ensures.few yes) (grows_longer (flushes-grow did.tape)) found c.args.uuid (found_here (g.B.Bank.given c.args.bank) (g.B.Bank.tape found.parts.bank) c.args.backup c.args.uuid found did.found) told.same.array.uuid told.same.array.given told.same.array.first c.in-Ok-status.status told.told
-    (subst (λ (w : Who). IsEntered g.B.Bank.tells (g.B.Bank.tape found.parts.bank) w found.parts.entries array.parts.entries (Shown c.in-Ok-status.status ∷ [])) c.script_call-who.ensures told.entered) told.members told.same.ahead))
+    (subst (λ (w : Who). IsEntered g.B.Bank.tells (g.B.Bank.tape found.parts.bank) w found.parts.entries array.parts.entries (Shown c.in-Ok-status.status ∷ [])) c.script_call-who.ensures told.entered) told.members told.same.ahead told.same.array.backup
+    (shown-later found array told.members told.work told.course told.same.ahead told.same.limit c.in-Ok-status.status told.told)))
 
 pub returns-in-Err-status-clause-answered : goal.returns-in-Err-status-clause-answered
 returns-in-Err-status-clause-answered g c =

@@ -37,7 +37,7 @@ returns-in-Ok-clause-answered g c =
     let before = g.B.Bank.tape c.args.bank in
     let after = g.B.Bank.tape c.in-Ok.array.parts.bank in
     turn_created (setting_of g.B.Bank.tells (g.B.Bank.given c.args.bank) (g.B.Bank.tape c.args.bank) (g.B.Bank.tape c.in-Ok.array.parts.bank) c.args.backup (g.B.Bank.faults_of c.args.bank) (g.B.Bank.faults_of c.in-Ok.array.parts.bank)) c.args.bank c.args.epochs c.has_room.new.epochs c.has_room.ensures.same c.requires.own c.in-Ok.array
-    (c.has_room.ensures.room yes) (c.has_room.ensures.few yes) (grows_longer (below-grows did.tape)) c.args.line did.unrefused did.created did.planless
+    (c.has_room.ensures.room yes) (c.has_room.ensures.few yes) (grows_longer (below-grows did.tape)) c.args.line did.unrefused did.created did.planless did.unlimited
     (λ t. used-same (scope_of given c.args.backup c.in-Ok.array.parts.given c.args.line.uuid) (contents given.start before (length before)) (contents given.start after (length after)) c.args.line.shape.disks
     (below-present given.start c.args.line.shape.disks before after (did.tape t)) ∙ did.free t)
 

@@ -11,7 +11,6 @@ use Rattle.run_laws.specs.declared.states.State.TheVariants.{Idle as IsIdle, Run
 use Rattle.run_laws.proofs.AskLaws.{asked_halt, halt_grew}
 use Rattle.run_laws.proofs.Legal.{former_halted}
 use Rattle.run_laws.proofs.Losses.{losses-halted}
-use Rattle.run_laws.proofs.CausedLaws.{unjudged-at}
 use Rattle.run_laws.proofs.Turned.{asked-tellable, halt-told}
 use Rattle.line_answers.proofs.Turns.{turn_ended}
 use Rattle.flat_history.specs.declared.events.Event.TheVariants.{Halted}
@@ -32,7 +31,7 @@ returns-clause-answered g c =
     let asked = asked_halt (list_length array.parts.members.newest) (c.len.result - 1) c.script_call-who.result c.script_call-who.ensures did.entered (omega (arith, grew, c.len.ensures)) in
     let lost = losses-halted setting c.script_call-who.result (history_of epoch) did.entered in
     subst (λ (what : Answered). IsTurn setting (IsRunning array c.args.epochs) (IsIdle bank c.push_reserved.new.self) AsksHalt what) (sym c.inside-what.ensures)
-    (turn_ended setting array epoch bank c.args.epochs c.push_reserved.new.self items c.requires.own lost did.uuid did.given did.first AsksHalt (c.len.result - 1) asked.0 (asked-tellable asked.0 (halt-told asked.0.event asked.0.fits)) (unjudged-at setting.given setting.backup array c.requires.former.backup_is c.requires.own.turning AsksHalt epoch.entries.items (c.len.result - 1) asked.0 (λ before event. tt))
+    (turn_ended setting array epoch bank c.args.epochs c.push_reserved.new.self items c.requires.own lost did.uuid did.given did.first AsksHalt (c.len.result - 1) asked.0 (asked-tellable asked.0 (halt-told asked.0.event asked.0.fits)) tt
     (λ t. let at = asked.2 t in let same = ap (λ (b : g.row.B.Denot). length (g.B.Bank.tape b)) did.bank in (omega (arith, at), omega (arith, at, same))) (ap (λ (e : Event). is_end e) (asked.1)))
 
 pub returns-clause-former : goal.returns-clause-former

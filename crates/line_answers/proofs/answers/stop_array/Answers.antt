@@ -1,4 +1,4 @@
-use Rattle.std.proofs.Common.{rules, ◌≡◌, ◌-◌, [], ◌∷◌, ◌++◌, ℕ, Option, Ok, Err, refl, sym, ap, subst, arith}
+use Rattle.std.proofs.Common.{rules, ◌≡◌, ◌-◌, [], ◌∷◌, ◌++◌, ℕ, Option, Ok, Err, refl, sym, ◌∙◌, ap, subst, arith}
 use Rattle.md_base.specs.declared.answers.Fault.{Fault}
 use Rattle.flat_history.specs.declared.events.Epoch.{Epoch}
 use Rattle.flat_history.specs.declared.events.Event.{Event}
@@ -23,9 +23,11 @@ use Rattle.run_laws.proofs.Told.{told_none, told_behind, stop_told}
 use Rattle.run_laws.proofs.Losses.{losses-of, held-before, on-lost}
 use Rattle.grow_asked.specs.Left.{phases_of}
 use Rattle.grow_asked.specs.declared.window.PhasesLeft.{PhasesLeft}
-use Rattle.run_laws.proofs.CausedLaws.{unjudged-at}
+use Rattle.run_laws.specs.Caused.{record_of}
+use Rattle.run_laws.proofs.CausedLaws.{unjudged-asked}
 use Rattle.run_laws.proofs.Turned.{told-same, told-alike, asked-tellable, stop-unstepped, stop-told}
 use Rattle.line_answers.proofs.Called.{called-length, same-epoch, epoch-opening, epoch-later}
+use Rattle.line_answers.proofs.Lefts.{left-called, left-unstopped}
 use Rattle.line_answers.proofs.Turns.{turn_ended, turn_asked, no_turn, at_the_end}
 use Rattle.run_laws.specs.Written.{HasWritten}
 use Rattle.run_laws.proofs.Writing.{written_ended, written_going}
@@ -45,7 +47,7 @@ returns-in-Ok-clause-answered g c =
     let grew = behind_grew c.script_call-who.result did.stopped in
     let asked = asked_stop (list_length array.parts.members.newest) (c.len.result - 1) c.script_call-who.result c.script_call-who.ensures did.stopped (omega (arith, grew, c.len.ensures)) in
     subst (λ (what : Answered). IsTurn setting (IsRunning array c.args.epochs) (IsIdle c.in-Ok.ended.0 c.push_reserved.new.self) AsksStop what) (sym c.inside-what.ensures)
-    (turn_ended setting array epoch c.in-Ok.ended.0 c.args.epochs c.push_reserved.new.self items c.requires.own (losses-of setting (history_of epoch) (held-before (g.B.Bank.given array.parts.bank) c.args.backup (running_history array.parts) (history_of epoch) array.parts.members did.grows (record { uuid = did.uuid; given = did.slots; first = did.first }) c.requires.former.held) did.losses (told_behind c.args.backup (g.B.Bank.faults_of array.parts.bank) (g.B.Bank.faults_of c.in-Ok.ended.0) did.stopped tt)) did.uuid did.slots did.first AsksStop (c.len.result - 1) asked.0 (asked-tellable asked.0 (stop-told asked.0.event asked.0.fits)) (unjudged-at setting.given setting.backup array c.requires.former.backup_is c.requires.own.turning AsksStop epoch.entries.items (c.len.result - 1) asked.0 (λ before event. tt))
+    (turn_ended setting array epoch c.in-Ok.ended.0 c.args.epochs c.push_reserved.new.self items c.requires.own (losses-of setting (history_of epoch) (held-before (g.B.Bank.given array.parts.bank) c.args.backup (running_history array.parts) (history_of epoch) array.parts.members did.grows (record { uuid = did.uuid; given = did.slots; first = did.first }) c.requires.former.held) did.losses (told_behind c.args.backup (g.B.Bank.faults_of array.parts.bank) (g.B.Bank.faults_of c.in-Ok.ended.0) did.stopped tt)) did.uuid did.slots did.first AsksStop (c.len.result - 1) asked.0 (asked-tellable asked.0 (stop-told asked.0.event asked.0.fits)) tt
     (λ t. at_the_end setting array.parts.entries epoch.entries.items asked.0 epoch.first t (grows_longer did.grows t) did.ended) (ap (λ (e : Event). is_end e) (asked.1)))
 
 pub last_place-requires : goal.last_place-requires
@@ -77,7 +79,10 @@ returns-in-Refused-clause-answered g c =
     subst (λ (what : Answered). IsTurn setting (IsRunning array c.args.epochs) (IsRunning left c.args.epochs) AsksStop what) (sym c.inside-what-in-Refused.ensures)
     (turn_asked setting array left c.args.epochs c.requires.own (losses-of setting (running_history left.parts) (held-before (g.B.Bank.given array.parts.bank) c.args.backup (running_history array.parts) (running_history left.parts) array.parts.members did.called.grows (epoch-opening (same-epoch did.called.same)) c.requires.former.held) did.called.losses (told_behind c.args.backup (g.B.Bank.faults_of array.parts.bank) (g.B.Bank.faults_of left.parts.bank) was (subst (λ (e : Event). IsRefusalToldBy c.args.backup (g.B.Bank.faults_of array.parts.bank) (g.B.Bank.faults_of left.parts.bank) e) (asked.1) (stop_told c.args.backup (g.B.Bank.faults_of array.parts.bank) (g.B.Bank.faults_of left.parts.bank) asked.0.event asked.0.fits)))) same.uuid same.given same.first (sized-behind (called-length did.called) (λ n. refl) was)
     (told-same asked.0 (stop-unstepped asked.0.event asked.0.fits) did.left_active (ap (λ (p : PhasesLeft). phases_of p) did.called.same.ahead) c.requires.own.turning) AsksStop c.last_place.result asked.0
-    (asked-tellable asked.0 (stop-told asked.0.event asked.0.fits)) (unjudged-at setting.given setting.backup array c.requires.former.backup_is c.requires.own.turning AsksStop left.parts.entries c.last_place.result asked.0 (λ before event. tt)) (λ t. at_the_end setting array.parts.entries left.parts.entries asked.0 left.parts.first t (grows_longer did.called.grows t) did.called.ended) (ap (λ (e : Event). is_end e) (asked.1)))
+    (asked-tellable asked.0 (stop-told asked.0.event asked.0.fits)) (same.backup ∙ c.requires.former.backup_is)
+    (unjudged-asked size AsksStop array.parts.entries left.parts.entries setting.given (record_of array) (Ok c.last_place.result) asked.0 (λ event. tt))
+    (left-unstopped setting.before setting.now array left asked.0 _ asked.1 (left-called did.called did.left_active did.left_failed)
+    (subst (λ (f : Fault). IsFaultFor size 0 AreTooMany array.parts.members left.parts.members f) c.in-Refused.is did.caused)) (λ t. at_the_end setting array.parts.entries left.parts.entries asked.0 left.parts.first t (grows_longer did.called.grows t) did.called.ended) (ap (λ (e : Event). is_end e) (asked.1)))
 
 pub returns-in-Ok-clause-former : goal.returns-in-Ok-clause-former
 returns-in-Ok-clause-former g c =

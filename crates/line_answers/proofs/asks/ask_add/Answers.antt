@@ -13,7 +13,9 @@ use Rattle.run_laws.proofs.Told.{told_added}
 use Rattle.run_laws.proofs.running_replies_Fitting.{fits-add}
 use Rattle.grow_asked.specs.Left.{phases_of}
 use Rattle.grow_asked.specs.declared.window.PhasesLeft.{PhasesLeft}
+use Rattle.run_laws.specs.Caused.{record_of}
 use Rattle.run_laws.proofs.CausedLaws.{added-judged}
+use Rattle.line_answers.proofs.Lefts.{with-spare, left-added}
 use Rattle.run_laws.proofs.Turned.{told-same, told-still, asked-unstepped, asked-told}
 use Rattle.line_answers.proofs.asks.ask_add.Goals as goal
 
@@ -79,6 +81,12 @@ returns-clause-tellable g c = asked-told (AsksAdd c.args.slot) (AddLine c.args.s
 
 pub returns-clause-judged : goal.returns-clause-judged
 returns-clause-judged g c =
-    added-judged (list_length c.args.array.now.parts.members.newest) c.script_call-who.result (g.B.Bank.given c.args.array.now.parts.bank) c.args.array.now c.add-answer.new.self.parts.entries c.last_place.result c.last_place.ensures c.args.slot
+    added-judged (list_length c.args.array.now.parts.members.newest) c.script_call-who.result (g.B.Bank.given c.args.array.now.parts.bank) (record_of c.args.array.now) c.add-answer.new.self.parts.entries c.last_place.result c.last_place.ensures c.args.slot
     c.add-answer.new.self.parts.members (g.B.Bank.faults_of c.args.array.now.parts.bank) (g.B.Bank.faults_of c.add-answer.new.self.parts.bank) c.add-answer.result
     c.add-answer.ensures.answered c.add-answer.ensures.caused (c.wants_memory.ensures.no c.if-wants_memory.false)
+
+pub returns-clause-left : goal.returns-clause-left
+returns-clause-left g c =
+    let did = c.add-answer.ensures in
+    left-added (g.B.Bank.faults_of c.args.array.now.parts.bank) (g.B.Bank.faults_of c.add-answer.new.self.parts.bank) c.args.array.now c.add-answer.new.self c.script_call-who.result c.last_place.result c.last_place.ensures
+    (list_length c.args.array.now.parts.members.newest) c.args.slot (with-spare did.called did.active did.failed) (g.B.Bank.given c.args.array.now.parts.bank) c.add-answer.result did.answered did.caused (c.wants_memory.ensures.no c.if-wants_memory.false)

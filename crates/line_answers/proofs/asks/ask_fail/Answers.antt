@@ -12,7 +12,9 @@ use Rattle.run_laws.proofs.Told.{told_answered, fail_told}
 use Rattle.run_laws.proofs.running_replies_Fitting.{fits-fail}
 use Rattle.grow_asked.specs.Left.{phases_of}
 use Rattle.grow_asked.specs.declared.window.PhasesLeft.{PhasesLeft}
+use Rattle.run_laws.specs.Caused.{record_of}
 use Rattle.run_laws.proofs.CausedLaws.{failed-judged}
+use Rattle.line_answers.proofs.Lefts.{less-called, left-failed}
 use Rattle.run_laws.proofs.Turned.{told-same, told-still, asked-unstepped, asked-told}
 use Rattle.line_answers.proofs.asks.ask_fail.Goals as goal
 
@@ -66,5 +68,11 @@ returns-clause-tellable g c = asked-told (AsksFail c.args.role) (FailLine c.args
 
 pub returns-clause-judged : goal.returns-clause-judged
 returns-clause-judged g c =
-    failed-judged (list_length c.args.array.now.parts.members.newest) c.script_call-who.result (g.B.Bank.given c.args.array.now.parts.bank) c.args.array.now c.fail-answer.new.self.parts.entries c.last_place.result c.last_place.ensures c.args.role
+    failed-judged (list_length c.args.array.now.parts.members.newest) c.script_call-who.result (g.B.Bank.given c.args.array.now.parts.bank) (record_of c.args.array.now) c.fail-answer.new.self.parts.entries c.last_place.result c.last_place.ensures c.args.role
     c.fail-answer.new.self.parts.members c.fail-answer.result c.fail-answer.ensures.answered c.fail-answer.ensures.caused (c.wants_memory.ensures.no c.if-wants_memory.false)
+
+pub returns-clause-left : goal.returns-clause-left
+returns-clause-left g c =
+    let did = c.fail-answer.ensures in
+    left-failed (g.B.Bank.faults_of c.args.array.now.parts.bank) (g.B.Bank.faults_of c.fail-answer.new.self.parts.bank) c.args.array.now c.fail-answer.new.self c.script_call-who.result c.last_place.result c.last_place.ensures
+    (list_length c.args.array.now.parts.members.newest) c.args.role (less-called did.called did.active) c.fail-answer.result did.answered did.caused (c.wants_memory.ensures.no c.if-wants_memory.false)

@@ -13,6 +13,7 @@ use Rattle.run_laws.proofs.running_replies_Fitting.{fits-flush}
 use Rattle.grow_asked.specs.Left.{phases_of}
 use Rattle.grow_asked.specs.declared.window.PhasesLeft.{PhasesLeft}
 use Rattle.run_laws.proofs.Turned.{told-same, told-still, asked-unstepped, asked-told}
+use Rattle.line_answers.proofs.Lefts.{left-called, left-flushed}
 use Rattle.line_answers.proofs.asks.ask_flush.Goals as goal
 
 pub returns-then-wants_memory-clause-asked : goal.returns-then-wants_memory-clause-asked
@@ -62,3 +63,11 @@ returns-clause-turning g c =
 
 pub returns-clause-tellable : goal.returns-clause-tellable
 returns-clause-tellable g c = asked-told AsksFlush FlushLine (returns-clause-asked g c) refl refl (λ fits. fits)
+
+pub returns-clause-left : goal.returns-clause-left
+returns-clause-left g c =
+    let old = c.args.array.now in
+    let new = c.flush-answer.new.self in
+    let did = c.flush-answer.ensures in
+    left-flushed (g.B.Bank.faults_of old.parts.bank) (g.B.Bank.faults_of new.parts.bank) old new c.script_call-who.result c.last_place.result c.last_place.ensures (list_length old.parts.members.newest) (left-called did.called did.active did.failed)
+    c.flush-answer.result did.answered did.caused (c.wants_memory.ensures.no c.if-wants_memory.false)

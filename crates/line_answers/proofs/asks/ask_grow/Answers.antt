@@ -1,11 +1,15 @@
-use Rattle.std.proofs.Common.{refl, sym}
+use Rattle.std.proofs.Common.{length, refl, sym}
 use Rattle.superblocks.specs.Reading.{list_length}
 use Rattle.flat_history.specs.declared.events.Event.TheVariants.{Planned}
 use Rattle.flat_history.specs.declared.events.Request.TheVariants.{Grow as AsksGrow}
 use Rattle.script.specs.declared.lines.Line.TheVariants.{Grow as GrowLine}
+use Rattle.grow_asked.specs.Left.{phases_of}
 use Rattle.run_laws.specs.running_Calls.{running_left}
+use Rattle.run_laws.specs.running_words_Calls.{moving_world}
+use Rattle.run_laws.specs.Caused.{record_of}
 use Rattle.run_laws.proofs.AskLaws.{on_no_memory, asked_with, with-grew}
 use Rattle.line_answers.proofs.Called.{replied-some, replied-none, all-seen}
+use Rattle.line_answers.proofs.Lefts.{left-planned}
 use Rattle.run_laws.proofs.CausedLaws.{grown-judged}
 use Rattle.run_laws.proofs.Turned.{told-still, told-grown, asked-unstepped, asked-told}
 use Rattle.line_answers.proofs.asks.ask_grow.Goals as goal
@@ -46,5 +50,18 @@ returns-clause-tellable g c = asked-told (AsksGrow c.args.wish) (GrowLine c.args
 pub returns-clause-judged : goal.returns-clause-judged
 returns-clause-judged g c =
     let did = c.plan_grow-answer.ensures in
-    grown-judged (list_length c.args.array.now.parts.members.newest) c.script_call-who.result (g.B.Bank.given c.args.array.now.parts.bank) c.args.array.now c.plan_grow-answer.new.self.parts.entries c.last_place.result c.last_place.ensures c.args.wish
-    (sym (all-seen c.args.array.now c.visible.ensures.sized c.visible.ensures.limited)) c.plan_grow-answer.new.self c.plan_grow-answer.result did.fits did.judged did.planned did.left did.as_before.members (c.wants_memory.ensures.no c.if-wants_memory.false)
+    let old = c.args.array.now in
+    let new = c.plan_grow-answer.new.self in
+    grown-judged (list_length old.parts.members.newest) c.script_call-who.result (g.B.Bank.given old.parts.bank) (record_of old) new.parts.entries c.last_place.result c.last_place.ensures c.args.wish
+    (sym (all-seen old c.visible.ensures.sized c.visible.ensures.limited))
+    g.B.Bank.tells (moving_world (g.B.Bank.given old.parts.bank) (g.B.Bank.tape old.parts.bank) old) (moving_world (g.B.Bank.given new.parts.bank) (g.B.Bank.tape new.parts.bank) new) (g.B.Bank.given new.parts.bank) new c.plan_grow-answer.result
+    did.fits did.judged did.planned did.left did.as_before.members (c.wants_memory.ensures.no c.if-wants_memory.false)
+
+pub returns-clause-left : goal.returns-clause-left
+returns-clause-left g c =
+    let did = c.plan_grow-answer.ensures in
+    let old = c.args.array.now in
+    let new = c.plan_grow-answer.new.self in
+    left-planned (g.B.Bank.faults_of old.parts.bank) (g.B.Bank.faults_of new.parts.bank) old new c.script_call-who.result c.last_place.result c.last_place.ensures
+    g.B.Bank.tells (moving_world (g.B.Bank.given old.parts.bank) (g.B.Bank.tape old.parts.bank) old) (moving_world (g.B.Bank.given new.parts.bank) (g.B.Bank.tape new.parts.bank) new) (g.B.Bank.given new.parts.bank)
+    (length (phases_of old.ahead)) old.parts.members c.args.wish c.plan_grow-answer.result did.fits did.as_before did.limit did.planned did.refused (c.wants_memory.ensures.no c.if-wants_memory.false)

@@ -12,9 +12,12 @@ use Rattle.line_answers.proofs.Called.{called-length}
 use Rattle.run_laws.proofs.Told.{told_none, told_answered, read_told}
 use Rattle.run_laws.specs.running_replies_Replies.{RunningFits}
 use Rattle.run_laws.proofs.running_replies_Fitting.{fits-read}
+use Rattle.run_laws.specs.Caused.{record_of}
+use Rattle.run_laws.specs.Records.{IsLeftAt}
 use Rattle.grow_asked.specs.Left.{phases_of}
 use Rattle.grow_asked.specs.declared.window.PhasesLeft.{PhasesLeft}
 use Rattle.run_laws.proofs.Turned.{told-same, told-still, asked-unstepped, asked-told}
+use Rattle.line_answers.proofs.Lefts.{left-called, left-read}
 use Rattle.line_answers.proofs.asks.ask_read.Goals as goal
 
 sectors_in : (n len : ℕ) → len ≡ n * 512 → len / 512 ≡ n
@@ -75,3 +78,13 @@ returns-clause-turning g c =
 
 pub returns-clause-tellable : goal.returns-clause-tellable
 returns-clause-tellable g c = asked-told (AsksRead c.args.at c.args.count) (ReadLine c.args.at c.args.count) (returns-clause-asked g c) refl refl (λ fits. fits)
+
+pub returns-clause-left : goal.returns-clause-left
+returns-clause-left g c =
+    let old = c.args.array.now in
+    let new = c.read-answer.new.self in
+    let did = c.read-answer.ensures in
+    let count : length c.as_mut_slice.result.now / 512 ≡ c.args.count = sectors_in c.args.count (length c.as_mut_slice.result.now) (c.as_mut_slice.ensures.len ∙ c.in-Ok.ensures.len) in
+    subst (λ (n : ℕ). IsLeftAt (g.B.Bank.faults_of old.parts.bank) (g.B.Bank.faults_of new.parts.bank) (record_of old) (record_of new) (ReadLine c.args.at n) new.parts.entries c.last_place.result) count
+    (left-read (g.B.Bank.faults_of old.parts.bank) (g.B.Bank.faults_of new.parts.bank) old new c.script_call-who.result c.last_place.result c.last_place.ensures (list_length old.parts.members.newest) (left-called did.called did.active did.failed)
+    c.args.at (length c.as_mut_slice.result.now / 512) (sectors_of c.read-answer.new.into) c.read-answer.result did.answered did.caused (c.wants_memory.ensures.no c.if-wants_memory.false))

@@ -4,7 +4,9 @@ use Rattle.flat_history.specs.declared.events.Event.{Event}
 use Rattle.run_laws.specs.running_Calls.{running_left}
 use Rattle.run_laws.specs.running_steps_Steps.{IsStepCount}
 use Rattle.superblocks.specs.Reading.{list_length}
+use Rattle.run_laws.specs.Caused.{record_of}
 use Rattle.run_laws.proofs.CausedLaws.{steps-judged}
+use Rattle.run_laws.proofs.RecordLaws.{steps-answered}
 use Rattle.run_laws.proofs.Turned.{told-still, told-steps, steps-tellable}
 use Rattle.line_answers.proofs.asks.ask_steps.Goals as goal
 
@@ -27,4 +29,10 @@ returns-in-Err-clause-turning g c = told-still c.in-Err.ensures.unchanged c.requ
 pub returns-clause-judged : goal.returns-clause-judged
 returns-clause-judged g c =
     let did = c.in-Ok.ensures in
-    steps-judged (list_length c.args.array.now.parts.members.newest) c.script_call-who.result (g.B.Bank.given c.args.array.now.parts.bank) c.args.array.now c.steps.new.array.parts.entries c.last_place.result c.last_place.ensures did.replied did.counted
+    let old = c.args.array.now in
+    steps-judged (list_length old.parts.members.newest) c.script_call-who.result (g.B.Bank.given old.parts.bank) (record_of old) c.steps.new.array.parts.entries c.last_place.result c.last_place.ensures (running_left c.steps.new.array) did.replied did.counted
+
+pub returns-clause-stepped : goal.returns-clause-stepped
+returns-clause-stepped g c =
+    let did = c.in-Ok.ensures in
+    steps-answered g.B.Bank.tells g.B.Bank.given g.B.Bank.tape g.B.Bank.faults_of c.args.array.now c.steps.new.array did.went did.replied did.counted did.rest

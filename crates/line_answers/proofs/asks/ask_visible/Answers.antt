@@ -1,11 +1,15 @@
-use Rattle.std.proofs.Common.{refl}
+use Rattle.std.proofs.Common.{length, refl}
 use Rattle.superblocks.specs.Reading.{list_length}
 use Rattle.flat_history.specs.declared.events.Event.TheVariants.{Visible}
 use Rattle.flat_history.specs.declared.events.Request.TheVariants.{Visible as AsksVisible}
 use Rattle.script.specs.declared.lines.Line.TheVariants.{ArraySize as ArraySizeLine}
+use Rattle.grow_asked.specs.Left.{phases_of}
+use Rattle.run_laws.specs.running_words_Calls.{moving_world}
 use Rattle.run_laws.specs.running_words_Parts.{visible_in}
+use Rattle.run_laws.specs.Caused.{record_of}
 use Rattle.run_laws.proofs.AskLaws.{on_no_memory, asked_with, with-grew}
 use Rattle.line_answers.proofs.Called.{replied-some, replied-none}
+use Rattle.line_answers.proofs.Lefts.{left-limited}
 use Rattle.run_laws.proofs.CausedLaws.{visible-judged}
 use Rattle.run_laws.proofs.Turned.{told-still, told-grown, asked-unstepped, asked-told}
 use Rattle.line_answers.proofs.asks.ask_visible.Goals as goal
@@ -46,5 +50,15 @@ returns-clause-tellable g c = asked-told (AsksVisible c.args.limit) (ArraySizeLi
 pub returns-clause-judged : goal.returns-clause-judged
 returns-clause-judged g c =
     let did = c.set_visible-answer.ensures in
-    visible-judged (list_length c.args.array.now.parts.members.newest) c.script_call-who.result (g.B.Bank.given c.args.array.now.parts.bank) c.args.array.now c.set_visible-answer.new.self.parts.entries c.last_place.result c.last_place.ensures c.args.limit
-    c.set_visible-answer.new.self c.set_visible-answer.result did.fits did.judged did.limited (c.wants_memory.ensures.no c.if-wants_memory.false)
+    let old = c.args.array.now in
+    visible-judged (list_length old.parts.members.newest) c.script_call-who.result (g.B.Bank.given old.parts.bank) (record_of old) c.set_visible-answer.new.self.parts.entries c.last_place.result c.last_place.ensures
+    g.B.Bank.tells (moving_world (g.B.Bank.given old.parts.bank) (g.B.Bank.tape old.parts.bank) old) (length (phases_of old.ahead)) old.parts.members c.args.limit old c.set_visible-answer.new.self c.set_visible-answer.result
+    did.fits did.judged did.limited refl (c.wants_memory.ensures.no c.if-wants_memory.false)
+
+pub returns-clause-left : goal.returns-clause-left
+returns-clause-left g c =
+    let did = c.set_visible-answer.ensures in
+    let old = c.args.array.now in
+    left-limited (g.B.Bank.faults_of old.parts.bank) (g.B.Bank.faults_of c.set_visible-answer.new.self.parts.bank) old c.set_visible-answer.new.self c.script_call-who.result c.last_place.result c.last_place.ensures
+    g.B.Bank.tells (moving_world (g.B.Bank.given old.parts.bank) (g.B.Bank.tape old.parts.bank) old) (length (phases_of old.ahead)) old.parts.members c.args.limit c.set_visible-answer.result
+    did.fits did.limited (c.wants_memory.ensures.no c.if-wants_memory.false)

@@ -5,6 +5,8 @@ use Rattle.run_laws.specs.array_kept_Calls.{IsEndOf}
 use Rattle.grow_asked.specs.Left.{phases_of}
 use Rattle.run_laws.specs.running_replies_Going.{HasRunOn}
 use Rattle.run_laws.specs.Asked.{IsStillWaiting}
+use Rattle.run_laws.specs.Caused.{Record, record_of}
+use Rattle.run_laws.proofs.RecordLaws.{AreAnsweredSo}
 use Rattle.run_laws.specs.Turning.{IsTurningTold}
 use Rattle.line_answers.proofs.asks.ask_wait.Given as goal
 
@@ -13,6 +15,7 @@ invariant-loop-at g l = record {
   waiting : (earlier : List ℕ) × IsStillWaiting (list_length l.fn.array.parts.members.newest) l.fn.array.parts.entries earlier l.array.parts.entries;
   ended : IsEndOf g.B.Bank.tells l.array.parts.first l.array.parts.entries (g.B.Bank.tape l.array.parts.bank);
   turning : IsTurningTold (is_reshaping l.array.parts.members.newest) (phases_of l.array.ahead) l.array.parts.entries;
+  stepped : (others : List Record) × AreAnsweredSo (record_of l.fn.array) others (record_of l.array);
   went : HasRunOn g.B.Bank.tells g.B.Bank.given g.B.Bank.tape g.B.Bank.faults_of l.fn.array l.array;
 }
 

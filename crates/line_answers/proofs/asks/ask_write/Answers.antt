@@ -1,5 +1,5 @@
 use Rattle.std.proofs.Common.{refl, ◌∙◌, subst, arith, ap}
-use Rattle.std.proofs.Common.{◌/◌, List, length}
+use Rattle.std.proofs.Common.{◌≡◌, ◌/◌, ℕ, List, length}
 use Rattle.bank.specs.Given.{IsFaulted}
 use Rattle.md_base.specs.Sectors.{Sector, sectors_of}
 use Rattle.superblocks.specs.Reading.{is_reshaping, list_length}
@@ -15,10 +15,13 @@ use Rattle.run_laws.proofs.Sizes.{sized-none, sized-written}
 use Rattle.run_laws.proofs.Told.{told_none, write_told_by}
 use Rattle.line_answers.proofs.Barred.{barred-backup, barred-still, barred-end}
 use Rattle.line_answers.proofs.Called.{called-length, script-numbered, all-seen}
+use Rattle.run_laws.specs.Caused.{record_of}
+use Rattle.run_laws.specs.Records.{IsLeftAt}
 use Rattle.grow_asked.specs.Left.{phases_of}
 use Rattle.grow_asked.specs.declared.window.PhasesLeft.{PhasesLeft}
 use Rattle.script.specs.Seeds.{seeded}
 use Rattle.run_laws.proofs.Turned.{told-same, told-still, asked-unstepped, told-active, write-tellable}
+use Rattle.line_answers.proofs.Lefts.{left-called, left-written}
 use Rattle.line_answers.proofs.asks.ask_write.Goals as goal
 
 pub write-answer-requires-clause-some : goal.write-answer-requires-clause-some
@@ -116,3 +119,13 @@ returns-clause-tellable g c =
     let did = c.write-answer.ensures in
     write-tellable (list_length old.parts.members.newest) c.args.at (sectors_of c.as_bytes.result.now) c.script_call-who.result old.parts.entries c.write-answer.new.self.parts.entries c.write-answer.result c.last_place.result
     did.answered (c.wants_memory.ensures.no c.if-wants_memory.false) (λ barred. told-active (is_reshaping old.parts.members.newest) (phases_of old.ahead) old.parts.entries c.requires.turning (did.barred barred)) c.last_place.ensures
+
+pub returns-clause-left : goal.returns-clause-left
+returns-clause-left g c =
+    let old = c.args.array.now in
+    let new = c.write-answer.new.self in
+    let did = c.write-answer.ensures in
+    let count : length c.as_bytes.result.now / 512 ≡ c.args.count = seeded_count c.as_bytes.result.now c.args.seed c.args.at c.args.count (c.as_bytes.ensures.sectors ∙ c.in-Ok.ensures) in
+    subst (λ (n : ℕ). IsLeftAt (g.B.Bank.faults_of old.parts.bank) (g.B.Bank.faults_of new.parts.bank) (record_of old) (record_of new) (WriteLine c.args.at n c.args.seed) new.parts.entries c.last_place.result) count
+    (left-written (g.B.Bank.faults_of old.parts.bank) (g.B.Bank.faults_of new.parts.bank) old new c.script_call-who.result c.last_place.result c.last_place.ensures (list_length old.parts.members.newest) (left-called did.called did.active did.failed)
+    c.args.at (length c.as_bytes.result.now / 512) c.args.seed (sectors_of c.as_bytes.result.now) c.write-answer.result did.answered did.caused (c.wants_memory.ensures.no c.if-wants_memory.false))

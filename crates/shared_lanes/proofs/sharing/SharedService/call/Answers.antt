@@ -1,5 +1,5 @@
 use Rattle.shared_lanes.proofs.Answered.{answered}
-use Rattle.shared_lanes.proofs.Carried.{goes-on, replied}
+use Rattle.shared_lanes.proofs.Carried.{goes-on, replied, own}
 use Rattle.shared_lanes.proofs.sharing.SharedService.call.Goals as goal
 
 pub returns-clause-answered : goal.returns-clause-answered
@@ -15,3 +15,8 @@ pub returns-clause-entered : goal.returns-clause-entered
 returns-clause-entered g c =
     let k = returns-clause-answered g c in
     replied g.B.Bank.tells g.B.Bank.given g.B.Bank.tape g.B.Bank.faults_of c.args.pass c.call.result.0 c.args.request c.call.result.1 c.call.ensures.same.1 k c.call.result.1 k.told
+
+pub returns-clause-own : goal.returns-clause-own
+returns-clause-own g c =
+    own g.B.Bank.tells g.B.Bank.given g.B.Bank.tape g.B.Bank.faults_of c.args.pass c.call.result.0 c.args.request c.call.result.1 c.call.ensures.same.1
+    (returns-clause-answered g c)

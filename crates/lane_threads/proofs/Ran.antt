@@ -1,0 +1,10 @@
+-- What a lane appended to an empty row.
+use Rattle.std.proofs.Common.{◌≡◌, List, [], ◌++◌, sym, ap, ◌∙◌, subst}
+use Rattle.flat_history.specs.declared.events.Request.{Request}
+use Rattle.lanes.specs.running_calls_the_Reply.{Reply}
+use Rattle.lanes.specs.Carried.{Carried}
+use Rattle.lanes.specs.Lane.{AreDone}
+
+pub all-of : (old new : Carried) (requests : List Request) (row made all : List Reply) → row ≡ [] → all ≡ row ++ made → AreDone old new requests made → AreDone old new requests all
+all-of old new requests row made all empty is done =
+    subst (λ (l : List Reply). AreDone old new requests l) (sym (is ∙ ap (λ (l : List Reply). l ++ made) empty)) done

@@ -1,0 +1,258 @@
+-- The records of the array that runs, from line to line: what a call leaves, that they stay such as histories grow and over a longer time, and that one line more has one more.
+use Rattle.std.proofs.Common.{◌≡◌, ◌≢◌, inl, inr, ℕ, ◌+◌, ◌≤◌, false, Option, Some, None, Result, Ok, Err, List, [], ◌∷◌, ◌++◌, length, take, drop, refl, sym, ◌∙◌, ap, subst, arith, append_assoc}
+use Rattle.std.proofs.Math.Seq.{drop-append_seam}
+use Rattle.std.proofs.lemmas.List.Elements.{All-head, All-tail}
+use Rattle.std.specs.Prelude.{slice_get, IfOk, IsTrue, MatchOption}
+use Rattle.std.specs.List.{All, list_any}
+use Rattle.std.specs.Option.{option_map_or}
+use Rattle.md_base.specs.declared.answers.NoMemory.{NoMemory}
+use Rattle.md_base.specs.declared.answers.Who.{Who}
+use Rattle.md_base.specs.declared.status.Status.{Status}
+use Rattle.bank.specs.Given.{Given, NeverFalls}
+use Rattle.bank.specs.declared.bank.Operation.{Operation}
+use Rattle.superblocks.specs.declared.members.Members.{Members}
+use Rattle.superblocks.specs.Reading.{list_length}
+use Rattle.flat_history.specs.declared.events.Entry.{Entry}
+use Rattle.flat_history.specs.declared.events.Event.{Event}
+use Rattle.flat_history.specs.declared.events.Event.TheVariants.{Failed, Added, Visible, Planned}
+use Rattle.flat_history.specs.declared.events.Request.TheVariants.{Steps as AsksSteps}
+use Rattle.flat_history.specs.Flat.{length_of}
+use Rattle.flat_history.specs.Reshaped.{is_planned}
+use Rattle.views.specs.Lacking.{HaveRolesFailed}
+use Rattle.openings.specs.running_Calls.{running_left}
+use Rattle.openings.specs.running_replies_Going.{is_begin, AreHeldBehind, HasNoReshape, HasRunOn}
+use Rattle.openings.specs.running_replies_Replies.{IsAnsweredWith}
+use Rattle.openings.specs.running_steps_Steps.{IsStepCount}
+use Rattle.openings.specs.running_words_Parts.{RunningParts}
+use Rattle.script.specs.declared.lines.Line.{Line}
+use Rattle.script.specs.declared.lines.Line.TheVariants.{Read, Write, Flush, Fail, Add, ArraySize, Grow, Step, Wait, Stop}
+use Rattle.script.specs.declared.lines.Numbered.{Numbered}
+use Rattle.script.specs.declared.reply.Lane.{Lane}
+use Rattle.script.specs.declared.reply.Lane.TheVariants.{Script as InScript}
+use Rattle.run_laws.specs.declared.report.Answered.{Answered}
+use Rattle.run_laws.specs.declared.report.Answered.TheVariants.{Inside, Outside as IsOutside}
+use Rattle.run_laws.specs.declared.report.LineReply.{LineReply}
+use Rattle.run_laws.specs.declared.report.Outside.TheVariants.{Created, Assembled, Examined, Refused}
+use Rattle.run_laws.specs.Asked.{IsAskedAt, IsAsked}
+use Rattle.run_laws.specs.Caused.{Record, record_of, IsJudgedBy}
+use Rattle.run_laws.specs.Histories.{History, entry_at}
+use Rattle.run_laws.specs.Making.{Setting}
+use Rattle.run_laws.specs.Records.{IsLessByFaults, IsWithSpare, AreStepsAnswered, AreAllAnswered, IsLeftBy, IsLeftAt, IsRecordMade, IsRecordFound, IsNextRecord, IsRecordedBy, IsRecorded, IsRecordedIn, AreRecorded}
+use Rattle.run_laws.specs.Replies.{entries_to, leaves_more, leaves_more_at}
+use Rattle.run_laws.specs.States.{IsGrown, AreGrown}
+use Rattle.run_laws.proofs.AskLaws.{one, entry_there}
+use Rattle.run_laws.proofs.Causes.{faulted-wider}
+use Rattle.run_laws.proofs.Growth.{IsWider, history_stays, named_stays, to_stays}
+use Rattle.run_laws.proofs.Turned.{last-there}
+
+-- ---- by an entry
+
+-- what the line leaves by the entry at its place is by the one that was asked for
+pub left-asked : {size place : ℕ} {line : Line} {old new : List Entry} (before now : ℕ → ℕ) (was is : Record) (asked : IsAskedAt size line old new place) → IsLeftAt before now was is line new place → IsLeftBy before now was is line asked.event
+left-asked {line = line} before now was is asked left = subst (λ (o : Option Entry). MatchOption o ⊥ (λ e. IsLeftBy before now was is line e.event)) (entry_there asked) left
+
+-- and the other way round, where it leaves the same by any
+pub left-at : {size place : ℕ} {line : Line} {old new : List Entry} (before now : ℕ → ℕ) (was is : Record) (asked : IsAskedAt size line old new place) → ((event : Event) → IsLeftBy before now was is line event) → IsLeftAt before now was is line new place
+left-at {line = line} before now was is asked all = subst (λ (o : Option Entry). MatchOption o ⊥ (λ e. IsLeftBy before now was is line e.event)) (sym (entry_there asked)) (all asked.event)
+
+-- where memory was short, nothing is asked
+pub less-asked : (size : ℕ) (line : Line) (old new : List Entry) (before now : ℕ → ℕ) (was is : Record) (r : Result ℕ NoMemory) → IsAsked size line old new r → IfOk r (λ place. IsLessByFaults before now was is)
+    → ((event : Event) → IsLessByFaults before now was is → IsLeftBy before now was is line event) → IfOk r (λ place. IsLeftAt before now was is line new place)
+less-asked size line old new before now was is (Ok place) asked less by = left-at before now was is asked (λ event. by event less)
+less-asked size line old new before now was is (Err none) asked less by = tt
+
+pub stepped-asked : (size most : ℕ) (old new : List Entry) (before now : ℕ → ℕ) (was is : Record) (r : Result ℕ NoMemory) → IsAsked size (Step most) old new r → IfOk r (λ place. AreStepsAnswered was is)
+    → IfOk r (λ place. IsLeftAt before now was is (Step most) new place)
+stepped-asked size most old new before now was is (Ok place) asked stepped = left-at before now was is asked (λ event. stepped)
+stepped-asked size most old new before now was is (Err none) asked stepped = tt
+
+-- ---- steps
+
+-- what a request for steps leaves
+module _ {B : Type 0} (tells : Type 0) (given : B → Given) (tape : B → List Operation) (faults : B → ℕ → ℕ) (old new : RunningParts B) (went : HasRunOn tells given tape faults old new) where
+  more-is : (rest : List Entry) → new.parts.entries ≡ old.parts.entries ++ rest → went.more ≡ rest
+  more-is rest is = sym (drop-append_seam old.parts.entries went.more) ∙ ap (drop (length old.parts.entries)) (sym went.grown ∙ is) ∙ drop-append_seam old.parts.entries rest
+
+  pub steps-answered : {size most : ℕ} {who : Who} {event : Event} → IsAnsweredWith size (AsksSteps most) who old.parts.entries new.parts.entries event
+      → IsStepCount old.parts.entries new.parts.entries (running_left old) (running_left new) event → (running_left new ≡ 0 → HasNoReshape new) → AreStepsAnswered (record_of old) (record_of new)
+  steps-answered {who = who} {event = event} replied counted rest = record {
+    inner = replied.inner;
+    reply = one who replied.end event;
+    is = replied.is;
+    counted = counted;
+    held = subst (λ (l : List Entry). AreHeldBehind old.parts.members new.parts.members l) more went.held;
+    sized = went.sized ∙ ap (λ (l : List Entry). length_of (list_length old.parts.members.newest) l) more;
+    active = λ still none. went.active still (ap (list_any (λ e. is_begin e.event)) more ∙ none);
+    ahead = λ planless none. went.ahead planless (ap (list_any (λ e. is_planned e.event)) more ∙ none);
+    rest = λ none. ((rest none).active, (rest none).ahead);
+  }
+    where
+      more : went.more ≡ replied.inner ++ one who replied.end event ∷ []
+      more = more-is (replied.inner ++ one who replied.end event ∷ []) replied.is
+
+-- what its reply leaves to do
+pub leaves-answered : {old new : Record} (place : ℕ) (taken : AreStepsAnswered old new) → place + 1 ≡ length new.parts.entries → leaves_more_at new.parts.entries place ≡ leaves_more taken.reply.event
+leaves-answered {old = old} {new = new} place taken at_end =
+    ap (λ (o : Option Entry). option_map_or (λ e. leaves_more e.event) o false) (last-there old.parts.entries new.parts.entries taken.inner taken.reply place taken.is at_end)
+
+-- the requests of a wait so far, each of which leaves more to do
+abbrev pub AreAnsweredSo : Record → List Record → Record → Type 0
+AreAnsweredSo old [] new = new ≡ old
+AreAnsweredSo old (next ∷ others) new = (one : AreStepsAnswered old next) × IsTrue (leaves_more one.reply.event) × AreAnsweredSo next others new
+
+-- the last one, or one more
+pub answered-all : (old mid new : Record) (others : List Record) → AreAnsweredSo old others mid → AreStepsAnswered mid new → AreAllAnswered old others new
+answered-all old mid new [] same last = subst (λ (r : Record). AreStepsAnswered r new) same last
+answered-all old mid new (next ∷ others) (first, more, rest) last = (first, more, answered-all next mid new others rest last)
+
+pub answered-on : (old mid new : Record) (others : List Record) → AreAnsweredSo old others mid → (last : AreStepsAnswered mid new) → IsTrue (leaves_more last.reply.event) → AreAnsweredSo old (others ++ new ∷ []) new
+answered-on old mid new [] same last more = subst (λ (r : Record). (one : AreStepsAnswered r new) × IsTrue (leaves_more one.reply.event) × (new ≡ new)) same (last, more, refl)
+answered-on old mid new (next ∷ others) (first, going, rest) last more = (first, going, answered-on next mid new others rest last more)
+
+-- ---- over a longer time
+
+module _ (first before now last : ℕ → ℕ) (early : NeverFalls first before) (between : NeverFalls before now) (late : NeverFalls now last) where
+  roles-wider : (old new : Members) → HaveRolesFailed old new before now → HaveRolesFailed old new first last
+  roles-wider old new was = λ role slot held. elim (was role slot held) [
+    | inl same ↦ inl same
+    | inr failed ↦ inr (faulted-wider slot early between late failed)
+  ]
+
+  spare-wider : (slot : ℕ) (old new : Record) → IsWithSpare before now slot old new → IsWithSpare first last slot old new
+  spare-wider slot old new is = record { shape = is.shape; work = is.work; limit = is.limit; held = is.held; failed = roles-wider old.parts.members new.parts.members is.failed; spares = is.spares }
+
+  less-wider : (old new : Record) → IsLessByFaults before now old new → IsLessByFaults first last old new
+  less-wider old new is = (is.0, roles-wider old.parts.members new.parts.members is.1)
+
+  left-wider : (old new : Record) (line : Line) (event : Event) → IsLeftBy before now old new line event → IsLeftBy first last old new line event
+  left-wider old new (Read at count) event is = (less-wider old new is.0, is.1)
+  left-wider old new (Write at count seed) event is = (less-wider old new is.0, is.1)
+  left-wider old new Flush event is = (less-wider old new is.0, is.1)
+  left-wider old new Stop event is = (less-wider old new is.0, is.1)
+  left-wider old new (Fail role) (Failed failed) is = is
+  left-wider old new (Fail role) event is = is
+  left-wider old new (Add slot) (Added added) is = (spare-wider slot old new is.0, is.1)
+  left-wider old new (Add slot) event is = spare-wider slot old new is
+  left-wider old new (ArraySize limit) (Visible wished count) is = is
+  left-wider old new (ArraySize limit) event is = is
+  left-wider old new (Grow wish) (Planned left wished) is = is
+  left-wider old new (Grow wish) event is = is
+  left-wider old new (Step most) event is = is
+  left-wider old new Wait event is = is
+  left-wider old new line event is = less-wider old new is
+
+module _ (was now : Setting) (wider : IsWider was now) where
+  next-wider : (line : Line) (entries : List Entry) (event : Event) (old : Record) (new : Option Record) → IsNextRecord was line entries event old new → IsNextRecord now line entries event old new
+  next-wider line entries event old None is = is
+  next-wider line entries event old (Some next) (backed, same, left) =
+      (backed ∙ sym wider.backup, same, left-wider now.before was.before was.now now.now wider.early wider.between wider.late old next line event left)
+
+  by-wider : (line : Line) (entries : List Entry) (reply : Option Entry) (old : Record) (new : Option Record) → IsRecordedBy was line entries reply old new → IsRecordedBy now line entries reply old new
+  by-wider line entries None old new is = absurd is
+  by-wider line entries (Some e) old new (judged, next) = (subst (λ (g : Given). IsJudgedBy g old line e.event) (sym wider.given) judged, next-wider line entries e.event old new next)
+
+  pub recorded-wider : (histories : List History) (line : Line) (what : Answered) (old new : Option Record) → IsRecorded was histories line what old new → IsRecorded now histories line what old new
+  recorded-wider histories line (Inside epoch at) None new is = absurd is
+  recorded-wider histories line (Inside epoch at) (Some array) new is = by-wider line (entries_to histories epoch at) (entry_at histories epoch at) array new is
+  recorded-wider histories line (IsOutside Created) old new is = subst (λ (b : Option ℕ). MatchOption new ⊥ (IsRecordMade b line)) (sym wider.backup) is
+  recorded-wider histories line (IsOutside (Assembled epoch status)) old new is =
+      subst (λ (b : Option ℕ). MatchOption new ⊥ (λ array. MatchOption (slice_get histories epoch) ⊥ (λ history. IsRecordFound b history status array))) (sym wider.backup) is
+  recorded-wider histories line (IsOutside (Examined slot found)) old new is = is
+  recorded-wider histories line (IsOutside (Refused refusal)) old new is = is
+
+  pub in-wider : (histories : List History) (lane : Lane) (line : Line) (what : Answered) (old new : Option Record) → IsRecordedIn was histories lane line what old new → IsRecordedIn now histories lane line what old new
+  in-wider histories InScript line what old new is = recorded-wider histories line what old new is
+  in-wider histories lane line what old new is = tt
+
+-- ---- as histories grow
+
+module _ (setting : Setting) (olds news : List History) (grown : AreGrown olds news) where
+  inside-grown : (epoch at : ℕ) (line : Line) (old : Record) (new : Option Record) → IsRecordedBy setting line (entries_to olds epoch at) (entry_at olds epoch at) old new
+      → IsRecordedBy setting line (entries_to news epoch at) (entry_at news epoch at) old new
+  inside-grown epoch at line old new is = by (entry_at olds epoch at) refl is
+    where
+      by : (o : Option Entry) → entry_at olds epoch at ≡ o → IsRecordedBy setting line (entries_to olds epoch at) o old new → IsRecordedBy setting line (entries_to news epoch at) (entry_at news epoch at) old new
+      by None there now = absurd now
+      by (Some e) there now =
+          subst (λ (o : Option Entry). IsRecordedBy setting line (entries_to news epoch at) o old new) (sym (named_stays olds news grown epoch at e there))
+          (subst (λ (l : List Entry). IsRecordedBy setting line l (Some e) old new) (sym (to_stays olds news grown epoch at e there)) now)
+
+  longer-found : (status : Status) (array : Record) (old new : History) → IsGrown old new → IsRecordFound setting.backup old status array → IsRecordFound setting.backup new status array
+  longer-found status array old new longer is = record {
+    backup_is = is.backup_is;
+    more = is.more ++ longer.more;
+    begins = longer.grown ∙ ap (λ (l : List Entry). l ++ longer.more) is.begins ∙ append_assoc array.parts.entries is.more longer.more;
+    shown = is.shown;
+    planless = is.planless;
+  }
+
+  found-grown : (epoch : ℕ) (status : Status) (array : Record) → MatchOption (slice_get olds epoch) ⊥ (λ history. IsRecordFound setting.backup history status array)
+      → MatchOption (slice_get news epoch) ⊥ (λ history. IsRecordFound setting.backup history status array)
+  found-grown epoch status array is = by (slice_get olds epoch) refl is
+    where
+      by : (o : Option History) → slice_get olds epoch ≡ o → MatchOption o ⊥ (λ history. IsRecordFound setting.backup history status array)
+          → MatchOption (slice_get news epoch) ⊥ (λ history. IsRecordFound setting.backup history status array)
+      by None there now = absurd now
+      by (Some history) there now =
+          let later = history_stays olds news grown epoch history there in
+          subst (λ (o : Option History). MatchOption o ⊥ (λ history. IsRecordFound setting.backup history status array)) (sym later.1) (longer-found status array history later.0 later.2 now)
+
+  pub recorded-grown : (line : Line) (what : Answered) (old new : Option Record) → IsRecorded setting olds line what old new → IsRecorded setting news line what old new
+  recorded-grown line (Inside epoch at) None new is = absurd is
+  recorded-grown line (Inside epoch at) (Some array) new is = inside-grown epoch at line array new is
+  recorded-grown line (IsOutside Created) old new is = is
+  recorded-grown line (IsOutside (Assembled epoch status)) old None is = absurd is
+  recorded-grown line (IsOutside (Assembled epoch status)) old (Some array) is = found-grown epoch status array is
+  recorded-grown line (IsOutside (Examined slot found)) old new is = is
+  recorded-grown line (IsOutside (Refused refusal)) old new is = is
+
+  pub in-grown : (lane : Lane) (line : Line) (what : Answered) (old new : Option Record) → IsRecordedIn setting olds lane line what old new → IsRecordedIn setting news lane line what old new
+  in-grown InScript line what old new is = recorded-grown line what old new is
+  in-grown lane line what old new is = tt
+
+-- ---- several lines
+
+pub records-stay : (was now : Setting) → IsWider was now → (olds news : List History) → AreGrown olds news → (old : Option Record) (lines : List Numbered) (replies : List LineReply) (last : Option Record) → AreRecorded was olds old lines replies last
+    → AreRecorded now news old lines replies last
+records-stay was now wider olds news grown old [] [] last is = is
+records-stay was now wider olds news grown old [] (reply ∷ replies) last is = absurd is
+records-stay was now wider olds news grown old (line ∷ lines) [] last is = absurd is
+records-stay was now wider olds news grown old (line ∷ lines) (reply ∷ replies) last (next, here, more) =
+    (next, in-wider was now wider news line.lane line.line reply.what old next (in-grown was olds news grown line.lane line.line reply.what old next here), records-stay was now wider olds news grown next lines replies last more)
+
+-- one part behind another
+pub records-both : (setting : Setting) (histories : List History) (old mid last : Option Record) (lines : List Numbered) (replies : List LineReply) (others : List Numbered) (more : List LineReply)
+    → AreRecorded setting histories old lines replies mid → AreRecorded setting histories mid others more last → AreRecorded setting histories old (lines ++ others) (replies ++ more) last
+records-both setting histories old mid last [] [] others more is behind = subst (λ (o : Option Record). AreRecorded setting histories o others more last) is behind
+records-both setting histories old mid last [] (r ∷ replies) others more is behind = absurd is
+records-both setting histories old mid last (l ∷ lines) [] others more is behind = absurd is
+records-both setting histories old mid last (l ∷ lines) (r ∷ replies) others more (next, one, rest) behind = (next, one, records-both setting histories next mid last lines replies others more rest behind)
+
+-- those of a block's lines: of none is anything said, so the first may leave any
+in-block : (setting : Setting) (histories : List History) (lane : Lane) (line : Line) (what : Answered) (old new : Option Record) → lane ≢ InScript → IsRecordedIn setting histories lane line what old new
+in-block setting histories InScript line what old new ne = absurd (ne refl)
+in-block setting histories lane line what old new ne = tt
+
+records-same : (setting : Setting) (histories : List History) (now : Option Record) (lines : List Numbered) (replies : List LineReply) → length replies ≤ length lines → All (λ line. line.lane ≢ InScript) lines
+    → AreRecorded setting histories now (take (length replies) lines) replies now
+records-same setting histories now lines [] few lanes = refl
+records-same setting histories now [] (reply ∷ replies) few lanes = absurd (omega (arith, few))
+records-same setting histories now (line ∷ lines) (reply ∷ replies) few lanes = (
+  now,
+  in-block setting histories line.lane line.line reply.what now now (All-head (λ line. line.lane ≢ InScript) line lines lanes),
+  records-same setting histories now lines replies (omega (arith, few)) (All-tail (λ line. line.lane ≢ InScript) line lines lanes),
+)
+
+pub records-beside : (setting : Setting) (histories : List History) (old new : Option Record) (lines : List Numbered) (replies : List LineReply) → length replies ≤ length lines → All (λ line. line.lane ≢ InScript) lines
+    → (last : Option Record) × AreRecorded setting histories old (take (length replies) lines) replies last × (1 ≤ length replies → last ≡ new)
+records-beside setting histories old new lines [] few lanes = (old, refl, λ some. absurd (omega (arith, some)))
+records-beside setting histories old new [] (reply ∷ replies) few lanes = absurd (omega (arith, few))
+records-beside setting histories old new (line ∷ lines) (reply ∷ replies) few lanes = (
+  new,
+  (
+    new,
+    in-block setting histories line.lane line.line reply.what old new (All-head (λ line. line.lane ≢ InScript) line lines lanes),
+    records-same setting histories new lines replies (omega (arith, few)) (All-tail (λ line. line.lane ≢ InScript) line lines lanes),
+  ),
+  λ some. refl,
+)

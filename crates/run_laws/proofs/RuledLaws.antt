@@ -1,0 +1,112 @@
+-- What the records of a run rule out.
+use Rattle.std.proofs.Common.{◌≡◌, ◌≢◌, inl, inr, ℕ, ◌+◌, ◌<◌, ◌≤◌, ◌==◌, not, Bool, true, false, is_some, get_or, Option, Some, None, List, length, refl, sym, ◌∙◌, ap, subst, arith}
+use Rattle.std.proofs.lemmas.Bool.{cases_lt}
+use Rattle.std.proofs.lemmas.Bool.Decides.{nat_tests}
+use Rattle.std.proofs.lemmas.List.{get_or_past}
+use Rattle.std.specs.Prelude.{if◌then◌else◌, MatchOption, IsTrue}
+use Rattle.md_base.specs.Search.{tabulate}
+use Rattle.md_base.specs.declared.answers.BusyKind.TheVariants.{Reshape}
+use Rattle.md_base.specs.declared.answers.Refusal.{Refusal}
+use Rattle.md_base.specs.declared.answers.Refusal.TheVariants.{Busy}
+use Rattle.md_base.specs.declared.places.Shape.{Shape}
+use Rattle.md_base.specs.declared.status.Role.{Role}
+use Rattle.md_base.specs.declared.status.Role.TheVariants.{Whole, Missing}
+use Rattle.md_base.specs.declared.wishes.Phase.{Phase}
+use Rattle.md_base.specs.declared.wishes.Wish.{Wish}
+use Rattle.md_base.proofs.Tabulated.{length-tabulate, get_or-tabulate}
+use Rattle.bank.specs.Given.{Given}
+use Rattle.grow_plan.specs.Plans.{phases, phases_steps}
+use Rattle.superblocks.specs.declared.members.Members.{Members}
+use Rattle.superblocks.specs.Reading.{is_reshaping, is_backup, shape_of, role_count, role_state, holder}
+use Rattle.superblocks.specs.Reads.{has_spare}
+use Rattle.row_io.specs.Rows.{reading_of}
+use Rattle.views.specs.Placed.{is_vacant}
+use Rattle.views.specs.Status.{left_of}
+use Rattle.views.proofs.Still.{count-still}
+use Rattle.grow_asked.specs.Asked.{IsUngrowable, IsFirst, grow_refusal}
+use Rattle.grow_asked.specs.Left.{phases_of}
+use Rattle.grow_asked.proofs.FirstLaws.{judged}
+use Rattle.growing.specs.Planned.{asked_in}
+use Rattle.openings.specs.array_kept_Calls.{IsTaken}
+use Rattle.openings.specs.running_words_Parts.{left_in, still_left}
+use Rattle.script.specs.declared.lines.CreateLine.{CreateLine}
+use Rattle.run_laws.specs.Caused.{Record}
+use Rattle.run_laws.specs.Records.{IsNewRecord}
+use Rattle.run_laws.specs.Ruled.{NewRolesFail, UnusedSlotsAreFree, PlansAreStepped}
+
+-- ---- an array that was just made
+
+module _ {backup : Option ℕ} {line : CreateLine} (array : Record) (is : IsNewRecord backup line array) where
+  state-is : (role : ℕ) → role_state (reading_of array.parts.members) role ≡ get_or (tabulate line.shape.disks (λ role. Whole role)) role Missing
+  state-is role = ap (λ (roles : List Role). get_or roles role Missing) is.roles
+
+  counted : role_count array.parts.members.newest ≡ line.shape.disks
+  counted = count-still array.parts.members.newest is.still ∙ ap (λ (s : Shape). s.disks) is.shape
+
+  -- each role is on the slot of its number
+  there : (role : ℕ) → role < line.shape.disks → role_state (reading_of array.parts.members) role ≡ Whole role
+  there role lt = state-is role ∙ get_or-tabulate line.shape.disks (λ role. Whole role) role Missing lt
+
+  has-role : (role : ℕ) → role < line.shape.disks → (role < role_count array.parts.members.newest) × (is_vacant (reading_of array.parts.members) role ≡ false)
+  has-role role lt = (omega (arith, lt, counted), ap (λ (state : Role). not (is_some (holder state))) (there role lt))
+
+  -- and no slot behind them is used
+  held-below : (role slot : ℕ) → line.shape.disks ≤ slot → holder (role_state (reading_of array.parts.members) role) ≡ Some slot → ⊥
+  held-below role slot unused held = elim (cases_lt role line.shape.disks) [
+    | inl lt ↦ other role (sym (ap holder (there role lt)) ∙ held) lt
+    | inr past ↦ none slot (sym (ap holder (state-is role ∙ get_or_past (tabulate line.shape.disks (λ role. Whole role)) role Missing (omega (arith, past, length-tabulate line.shape.disks (λ role. Whole role))))) ∙ held)
+  ]
+    where
+      none : (s : ℕ) → ◌≡◌ {A = Option ℕ} None (Some s) → ⊥
+      none s e = absurd (cc)
+
+      same : {a b : ℕ} → Some a ≡ Some b → a ≡ b
+      same e = cc
+
+      other : (a : ℕ) → Some a ≡ Some slot → a < line.shape.disks → ⊥
+      other a e lt = let at = same e in omega (arith, at, lt, unused)
+
+  not-taken : (slot : ℕ) → line.shape.disks ≤ slot → backup ≢ Some slot → IsTaken array.parts.backup array.parts.members slot → ⊥
+  not-taken slot unused other (inl taken) = not-backup backup other (sym (ap (λ (b : Option ℕ). is_backup b slot) is.backup_is) ∙ taken)
+    where
+      same : (a b : ℕ) → (a == b) ≡ true → a ≡ b
+      same a b e = grind (arith, nat_tests, e)
+
+      not-backup : (b : Option ℕ) → b ≢ Some slot → is_backup b slot ≡ true → ⊥
+      not-backup None other e = absurd (cc)
+      not-backup (Some n) other e = other (ap (λ (m : ℕ). Some m) (same n slot e))
+  not-taken slot unused other (inr (role, inl held)) = held-below role slot unused held
+  not-taken slot unused other (inr (role, inr spare)) = clash (sym (ap (λ (l : List ℕ). has_spare l slot) is.spares) ∙ spare)
+    where
+      clash : false ≡ true → ⊥
+      clash e = absurd (cc)
+
+pub new-roles : NewRolesFail
+new-roles backup line array given role refusal is lt none = none (has-role array is role lt)
+
+pub unused-slots : UnusedSlotsAreFree
+unused-slots backup line array given slot taken is unused other was = not-taken array is slot unused other was.2
+
+-- ---- a plan
+
+-- what is planned was in no reshape
+not-reshaping : (given : Given) (old : Record) (wish : Wish) → grow_refusal (asked_in given old) wish ≡ None → is_reshaping old.parts.members.newest ≡ false
+not-reshaping given old wish none = by (is_reshaping old.parts.members.newest) refl
+  where
+    never : (refusal : Refusal) → IsUngrowable (asked_in given old) wish refusal → ⊥
+    never = subst (λ (o : Option Refusal). MatchOption o ((r : Refusal) → IsUngrowable (asked_in given old) wish r → ⊥) (IsFirst (asked_in given old) wish)) none (judged (asked_in given old) wish)
+
+    by : (b : Bool) → is_reshaping old.parts.members.newest ≡ b → is_reshaping old.parts.members.newest ≡ false
+    by false is = is
+    by true is = absurd (never (Busy Reshape) is)
+
+pub plans-stepped : PlansAreStepped
+plans-stepped given before now old planned wish left most refusal judged_so leaves some none =
+    let was = leaves.0 in
+    let still : is_reshaping planned.parts.members.newest ≡ false = ap (λ (m : Members). is_reshaping m.newest) was.members ∙ not-reshaping given old wish judged_so.1 in
+    let rest : left_of planned.parts.work planned.parts.members + phases_steps (shape_of planned.parts.members.newest) planned.parts.members.newest.size (phases_of planned.ahead) ≡ 0 =
+    sym (ap (λ (b : Bool). if b then left_in planned.parts.work planned.parts.members planned.course planned.ahead else still_left planned.parts.work planned.parts.members planned.ahead) still) ∙ none in
+    let same : phases_steps (shape_of planned.parts.members.newest) planned.parts.members.newest.size (phases_of planned.ahead) ≡ left =
+    ap (λ (ps : List Phase). phases_steps (shape_of planned.parts.members.newest) planned.parts.members.newest.size ps) leaves.1
+    ∙ ap (λ (m : Members). phases_steps (shape_of m.newest) m.newest.size (phases (shape_of old.parts.members.newest) wish)) was.members ∙ sym judged_so.2 in
+    omega (arith, rest, same, some)

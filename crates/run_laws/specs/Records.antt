@@ -1,0 +1,207 @@
+-- The record of the array that runs, from line to line: what each line leaves of it. No bank is asked.
+use Rattle.std.specs.Prelude.{◌≡◌, ℕ, ◌+◌, ◌≤◌, ◌++◌, true, false, List, [], ◌∷◌, slice_get, Option, None, MatchOption, IsTrue, ⊤}
+use Rattle.std.specs.List.{list_any}
+use Rattle.md_base.specs.Search.{tabulate}
+use Rattle.md_base.specs.declared.answers.Refusal.{Refusal}
+use Rattle.md_base.specs.declared.status.Role.TheVariants.{Whole}
+use Rattle.md_base.specs.declared.status.Status.{Status}
+use Rattle.grow_plan.specs.Plans.{phases}
+use Rattle.superblocks.specs.declared.members.Members.{Members}
+use Rattle.superblocks.specs.Reading.{is_reshaping, shape_of, final_shape, list_length}
+use Rattle.superblocks.specs.Reads.{has_spare}
+use Rattle.row_io.specs.Rows.{reading_of}
+use Rattle.flat_history.specs.declared.events.Entry.{Entry}
+use Rattle.flat_history.specs.declared.events.Event.{Event}
+use Rattle.flat_history.specs.declared.events.Event.TheVariants.{Failed, Added, Visible, Planned, Refused}
+use Rattle.flat_history.specs.Flat.{length_of}
+use Rattle.flat_history.specs.Reshaped.{is_planned}
+use Rattle.views.specs.Lacking.{AreTooMany, HaveRolesFailed}
+use Rattle.views.specs.Placed.{AreStillHeld, is_vacant}
+use Rattle.grow_asked.specs.Left.{phases_of}
+use Rattle.openings.specs.array_kept_Calls.{IsRefusedFor, AreSparesFewer}
+use Rattle.openings.specs.running_Calls.{running_left, IsReadLacked, IsWriteLackedIn, IsShownAs}
+use Rattle.openings.specs.running_replies_Going.{is_begin, AreHeldBehind}
+use Rattle.openings.specs.running_steps_Steps.{IsStepCount}
+use Rattle.openings.specs.running_words_Adding.{AreSparesBut}
+use Rattle.openings.specs.running_words_Parts.{visible_in}
+use Rattle.script.specs.declared.lines.CreateLine.{CreateLine}
+use Rattle.script.specs.declared.lines.Line.{Line}
+use Rattle.script.specs.declared.lines.Line.TheVariants.{Create, Read, Write, Flush, Fail, Add, ArraySize, Grow, Step, Wait, Stop, Halt, Detail, Mdstat, Examine, Assemble}
+use Rattle.script.specs.declared.lines.Numbered.{Numbered}
+use Rattle.script.specs.declared.reply.Lane.{Lane}
+use Rattle.script.specs.declared.reply.Lane.TheVariants.{Script as InScript}
+use Rattle.run_laws.specs.declared.report.Answered.{Answered}
+use Rattle.run_laws.specs.declared.report.Answered.TheVariants.{Inside, Outside as IsOutside}
+use Rattle.run_laws.specs.declared.report.LineReply.{LineReply}
+use Rattle.run_laws.specs.declared.report.Outside.TheVariants.{Created, Assembled, Examined, Refused as IsRefusedOutside}
+use Rattle.run_laws.specs.Caused.{Record, IsJudgedBy}
+use Rattle.run_laws.specs.Histories.{History, entry_at, is_end}
+use Rattle.run_laws.specs.Making.{Setting}
+use Rattle.run_laws.specs.Replies.{entries_to, leaves_more}
+
+-- ---- what a call leaves
+
+-- the superblocks say the same shapes and size, and of a reshape whether one is active
+pub record IsShapeKept (old new : Members) : Type 0 where
+  pub active : is_reshaping new.newest ≡ is_reshaping old.newest
+  pub shape : shape_of new.newest ≡ shape_of old.newest
+  pub final : final_shape new.newest ≡ final_shape old.newest
+  pub size : new.newest.size ≡ old.newest.size
+
+-- a resync and the rebuilds have come as far, and the same phases are ahead
+pub record IsWorkKept (old new : Record) : Type 0 where
+  pub resync : new.parts.work.resync ≡ old.parts.work.resync
+  pub rebuilt : new.parts.work.rebuilt ≡ old.parts.work.rebuilt
+  pub ahead : phases_of new.ahead ≡ phases_of old.ahead
+
+-- A call of an array was done, or refused: its shape, its work and its limit are kept, and roles and spares are only lost.
+pub record IsOnlyLess (old new : Record) : Type 0 where
+  pub shape : IsShapeKept old.parts.members new.parts.members
+  pub work : IsWorkKept old new
+  pub limit : new.limit ≡ old.limit
+  pub held : AreStillHeld old.parts.members new.parts.members
+  pub spares : AreSparesFewer old.parts.members new.parts.members
+
+-- the same, and a role is lost only by a slot that has failed between these counts
+abbrev pub IsLessByFaults : (ℕ → ℕ) → (ℕ → ℕ) → Record → Record → Type 0
+IsLessByFaults before now old new = IsOnlyLess old new × HaveRolesFailed old.parts.members new.parts.members before now
+
+-- it was asked to add a slot, which alone may be a spare more
+pub record IsWithSpare (before now : ℕ → ℕ) (slot : ℕ) (old new : Record) : Type 0 where
+  pub shape : IsShapeKept old.parts.members new.parts.members
+  pub work : IsWorkKept old new
+  pub limit : new.limit ≡ old.limit
+  pub held : AreStillHeld old.parts.members new.parts.members
+  pub failed : HaveRolesFailed old.parts.members new.parts.members before now
+  pub spares : AreSparesBut slot old.parts.members new.parts.members
+
+-- A call that ends at `to` was refused: for an end that can't be seen, or else for what speaks against it by the members that it leaves. Or it was done, and nothing spoke against it before.
+abbrev pub IsDoneOrRefused : ℕ → ℕ → (Members → Refusal → Type 0) → Record → Record → Event → Type 0
+IsDoneOrRefused visible to why old new (Refused refusal) = IsRefusedFor visible to why old.parts.members new.parts.members refusal
+IsDoneOrRefused visible to why old new event = (to ≤ visible) × ((refusal : Refusal) → why old.parts.members refusal → ⊥)
+
+-- its members and its work are as they were
+pub record IsAsItWas (old new : Record) : Type 0 where
+  pub members : new.parts.members ≡ old.parts.members
+  pub resync : new.parts.work.resync ≡ old.parts.work.resync
+  pub rebuilt : new.parts.work.rebuilt ≡ old.parts.work.rebuilt
+
+-- ---- what steps leave
+
+-- A request for steps was answered by the last of these entries: as many were left as they say, and are now. Each role is on a slot that held it, or that was a spare or may be one since; the list has the length that the
+-- entries tell; a reshape is active only if one was or is told to have begun, and phases are ahead only if some were; and where no step is left, there is neither.
+pub record AreStepsAnswered (old new : Record) : Type 0 where
+  pub inner : List Entry
+  pub reply : Entry
+  pub is : new.parts.entries ≡ old.parts.entries ++ (inner ++ reply ∷ [])
+  pub counted : IsStepCount old.parts.entries new.parts.entries (running_left old) (running_left new) reply.event
+  pub held : AreHeldBehind old.parts.members new.parts.members (inner ++ reply ∷ [])
+  pub sized : list_length new.parts.members.newest ≡ length_of (list_length old.parts.members.newest) (inner ++ reply ∷ [])
+  pub active : is_reshaping old.parts.members.newest ≡ false → list_any (λ e. is_begin e.event) (inner ++ reply ∷ []) ≡ false → is_reshaping new.parts.members.newest ≡ false
+  pub ahead : phases_of old.ahead ≡ [] → list_any (λ e. is_planned e.event) (inner ++ reply ∷ []) ≡ false → phases_of new.ahead ≡ []
+  pub rest : running_left new ≡ 0 → (is_reshaping new.parts.members.newest ≡ false) × (phases_of new.ahead ≡ [])
+
+-- One request after another, with these records between them, each of which leaves more to do.
+abbrev pub AreAllAnswered : Record → List Record → Record → Type 0
+AreAllAnswered old [] new = AreStepsAnswered old new
+AreAllAnswered old (next ∷ others) new = (one : AreStepsAnswered old next) × IsTrue (leaves_more one.reply.event) × AreAllAnswered next others new
+
+-- ---- what a line leaves
+
+-- What an answered line leaves of an array, by the counts of its slots' faults before and now. A read, a write, a flush and a stop are refused only for missing roles, for what isn't resynced yet or for the backup, by what is left. A fail that is done takes the role out, and an add makes its slot a spare; where either is refused before a slot is touched, nothing is
+-- changed. A limit and a plan change nothing else.
+abbrev pub IsLeftBy : (ℕ → ℕ) → (ℕ → ℕ) → Record → Record → Line → Event → Type 0
+IsLeftBy before now old new (Read at count) event = IsLessByFaults before now old new × IsDoneOrRefused (visible_in old) (at + count) (IsReadLacked old at count) old new event
+IsLeftBy before now old new (Write at count seed) event = IsLessByFaults before now old new × IsDoneOrRefused (visible_in old) (at + count) (IsWriteLackedIn old at count) old new event
+IsLeftBy before now old new Flush event = IsLessByFaults before now old new × IsDoneOrRefused (list_length old.parts.members.newest) 0 AreTooMany old new event
+IsLeftBy before now old new Stop event = IsLessByFaults before now old new × IsDoneOrRefused (list_length old.parts.members.newest) 0 AreTooMany old new event
+IsLeftBy before now old new (Fail role) (Failed failed) = IsOnlyLess old new × (is_vacant (reading_of new.parts.members) role ≡ true)
+IsLeftBy before now old new (Fail role) event = IsOnlyLess old new × (new.parts.members ≡ old.parts.members)
+IsLeftBy before now old new (Add slot) (Added added) = IsWithSpare before now slot old new × (has_spare new.parts.members.spares slot ≡ true)
+IsLeftBy before now old new (Add slot) event = IsWithSpare before now slot old new
+IsLeftBy before now old new (ArraySize limit) (Visible wished count) = IsAsItWas old new × (phases_of new.ahead ≡ phases_of old.ahead) × (new.limit ≡ limit)
+IsLeftBy before now old new (ArraySize limit) event = IsAsItWas old new × (phases_of new.ahead ≡ phases_of old.ahead) × (new.limit ≡ old.limit)
+IsLeftBy before now old new (Grow wish) (Planned left wished) = IsAsItWas old new × (phases_of new.ahead ≡ phases (shape_of old.parts.members.newest) wish) × (new.limit ≡ old.limit)
+IsLeftBy before now old new (Grow wish) event = IsAsItWas old new × (phases_of new.ahead ≡ phases_of old.ahead) × (new.limit ≡ old.limit)
+IsLeftBy before now old new (Step most) event = AreStepsAnswered old new
+IsLeftBy before now old new Wait event = (others : List Record) × AreAllAnswered old others new
+IsLeftBy before now old new line event = IsLessByFaults before now old new
+
+-- so it is of the reply at this place
+abbrev pub IsLeftAt : (ℕ → ℕ) → (ℕ → ℕ) → Record → Record → Line → List Entry → ℕ → Type 0
+IsLeftAt before now old new line entries place = MatchOption (slice_get entries place) ⊥ (λ e. IsLeftBy before now old new line e.event)
+
+-- ---- at an opening
+
+-- An array that was made as it was asked for: the run's backup, no entry, the shape and the size, each role whole on the first slots, no spare, and nothing under way or ahead.
+pub record IsNewRecord (backup : Option ℕ) (line : CreateLine) (array : Record) : Type 0 where
+  pub backup_is : array.parts.backup ≡ backup
+  pub quiet : array.parts.entries ≡ []
+  pub shape : shape_of array.parts.members.newest ≡ line.shape
+  pub size : array.parts.members.newest.size ≡ line.size
+  pub still : is_reshaping array.parts.members.newest ≡ false
+  pub roles : array.parts.members.roles ≡ tabulate line.shape.disks (λ role. Whole role)
+  pub spares : array.parts.members.spares ≡ []
+  pub resync : array.parts.work.resync ≡ None
+  pub planless : phases_of array.ahead ≡ []
+  pub unlimited : array.limit ≡ None
+
+-- as this line asks
+abbrev pub IsRecordMade : Option ℕ → Line → Record → Type 0
+IsRecordMade backup (Create line) array = IsNewRecord backup line array
+IsRecordMade backup (Read at count) array = ⊥
+IsRecordMade backup (Write at count seed) array = ⊥
+IsRecordMade backup Flush array = ⊥
+IsRecordMade backup (Fail role) array = ⊥
+IsRecordMade backup (Add slot) array = ⊥
+IsRecordMade backup (ArraySize limit) array = ⊥
+IsRecordMade backup (Grow wish) array = ⊥
+IsRecordMade backup (Step most) array = ⊥
+IsRecordMade backup Wait array = ⊥
+IsRecordMade backup Stop array = ⊥
+IsRecordMade backup Halt array = ⊥
+IsRecordMade backup Detail array = ⊥
+IsRecordMade backup Mdstat array = ⊥
+IsRecordMade backup (Examine slot) array = ⊥
+IsRecordMade backup (Assemble asked) array = ⊥
+
+-- An array that was found with this status: it is what the status tells, and no phase is ahead. Its entries begin this history.
+pub record IsRecordFound (backup : Option ℕ) (history : History) (status : Status) (array : Record) : Type 0 where
+  pub backup_is : array.parts.backup ≡ backup
+  pub more : List Entry
+  pub begins : history.entries ≡ array.parts.entries ++ more
+  pub shown : IsShownAs array status
+  pub planless : phases_of array.ahead ≡ []
+
+-- ---- from line to line
+
+-- The record behind an entry that answers a line, the last of these: none where it ends the array; or else that of the same backup, with this history, as the line leaves it.
+abbrev pub IsNextRecord : Setting → Line → List Entry → Event → Record → Option Record → Type 0
+IsNextRecord setting line entries event old new =
+    MatchOption new (IsTrue (is_end event)) (λ next. (next.parts.backup ≡ setting.backup) × (next.parts.entries ≡ entries) × IsLeftBy setting.before setting.now old next line event)
+
+-- the record before it judges so
+abbrev pub IsRecordedBy : Setting → Line → List Entry → Option Entry → Record → Option Record → Type 0
+IsRecordedBy setting line entries reply old new = MatchOption reply ⊥ (λ e. IsJudgedBy setting.given old line e.event × IsNextRecord setting line entries e.event old new)
+
+-- The record of the array that runs before a line, if one does, and that behind it.
+abbrev pub IsRecorded : Setting → List History → Line → Answered → Option Record → Option Record → Type 0
+IsRecorded setting histories line (Inside epoch at) old new = MatchOption old ⊥ (λ array. IsRecordedBy setting line (entries_to histories epoch at) (entry_at histories epoch at) array new)
+IsRecorded setting histories line (IsOutside Created) old new = MatchOption new ⊥ (IsRecordMade setting.backup line)
+IsRecorded setting histories line (IsOutside (Assembled epoch status)) old new =
+    MatchOption new ⊥ (λ array. MatchOption (slice_get histories epoch) ⊥ (λ history. IsRecordFound setting.backup history status array))
+IsRecorded setting histories line (IsOutside (Examined slot found)) old new = new ≡ old
+IsRecorded setting histories line (IsOutside (IsRefusedOutside refusal)) old new = new ≡ old
+
+-- so it is of a line of its own; of one of a block nothing is said
+abbrev pub IsRecordedIn : Setting → List History → Lane → Line → Answered → Option Record → Option Record → Type 0
+IsRecordedIn setting histories InScript line what old new = IsRecorded setting histories line what old new
+IsRecordedIn setting histories lane line what old new = ⊤
+
+-- There is such a record before the first line and behind each.
+abbrev pub AreRecorded : Setting → List History → Option Record → List Numbered → List LineReply → Option Record → Type 0
+AreRecorded setting histories old [] [] last = last ≡ old
+AreRecorded setting histories old [] (reply ∷ replies) last = ⊥
+AreRecorded setting histories old (line ∷ lines) [] last = ⊥
+AreRecorded setting histories old (line ∷ lines) (reply ∷ replies) last =
+    (next : Option Record) × IsRecordedIn setting histories line.lane line.line reply.what old next × AreRecorded setting histories next lines replies last
