@@ -32,3 +32,4 @@ pub use Rattle.still_kept.proofs.reshape_updates_BegunPlan
 pub use Rattle.still_kept.proofs.reshape_updates_EndedPlan
 pub use Rattle.still_kept.proofs.reshape_updates_NewRoles
 pub use Rattle.still_kept.proofs.reshape_updates_Taken
+mod Told

@@ -1,6 +1,7 @@
 pub mod Planned
 pub mod Begun
 pub mod GivenBack
+mod Told
 pub mod EndedStill
 pub mod EndedLeft
 pub mod Ended

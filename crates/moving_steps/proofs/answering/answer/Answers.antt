@@ -9,6 +9,7 @@ use Rattle.moving.proofs.running_words_Called.{called, alone-lossless}
 use Rattle.moving.proofs.moving_laws_Kept.{ready, shapes-same}
 use Rattle.moving_steps.specs.Replies.{IsReplyInReshape}
 use Rattle.moving_steps.proofs.AnswerLaws.{answer-moves, reply-keeps, reply-lossless}
+use Rattle.moving_steps.proofs.Told.{called-as}
 use Rattle.moving_steps.proofs.answering.answer.Goals as goal
 
 pub of_pieces-requires-clause-ready : goal.of_pieces-requires-clause-ready
@@ -40,7 +41,7 @@ returns-clause-called g c =
     let faults = g.B.Bank.faults_of p.bank in
     let end = c.ops-end.result in
     let reply : IsReplyInReshape p.work p.members course p.ahead c.args.event = subst (λ s. IsReplyInReshape s.parts.work s.parts.members s.course s.ahead c.args.event) c.take_apart-pieces.ensures.same c.requires.reply in
-    rw (c.of_pieces.ensures.same, c.take_apart-pieces.ensures.same) (called (grows-none (λ t. refl)) (moved-same given given p.members p.members refl refl was.kept.members_are.placed was.kept.members_are.unlost)
+    called-as g.B.Bank.given g.B.Bank.tape g.B.Bank.faults_of c.args.moving c.of_pieces.result _ _ c.take_apart-pieces.ensures.same c.of_pieces.ensures.same (called (grows-none (λ t. refl)) (moved-same given given p.members p.members refl refl was.kept.members_are.placed was.kept.members_are.unlost)
     (ended-behind (g.B.Bank.tape p.bank) c.enter.new.epoch.first p.epoch.entries.items c.args.who end [] c.args.event c.enter.ensures.items c.ops-end.ensures.count)
     (alone-lossless p.members faults faults p.epoch.entries.items p.epoch.entries.items c.enter.new.epoch.entries.items c.args.who end c.args.event (reply-lossless p.work p.members course p.ahead (Held p.members) faults faults c.args.event reply) refl c.enter.ensures.items)
     (λ slot. omega arith)

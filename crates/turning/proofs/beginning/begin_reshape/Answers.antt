@@ -38,6 +38,7 @@ use Rattle.moving_steps.proofs.moving_laws_Kept.{left_by}
 use Rattle.turning.specs.Begun.{begun_length, HasKeptLength, IsBackupAt}
 use Rattle.turning.proofs.Begun.{none-pending, plus-none, others-of, since-told, IsUpdated, next-sound, backup-here, begun-under, begun-left, begun-start, begun-losses, begun-ready}
 use Rattle.turning.proofs.GivenBack.{ahead-told, fault-stands}
+use Rattle.turning.proofs.Told.{grows-as, falls-as, unbegun-as, both-fall-as, back-as, refused-as, begun-as}
 use Rattle.turning.proofs.Planned.{none-recovering, begin-live, lost-since}
 use Rattle.turning.proofs.beginning.begin_reshape.Goals as goal
 
@@ -71,27 +72,27 @@ unbegun-requires-clause-disks g c =
     (limited c.args.to sound.0.new_valid).most
 
 pub returns-in-Some-clause-caused : goal.returns-in-Some-clause-caused
-returns-in-Some-clause-caused g c = rw (c.take_apart-pieces.ensures.same) (inl (c.in-Some.ensures, c.give_back.ensures.bank))
+returns-in-Some-clause-caused g c = unbegun-as g.B.Bank.faults_of c.args.to c.in-Some.refusal c.args.still c.give_back.result _ c.take_apart-pieces.ensures.same (inl (c.in-Some.ensures, c.give_back.ensures.bank))
 
 pub returns-in-Some-clause-grows : goal.returns-in-Some-clause-grows
-returns-in-Some-clause-grows g c = rw (c.take_apart-pieces.ensures.same) (rw (c.give_back.ensures.bank) (grows-none (λ t. refl)))
+returns-in-Some-clause-grows g c = grows-as g.B.Bank.tape c.args.still _ (g.B.Bank.tape c.give_back.result.parts.bank) c.take_apart-pieces.ensures.same (grows-none (λ t. ap g.B.Bank.tape c.give_back.ensures.bank))
 
 -- ---- the backup was found failing
 
 pub returns-then-not-contains-clause-caused : goal.returns-then-not-contains-clause-caused
 returns-then-not-contains-clause-caused g c =
     let p = c.take_apart-pieces.result in
-    rw (c.take_apart-pieces.ensures.same) (inr (
+    unbegun-as g.B.Bank.faults_of c.args.to BackupFault c.args.still c.fail_backup-still.result _ c.take_apart-pieces.ensures.same (inr (
       c.in_default.ensures,
       refl,
       subst (λ (o : Option ℕ). IfSome o (λ slot. IsFaulted slot (g.B.Bank.faults_of p.bank) (g.B.Bank.faults_of c.fail_backup-still.result.parts.bank))) (sym c.in-Some-backup.is) c.fail_backup-still.ensures.failed,
     ))
 
 pub returns-then-not-contains-clause-grows : goal.returns-then-not-contains-clause-grows
-returns-then-not-contains-clause-grows g c = rw (c.take_apart-pieces.ensures.same) (grows-none c.fail_backup-still.ensures.tape)
+returns-then-not-contains-clause-grows g c = grows-as g.B.Bank.tape c.args.still _ (g.B.Bank.tape c.fail_backup-still.result.parts.bank) c.take_apart-pieces.ensures.same (grows-none c.fail_backup-still.ensures.tape)
 
 pub returns-then-not-contains-clause-never_falls : goal.returns-then-not-contains-clause-never_falls
-returns-then-not-contains-clause-never_falls g c = rw (c.take_apart-pieces.ensures.same) c.fail_backup-still.ensures.never_falls
+returns-then-not-contains-clause-never_falls g c = falls-as g.B.Bank.faults_of c.args.still _ (g.B.Bank.faults_of c.fail_backup-still.result.parts.bank) c.take_apart-pieces.ensures.same c.fail_backup-still.ensures.never_falls
 
 -- ---- the backup failed
 
@@ -138,7 +139,7 @@ returns-in-Some-refusal-clause-refused g c =
     let end = c.ops-end.result in
     let refusal = c.in-Some-refusal.refusal in
     let some : 1 ≤ p.steps = subst (λ s. 1 ≤ s.parts.steps) c.take_apart-pieces.ensures.same c.requires.room in
-    rw (c.of_pieces.ensures.same) (rw (c.take_apart-pieces.ensures.same) (record {
+    back-as g.B.Bank.given g.B.Bank.tape c.args.who refusal c.args.still c.of_pieces.result _ _ c.take_apart-pieces.ensures.same c.of_pieces.ensures.same (record {
       end = end;
       entered = c.enter.ensures.items;
       ended = ended-behind (g.B.Bank.tape c.begin-begun.new.bank) c.enter.new.epoch.first p.epoch.entries.items c.args.who end [] (Refused refusal) c.enter.ensures.items c.ops-end.ensures.count;
@@ -148,21 +149,21 @@ returns-in-Some-refusal-clause-refused g c =
       ahead = refl;
       steps = omega (arith, some);
       same = record { uuid = c.enter.ensures.uuid; given = c.enter.ensures.given; first = c.enter.ensures.first; backup = refl; work = refl; limit = refl };
-    }))
+    })
 
 pub returns-in-Some-refusal-clause-caused : goal.returns-in-Some-refusal-clause-caused
 returns-in-Some-refusal-clause-caused g c =
     let p = c.take_apart-pieces.result in
     let refusal = c.in-Some-refusal.refusal in
     let is = c.in-Some-refusal.is in
-    rw (c.of_pieces.ensures.same) (rw (c.take_apart-pieces.ensures.same) (inr (
+    refused-as g.B.Bank.faults_of c.args.to refusal c.args.still c.of_pieces.result _ _ c.take_apart-pieces.ensures.same c.of_pieces.ensures.same (inr (
       c.in_default.ensures,
       (c.begin-begun.ensures.answer refusal is).0,
       subst (λ (o : Option ℕ). IfSome o (λ slot. IsFaulted slot (g.B.Bank.faults_of p.bank) (g.B.Bank.faults_of c.begin-begun.new.bank))) (sym c.in-Some-backup.is) (c.begin-begun.ensures.refused refusal is).failed,
-    )))
+    ))
 
 pub returns-in-Some-refusal-clause-never_falls : goal.returns-in-Some-refusal-clause-never_falls
-returns-in-Some-refusal-clause-never_falls g c = rw (c.of_pieces.ensures.same) (rw (c.take_apart-pieces.ensures.same) c.begin-begun.ensures.counts)
+returns-in-Some-refusal-clause-never_falls g c = both-fall-as g.B.Bank.faults_of c.args.still c.of_pieces.result _ _ c.take_apart-pieces.ensures.same c.of_pieces.ensures.same c.begin-begun.ensures.counts
 
 -- ---- the steps that are left
 
@@ -271,7 +272,7 @@ returns-clause-begun g c =
     let items = c.enter_begun.ensures.items ∙ (λ i. p.epoch.entries.items ++ entries_of who end (Step Begun (left_in_is i) ∷ begun_length (back_is i) (size_is i) ++ losses_of roles (spares_is i))) in
     let since = lost-since given p.members to are.placed are.unlost are.free are.still sound.0 sound.1 c.in_default.ensures new roles spares (g.B.Bank.faults_of p.bank) (g.B.Bank.faults_of c.begin-begun.new.bank)
     (did.moved none) (did.failed none) c.told_of-told.ensures.roles in
-    rw (c.of_pieces-2.ensures.same) (rw (c.take_apart-pieces.ensures.same) (record {
+    begun-as g.B.Bank.given g.B.Bank.tape g.B.Bank.faults_of who to behind c.args.still c.of_pieces-2.result _ _ same c.of_pieces-2.ensures.same (record {
       could = c.in_default.ensures;
       entered = record { roles = roles; spares = spares; end = end; roles_told = since-told new roles (did.moved none).placed.roles c.told_of-told.ensures.roles; spares_told = (did.failed none).told; is = items };
       ended = λ t. ap (λ (l : List Entry). last_end_from c.enter_begun.new.epoch.first l) items
@@ -294,4 +295,4 @@ returns-clause-begun g c =
       ahead = refl;
       steps = omega (arith, some);
       same = record { uuid = c.enter_begun.ensures.uuid; given = c.enter_begun.ensures.given; first = c.enter_begun.ensures.first; backup = refl; work = refl; limit = refl };
-    }))
+    })

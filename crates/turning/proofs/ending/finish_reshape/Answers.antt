@@ -42,6 +42,7 @@ use Rattle.turning.specs.Ended.{ended_length}
 use Rattle.turning.proofs.Ended.{kept-or-failed, late-held, length-same, ended-ready, ended-losses}
 use Rattle.turning.proofs.EndedStill.{IsFinished, ended-long}
 use Rattle.turning.proofs.Finishing.{end-due, flush-failed, refused-behind, final-few, dropped-or-failed, spare-or-dropped, spares-kept, spares-told, dropped-told, none-lost, roles-told, finish-stepped, finish-left}
+use Rattle.turning.proofs.Told.{many-as, behind-as, called-as, ended-as}
 use Rattle.turning.proofs.ending.finish_reshape.Goals as goal
 
 -- ---- refused before anything is done
@@ -68,10 +69,10 @@ of_pieces-requires-clause-ready g c =
 
 pub returns-in-Some-too_many-clause-refused : goal.returns-in-Some-too_many-clause-refused
 returns-in-Some-too_many-clause-refused g c =
-    rw (c.of_pieces.ensures.same) (rw (c.take_apart-pieces.ensures.same) (behind-alone c.args.who c.ops-end.result (Refused c.in-Some-too_many.refusal) refl c.enter.ensures.items))
+    behind-as c.args.who (Refused c.in-Some-too_many.refusal) c.args.moving c.of_pieces.result _ _ c.take_apart-pieces.ensures.same c.of_pieces.ensures.same (behind-alone c.args.who c.ops-end.result (Refused c.in-Some-too_many.refusal) refl c.enter.ensures.items)
 
 pub returns-in-Some-too_many-clause-caused : goal.returns-in-Some-too_many-clause-caused
-returns-in-Some-too_many-clause-caused g c = rw (c.of_pieces.ensures.same) c.in-Some-too_many.ensures
+returns-in-Some-too_many-clause-caused g c = many-as c.of_pieces.result _ c.in-Some-too_many.refusal c.of_pieces.ensures.same c.in-Some-too_many.ensures
 
 pub returns-in-Some-too_many-clause-called : goal.returns-in-Some-too_many-clause-called
 returns-in-Some-too_many-clause-called g c =
@@ -82,13 +83,13 @@ returns-in-Some-too_many-clause-called g c =
     let who = c.args.who in
     let end = c.ops-end.result in
     let refusal = c.in-Some-too_many.refusal in
-    rw (c.of_pieces.ensures.same) (rw (c.take_apart-pieces.ensures.same)
+    called-as g.B.Bank.given g.B.Bank.tape g.B.Bank.faults_of c.args.moving c.of_pieces.result _ _ c.take_apart-pieces.ensures.same c.of_pieces.ensures.same
     (called (grows-none (λ t. refl)) (moved-same given given p.members p.members refl refl was.kept.members_are.placed was.kept.members_are.unlost)
     (ended-behind (g.B.Bank.tape p.bank) c.enter.new.epoch.first p.epoch.entries.items who end [] (Refused refusal) c.enter.ensures.items c.ops-end.ensures.count)
     (alone-lossless p.members faults faults p.epoch.entries.items p.epoch.entries.items c.enter.new.epoch.entries.items who end (Refused refusal) tt refl c.enter.ensures.items)
     (λ slot. omega arith)
     (record { uuid = c.enter.ensures.uuid; given = c.enter.ensures.given; first = c.enter.ensures.first; backup = refl; work = refl; ahead = refl; limit = refl })
-    (λ t. (was.kept.recorded t).begun)))
+    (λ t. (was.kept.recorded t).begun))
 
 -- ---- what is asked of the parts
 
@@ -176,7 +177,7 @@ pub returns-in-Some-refusal-clause-caused : goal.returns-in-Some-refusal-clause-
 returns-in-Some-refusal-clause-caused g c =
     let p = c.take_apart-pieces.result.0 in
     let m = c.finish-done.new.members in
-    rw (c.of_pieces-in-Some-refusal.ensures.same) (subst (λ (o : Option Refusal). MatchOption o (IsOver p.members.newest m.newest) (AreTooMany m)) c.in-Some-refusal.is c.finish-done.ensures.answer)
+    many-as c.of_pieces-in-Some-refusal.result _ c.in-Some-refusal.refusal c.of_pieces-in-Some-refusal.ensures.same (subst (λ (o : Option Refusal). MatchOption o (IsOver p.members.newest m.newest) (AreTooMany m)) c.in-Some-refusal.is c.finish-done.ensures.answer)
 
 pub returns-in-Some-refusal-clause-called : goal.returns-in-Some-refusal-clause-called
 returns-in-Some-refusal-clause-called g c =
@@ -200,12 +201,12 @@ returns-in-Some-refusal-clause-called g c =
     let since = lost-since given p.members m c.before_end-was.result.count vacant roles spares before after here.placed moved failed
     (c.before_end-was.ensures.count ∙ here.placed.roles)
     (λ role. c.before_end-was.ensures.vacant role ∙ ap (λ (n : ℕ). nat_lt role n && is_vacant (reading_of p.members) role) (sym c.before_end-was.ensures.count)) c.newly_vacant-roles.ensures in
-    rw (c.of_pieces-in-Some-refusal.ensures.same) (rw (c.take_apart-pieces.ensures.same) (called did.grows moved
+    called-as g.B.Bank.given g.B.Bank.tape g.B.Bank.faults_of c.args.moving c.of_pieces-in-Some-refusal.result _ _ c.take_apart-pieces.ensures.same c.of_pieces-in-Some-refusal.ensures.same (called did.grows moved
     (ended-behind (g.B.Bank.tape c.finish-done.new.bank) c.enter_behind.new.epoch.first p.epoch.entries.items who end (losses_of roles spares) (Refused refusal) c.enter_behind.ensures.items c.ops-end-2.ensures.count)
     (losses-behind p.members m before after p.epoch.entries.items p.epoch.entries.items c.enter_behind.new.epoch.entries.items who end roles spares (Refused refusal) since tt refl c.enter_behind.ensures.items)
     did.counts
     (record { uuid = c.enter_behind.ensures.uuid; given = c.enter_behind.ensures.given; first = c.enter_behind.ensures.first; backup = refl; work = refl; ahead = refl; limit = refl })
-    (λ t. (was.kept.recorded t).begun)))
+    (λ t. (was.kept.recorded t).begun))
 
 -- ---- it is done
 
@@ -298,7 +299,7 @@ returns-clause-ended g c =
     let items = entered
     ∙ ap (λ (l : List Event). p.epoch.entries.items ++ entries_of who end (losses_of roles spares ++ Step Finished (still_left p.work m p.ahead) ∷ (l ++ losses_of told.late told.late_spares)))
     (length-same (nat_lt (list_length p.members.newest) (list_length m.newest)) (list_length m.newest)) in
-    rw (c.of_pieces-2.ensures.same) (rw (c.take_apart-pieces.ensures.same) (record {
+    ended-as g.B.Bank.given g.B.Bank.tape g.B.Bank.faults_of who c.args.moving c.of_pieces-2.result _ _ same c.of_pieces-2.ensures.same (record {
       could = λ refusal many. never-both p.members refusal c.in_default-too_many.ensures many;
       entered = record {
         roles = roles;
@@ -336,4 +337,4 @@ returns-clause-ended g c =
       ahead = refl;
       steps = omega (arith, some);
       same = record { uuid = c.enter_ended.ensures.uuid; given = c.enter_ended.ensures.given; first = c.enter_ended.ensures.first; backup = refl; work = refl; limit = refl };
-    }))
+    })
