@@ -23,7 +23,9 @@ use crate::shows::ask_show;
 use bank::Bank;
 use flat_history::{Entry, Epoch};
 use md_base::{Fault, NoMemory, Refusal};
-use run_laws::{Answered, CreateSpec, Outside, Running, State, create_array, open_running};
+use run_laws::{
+    Answered, CreateSpec, Outside, Running, State, create_array as create_running, open_running,
+};
 use script::{CreateLine, Line};
 use std::alloc::Global;
 
@@ -210,7 +212,7 @@ fn create_array<B: Bank>(
         size: line.size,
         offset: line.offset,
     };
-    let left = match create_array(alloc, bank, backup, spec) {
+    let left = match create_running(alloc, bank, backup, spec) {
         Ok(array) => {
             return (
                 State::Running(array, epochs),

@@ -1,4 +1,5 @@
 pub mod Kept
+pub mod Pace
 pub mod Runs
 pub mod Sessions
 pub mod Shown

@@ -5,10 +5,9 @@ ghost use Rattle.std.specs.List.{AllPass};
 ghost use Rattle.bank.specs.Given.{NeverFalls};
 ghost use Rattle.views.specs.Moving.{Grows};
 ghost use Rattle.text_io.specs.Causes.{HasRisen};
-ghost use Rattle.script.specs.Script.{is_within_limits, may_ask, are_in_turn};
-ghost use Rattle.script.specs.declared.reply.Lane.TheVariants.{Script as InScript};
+ghost use Rattle.script.specs.Script.{script_of, is_within_limits};
 ghost use Rattle.command_words.specs.Words.{asked_by as asked_of, command_in, is_run, slots_for, backup_in};
-ghost use Rattle.block_answers.specs.lanes_Pace.{AnswersSteps, asked_by};
+ghost use Rattle.runner.specs.Pace.{AnswersSteps, asked_by};
 ghost use Rattle.line_answers.specs.run_laws_Ended.{IsRunKept, AreLegal, AreRight, AreRising, AreFormer};
 ghost use Rattle.line_answers.specs.run_laws_Histories.{history_of, histories_of};
 ghost use Rattle.runner.specs.Kept.{AreKept};
@@ -20,15 +19,15 @@ ghost use Rattle.runner.specs.Source.{IsTextOf};
 ghost use Rattle.line_answers.specs.run_laws_States.{histories_in, bank_in, RunsOwn, IsFitBank};
 ghost use Rattle.line_answers.specs.run_laws_Written.{IsWritten};
 
+use crate::pace::Pace;
 use crate::report::Report;
 use crate::sessions::{Session, Stop, perform};
 use crate::text::{TextFault, read_text};
 use bank::Bank;
-use block_answers::Pace;
 use command_words::{Command, command_of};
 use flat_history::Epoch;
 use line_answers::{State, script_call};
-use script::{Numbered, ScriptFault, read_script_with_blocks};
+use script::{Numbered, ScriptFault, read_script};
 use std::alloc::Global;
 use std::sync::Wait;
 use std::thread::Threads;
@@ -147,25 +146,14 @@ fn nothing_done<B: Bank>(alloc: Global, bank: B, status: u8, bad_line: u64) -> R
 }
 
 // Performs the lines and halts the array, if one runs.
-fn run_lines<
-    B: Bank + Drop + Send,
-    K: Sink,
-    F: Fn(u64, u64) -> u64 + Sync,
-    R: Threads + Wait + Sync,
->(
-    rt: &R,
+fn run_lines<B: Bank, K: Sink>(
     alloc: Global,
     bank: B,
     backup: Option<u32>,
     lines: &[Numbered],
-    pace: &Pace<F>,
     out: &mut K,
 ) -> Report<B>
     requires limits { AllPass (λ numbered. is_within_limits numbered.line) lines.now }
-    requires lanes { AllPass (λ numbered. may_ask numbered.lane numbered.line) lines.now }
-    requires turns { IsTrue (are_in_turn InScript lines.now) }
-    requires callable { F.IsAlwaysCallable (asked_by pace.now) }
-    requires answers { AnswersSteps (F.post (asked_by pace.now)) }
     requires bank { IsFitBank (B.given bank) backup }
     ensures status { result.status ≡ status_for (stop_of result.status) (has_refusal (histories_of result.epochs.items) lines.now result.lines.items) }
     ensures performed { AreLinesPerformed (setting_of B.tells (B.given bank) (B.tape bank) (B.tape result.bank) backup (B.faults_of bank) (B.faults_of result.bank)) lines.now (stop_of result.status) result.epochs.items result.lines.items }
@@ -189,7 +177,7 @@ fn run_lines<
         shown,
         refused,
         stopped,
-    } = perform(rt, alloc, bank, backup, lines, pace, out);
+    } = perform(alloc, bank, backup, lines, out);
     let (bank, epochs) = end_run(state, backup);
     Report {
         status: status_of(stopped, refused),
@@ -202,24 +190,14 @@ fn run_lines<
 }
 
 // A run of the script that the source gives.
-fn run_script<
-    B: Bank + Drop + Send,
-    S: Source,
-    K: Sink,
-    F: Fn(u64, u64) -> u64 + Sync,
-    R: Threads + Wait + Sync,
->(
-    rt: &R,
+fn run_script<B: Bank, S: Source, K: Sink>(
     alloc: Global,
     script: &mut S,
     out: &mut K,
     bank: B,
     backup: Option<u32>,
-    pace: &Pace<F>,
 ) -> Report<B>
     requires bank { IsFitBank (B.given bank) backup }
-    requires callable { F.IsAlwaysCallable (asked_by pace.now) }
-    requires answers { AnswersSteps (F.post (asked_by pace.now)) }
     ensures status { result.status ≤ 6 }
     ensures good_words { result.status ≢ 2 }
     ensures bad_line { result.status ≡ 3 → IsScriptBad S.tells (S.left script.old) (S.left script.new) result.bad_line }
@@ -246,8 +224,8 @@ fn run_script<
         Err(TextFault::Failed) => return nothing_done(alloc, bank, READ_FAULT, 0),
         Err(TextFault::NoMemory) => return nothing_done(alloc, bank, NO_MEMORY, 0),
     };
-    match read_script_with_blocks(alloc, text.as_slice()) {
-        Ok(lines) => run_lines(rt, alloc, bank, backup, lines.as_slice(), pace, out),
+    match read_script(alloc, text.as_slice()) {
+        Ok(lines) => run_lines(alloc, bank, backup, lines.as_slice(), out),
         Err(ScriptFault::BadLine(line)) => nothing_done(alloc, bank, BAD_LINE, line),
         Err(ScriptFault::NoMemory) => nothing_done(alloc, bank, NO_MEMORY, 0),
     }
@@ -276,16 +254,16 @@ fn backup_of<B: Bank>(words: &[String], command: &Command, bank: &B) -> Option<u
 /// Reads the words, then the whole script, and then performs its lines, one after another, on the arrays that they make and
 /// find on the bank. Each reply is one piece for the sink, which is pushed before the next line. An array that still runs at the
 /// end is halted. The words are those of the command after the program's name; `memory` wants a bank of eight slots, the
-/// last of which is the backup, and `run` one with a slot for each of its images and for its backup, which is the last. The lines of a
-/// block are performed at once, in threads, beside a worker that asks for steps as many at a time as the pace answers: `run` may wait.
+/// last of which is the backup, and `run` one with a slot for each of its images and for its backup, which is the last. The pace
+/// is that of background work, of which there is none so far.
 pub fn run<
     R: Threads + Wait + Sync,
-    B: Bank + Drop + Send,
+    B: Bank + Send,
     S: Source,
     K: Sink,
     F: Fn(u64, u64) -> u64 + Sync + Drop,
 >(
-    rt: &R,
+    _rt: &R,
     alloc: Global,
     words: &[String],
     script: &mut S,
@@ -318,6 +296,7 @@ pub fn run<
     ensures sink_never_falls { K.faults_of out.old ≤ K.faults_of out.new }
     ensures given { B.given result.bank ≡ B.given bank }
 {
+    let _ = pace;
     let command = match command_of(alloc, words) {
         Ok(command) => command,
         Err(_) => return nothing_done(alloc, bank, NO_MEMORY, 0),
@@ -326,5 +305,5 @@ pub fn run<
         return nothing_done(alloc, bank, BAD_WORDS, 0);
     };
     let backup = backup_of(words, &command, &bank);
-    run_script(rt, alloc, script, out, bank, backup, &pace)
+    run_script(alloc, script, out, bank, backup)
 }

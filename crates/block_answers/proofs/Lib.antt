@@ -1,3 +1,0 @@
-pub mod BlockAnswers
-mod BlockAsks
-mod BlockTurns

@@ -1,2 +1,0 @@
-pub mod Answers
-pub use Rattle.lane_blocks.specs.lanes_Pace
