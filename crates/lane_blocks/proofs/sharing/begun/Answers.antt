@@ -1,5 +1,5 @@
 use Rattle.std.proofs.Common.{[], ◌∷◌}
-use Rattle.lane_blocks.proofs.Rows.{three-new, new-as}
+use Rattle.lane_blocks.proofs.RowLaws.{three-new, new-as}
 use Rattle.lane_blocks.proofs.sharing.begun.Goals as goal
 
 pub taken-requires : goal.taken-requires
