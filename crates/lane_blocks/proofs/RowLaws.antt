@@ -4,6 +4,9 @@ use Rattle.turn_lock.specs.declared.lock.Pass.{Pass}
 use Rattle.turn_lock.specs.Ways.{Ways}
 use Rattle.turn_lock.specs.Passes.{LockId, AreNew, EachPass, Ended}
 
+not-254 : (n m : ℕ) → n ≡ m → m ≢ 254 → n ≢ 254
+not-254 n m is apart same = apart (sym is ∙ same)
+
 module _ {T Q : Type 0} where
   -- three callers have three passes
   pub three-new : (id : LockId) (value : T) (passes : List (Pass T Q)) → AreNew id value (1 ∷ 2 ∷ 255 ∷ []) passes → length passes ≡ 3
@@ -29,9 +32,6 @@ module _ {T Q : Type 0} where
   pub new-locks : (id : LockId) (value : T) (x y z : Pass T Q) → AreNew id value (1 ∷ 2 ∷ 255 ∷ []) (x ∷ y ∷ z ∷ [])
       → (x.seat.table_id ≡ id) × (y.seat.table_id ≡ id) × (z.seat.table_id ≡ id)
   new-locks id value x y z new = (new.1, new.3.1, new.3.3.1)
-
-  not-254 : (n m : ℕ) → n ≡ m → m ≢ 254 → n ≢ 254
-  not-254 n m is apart same = apart (sym is ∙ same)
 
   pub new-callers : (id : LockId) (value : T) (x y z : Pass T Q) → AreNew id value (1 ∷ 2 ∷ 255 ∷ []) (x ∷ y ∷ z ∷ [])
       → (x.caller ≢ 254) × (y.caller ≢ 254) × (z.caller ≢ 254)
