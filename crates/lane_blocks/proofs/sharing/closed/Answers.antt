@@ -1,6 +1,6 @@
 use Rattle.std.proofs.Common.{[], ◌∷◌}
 use Rattle.shared_lanes.specs.Serving.{array_ways}
-use Rattle.lane_blocks.proofs.RowLaws.{each-as, as-many, ended-as}
+use Rattle.lane_blocks.proofs.RowLaws.{ended-as}
 use Rattle.lane_blocks.proofs.sharing.closed.Goals as goal
 
 pub returns : goal.returns
