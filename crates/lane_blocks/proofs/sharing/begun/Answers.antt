@@ -2,8 +2,8 @@ use Rattle.std.proofs.Common.{[], ◌∷◌}
 use Rattle.lane_blocks.proofs.RowLaws.{three-new, new-as}
 use Rattle.lane_blocks.proofs.sharing.begun.Goals as goal
 
-pub taken-requires : goal.taken-requires
-taken-requires g c = three-new c.in_ok-shared.shared.lock.table.shared.table_id c.args.array c.in_ok-shared.passes.items c.in_ok-shared.ensures.passes
+pub taken-passes-requires : goal.taken-passes-requires
+taken-passes-requires g c = record { three = three-new c.in_ok-shared.shared.lock.table.shared.table_id c.args.array c.in_ok-shared.passes.items c.in_ok-shared.ensures.passes }
 
 pub returns-clause-passes : goal.returns-clause-passes
 returns-clause-passes g c =

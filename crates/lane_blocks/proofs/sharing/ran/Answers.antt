@@ -1,10 +1,10 @@
 use Rattle.lane_blocks.proofs.sharing.ran.Goals as goal
 
 pub at_once-requires-clause-locks : goal.at_once-requires-clause-locks
-at_once-requires-clause-locks g c = c.requires.locks
+at_once-requires-clause-locks g c κs lives = c.requires.locks
 
 pub at_once-requires-clause-callers : goal.at_once-requires-clause-callers
-at_once-requires-clause-callers g c = c.requires.callers
+at_once-requires-clause-callers g c κs lives = c.requires.callers
 
 pub returns-clause-locks : goal.returns-clause-locks
 returns-clause-locks g c = c.at_once.ensures.locks
