@@ -8,6 +8,7 @@ pub mod Unbroken
 pub mod Aside
 pub mod Replied
 pub mod Windows
+mod Told
 pub use Rattle.running_replies.proofs.Fitting as running_replies_Fitting
 pub use Rattle.running_replies.proofs.GoneOn as running_replies_GoneOn
 pub use Rattle.turning.proofs.Begun as turning_Begun

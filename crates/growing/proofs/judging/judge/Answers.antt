@@ -6,6 +6,7 @@ use Rattle.grow_asked.specs.Asked.{asked_of, grow_refusal}
 use Rattle.grow_asked.specs.Left.{phases_of}
 use Rattle.turning.specs.running_words_Parts.{visible_size, visible_in}
 use Rattle.turning.proofs.running_words_Visible.{visible-is}
+use Rattle.growing.proofs.Told.{first-as, visible-as}
 use Rattle.growing.proofs.judging.judge.Goals as goal
 
 pub returns-clause-first : goal.returns-clause-first
@@ -13,7 +14,7 @@ returns-clause-first g c =
     let p = c.take_apart-pieces.result in
     let same = c.take_apart-pieces.ensures.same in
     let seen : c.visible-visible.result ≡ visible_size p.members p.limit = c.visible-visible.ensures.visible ∙ ap (λ s. visible_in s) same in
-    rw same
+    first-as g.B.Bank.given c.args.wish.now c.unplanned-refusal.result c.args.still _ same
     (subst (λ (n : ℕ). c.unplanned-refusal.result ≡ grow_refusal (asked_of p.members p.work.resync (length (phases_of p.ahead)) n (option_map (sizes (g.B.Bank.given p.bank)).sectors p.backup)) c.args.wish.now) seen
     c.unplanned-refusal.ensures)
 
@@ -21,4 +22,4 @@ pub returns-clause-visible : goal.returns-clause-visible
 returns-clause-visible g c =
     let was = c.take_apart-pieces.ensures.ready in
     let p = c.take_apart-pieces.result in
-    rw (c.take_apart-pieces.ensures.same) (visible-is (list_length p.members.newest) (list_length p.members.newest) p.limit p.epoch.entries.items was.sized was.limited)
+    visible-as c.args.still _ c.take_apart-pieces.ensures.same (visible-is (list_length p.members.newest) (list_length p.members.newest) p.limit p.epoch.entries.items was.sized was.limited)

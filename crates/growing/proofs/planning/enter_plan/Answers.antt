@@ -26,6 +26,7 @@ use Rattle.growing.proofs.Idle.{planned-whole, planned-idle, some-steps}
 use Rattle.growing.proofs.Fitting.{told-by, plan-fits, phases-told}
 use Rattle.growing.proofs.Kept.{planned-ready, wide-backup}
 use Rattle.growing.proofs.PlanLaws.{planned-goes}
+use Rattle.growing.proofs.Told.{reply-as, end-as, left-as, planned-as, goes-as}
 use Rattle.growing.proofs.planning.enter_plan.Goals as goal
 
 pub plan_of-plan-requires-clause-taken : goal.plan_of-plan-requires-clause-taken
@@ -72,18 +73,18 @@ returns-clause-reply g c =
     let a = asked_of p.members p.work.resync (length (phases_of p.ahead)) (visible_size p.members p.limit) (option_map (sizes given).sectors p.backup) in
     let number = subst (λ s. who.number ≡ next_number who.caller s.parts.entries) same c.requires.next in
     let taken = subst (λ s. grow_refusal (asked_in (g.B.Bank.given s.parts.bank) s) wish ≡ None) same c.requires.taken in
-    rw (c.of_pieces.ensures.same) (rw (c.take_apart-pieces.ensures.same) (record {
+    reply-as g.B.Bank.given g.B.Bank.tape wish who (Planned c.plan_of-plan.result.steps wish) c.args.still c.of_pieces.result _ _ same c.of_pieces.ensures.same (record {
       end = end;
       at_end = c.ops-end.ensures.count;
       is = c.enter.ensures.items;
       fits = λ t right ahead read. plan-fits (world_in given tape (scope_in given p.epoch.uuid p.epoch.given p.backup) p.epoch.first) p.epoch.entries.items who end a wish c.plan_of-plan.result.steps number (c.ops-end.ensures.count t)
           (told-by (length (phases_of p.ahead)) end was.kept was.limited t right (c.ops-end.ensures.count t) ahead read) taken c.plan_of-plan.ensures.steps;
-    }))
+    })
 
 pub returns-clause-ended : goal.returns-clause-ended
 returns-clause-ended g c =
     let p = c.take_apart-pieces.result in
-    rw (c.of_pieces.ensures.same)
+    end-as g.B.Bank.tape c.of_pieces.result _ c.of_pieces.ensures.same
     (ended-behind (g.B.Bank.tape p.bank) c.enter.new.epoch.first p.epoch.entries.items c.args.who c.ops-end.result [] (Planned c.plan_of-plan.result.steps c.args.wish) c.enter.ensures.items c.ops-end.ensures.count)
 
 pub returns-clause-left : goal.returns-clause-left
@@ -99,7 +100,7 @@ returns-clause-left g c =
     let steps : plan.result.steps ≡ phases_steps (shape_of p.members.newest) p.members.newest.size (phases_of c.all_left-pieces.result) =
     plan.ensures.steps ∙ ap (phases_steps (shape_of p.members.newest) p.members.newest.size) (sym ahead) in
     let idle = planned-idle a wish p.work refl (λ role. within-count given p.members was.kept.members_are.placed role) taken in
-    rw (c.of_pieces.ensures.same) (omega (arith, idle, steps))
+    left-as plan.result.steps c.of_pieces.result _ c.of_pieces.ensures.same (omega (arith, idle, steps))
 
 pub returns-clause-planned : goal.returns-clause-planned
 returns-clause-planned g c =
@@ -119,7 +120,7 @@ returns-clause-planned g c =
     let world_is : ◌≡◌ {A = World} (world_in given tape (scope_in given c.enter.new.epoch.uuid c.enter.new.epoch.given p.backup) c.enter.new.epoch.first) (world_in given tape (scope_in given p.epoch.uuid p.epoch.given p.backup) p.epoch.first) =
     λ i. world_in given tape (scope_is i) (c.enter.ensures.first i) in
     let items = c.enter.ensures.items in
-    rw (c.of_pieces.ensures.same) (record {
+    planned-as g.B.Bank.given g.B.Bank.tape wish plan.result.steps c.of_pieces.result _ c.of_pieces.ensures.same (record {
       ahead = ahead;
       left_is = plan.ensures.steps ∙ ap (phases_steps shape p.members.newest.size) (sym ahead);
       some = let more = some-steps shape p.members.newest.size (phases shape wish) _ plan.result.first plan.ensures.phases in let is = plan.ensures.steps in omega (arith, more, is);
@@ -152,10 +153,10 @@ returns-clause-goes g c =
     λ i. world_in given tape (scope_is i) (c.enter.ensures.first i) in
     let aim_is : last_shape (if is_reshaping p.members.newest then final_shape p.members.newest else shape) (phases_of c.all_left-pieces.result) ≡ last_shape shape (phases_of c.all_left-pieces.result) =
     λ i. last_shape (if was.kept.members_are.still i then final_shape p.members.newest else shape) (phases_of c.all_left-pieces.result) in
-    rw (c.of_pieces.ensures.same) (rw (c.take_apart-pieces.ensures.same) (λ none t right.
+    goes-as g.B.Bank.given g.B.Bank.tape c.args.still c.of_pieces.result _ _ c.take_apart-pieces.ensures.same c.of_pieces.ensures.same (λ none t right.
     subst (λ (s : Shape). GoTo (world_in given tape (scope_in given c.enter.new.epoch.uuid c.enter.new.epoch.given p.backup) c.enter.new.epoch.first) s c.enter.new.epoch.entries.items) (sym aim_is)
     (subst (λ (w : World). GoTo w (last_shape shape (phases_of c.all_left-pieces.result)) c.enter.new.epoch.entries.items) (sym world_is)
     (subst (λ (l : List Entry). GoTo (world_in given tape (scope_in given p.epoch.uuid p.epoch.given p.backup) p.epoch.first) (last_shape shape (phases_of c.all_left-pieces.result)) l) (sym c.enter.ensures.items)
     (planned-goes who end wish plan.result.steps (phases_of c.all_left-pieces.result) was.kept (planned-whole a wish taken) c.ops-end.ensures.count ahead none t
     (subst (λ (w : World). IsReliable w (p.epoch.entries.items ++ entries_of who end (Planned plan.result.steps wish ∷ []))) world_is
-    (subst (λ (l : List Entry). IsReliable (world_in given tape (scope_in given c.enter.new.epoch.uuid c.enter.new.epoch.given p.backup) c.enter.new.epoch.first) l) c.enter.ensures.items right)))))))
+    (subst (λ (l : List Entry). IsReliable (world_in given tape (scope_in given c.enter.new.epoch.uuid c.enter.new.epoch.given p.backup) c.enter.new.epoch.first) l) c.enter.ensures.items right))))))

@@ -19,6 +19,7 @@ use Rattle.turning.proofs.still_laws_StepLaws.{refused-going}
 use Rattle.growing.specs.Planned.{asked_in}
 use Rattle.growing.proofs.Idle.{grow-plain, grow-shaped, grow-plainly}
 use Rattle.growing.proofs.Fitting.{told-by, first-of, refusal-fits}
+use Rattle.growing.proofs.Told.{reply-as}
 use Rattle.growing.proofs.planning.enter_refusal.Goals as goal
 
 pub of_pieces-requires : goal.of_pieces-requires
@@ -60,10 +61,10 @@ returns-clause-reply g c =
     let a = asked_of p.members p.work.resync (length (phases_of p.ahead)) (visible_size p.members p.limit) (option_map (sizes given).sectors p.backup) in
     let number = subst (λ s. who.number ≡ next_number who.caller s.parts.entries) same c.requires.next in
     let why = subst (λ s. grow_refusal (asked_in (g.B.Bank.given s.parts.bank) s) wish ≡ Some refusal) same c.requires.why in
-    rw (c.of_pieces.ensures.same) (rw (c.take_apart-pieces.ensures.same) (record {
+    reply-as g.B.Bank.given g.B.Bank.tape wish who (Refused refusal) c.args.still c.of_pieces.result _ _ same c.of_pieces.ensures.same (record {
       end = end;
       at_end = c.ops-end.ensures.count;
       is = c.enter.ensures.items;
       fits = λ t right ahead read. refusal-fits (world_in given tape (scope_in given p.epoch.uuid p.epoch.given p.backup) p.epoch.first) p.epoch.entries.items who end a wish refusal number (c.ops-end.ensures.count t)
           (told-by (length (phases_of p.ahead)) end was.kept was.limited t right (c.ops-end.ensures.count t) ahead read) why;
-    }))
+    })
