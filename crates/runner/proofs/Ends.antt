@@ -15,6 +15,8 @@ use Rattle.line_answers.specs.running_words_Parts.{RunningParts}
 use Rattle.superblocks.specs.Reading.{list_length}
 use Rattle.script.specs.declared.lines.Line.TheVariants.{Halt}
 use Rattle.script.specs.declared.lines.Numbered.{Numbered}
+use Rattle.script.specs.declared.reply.Lane.{Lane}
+use Rattle.script.specs.declared.reply.Lane.TheVariants.{Script as InScript, A as InA, B as InB, Worker as InWorker}
 use Rattle.runner.specs.declared.sessions.Session.{Session}
 use Rattle.runner.specs.declared.sessions.Stop.{Stop}
 use Rattle.runner.specs.declared.sessions.Stop.TheVariants.{WriteFault, NoMemory as WantsMemory}
@@ -25,9 +27,9 @@ use Rattle.line_answers.specs.run_laws_Making.{Setting, setting_of}
 use Rattle.bank.specs.declared.bank.Operation.{Operation}
 use Rattle.line_answers.specs.run_laws_Replies.{Course, at_rest, course_of}
 use Rattle.runner.specs.Runs.{status_for, stop_of, IsHalted, AreLinesPerformed, AreLossesFailed, IsEnded}
-use Rattle.runner.specs.Sessions.{counted, IsCourse, IsCourseBehind, taken_whole, IsTaken, IsPerformed, IsShownTo}
+use Rattle.runner.specs.Sessions.{counted, IsCourse, IsCutIn, IsInBlock, IsCourseBehind, taken_whole, IsTaken, IsPerformed, IsShownTo}
 use Rattle.runner.specs.Shown.{report_text, has_refusal}
-use Rattle.line_answers.specs.run_laws_States.{running_history, histories_in, course_in, RunsOwn, AreLossesBehind, AreLossesFrom, IsCutShort}
+use Rattle.line_answers.specs.run_laws_States.{running_history, histories_in, course_in, RunsOwn, AreLossesBehind, AreLossesFrom}
 use Rattle.line_answers.specs.run_laws_Ended.{AreRising}
 use Rattle.runner.specs.Writes.{AreWritesPlaced}
 use Rattle.line_answers.specs.run_laws_Written.{IsWritten}
@@ -36,6 +38,7 @@ use Rattle.line_answers.proofs.run_laws_AskLaws.{one, with_reply}
 use Rattle.line_answers.proofs.run_laws_Legal.{grows_longer}
 use Rattle.runner.proofs.WritesPlaced.{placed-end, quiet-between}
 use Rattle.line_answers.proofs.run_laws_Growth.{IsWider, replies_stay, replies_front, courses_stay, cut_stays}
+use Rattle.line_answers.proofs.run_laws_RecordLaws.{records-stay}
 use Rattle.runner.proofs.ShownLaws.{shown_stays}
 use Rattle.line_answers.proofs.run_laws_Turned.{asked-tellable, halt-told}
 use Rattle.line_answers.proofs.run_laws_Losses.{losses-halted, losses-whole, losses-kept, losses-last, losses_add}
@@ -131,14 +134,20 @@ module _ {B bank_tells : Type 0} {given : Given} {backup : Option ℕ} {tape : L
 
   by_stop : (o : Option Stop) → IsCourse o (histories_in session.state) behind (told_by (histories_in session.state)) (course_in session.state) → IsCourse o (histories_of epochs) behind (told_by (histories_of epochs)) (course_in session.state)
   by_stop None is = is ∙ sym told_still
-  by_stop (Some WriteFault) is = is ∙ sym told_still
+  by_stop (Some WriteFault) (inl is) = inl (is ∙ sym told_still)
+  by_stop (Some WriteFault) (inr block) = inr (subst (λ (c : Course). IsInBlock behind c (course_in session.state)) (sym told_still) block)
   by_stop (Some WantsMemory) (inl is) = inl (is ∙ sym told_still)
   by_stop (Some WantsMemory) (inr next) = inr (by_first behind next)
     where
       by_first : (ls : List Numbered) → IsCourseBehind (histories_in session.state) ls (told_by (histories_in session.state)) (course_in session.state) → IsCourseBehind (histories_of epochs) ls (told_by (histories_of epochs)) (course_in session.state)
       by_first [] next = absurd next
-      by_first (l ∷ ls) cut = subst (λ (c : Course). IsCutShort (histories_of epochs) c l.line (course_in session.state)) (sym told_still)
-          (cut_stays (histories_in session.state) (histories_of epochs) (told_by (histories_in session.state)) l.line (course_in session.state) ended.grown cut)
+      by_first (l ∷ ls) cut = subst (λ (c : Course). IsCutIn l.lane (histories_of epochs) c l.line (course_in session.state)) (sym told_still) (by_lane l.lane cut)
+        where
+          by_lane : (lane : Lane) → IsCutIn lane (histories_in session.state) (told_by (histories_in session.state)) l.line (course_in session.state) → IsCutIn lane (histories_of epochs) (told_by (histories_in session.state)) l.line (course_in session.state)
+          by_lane InScript cut = cut_stays (histories_in session.state) (histories_of epochs) (told_by (histories_in session.state)) l.line (course_in session.state) ended.grown cut
+          by_lane InA cut = cut
+          by_lane InB cut = cut
+          by_lane InWorker cut = cut
 
   -- the writes, once the array is halted
   end_written : bank_tells → length first_tape ≤ length tape → IsWritten (setting_of bank_tells given tape tape backup now now) (histories_in session.state) (histories_of epochs) (λ slot. ⊥)
@@ -155,6 +164,9 @@ module _ {B bank_tells : Type 0} {given : Given} {backup : Option ℕ} {tape : L
     all = λ going. all (sym is_stop ∙ going);
     replies = replies_stay (setting_of bank_tells given first_tape tape backup start now) (setting_of bank_tells given first_tape tape backup start now) same_setting (histories_in session.state) (histories_of epochs) (at_rest 0) (take (length session.replies.items) lines) session.replies.items
         ended.grown performed.replies;
+    last = performed.last;
+    recorded = records-stay (setting_of bank_tells given first_tape tape backup start now) (setting_of bank_tells given first_tape tape backup start now) same_setting (histories_in session.state) (histories_of epochs) ended.grown None (take (length session.replies.items) lines) session.replies.items
+        performed.last performed.recorded;
     course = course_in session.state;
     told = subst (λ (o : Option Stop). IsCourse o (histories_of epochs) behind (told_by (histories_of epochs)) (course_in session.state)) (sym is_stop) (by_stop session.stopped performed.course);
     halted = ended.halted;

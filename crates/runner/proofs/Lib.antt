@@ -1,5 +1,6 @@
 pub mod Ends
 pub mod Marks
+pub mod PlainLines
 pub mod Reopening
 pub mod Replied
 pub mod Shortness

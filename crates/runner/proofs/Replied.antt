@@ -9,7 +9,6 @@ use Rattle.line_answers.specs.run_laws_Making.{Setting}
 use Rattle.line_answers.specs.run_laws_Replies.{IsEnd}
 use Rattle.script.specs.Script.{is_within_limits}
 use Rattle.script.specs.declared.lines.Numbered.{Numbered}
-use Rattle.script.specs.declared.reply.Lane.TheVariants.{Script as InScript}
 use Rattle.line_answers.specs.run_laws_the_LineReply.{LineReply}
 use Rattle.runner.specs.Sessions.{IsEndNow, IsReplied}
 use Rattle.line_answers.specs.run_laws_States.{histories_in, course_in, IsNamed, IsTurn, IsTurnOrNone}
@@ -32,7 +31,7 @@ module _ {B : Type 0} {what : Answered} {r : Result Answered NoMemory} (setting 
 
 -- it is shown in a reply
 pub turn_replied : {B : Type 0} {what : Answered} {r : Result Answered NoMemory} (setting : Setting) (old new : State B) (numbered : Numbered) (reply : LineReply) (refused : Bool) → IsTurnOrNone setting old new numbered.line r → r ≡ Ok what → reply.what ≡ what
-    → reply.line ≡ numbered.number → reply.lane ≡ InScript → IsEnd (histories_in new) reply what → IsEndNow setting.tells (length setting.tape) reply what → refused ≡ is_refusal (histories_in new) numbered.line what
+    → reply.line ≡ numbered.number → reply.lane ≡ numbered.lane → IsEnd (histories_in new) reply what → IsEndNow setting.tells (length setting.tape) reply what → refused ≡ is_refusal (histories_in new) numbered.line what
     → (setting.tells → IsWrittenBy setting (histories_in old) (histories_in new) numbered.line r) → IsReplied setting old new numbered reply refused
 turn_replied setting old new numbered reply refused answered is told line lane end now refusal written = record {
   turn = subst (λ (w : Answered). IsTurn setting old new numbered.line w) (sym told) (subst (λ (r : Result Answered NoMemory). IsTurnOrNone setting old new numbered.line r) is answered);

@@ -10,17 +10,20 @@ use Rattle.flat_history.specs.declared.events.Request.TheVariants.{Read as AsksR
 use Rattle.flat_history.specs.Fits.{FitsStop, FitsHalt}
 use Rattle.flat_history.specs.Legal.{call_before}
 use Rattle.flat_history.specs.OneShape.{OneShapeAnswers}
-use Rattle.line_answers.specs.running_replies_Replies.{RunningAnswers}
+use Rattle.line_answers.specs.running_replies_Replies.{RunningAnswers, RunningFits}
+use Rattle.line_answers.specs.run_laws_Blocks.{request_of, IsCallersReply}
 use Rattle.md_base.specs.declared.wishes.Wish.{Wish}
 use Rattle.script.specs.Script.{is_within_limits}
 use Rattle.script.specs.Seeds.{seeded}
 use Rattle.script.specs.declared.lines.Line.{Line}
+use Rattle.script.specs.declared.reply.Lane.{Lane}
+use Rattle.script.specs.declared.reply.Lane.TheVariants.{Script as InScript, A as InA, B as InB, Worker as InWorker}
 use Rattle.script.specs.declared.lines.Line.TheVariants.{Create, Read, Write, Flush, Fail, Add, ArraySize, Grow, Step, Wait, Stop, Halt, Detail, Mdstat, Examine, Assemble}
 use Rattle.line_answers.specs.run_laws_the_Answered.{Answered}
 use Rattle.line_answers.specs.run_laws_the_Answered_TheVariants.{Inside, Outside as IsOutside}
 use Rattle.line_answers.specs.run_laws_Histories.{History}
 use Rattle.line_answers.specs.run_laws_Making.{Setting}
-use Rattle.line_answers.specs.run_laws_Replies.{Course, FitsLine, IsReplyAt, IsWaitedAt, IsRepliedAt, IsAnswer, steps_at_once}
+use Rattle.line_answers.specs.run_laws_Replies.{Course, FitsLine, IsReplyAt, IsWaitedAt, IsRepliedAt, IsAnswer, IsWorkedAt, IsRepliedBeside, IsAnswerBeside, steps_at_once}
 use Rattle.line_answers.specs.run_laws_Showing.{IsShown}
 use Rattle.runner.specs.Shown.{IsShort, IsAnswerShort}
 
@@ -120,5 +123,34 @@ short_replied size entries place number line limits was = short_reply size entri
 pub answer_short : (setting : Setting) (histories : List History) (course : Course) (line : Line) (end : ℕ) (what : Answered) → IsTrue (is_within_limits line) → IsAnswer setting histories course line end what → IsAnswerShort histories what
 answer_short setting histories course line end (Inside epoch at) limits is =
     subst (λ (o : Option Entry). MatchOption o ⊥ (λ e. IsShort e.event)) (sym (ap (λ (o : Option History). option_and_then (λ h. slice_get h.entries at) o) is.there))
-    (short_replied course.size is.history.entries at course.calls line limits is.replied)
+    (short_replied course.size is.history.entries at (course.calls InScript) line limits is.replied)
 answer_short setting histories course line end (IsOutside outside) limits is = tt
+
+-- ---- in a block
+
+short_asked : (size : ℕ) (before : List Entry) (e : Entry) (line : Line) → IsTrue (is_within_limits line) → RunningFits size before e (request_of line) → IsShort e.event
+short_asked size before e (Read at count) limits is = short_read size before (call_before before e) at count e.event (few_read at count limits) is.answers
+short_asked size before e (Write at count seed) limits is = short_write size before (call_before before e) at (seeded seed at count) e.event is.answers
+short_asked size before e (Fail role) limits is = short_fail size before (call_before before e) role e.event is.answers
+short_asked size before e line limits is = short_flush size before (call_before before e) e.event is.answers
+
+short_worked : (size : ℕ) (entries : List Entry) (earlier : List ℕ) (place number : ℕ) → IsWorkedAt size entries earlier place number → IsShortAt entries place
+short_worked size entries [] place number (most, reply) =
+    subst (λ (o : Option Entry). MatchOption o ⊥ (λ e. IsShort e.event)) (sym reply.there) (short_steps size _ (call_before _ reply.entry) most reply.entry.event reply.fits.answers)
+short_worked size entries (first ∷ others) place number was = short_worked size entries others place (number + 1) was.2
+
+short_lane : (size : ℕ) (entries : List Entry) (caller number place : ℕ) (line : Line) → IsTrue (is_within_limits line) → IsCallersReply size entries caller number place (request_of line) → IsShortAt entries place
+short_lane size entries caller number place line limits reply =
+    subst (λ (o : Option Entry). MatchOption o ⊥ (λ e. IsShort e.event)) (sym reply.there) (short_asked size _ reply.entry line limits reply.fits)
+
+short_beside : (lane : Lane) (size : ℕ) (entries : List Entry) (place number : ℕ) (line : Line) → IsTrue (is_within_limits line) → IsRepliedBeside lane size entries place number line → IsShortAt entries place
+short_beside InWorker size entries place number line limits was = short_worked size entries was.earlier place number was.worked
+short_beside InScript size entries place number line limits was = short_lane size entries 0 number place line limits was
+short_beside InA size entries place number line limits was = short_lane size entries 1 number place line limits was
+short_beside InB size entries place number line limits was = short_lane size entries 2 number place line limits was
+
+pub beside_short : (histories : List History) (course : Course) (lane : Lane) (line : Line) (what : Answered) → IsTrue (is_within_limits line) → IsAnswerBeside histories course lane line what → IsAnswerShort histories what
+beside_short histories course lane line (Inside epoch at) limits is =
+    subst (λ (o : Option Entry). MatchOption o ⊥ (λ e. IsShort e.event)) (sym (ap (λ (o : Option History). option_and_then (λ h. slice_get h.entries at) o) is.there))
+    (short_beside lane course.size is.history.entries at (course.calls lane) line limits is.replied)
+beside_short histories course lane line (IsOutside outside) limits is = tt

@@ -14,6 +14,8 @@ use Rattle.flat_history.specs.declared.events.Entry.{Entry}
 use Rattle.text_io.specs.Causes.{HasRisen}
 use Rattle.flat_history.specs.declared.events.Epoch.{Epoch}
 use Rattle.script.specs.declared.lines.Numbered.{Numbered}
+use Rattle.script.specs.declared.reply.Lane.{Lane}
+use Rattle.script.specs.declared.reply.Lane.TheVariants.{Script as InScript}
 use Rattle.line_answers.specs.run_laws_the_Answered.{Answered}
 use Rattle.line_answers.specs.run_laws_the_Answered_TheVariants.{Inside, Outside as IsOutside}
 use Rattle.line_answers.specs.run_laws_the_LineReply.{LineReply}
@@ -25,11 +27,14 @@ use Rattle.runner.specs.declared.sessions.Session.{Session}
 use Rattle.line_answers.specs.run_laws_Histories.{History, histories_of, entry_at}
 use Rattle.line_answers.specs.run_laws_Making.{Setting, setting_of}
 use Rattle.line_answers.proofs.run_laws_Legal.{grows_longer}
-use Rattle.line_answers.specs.run_laws_Replies.{Course, at_rest, course_after, course_of, IsAnswer, IsEnd, IsReplyTo, AreReplies, AreInOrder}
+use Rattle.line_answers.specs.run_laws_Replies.{Course, at_rest, course_after, course_of, IsAnswer, IsAnswerIn, mark_reached, mark_shown, IsEnd, IsReplyTo, AreReplies, AreInOrder}
 use Rattle.runner.specs.Shown.{reply_text, report_text, has_refusal}
-use Rattle.line_answers.specs.run_laws_States.{histories_in, course_in, RunsOwn, IsOfScript, AreOfScript, AreLossesFrom, AreGrown, EndsBetween, IsCutShort, IsCourseShort}
-use Rattle.runner.specs.Sessions.{counted, IsEndNow, IsUnreplied, IsReplyMore, IsStep, IsCourse, taken_whole, IsTaken, IsStopCause, IsCourseBehind, IsPerformed, IsShownTo}
+use Rattle.line_answers.specs.run_laws_States.{histories_in, course_in, record_in, RunsOwn, IsOfScript, AreOfScript, AreLossesFrom, AreGrown, EndsBetween, IsCourseShort}
+use Rattle.runner.specs.Sessions.{counted, IsEndNow, IsUnreplied, IsReplyMore, IsStep, IsCourse, IsCutIn, taken_whole, IsTaken, IsStopCause, IsCourseBehind, IsPerformed, IsShownTo}
 use Rattle.line_answers.proofs.run_laws_Growth.{IsWider, answer_wider, replies_stay, replies_more, course_more, courses_stay}
+use Rattle.line_answers.specs.run_laws_Caused.{Record}
+use Rattle.line_answers.specs.run_laws_Records.{IsRecorded, IsRecordedIn, AreRecorded}
+use Rattle.line_answers.proofs.run_laws_RecordLaws.{recorded-wider, records-stay, records-both}
 use Rattle.runner.proofs.ShownLaws.{shown_stays, text_more, refusal_more}
 use Rattle.runner.specs.Writes.{AreWritesPlaced}
 use Rattle.line_answers.proofs.run_laws_Losses.{losses_add}
@@ -49,18 +54,23 @@ reply_between setting histories reply (IsOutside outside) t between end now = le
 
 order_later : (low mark high : ℕ) (replies : List LineReply) → mark ≤ high → AreInOrder low mark replies → AreInOrder low high replies
 order_later low mark high [] le was = omega (arith, le, was)
-order_later low mark high (r ∷ replies) le (one, rest) = (one, order_later r.end mark high replies le rest)
+order_later low mark high (r ∷ replies) le (one, rest) = (one, order_later (mark_shown low r) mark high replies le rest)
 
-order_more : (low mark high : ℕ) (replies : List LineReply) (reply : LineReply) → AreInOrder low mark replies → mark ≤ reply.end → reply.end ≤ high → AreInOrder low high (replies ++ reply ∷ [])
-order_more low mark high [] reply was le within = (omega (arith, was, le), within)
-order_more low mark high (r ∷ replies) reply (one, rest) le within = (one, order_more r.end mark high replies reply rest le within)
+order_more : (low mark high : ℕ) (replies : List LineReply) (reply : LineReply) → AreInOrder low mark replies → mark ≤ reply.end → reply.lane ≡ InScript → reply.end ≤ high → AreInOrder low high (replies ++ reply ∷ [])
+order_more low mark high [] reply was le script within = (omega (arith, was, le), subst (λ (l : Lane). mark_reached low l reply.what reply.end ≤ high) (sym script) within)
+order_more low mark high (r ∷ replies) reply (one, rest) le script within = (one, order_more (mark_shown low r) mark high replies reply rest le script within)
 
-counted_more : (a b : ℕ) → counted (counted a + b) ≡ counted (a + b)
+-- a line that went on has one reply more
+pub one_reply : {B : Type 0} (tells : Type 0) (setting : Setting) (old new : Session B) (numbered : Numbered) (before after : List ℕ) (o : Option Stop) → o ≡ None → IsStep tells setting old new numbered before after o
+    → length new.replies.items ≡ length old.replies.items + 1
+one_reply tells setting old new numbered before after None going is = ap (λ (l : List LineReply). length l) is.reply.more ∙ length-append old.replies.items (is.reply.made.reply ∷ [])
+one_reply tells setting old new numbered before after (Some stop) going is = absurd (cc)
+
+pub counted_more : (a b : ℕ) → counted (counted a + b) ≡ counted (a + b)
 counted_more a b = grind (arith, nat_tests)
 
-module _ {B bank_tells : Type 0} {given : Given} {backup : Option ℕ} {first_tape mid_tape tape : List Operation} {start mid now : ℕ → ℕ} {lines : List Numbered} {old : Session B} (new : Session B) (nothing numbered : Numbered)
-    (early : NeverFalls start mid) (late : NeverFalls mid now) (grew_early : Grows bank_tells first_tape mid_tape) (grew : Grows bank_tells mid_tape tape) (going : old.stopped ≡ None) (performed : IsPerformed (setting_of bank_tells given first_tape mid_tape backup start mid) lines old)
-    (lt : length old.replies.items < length lines) (here : get_or lines (length old.replies.items) nothing ≡ numbered) where
+module _ {B bank_tells : Type 0} {given : Given} {backup : Option ℕ} {first_tape mid_tape tape : List Operation} {start mid now : ℕ → ℕ} {lines : List Numbered} {old : Session B} (new : Session B)
+    (early : NeverFalls start mid) (late : NeverFalls mid now) (grew_early : Grows bank_tells first_tape mid_tape) (grew : Grows bank_tells mid_tape tape) (going : old.stopped ≡ None) (performed : IsPerformed (setting_of bank_tells given first_tape mid_tape backup start mid) lines old) where
   abbrev lines_before : List Numbered
   lines_before = take (length old.replies.items) lines
 
@@ -71,199 +81,225 @@ module _ {B bank_tells : Type 0} {given : Given} {backup : Option ℕ} {first_ta
   course_before : course_in old.state ≡ told_before (histories_in old.state)
   course_before = subst (λ (o : Option Stop). IsCourse o (histories_in old.state) (drop (length old.replies.items) lines) (told_before (histories_in old.state)) (course_in old.state)) going performed.course
 
-  course_still : AreGrown (histories_in old.state) (histories_in new.state) → course_in old.state ≡ told_before (histories_in new.state)
+  pub course_still : AreGrown (histories_in old.state) (histories_in new.state) → course_in old.state ≡ told_before (histories_in new.state)
   course_still grown = course_before ∙ sym (courses_stay (setting_of bank_tells given first_tape mid_tape backup start mid) (histories_in old.state) (histories_in new.state) (at_rest 0) lines_before old.replies.items grown performed.replies)
 
-  wider_was : IsWider (setting_of bank_tells given first_tape mid_tape backup start mid) (setting_of bank_tells given first_tape tape backup start now)
+  pub wider_was : IsWider (setting_of bank_tells given first_tape mid_tape backup start mid) (setting_of bank_tells given first_tape tape backup start now)
   wider_was = record { told = λ t. t; given = refl; backup = refl; grows = grew; early = λ s. omega arith; between = early; late = late }
 
-  wider_step : IsWider (setting_of bank_tells given mid_tape tape backup mid now) (setting_of bank_tells given first_tape tape backup start now)
+  pub wider_step : IsWider (setting_of bank_tells given mid_tape tape backup mid now) (setting_of bank_tells given first_tape tape backup start now)
   wider_step = record { told = λ t. t; given = refl; backup = refl; grows = record { more = λ t. ([], sym (append-nil tape)) }; early = early; between = late; late = λ s. omega arith }
 
   -- the former replies still answer the former lines
-  replies_still : AreGrown (histories_in old.state) (histories_in new.state)
+  pub replies_still : AreGrown (histories_in old.state) (histories_in new.state)
       → AreReplies (setting_of bank_tells given first_tape tape backup start now) (histories_in new.state) (at_rest 0) (take (length old.replies.items) lines) old.replies.items
   replies_still grown =
       replies_stay (setting_of bank_tells given first_tape mid_tape backup start mid) (setting_of bank_tells given first_tape tape backup start now) wider_was (histories_in old.state) (histories_in new.state) (at_rest 0) (take (length old.replies.items) lines) old.replies.items grown
       performed.replies
 
-  shown_still : AreGrown (histories_in old.state) (histories_in new.state)
+  -- and so do the records between them
+  pub records_still : AreGrown (histories_in old.state) (histories_in new.state) → AreRecorded (setting_of bank_tells given first_tape tape backup start now) (histories_in new.state) None lines_before old.replies.items performed.last
+  records_still grown =
+      records-stay (setting_of bank_tells given first_tape mid_tape backup start mid) (setting_of bank_tells given first_tape tape backup start now) wider_was (histories_in old.state) (histories_in new.state) grown None lines_before old.replies.items performed.last performed.recorded
+
+  pub shown_still : AreGrown (histories_in old.state) (histories_in new.state)
       → (report_text (histories_in new.state) lines old.replies.items ≡ report_text (histories_in old.state) lines old.replies.items)
       × (has_refusal (histories_in new.state) lines old.replies.items ≡ has_refusal (histories_in old.state) lines old.replies.items)
   shown_still grown = shown_stays (setting_of bank_tells given first_tape mid_tape backup start mid) (histories_in old.state) (histories_in new.state) (at_rest 0) (length old.replies.items) lines old.replies.items grown performed.replies
 
-  written_before : bank_tells → AreWritesPlaced (setting_of bank_tells given first_tape mid_tape backup start mid) (histories_in old.state) None lines old.replies.items
+  pub written_before : bank_tells → AreWritesPlaced (setting_of bank_tells given first_tape mid_tape backup start mid) (histories_in old.state) None lines old.replies.items
   written_before t = subst (λ (o : Option Stop). AreWritesPlaced (setting_of bank_tells given first_tape mid_tape backup start mid) (histories_in old.state) o lines old.replies.items) going (performed.written t)
 
-  module _ (is : IsReplyMore (setting_of bank_tells given mid_tape tape backup mid now) old new numbered) where
-    reply : LineReply
-    reply = is.made.reply
+  module _ (nothing numbered : Numbered) (script : numbered.lane ≡ InScript) (lt : length old.replies.items < length lines) (here : get_or lines (length old.replies.items) nothing ≡ numbered) where
+    module _ (is : IsReplyMore (setting_of bank_tells given mid_tape tape backup mid now) old new numbered) where
+      reply : LineReply
+      reply = is.made.reply
 
-    one_more : length new.replies.items ≡ length old.replies.items + 1
-    one_more = ap (λ (l : List LineReply). length l) is.more ∙ length-append old.replies.items (is.made.reply ∷ [])
+      one_more : length new.replies.items ≡ length old.replies.items + 1
+      one_more = ap (λ (l : List LineReply). length l) is.more ∙ length-append old.replies.items (is.made.reply ∷ [])
 
-    lines_taken : take (length new.replies.items) lines ≡ take (length old.replies.items) lines ++ numbered ∷ []
-    lines_taken = ap (λ (n : ℕ). take n lines) {y = suc (length old.replies.items)} (omega (arith, one_more)) ∙ take-suc lines (length old.replies.items) nothing lt ∙ ap (λ (l : Numbered). take (length old.replies.items) lines ++ l ∷ []) here
+      lines_taken : take (length new.replies.items) lines ≡ take (length old.replies.items) lines ++ numbered ∷ []
+      lines_taken = ap (λ (n : ℕ). take n lines) {y = suc (length old.replies.items)} (omega (arith, one_more)) ∙ take-suc lines (length old.replies.items) nothing lt ∙ ap (λ (l : Numbered). take (length old.replies.items) lines ++ l ∷ []) here
 
-    between : bank_tells → (length mid_tape ≤ is.made.reply.end) × (is.made.reply.end ≤ length tape)
-    between t = reply_between (setting_of bank_tells given mid_tape tape backup mid now) (histories_in new.state) is.made.reply is.made.reply.what t (is.replied.turn.ends t) is.replied.end is.replied.at_end
+      between : bank_tells → (length mid_tape ≤ is.made.reply.end) × (is.made.reply.end ≤ length tape)
+      between t = reply_between (setting_of bank_tells given mid_tape tape backup mid now) (histories_in new.state) is.made.reply is.made.reply.what t (is.replied.turn.ends t) is.replied.end is.replied.at_end
 
-    answer_to : (what : Answered) → IsEndNow bank_tells (length tape) is.made.reply what
-        → IsAnswer (setting_of bank_tells given mid_tape tape backup mid now) (histories_in new.state) (told_before (histories_in new.state)) numbered.line (length tape) what
-        → IsAnswer (setting_of bank_tells given first_tape tape backup start now) (histories_in new.state) (told_before (histories_in new.state)) numbered.line is.made.reply.end what
-    answer_to (Inside epoch at) end was = was
-    answer_to (IsOutside outside) end was =
-        answer_wider (setting_of bank_tells given mid_tape tape backup mid now) (setting_of bank_tells given first_tape tape backup start now) wider_step (length tape) is.made.reply.end end (λ t. omega arith)
-        (histories_in new.state) (told_before (histories_in new.state)) numbered.line (IsOutside outside) was
+      answer_to : (what : Answered) → IsEndNow bank_tells (length tape) is.made.reply what
+          → IsAnswer (setting_of bank_tells given mid_tape tape backup mid now) (histories_in new.state) (told_before (histories_in new.state)) numbered.line (length tape) what
+          → IsAnswer (setting_of bank_tells given first_tape tape backup start now) (histories_in new.state) (told_before (histories_in new.state)) numbered.line is.made.reply.end what
+      answer_to (Inside epoch at) end was = was
+      answer_to (IsOutside outside) end was =
+          answer_wider (setting_of bank_tells given mid_tape tape backup mid now) (setting_of bank_tells given first_tape tape backup start now) wider_step (length tape) is.made.reply.end end (λ t. omega arith)
+          (histories_in new.state) (told_before (histories_in new.state)) numbered.line (IsOutside outside) was
 
-    reply_to : IsReplyTo (setting_of bank_tells given first_tape tape backup start now) (histories_in new.state) (told_before (histories_in new.state)) numbered is.made.reply
-    reply_to = record {
-      line = is.replied.line;
-      lane = is.replied.lane;
-      end = is.replied.end;
-      within = λ t. (between t).1;
-      answer = answer_to is.made.reply.what is.replied.at_end
-          (subst (λ (c : Course). IsAnswer (setting_of bank_tells given mid_tape tape backup mid now) (histories_in new.state) c numbered.line (length tape) is.made.reply.what) (course_still is.replied.turn.grown) is.replied.turn.answer);
-    }
+      reply_to : IsReplyTo (setting_of bank_tells given first_tape tape backup start now) (histories_in new.state) (told_before (histories_in new.state)) numbered is.made.reply
+      reply_to = record {
+        line = is.replied.line;
+        lane = is.replied.lane;
+        end = is.replied.end;
+        within = λ t. subst (λ (l : Lane). mark_reached 0 l is.made.reply.what is.made.reply.end ≤ length tape) (sym (is.replied.lane ∙ script)) (between t).1;
+        answer = subst (λ (l : Lane). IsAnswerIn (setting_of bank_tells given first_tape tape backup start now) (histories_in new.state) (told_before (histories_in new.state)) l numbered.line is.made.reply.end is.made.reply.what) (sym script)
+            (answer_to is.made.reply.what is.replied.at_end
+            (subst (λ (c : Course). IsAnswer (setting_of bank_tells given mid_tape tape backup mid now) (histories_in new.state) c numbered.line (length tape) is.made.reply.what) (course_still is.replied.turn.grown) is.replied.turn.answer));
+      }
 
-    ends_new : bank_tells → AreInOrder (length first_tape) (length tape) new.replies.items
-    ends_new t = subst (λ (rs : List LineReply). AreInOrder (length first_tape) (length tape) rs) (sym is.more)
-        (order_more (length first_tape) (length mid_tape) (length tape) old.replies.items is.made.reply (performed.ends t) ((between t).0) ((between t).1))
+      ends_new : bank_tells → AreInOrder (length first_tape) (length tape) new.replies.items
+      ends_new t = subst (λ (rs : List LineReply). AreInOrder (length first_tape) (length tape) rs) (sym is.more)
+          (order_more (length first_tape) (length mid_tape) (length tape) old.replies.items is.made.reply (performed.ends t) ((between t).0) (is.replied.lane ∙ script) ((between t).1))
 
-    replies_new : AreReplies (setting_of bank_tells given first_tape tape backup start now) (histories_in new.state) (at_rest 0) (take (length new.replies.items) lines) new.replies.items
-    replies_new = subst (λ (ls : List Numbered). AreReplies (setting_of bank_tells given first_tape tape backup start now) (histories_in new.state) (at_rest 0) ls new.replies.items) (sym lines_taken)
-        (subst (λ (rs : List LineReply). AreReplies (setting_of bank_tells given first_tape tape backup start now) (histories_in new.state) (at_rest 0) (take (length old.replies.items) lines ++ numbered ∷ []) rs) (sym is.more)
-        (replies_more (setting_of bank_tells given first_tape tape backup start now) (histories_in new.state) (at_rest 0) (take (length old.replies.items) lines) old.replies.items numbered is.made.reply (replies_still is.replied.turn.grown) reply_to))
+      replies_new : AreReplies (setting_of bank_tells given first_tape tape backup start now) (histories_in new.state) (at_rest 0) (take (length new.replies.items) lines) new.replies.items
+      replies_new = subst (λ (ls : List Numbered). AreReplies (setting_of bank_tells given first_tape tape backup start now) (histories_in new.state) (at_rest 0) ls new.replies.items) (sym lines_taken)
+          (subst (λ (rs : List LineReply). AreReplies (setting_of bank_tells given first_tape tape backup start now) (histories_in new.state) (at_rest 0) (take (length old.replies.items) lines ++ numbered ∷ []) rs) (sym is.more)
+          (replies_more (setting_of bank_tells given first_tape tape backup start now) (histories_in new.state) (at_rest 0) (take (length old.replies.items) lines) old.replies.items numbered is.made.reply (replies_still is.replied.turn.grown) reply_to))
 
-    course_new : course_in new.state ≡ course_of (histories_in new.state) (at_rest 0) (take (length new.replies.items) lines) new.replies.items
-    course_new = is.replied.turn.course ∙ ap (λ (c : Course). course_after (histories_in new.state) c numbered.line is.made.reply.what) (course_still is.replied.turn.grown)
-        ∙ sym (course_more (histories_in new.state) (at_rest 0) lines_before old.replies.items numbered is.made.reply (length-take-le (length old.replies.items) lines (omega (arith, lt))))
-        ∙ ap (λ (ls : List Numbered). course_of (histories_in new.state) (at_rest 0) ls (old.replies.items ++ is.made.reply ∷ [])) (sym lines_taken)
-        ∙ ap (λ (rs : List LineReply). course_of (histories_in new.state) (at_rest 0) (take (length new.replies.items) lines) rs) (sym is.more)
+      recorded_here : IsRecordedIn (setting_of bank_tells given first_tape tape backup start now) (histories_in new.state) numbered.lane numbered.line is.made.reply.what performed.last (record_in new.state)
+      recorded_here = subst (λ (l : Lane). IsRecordedIn (setting_of bank_tells given first_tape tape backup start now) (histories_in new.state) l numbered.line is.made.reply.what performed.last (record_in new.state)) (sym script)
+          (recorded-wider (setting_of bank_tells given mid_tape tape backup mid now) (setting_of bank_tells given first_tape tape backup start now) wider_step (histories_in new.state) numbered.line is.made.reply.what performed.last (record_in new.state)
+          (subst (λ (o : Option Record). IsRecorded (setting_of bank_tells given mid_tape tape backup mid now) (histories_in new.state) numbered.line is.made.reply.what o (record_in new.state)) (sym (performed.recorded_now going)) is.replied.turn.recorded))
 
-    refused_new : new.refused ≡ has_refusal (histories_in new.state) lines new.replies.items
-    refused_new = is.refused ∙ ap (λ (b : Bool). b || is.made.refused) (performed.refused ∙ sym ((shown_still is.replied.turn.grown).1))
-        ∙ ap (λ (b : Bool). has_refusal (histories_in new.state) lines old.replies.items || b) is.replied.refusal
-        ∙ sym (refusal_more (histories_in new.state) lines old.replies.items nothing numbered is.made.reply lt here)
-        ∙ ap (λ (rs : List LineReply). has_refusal (histories_in new.state) lines rs) (sym is.more)
+      recorded_new : AreRecorded (setting_of bank_tells given first_tape tape backup start now) (histories_in new.state) None (take (length new.replies.items) lines) new.replies.items (record_in new.state)
+      recorded_new = subst (λ (ls : List Numbered). AreRecorded (setting_of bank_tells given first_tape tape backup start now) (histories_in new.state) None ls new.replies.items (record_in new.state)) (sym lines_taken)
+          (subst (λ (rs : List LineReply). AreRecorded (setting_of bank_tells given first_tape tape backup start now) (histories_in new.state) None (take (length old.replies.items) lines ++ numbered ∷ []) rs (record_in new.state)) (sym is.more)
+          (records-both (setting_of bank_tells given first_tape tape backup start now) (histories_in new.state) None performed.last (record_in new.state) (take (length old.replies.items) lines) old.replies.items (numbered ∷ []) (is.made.reply ∷ []) (records_still is.replied.turn.grown)
+          (record_in new.state, recorded_here, refl)))
 
-    performed_reply : (o : Option Stop) → new.stopped ≡ o → ((f c : Course) → c ≡ f → IsCourse o (histories_in new.state) (drop (length new.replies.items) lines) f c) → IsPerformed (setting_of bank_tells given first_tape tape backup start now) lines new
-    performed_reply o stop course = record {
-      own = is.replied.turn.own;
-      few = omega (arith, one_more, lt);
-      replies = replies_new;
+      course_new : course_in new.state ≡ course_of (histories_in new.state) (at_rest 0) (take (length new.replies.items) lines) new.replies.items
+      course_new = is.replied.turn.course ∙ ap (λ (c : Course). course_after (histories_in new.state) c InScript numbered.line is.made.reply.what) (course_still is.replied.turn.grown)
+          ∙ ap (λ (l : Lane). course_after (histories_in new.state) (told_before (histories_in new.state)) l numbered.line is.made.reply.what) (sym script)
+          ∙ sym (course_more (histories_in new.state) (at_rest 0) lines_before old.replies.items numbered is.made.reply (length-take-le (length old.replies.items) lines (omega (arith, lt))))
+          ∙ ap (λ (ls : List Numbered). course_of (histories_in new.state) (at_rest 0) ls (old.replies.items ++ is.made.reply ∷ [])) (sym lines_taken)
+          ∙ ap (λ (rs : List LineReply). course_of (histories_in new.state) (at_rest 0) (take (length new.replies.items) lines) rs) (sym is.more)
+
+      refused_new : new.refused ≡ has_refusal (histories_in new.state) lines new.replies.items
+      refused_new = is.refused ∙ ap (λ (b : Bool). b || is.made.refused) (performed.refused ∙ sym ((shown_still is.replied.turn.grown).1))
+          ∙ ap (λ (b : Bool). has_refusal (histories_in new.state) lines old.replies.items || b) is.replied.refusal
+          ∙ sym (refusal_more (histories_in new.state) lines old.replies.items nothing numbered is.made.reply lt here)
+          ∙ ap (λ (rs : List LineReply). has_refusal (histories_in new.state) lines rs) (sym is.more)
+
+      performed_reply : (o : Option Stop) → new.stopped ≡ o → ((f c : Course) → c ≡ f → IsCourse o (histories_in new.state) (drop (length new.replies.items) lines) f c) → IsPerformed (setting_of bank_tells given first_tape tape backup start now) lines new
+      performed_reply o stop course = record {
+        own = is.replied.turn.own;
+        few = omega (arith, one_more, lt);
+        replies = replies_new;
+        course = subst (λ (x : Option Stop). IsCourse x (histories_in new.state) (drop (length new.replies.items) lines) (course_of (histories_in new.state) (at_rest 0) (take (length new.replies.items) lines) new.replies.items) (course_in new.state)) (sym stop)
+            (course (course_of (histories_in new.state) (at_rest 0) (take (length new.replies.items) lines) new.replies.items) (course_in new.state) course_new);
+        last = record_in new.state;
+        recorded = recorded_new;
+        recorded_now = λ none. refl;
+        losses = losses_add (setting_of bank_tells given first_tape mid_tape backup start mid) (setting_of bank_tells given mid_tape tape backup mid now) (setting_of bank_tells given first_tape tape backup start now) wider_was wider_step (histories_in old.state) (histories_in new.state) is.replied.turn.grown performed.losses is.replied.turn.losses;
+        ends = ends_new;
+        refused = refused_new;
+        written = λ t. subst (λ (rs : List LineReply). AreWritesPlaced (setting_of bank_tells given first_tape tape backup start now) (histories_in new.state) new.stopped lines rs) (sym is.more)
+            (placed-reply given backup first_tape mid_tape tape start mid now (histories_in old.state) (histories_in new.state) lines old.replies.items nothing numbered t (grew.more t) lt here (performed.ends t) (written_before t) new.stopped is.made.reply is.replied.at_end
+            (is.replied.written t));
+      }
+
+      text_new : report_text (histories_in new.state) lines new.replies.items ≡ report_text (histories_in old.state) lines old.replies.items ++ reply_text (histories_in new.state) numbered.line is.made.reply
+      text_new = ap (λ (rs : List LineReply). report_text (histories_in new.state) lines rs) is.more ∙ text_more (histories_in new.state) lines old.replies.items nothing numbered is.made.reply lt here
+          ∙ ap (λ (t : List ℕ). t ++ reply_text (histories_in new.state) numbered.line is.made.reply) ((shown_still is.replied.turn.grown).0)
+
+    performed_short : IsUnreplied (setting_of bank_tells given mid_tape tape backup mid now) old.state new.state numbered.line → new.replies.items ≡ old.replies.items → new.refused ≡ old.refused → new.stopped ≡ Some WantsMemory
+        → IsPerformed (setting_of bank_tells given first_tape tape backup start now) lines new
+    performed_short none same refused stop = record {
+      own = none.own;
+      few = omega (arith, lt, ap (λ (l : List LineReply). length l) same);
+      replies = subst (λ (rs : List LineReply). AreReplies (setting_of bank_tells given first_tape tape backup start now) (histories_in new.state) (at_rest 0) (take (length rs) lines) rs) (sym same) (replies_still none.grown);
       course = subst (λ (x : Option Stop). IsCourse x (histories_in new.state) (drop (length new.replies.items) lines) (course_of (histories_in new.state) (at_rest 0) (take (length new.replies.items) lines) new.replies.items) (course_in new.state)) (sym stop)
-          (course (course_of (histories_in new.state) (at_rest 0) (take (length new.replies.items) lines) new.replies.items) (course_in new.state) course_new);
-      losses = losses_add (setting_of bank_tells given first_tape mid_tape backup start mid) (setting_of bank_tells given mid_tape tape backup mid now) (setting_of bank_tells given first_tape tape backup start now) wider_was wider_step (histories_in old.state) (histories_in new.state) is.replied.turn.grown performed.losses is.replied.turn.losses;
-      ends = ends_new;
-      refused = refused_new;
-      written = λ t. subst (λ (rs : List LineReply). AreWritesPlaced (setting_of bank_tells given first_tape tape backup start now) (histories_in new.state) new.stopped lines rs) (sym is.more)
-          (placed-reply given backup first_tape mid_tape tape start mid now (histories_in old.state) (histories_in new.state) lines old.replies.items nothing numbered t (grew.more t) lt here (performed.ends t) (written_before t) new.stopped is.made.reply is.replied.at_end
-          (is.replied.written t));
+          (subst (λ (rs : List LineReply). IsCourse (Some WantsMemory) (histories_in new.state) (drop (length rs) lines) (course_of (histories_in new.state) (at_rest 0) (take (length rs) lines) rs) (course_in new.state)) (sym same) (by_course none.course));
+      last = performed.last;
+      recorded = subst (λ (rs : List LineReply). AreRecorded (setting_of bank_tells given first_tape tape backup start now) (histories_in new.state) None (take (length rs) lines) rs performed.last) (sym same) (records_still none.grown);
+      recorded_now = λ going_on. absurd (let both : Some WantsMemory ≡ None = sym stop ∙ going_on in cc);
+      losses = losses_add (setting_of bank_tells given first_tape mid_tape backup start mid) (setting_of bank_tells given mid_tape tape backup mid now) (setting_of bank_tells given first_tape tape backup start now) wider_was wider_step (histories_in old.state) (histories_in new.state) none.grown performed.losses none.losses;
+      ends = λ t. subst (λ (rs : List LineReply). AreInOrder (length first_tape) (length tape) rs) (sym same) (order_later (length first_tape) (length mid_tape) (length tape) old.replies.items (grows_longer grew t) (performed.ends t));
+      refused = refused ∙ performed.refused ∙ sym ((shown_still none.grown).1) ∙ ap (λ (rs : List LineReply). has_refusal (histories_in new.state) lines rs) (sym same);
+      written = λ t. subst (λ (rs : List LineReply). AreWritesPlaced (setting_of bank_tells given first_tape tape backup start now) (histories_in new.state) new.stopped lines rs) (sym same)
+          (subst (λ (o : Option Stop). AreWritesPlaced (setting_of bank_tells given first_tape tape backup start now) (histories_in new.state) o lines old.replies.items) (sym stop)
+          (placed-short given backup first_tape mid_tape tape start mid now (histories_in old.state) (histories_in new.state) lines old.replies.items nothing numbered t (grew.more t) lt here (performed.ends t) (written_before t) (none.written t)));
     }
-
-    text_new : report_text (histories_in new.state) lines new.replies.items ≡ report_text (histories_in old.state) lines old.replies.items ++ reply_text (histories_in new.state) numbered.line is.made.reply
-    text_new = ap (λ (rs : List LineReply). report_text (histories_in new.state) lines rs) is.more ∙ text_more (histories_in new.state) lines old.replies.items nothing numbered is.made.reply lt here
-        ∙ ap (λ (t : List ℕ). t ++ reply_text (histories_in new.state) numbered.line is.made.reply) ((shown_still is.replied.turn.grown).0)
-
-  performed_short : IsUnreplied (setting_of bank_tells given mid_tape tape backup mid now) old.state new.state numbered.line → new.replies.items ≡ old.replies.items → new.refused ≡ old.refused → new.stopped ≡ Some WantsMemory
-      → IsPerformed (setting_of bank_tells given first_tape tape backup start now) lines new
-  performed_short none same refused stop = record {
-    own = none.own;
-    few = omega (arith, lt, ap (λ (l : List LineReply). length l) same);
-    replies = subst (λ (rs : List LineReply). AreReplies (setting_of bank_tells given first_tape tape backup start now) (histories_in new.state) (at_rest 0) (take (length rs) lines) rs) (sym same) (replies_still none.grown);
-    course = subst (λ (x : Option Stop). IsCourse x (histories_in new.state) (drop (length new.replies.items) lines) (course_of (histories_in new.state) (at_rest 0) (take (length new.replies.items) lines) new.replies.items) (course_in new.state)) (sym stop)
-        (subst (λ (rs : List LineReply). IsCourse (Some WantsMemory) (histories_in new.state) (drop (length rs) lines) (course_of (histories_in new.state) (at_rest 0) (take (length rs) lines) rs) (course_in new.state)) (sym same) (by_course none.course));
-    losses = losses_add (setting_of bank_tells given first_tape mid_tape backup start mid) (setting_of bank_tells given mid_tape tape backup mid now) (setting_of bank_tells given first_tape tape backup start now) wider_was wider_step (histories_in old.state) (histories_in new.state) none.grown performed.losses none.losses;
-    ends = λ t. subst (λ (rs : List LineReply). AreInOrder (length first_tape) (length tape) rs) (sym same) (order_later (length first_tape) (length mid_tape) (length tape) old.replies.items (grows_longer grew t) (performed.ends t));
-    refused = refused ∙ performed.refused ∙ sym ((shown_still none.grown).1) ∙ ap (λ (rs : List LineReply). has_refusal (histories_in new.state) lines rs) (sym same);
-    written = λ t. subst (λ (rs : List LineReply). AreWritesPlaced (setting_of bank_tells given first_tape tape backup start now) (histories_in new.state) new.stopped lines rs) (sym same)
-        (subst (λ (o : Option Stop). AreWritesPlaced (setting_of bank_tells given first_tape tape backup start now) (histories_in new.state) o lines old.replies.items) (sym stop)
-        (placed-short given backup first_tape mid_tape tape start mid now (histories_in old.state) (histories_in new.state) lines old.replies.items nothing numbered t (grew.more t) lt here (performed.ends t) (written_before t) (none.written t)));
-  }
-    where
-      first_behind : drop (length old.replies.items) lines ≡ numbered ∷ drop (suc (length old.replies.items)) lines
-      first_behind = drop-cons lines (length old.replies.items) nothing lt ∙ ap (λ (l : Numbered). l ∷ drop (suc (length old.replies.items)) lines) here
-
-      by_course : IsCourseShort (histories_in new.state) (course_in old.state) numbered.line (course_in new.state)
-          → (course_in new.state ≡ told_before (histories_in new.state)) ⊎ IsCourseBehind (histories_in new.state) (drop (length old.replies.items) lines) (told_before (histories_in new.state)) (course_in new.state)
-      by_course (inl is) = inl (is ∙ course_still none.grown)
-      by_course (inr next) = inr (subst (λ (ls : List Numbered). IsCourseBehind (histories_in new.state) ls (told_before (histories_in new.state)) (course_in new.state)) (sym first_behind)
-          (subst (λ (c : Course). IsCutShort (histories_in new.state) c numbered.line (course_in new.state)) (course_still none.grown) next))
-
-  module _ {tells : Type 0} {first before : List ℕ} {first_faults before_faults : ℕ} (after : List ℕ) (after_faults : ℕ) (shown : IsShownTo tells lines old first before first_faults before_faults) where
-    taken_before : tells → before ≡ first ++ report_text (histories_in old.state) lines old.replies.items
-    taken_before told = subst (λ (o : Option Stop). IsTaken o first before (report_text (histories_in old.state) lines old.replies.items)) going (shown.taken told)
-
-    shown_before : old.shown ≡ counted (length (report_text (histories_in old.state) lines old.replies.items))
-    shown_before = subst (λ (o : Option Stop). old.shown ≡ counted (length (report_text (histories_in old.state) lines (taken_whole o old.replies.items)))) going shown.shown
-
-    -- a line was performed, by whether the run stops there
-    pub step : (o : Option Stop) → new.stopped ≡ o → IsStep tells (setting_of bank_tells given mid_tape tape backup mid now) old new numbered before after o → IsStopCause o before_faults after_faults → before_faults ≤ after_faults
-        → IsPerformed (setting_of bank_tells given first_tape tape backup start now) lines new × IsShownTo tells lines new first after first_faults after_faults
-    step None stop is cause le = (
-      performed_reply is.reply None stop (λ f c same. same),
-      record {
-        taken = λ told. subst (λ (o : Option Stop). IsTaken o first after (report_text (histories_in new.state) lines new.replies.items)) (sym stop)
-            (is.taken told ∙ ap (λ (t : List ℕ). t ++ reply_text (histories_in new.state) numbered.line is.reply.made.reply) (taken_before told)
-            ∙ append_assoc first (report_text (histories_in old.state) lines old.replies.items) (reply_text (histories_in new.state) numbered.line is.reply.made.reply)
-            ∙ ap (λ (t : List ℕ). first ++ t) (sym (text_new is.reply)));
-        shown = subst (λ (o : Option Stop). new.shown ≡ counted (length (report_text (histories_in new.state) lines (taken_whole o new.replies.items)))) (sym stop)
-            (is.shown ∙ ap (λ (n : ℕ). counted (n + length (reply_text (histories_in new.state) numbered.line is.reply.made.reply))) shown_before
-            ∙ counted_more (length (report_text (histories_in old.state) lines old.replies.items)) (length (reply_text (histories_in new.state) numbered.line is.reply.made.reply))
-            ∙ ap counted (sym (length-append (report_text (histories_in old.state) lines old.replies.items) (reply_text (histories_in new.state) numbered.line is.reply.made.reply)))
-            ∙ ap (λ (t : List ℕ). counted (length t)) (sym (text_new is.reply)));
-        cause = subst (λ (o : Option Stop). IsStopCause o first_faults after_faults) (sym stop) tt;
-        never_falls = omega (arith, le, shown.never_falls);
-      },
-    )
-    step (Some WriteFault) stop is cause le = (
-      performed_reply is.reply (Some WriteFault) stop (λ f c same. same),
-      record {
-        taken = λ told. subst (λ (o : Option Stop). IsTaken o first after (report_text (histories_in new.state) lines new.replies.items)) (sym stop)
-            (part told (is.taken told));
-        shown = subst (λ (o : Option Stop). new.shown ≡ counted (length (report_text (histories_in new.state) lines (taken_whole o new.replies.items)))) (sym stop)
-            (is.shown ∙ shown_before ∙ ap (λ (t : List ℕ). counted (length t)) (sym ((shown_still is.reply.replied.turn.grown).0))
-            ∙ ap (λ (rs : List LineReply). counted (length (report_text (histories_in new.state) lines rs))) (sym all_but_last));
-        cause = subst (λ (o : Option Stop). IsStopCause o first_faults after_faults) (sym stop) (risen_since cause);
-        never_falls = omega (arith, le, shown.never_falls);
-      },
-    )
       where
-        all_but_last : take (length new.replies.items - 1) new.replies.items ≡ old.replies.items
-        all_but_last = ap (λ (rs : List LineReply). take (length new.replies.items - 1) rs) is.reply.more
-            ∙ take_at old.replies.items (is.reply.made.reply ∷ []) (length new.replies.items - 1) (omega (arith, one_more is.reply))
+        first_behind : drop (length old.replies.items) lines ≡ numbered ∷ drop (suc (length old.replies.items)) lines
+        first_behind = drop-cons lines (length old.replies.items) nothing lt ∙ ap (λ (l : Numbered). l ∷ drop (suc (length old.replies.items)) lines) here
 
-        part : tells → ((n : ℕ) × (after ≡ before ++ take n (reply_text (histories_in new.state) numbered.line is.reply.made.reply))) → (n : ℕ) × (after ≡ first ++ take n (report_text (histories_in new.state) lines new.replies.items))
-        part told (n, taken) = (
-          length (report_text (histories_in old.state) lines old.replies.items) + n,
-          taken ∙ ap (λ (t : List ℕ). t ++ take n (reply_text (histories_in new.state) numbered.line is.reply.made.reply)) (taken_before told)
-              ∙ append_assoc first (report_text (histories_in old.state) lines old.replies.items) (take n (reply_text (histories_in new.state) numbered.line is.reply.made.reply))
-              ∙ ap (λ (t : List ℕ). first ++ t) (sym (take-append-add (report_text (histories_in old.state) lines old.replies.items) (reply_text (histories_in new.state) numbered.line is.reply.made.reply) n)
-              ∙ ap (λ (t : List ℕ). take (length (report_text (histories_in old.state) lines old.replies.items) + n) t) (sym (text_new is.reply))),
-        )
+        by_course : IsCourseShort (histories_in new.state) (course_in old.state) numbered.line (course_in new.state)
+            → (course_in new.state ≡ told_before (histories_in new.state)) ⊎ IsCourseBehind (histories_in new.state) (drop (length old.replies.items) lines) (told_before (histories_in new.state)) (course_in new.state)
+        by_course (inl is) = inl (is ∙ course_still none.grown)
+        by_course (inr next) = inr (subst (λ (ls : List Numbered). IsCourseBehind (histories_in new.state) ls (told_before (histories_in new.state)) (course_in new.state)) (sym first_behind)
+            (subst (λ (c : Course). IsCutIn numbered.lane (histories_in new.state) c numbered.line (course_in new.state)) (course_still none.grown)
+            (subst (λ (l : Lane). IsCutIn l (histories_in new.state) (course_in old.state) numbered.line (course_in new.state)) (sym script) next)))
 
-        risen_since : HasRisen before_faults after_faults → HasRisen first_faults after_faults
-        risen_since risen = grind (arith, nat_tests, risen, shown.never_falls)
-    step (Some WantsMemory) stop is cause le = (
-      performed_short is.none is.same is.refused stop,
-      record {
-        taken = λ told. subst (λ (o : Option Stop). IsTaken o first after (report_text (histories_in new.state) lines new.replies.items)) (sym stop)
-            (is.taken ∙ taken_before told ∙ ap (λ (t : List ℕ). first ++ t) (sym same_text));
-        shown = subst (λ (o : Option Stop). new.shown ≡ counted (length (report_text (histories_in new.state) lines (taken_whole o new.replies.items)))) (sym stop)
-            (is.shown ∙ shown_before ∙ ap (λ (t : List ℕ). counted (length t)) (sym same_text));
-        cause = subst (λ (o : Option Stop). IsStopCause o first_faults after_faults) (sym stop) tt;
-        never_falls = omega (arith, le, shown.never_falls);
-      },
-    )
-      where
-        same_text : report_text (histories_in new.state) lines new.replies.items ≡ report_text (histories_in old.state) lines old.replies.items
-        same_text = ap (λ (rs : List LineReply). report_text (histories_in new.state) lines rs) is.same ∙ (shown_still is.none.grown).0
+    module _ {tells : Type 0} {first before : List ℕ} {first_faults before_faults : ℕ} (after : List ℕ) (after_faults : ℕ) (shown : IsShownTo tells lines old first before first_faults before_faults) where
+      taken_before : tells → before ≡ first ++ report_text (histories_in old.state) lines old.replies.items
+      taken_before told = subst (λ (o : Option Stop). IsTaken o first before (report_text (histories_in old.state) lines old.replies.items)) going (shown.taken told)
+
+      shown_before : old.shown ≡ counted (length (report_text (histories_in old.state) lines old.replies.items))
+      shown_before = subst (λ (o : Option Stop). old.shown ≡ counted (length (report_text (histories_in old.state) lines (taken_whole o old.replies.items)))) going shown.shown
+
+      -- a line was performed, by whether the run stops there
+      pub step : (o : Option Stop) → new.stopped ≡ o → IsStep tells (setting_of bank_tells given mid_tape tape backup mid now) old new numbered before after o → IsStopCause o before_faults after_faults → before_faults ≤ after_faults
+          → IsPerformed (setting_of bank_tells given first_tape tape backup start now) lines new × IsShownTo tells lines new first after first_faults after_faults
+      step None stop is cause le = (
+        performed_reply is.reply None stop (λ f c same. same),
+        record {
+          taken = λ told. subst (λ (o : Option Stop). IsTaken o first after (report_text (histories_in new.state) lines new.replies.items)) (sym stop)
+              (is.taken told ∙ ap (λ (t : List ℕ). t ++ reply_text (histories_in new.state) numbered.line is.reply.made.reply) (taken_before told)
+              ∙ append_assoc first (report_text (histories_in old.state) lines old.replies.items) (reply_text (histories_in new.state) numbered.line is.reply.made.reply)
+              ∙ ap (λ (t : List ℕ). first ++ t) (sym (text_new is.reply)));
+          shown = subst (λ (o : Option Stop). new.shown ≡ counted (length (report_text (histories_in new.state) lines (taken_whole o new.replies.items)))) (sym stop)
+              (is.shown ∙ ap (λ (n : ℕ). counted (n + length (reply_text (histories_in new.state) numbered.line is.reply.made.reply))) shown_before
+              ∙ counted_more (length (report_text (histories_in old.state) lines old.replies.items)) (length (reply_text (histories_in new.state) numbered.line is.reply.made.reply))
+              ∙ ap counted (sym (length-append (report_text (histories_in old.state) lines old.replies.items) (reply_text (histories_in new.state) numbered.line is.reply.made.reply)))
+              ∙ ap (λ (t : List ℕ). counted (length t)) (sym (text_new is.reply)));
+          cause = subst (λ (o : Option Stop). IsStopCause o first_faults after_faults) (sym stop) tt;
+          never_falls = omega (arith, le, shown.never_falls);
+        },
+      )
+      step (Some WriteFault) stop is cause le = (
+        performed_reply is.reply (Some WriteFault) stop (λ f c same. inl same),
+        record {
+          taken = λ told. subst (λ (o : Option Stop). IsTaken o first after (report_text (histories_in new.state) lines new.replies.items)) (sym stop)
+              (part told (is.taken told));
+          shown = subst (λ (o : Option Stop). new.shown ≡ counted (length (report_text (histories_in new.state) lines (taken_whole o new.replies.items)))) (sym stop)
+              (is.shown ∙ shown_before ∙ ap (λ (t : List ℕ). counted (length t)) (sym ((shown_still is.reply.replied.turn.grown).0))
+              ∙ ap (λ (rs : List LineReply). counted (length (report_text (histories_in new.state) lines rs))) (sym all_but_last));
+          cause = subst (λ (o : Option Stop). IsStopCause o first_faults after_faults) (sym stop) (risen_since cause);
+          never_falls = omega (arith, le, shown.never_falls);
+        },
+      )
+        where
+          all_but_last : take (length new.replies.items - 1) new.replies.items ≡ old.replies.items
+          all_but_last = ap (λ (rs : List LineReply). take (length new.replies.items - 1) rs) is.reply.more
+              ∙ take_at old.replies.items (is.reply.made.reply ∷ []) (length new.replies.items - 1) (omega (arith, one_more is.reply))
+
+          part : tells → ((n : ℕ) × (after ≡ before ++ take n (reply_text (histories_in new.state) numbered.line is.reply.made.reply))) → (n : ℕ) × (after ≡ first ++ take n (report_text (histories_in new.state) lines new.replies.items))
+          part told (n, taken) = (
+            length (report_text (histories_in old.state) lines old.replies.items) + n,
+            taken ∙ ap (λ (t : List ℕ). t ++ take n (reply_text (histories_in new.state) numbered.line is.reply.made.reply)) (taken_before told)
+                ∙ append_assoc first (report_text (histories_in old.state) lines old.replies.items) (take n (reply_text (histories_in new.state) numbered.line is.reply.made.reply))
+                ∙ ap (λ (t : List ℕ). first ++ t) (sym (take-append-add (report_text (histories_in old.state) lines old.replies.items) (reply_text (histories_in new.state) numbered.line is.reply.made.reply) n)
+                ∙ ap (λ (t : List ℕ). take (length (report_text (histories_in old.state) lines old.replies.items) + n) t) (sym (text_new is.reply))),
+          )
+
+          risen_since : HasRisen before_faults after_faults → HasRisen first_faults after_faults
+          risen_since risen = grind (arith, nat_tests, risen, shown.never_falls)
+      step (Some WantsMemory) stop is cause le = (
+        performed_short is.none is.same is.refused stop,
+        record {
+          taken = λ told. subst (λ (o : Option Stop). IsTaken o first after (report_text (histories_in new.state) lines new.replies.items)) (sym stop)
+              (is.taken ∙ taken_before told ∙ ap (λ (t : List ℕ). first ++ t) (sym same_text));
+          shown = subst (λ (o : Option Stop). new.shown ≡ counted (length (report_text (histories_in new.state) lines (taken_whole o new.replies.items)))) (sym stop)
+              (is.shown ∙ shown_before ∙ ap (λ (t : List ℕ). counted (length t)) (sym same_text));
+          cause = subst (λ (o : Option Stop). IsStopCause o first_faults after_faults) (sym stop) tt;
+          never_falls = omega (arith, le, shown.never_falls);
+        },
+      )
+        where
+          same_text : report_text (histories_in new.state) lines new.replies.items ≡ report_text (histories_in old.state) lines old.replies.items
+          same_text = ap (λ (rs : List LineReply). report_text (histories_in new.state) lines rs) is.same ∙ (shown_still is.none.grown).0
 
 -- where the run stands once all that is told was done
 course_told : (histories : List History) (behind : List Numbered) (told course : Course) (o : Option Stop) → course ≡ told → IsCourse o histories behind told course
 course_told histories behind told course None same = same
-course_told histories behind told course (Some WriteFault) same = same
+course_told histories behind told course (Some WriteFault) same = inl same
 course_told histories behind told course (Some WantsMemory) same = inl same
 
 -- nothing was performed yet
@@ -275,6 +311,9 @@ performed_none {B = B} {bank_tells = bank_tells} {given = given} {backup = backu
   replies = subst (λ (rs : List LineReply). AreReplies (setting_of bank_tells given tape tape backup start start) (histories_in session.state) (at_rest 0) (take (length rs) lines) rs) (sym none) tt;
   course = subst (λ (o : Option Stop). IsCourse o (histories_in session.state) (drop (length session.replies.items) lines) (course_of (histories_in session.state) (at_rest 0) (take (length session.replies.items) lines) session.replies.items) (course_in session.state)) (sym going)
       (course_told _ _ _ _ o (ap (λ (s : State B). course_in s) idle ∙ ap (λ (l : List Epoch). at_rest (length l)) empty ∙ ap (λ (rs : List LineReply). course_of (histories_in session.state) (at_rest 0) (take (length rs) lines) rs) (sym none)));
+  last = None;
+  recorded = subst (λ (rs : List LineReply). AreRecorded (setting_of bank_tells given tape tape backup start start) (histories_in session.state) None (take (length rs) lines) rs None) (sym none) refl;
+  recorded_now = λ going_on. sym (ap (λ (s : State B). record_in s) idle);
   losses = subst (λ (s : State B). AreLossesFrom (setting_of bank_tells given tape tape backup start start) [] (histories_in s)) (sym idle) (subst (λ (l : List Epoch). AreLossesFrom (setting_of bank_tells given tape tape backup start start) [] (histories_of l)) (sym empty) tt);
   ends = λ t. subst (λ (rs : List LineReply). AreInOrder (length tape) (length tape) rs) (sym none) (omega arith);
   refused = refused ∙ ap (λ (rs : List LineReply). has_refusal (histories_in session.state) lines rs) (sym none);
@@ -304,9 +343,3 @@ module _ {B : Type 0} (tells : Type 0) (lines : List Numbered) (session : Sessio
     cause = subst (λ (o : Option Stop). IsStopCause o faults faults) (sym short) tt;
     never_falls = omega arith;
   }
-
--- a line that went on has one reply more
-pub one_reply : {B : Type 0} (tells : Type 0) (setting : Setting) (old new : Session B) (numbered : Numbered) (before after : List ℕ) (o : Option Stop) → o ≡ None → IsStep tells setting old new numbered before after o
-    → length new.replies.items ≡ length old.replies.items + 1
-one_reply tells setting old new numbered before after None going is = ap (λ (l : List LineReply). length l) is.reply.more ∙ length-append old.replies.items (is.reply.made.reply ∷ [])
-one_reply tells setting old new numbered before after (Some stop) going is = absurd (cc)

@@ -13,6 +13,8 @@ use Rattle.flat_history.specs.declared.events.Epoch.{Epoch}
 use Rattle.flat_history.specs.Transfers.{last_end_from}
 use Rattle.script.specs.declared.lines.Line.{Line}
 use Rattle.script.specs.declared.lines.Numbered.{Numbered}
+use Rattle.script.specs.declared.reply.Lane.{Lane}
+use Rattle.script.specs.declared.reply.Lane.TheVariants.{Script as InScript, A as InA, B as InB, Worker as InWorker}
 use Rattle.line_answers.specs.run_laws_the_Answered.{Answered}
 use Rattle.line_answers.specs.run_laws_the_Answered_TheVariants.{Inside, Outside as IsOutside}
 use Rattle.line_answers.specs.run_laws_the_LineReply.{LineReply}
@@ -21,7 +23,7 @@ use Rattle.runner.specs.declared.sessions.Stop.TheVariants.{NoMemory as IsShort}
 use Rattle.line_answers.specs.run_laws_Ended.{next_mark, AreRising}
 use Rattle.line_answers.specs.run_laws_Histories.{History, history_of, histories_of}
 use Rattle.line_answers.specs.run_laws_Making.{Setting, setting_of}
-use Rattle.line_answers.specs.run_laws_Replies.{AreInOrder}
+use Rattle.line_answers.specs.run_laws_Replies.{mark_reached, mark_shown, AreInOrder}
 use Rattle.runner.specs.Sessions.{IsEndNow}
 use Rattle.line_answers.specs.run_laws_Written.{IsInEpoch, MayWrite, HasWritten, AreSpans, IsWritten}
 use Rattle.runner.specs.Writes.{IsOfCreate, AreWritesPlaced, NoneOfCreate, AreQuiet}
@@ -34,6 +36,16 @@ front-stays [] ops mark op lt is = absurd (omega (arith, lt))
 front-stays (x ∷ old) ops zero op lt is = is
 front-stays (x ∷ old) ops (suc mark) op lt is = front-stays old ops mark op (omega (arith, lt)) is
 
+-- the mark that the run has reached only rises
+pub mark-on : (low : ℕ) (lane : Lane) (what : Answered) (end : ℕ) → low ≤ end → low ≤ mark_reached low lane what end
+mark-on low InScript what end le = le
+mark-on low InA (Inside epoch at) end le = omega arith
+mark-on low InA (IsOutside outside) end le = le
+mark-on low InB (Inside epoch at) end le = omega arith
+mark-on low InB (IsOutside outside) end le = le
+mark-on low InWorker (Inside epoch at) end le = omega arith
+mark-on low InWorker (IsOutside outside) end le = le
+
 module _ (given : Given) (backup : Option ℕ) (stopped : Option Stop) where
   -- of one of the former lines, also once there are more replies
   of-former : (low : ℕ) (lines : List Numbered) (replies more : List LineReply) (mark slot : ℕ) → IsOfCreate given backup None low lines replies mark slot → IsOfCreate given backup stopped low lines (replies ++ more) mark slot
@@ -43,7 +55,7 @@ module _ (given : Given) (backup : Option ℕ) (stopped : Option Stop) where
       none_some : None ≡ Some IsShort → ⊥
       none_some same = absurd (cc)
   of-former low (line ∷ lines) (reply ∷ replies) more mark slot (inl is) = inl is
-  of-former low (line ∷ lines) (reply ∷ replies) more mark slot (inr is) = inr (of-former reply.end lines replies more mark slot is)
+  of-former low (line ∷ lines) (reply ∷ replies) more mark slot (inr is) = inr (of-former (mark_shown low reply) lines replies more mark slot is)
 
   -- of the line that got one reply more
   of-latest : (low high : ℕ) (lines : List Numbered) (replies : List LineReply) (nothing line : Numbered) (reply : LineReply) (mark slot : ℕ) → length replies < length lines → get_or lines (length replies) nothing ≡ line
@@ -51,14 +63,14 @@ module _ (given : Given) (backup : Option ℕ) (stopped : Option Stop) where
   of-latest low high [] replies nothing line reply mark slot lt here order from to is = absurd (omega (arith, lt))
   of-latest low high (l ∷ lines) [] nothing line reply mark slot lt here order from to is = inl (omega (arith, order, from), to, subst (λ (n : Numbered). HasWritten given backup n.line reply.what slot) (sym here) is)
   of-latest low high (l ∷ lines) (r ∷ replies) nothing line reply mark slot lt here order from to is =
-      inr (of-latest r.end high lines replies nothing line reply mark slot (omega (arith, lt)) here order.1 from to is)
+      inr (of-latest (mark_shown low r) high lines replies nothing line reply mark slot (omega (arith, lt)) here order.1 from to is)
 
 -- of the line that got none, for want of memory
 of-short : (given : Given) (backup : Option ℕ) (low high : ℕ) (lines : List Numbered) (replies : List LineReply) (nothing line : Numbered) (mark slot : ℕ) → length replies < length lines → get_or lines (length replies) nothing ≡ line
     → AreInOrder low high replies → high ≤ mark → MayWrite given backup line.line slot → IsOfCreate given backup (Some IsShort) low lines replies mark slot
 of-short given backup low high [] replies nothing line mark slot lt here order from is = absurd (omega (arith, lt))
 of-short given backup low high (l ∷ lines) [] nothing line mark slot lt here order from is = (refl, omega (arith, order, from), subst (λ (n : Numbered). MayWrite given backup n.line slot) (sym here) is)
-of-short given backup low high (l ∷ lines) (r ∷ replies) nothing line mark slot lt here order from is = inr (of-short given backup r.end high lines replies nothing line mark slot (omega (arith, lt)) here order.1 from is)
+of-short given backup low high (l ∷ lines) (r ∷ replies) nothing line mark slot lt here order from is = inr (of-short given backup (mark_shown low r) high lines replies nothing line mark slot (omega (arith, lt)) here order.1 from is)
 
 -- only an answer outside has written, and its reply ends where the tape does
 end-now : {tells : Type 0} (given : Given) (backup : Option ℕ) (line : Line) (high : ℕ) (reply : LineReply) (what : Answered) (slot : ℕ) → tells → IsEndNow tells high reply what → HasWritten given backup line what slot → reply.end ≡ high
@@ -73,7 +85,7 @@ module _ {tells : Type 0} (given : Given) (backup : Option ℕ) (first mid last 
     where
       in-order : (low high : ℕ) (rs : List LineReply) → AreInOrder low high rs → low ≤ high
       in-order low high [] le = le
-      in-order low high (r ∷ rs) (le, rest) = omega (arith, le, in-order r.end high rs rest)
+      in-order low high (r ∷ rs) (le, rest) = let on = mark-on low r.lane r.what r.end le in omega (arith, on, in-order (mark_shown low r) high rs rest)
 
   -- a write of the former tape
   former-placed : (stopped : Option Stop) (more : List LineReply) (kept : (mark : ℕ) → IsInEpoch olds mark → IsInEpoch news mark) (mark slot at : ℕ) (body : Sector) → length first ≤ mark → mark < length mid → slice_get last mark ≡ Some (Write slot at body)
@@ -101,6 +113,21 @@ module _ {tells : Type 0} (given : Given) (backup : Option ℕ) (first mid last 
       by_place mark slot past within (inl is) = inl is
       by_place mark slot past within (inr is) = inr (of-latest given backup stopped (length first) (length mid) lines replies nothing line reply mark slot lt here order past
           (omega (arith, within, end-now given backup line.line (length last) reply reply.what slot t end is)) is)
+
+  -- several replies more, by which nothing was written outside of the epochs
+  pub placed-more : (stopped : Option Stop) (more : List LineReply) → IsWritten (setting_of tells given mid last backup before now) olds news (λ slot. ⊥)
+      → AreWritesPlaced (setting_of tells given first last backup start now) news stopped lines (replies ++ more)
+  placed-more stopped more written = record {
+    spans = written.spans (length first) (first-early replies order) was.spans;
+    placed = λ mark slot at body from there. elim (cases_lt mark (length mid)) [
+      | inl to ↦ former-placed stopped more written.kept mark slot at body from to there
+      | inr past ↦ by_place mark slot (written.placed mark slot at body (omega (arith, past)) there)
+    ];
+  }
+    where
+      by_place : (mark slot : ℕ) → IsInEpoch news mark ⊎ ⊥ → IsInEpoch news mark ⊎ IsOfCreate given backup stopped (length first) lines (replies ++ more) mark slot
+      by_place mark slot (inl is) = inl is
+      by_place mark slot (inr none) = absurd none
 
   -- memory was short for one
   pub placed-short : IsWritten (setting_of tells given mid last backup before now) olds news (MayWrite given backup line.line) → AreWritesPlaced (setting_of tells given first last backup start now) news (Some IsShort) lines replies

@@ -7,12 +7,15 @@ use Rattle.flat_history.specs.declared.events.Event.TheVariants.{Halted}
 use Rattle.flat_history.specs.Flat.{last_of}
 use Rattle.script.specs.Script.{script_of}
 use Rattle.script.specs.declared.lines.Numbered.{Numbered}
+use Rattle.script.specs.declared.reply.Lane.TheVariants.{Script as InScript}
 use Rattle.line_answers.specs.run_laws_the_LineReply.{LineReply}
 use Rattle.runner.specs.declared.sessions.Stop.{Stop}
 use Rattle.runner.specs.declared.sessions.Stop.TheVariants.{WriteFault, NoMemory as WantsMemory}
 use Rattle.line_answers.specs.run_laws_the_State.{State}
 use Rattle.line_answers.specs.run_laws_Histories.{History, history_of, histories_of}
 use Rattle.line_answers.specs.run_laws_Making.{Setting}
+use Rattle.line_answers.specs.run_laws_Caused.{Record}
+use Rattle.line_answers.specs.run_laws_Records.{AreRecorded}
 use Rattle.line_answers.specs.run_laws_Replies.{Course, at_rest, course_of, AreReplies, AreInOrder}
 use Rattle.runner.specs.Sessions.{IsCourse, counted, taken_whole, IsTaken}
 use Rattle.runner.specs.Shown.{report_text, has_refusal}
@@ -38,14 +41,16 @@ IsHalted number history = MatchOption (last_of history.entries) ⊥ (λ e. (e.ca
 -- There are as many histories as arrays were opened. Where the last array still ran, it was halted by the call behind the script's others.
 pub record AreHalted (course : Course) (histories : List History) : Type 0 where
   pub count : length histories ≡ course.opened
-  pub halted : IsTrue course.running → MatchOption (slice_get histories (length histories - 1)) ⊥ (λ history. IsHalted course.calls history)
+  pub halted : IsTrue course.running → MatchOption (slice_get histories (length histories - 1)) ⊥ (λ history. IsHalted (course.calls InScript) history)
 
 -- The lines were performed one after another, up to the last or to where the run stopped, and the array was halted. The replies are
--- there but for that of a line for which memory was short.
+-- there but for that of a line for which memory was short. From line to line there is a record of the array that runs, by which each answer has its cause.
 pub record AreLinesPerformed (setting : Setting) (asked : List Numbered) (stopped : Option Stop) (epochs : List Epoch) (lines : List LineReply) : Type 0 where
   pub few : length lines ≤ length asked
   pub all : stopped ≡ None → length lines ≡ length asked
   pub replies : AreReplies setting (histories_of epochs) (at_rest 0) (take (length lines) asked) lines
+  pub last : Option Record
+  pub recorded : AreRecorded setting (histories_of epochs) None (take (length lines) asked) lines last
   pub course : Course
   pub told : IsCourse stopped (histories_of epochs) (drop (length lines) asked) (course_of (histories_of epochs) (at_rest 0) (take (length lines) asked) lines) course
   pub halted : AreHalted course (histories_of epochs)

@@ -1,8 +1,9 @@
 -- The lines of a script performed one after another, and what was shown of it.
-use Rattle.std.specs.Prelude.{◌≡◌, ◌⊎◌, ℕ, ◌+◌, ◌-◌, ◌^◌, ◌≤◌, ◌||◌, Bool, List, [], ◌∷◌, ◌++◌, length, take, drop, min, Option, Some, None, Result, Ok, Err, ⊤}
+use Rattle.std.specs.Prelude.{◌≡◌, ◌≢◌, ◌⊎◌, ℕ, ◌+◌, ◌-◌, ◌^◌, ◌≤◌, ◌||◌, Bool, List, [], ◌∷◌, ◌++◌, length, take, drop, min, Option, Some, None, Result, Ok, Err, ⊤}
 use Rattle.md_base.specs.declared.answers.NoMemory.{NoMemory}
 use Rattle.script.specs.declared.lines.Line.{Line}
 use Rattle.script.specs.declared.lines.Numbered.{Numbered}
+use Rattle.script.specs.declared.reply.Lane.{Lane}
 use Rattle.script.specs.declared.reply.Lane.TheVariants.{Script as InScript}
 use Rattle.text_io.specs.Causes.{HasRisen}
 use Rattle.line_answers.specs.run_laws_the_Answered.{Answered}
@@ -15,9 +16,11 @@ use Rattle.runner.specs.declared.sessions.Stop.TheVariants.{WriteFault, NoMemory
 use Rattle.runner.specs.declared.sessions.Session.{Session}
 use Rattle.line_answers.specs.run_laws_Histories.{History}
 use Rattle.line_answers.specs.run_laws_Making.{Setting}
+use Rattle.line_answers.specs.run_laws_Caused.{Record}
+use Rattle.line_answers.specs.run_laws_Records.{AreRecorded}
 use Rattle.line_answers.specs.run_laws_Replies.{Course, at_rest, course_of, IsEnd, AreReplies, AreInOrder}
 use Rattle.runner.specs.Shown.{reply_text, report_text, is_refusal, has_refusal}
-use Rattle.line_answers.specs.run_laws_States.{histories_in, course_in, RunsOwn, AreLossesFrom, AreGrown, IsCutShort, IsCourseShort, IsTurn}
+use Rattle.line_answers.specs.run_laws_States.{histories_in, course_in, record_in, RunsOwn, AreLossesFrom, AreGrown, IsCutShort, IsCourseShort, IsTurn, IsBeside}
 use Rattle.line_answers.specs.run_laws_Written.{MayWrite, HasWritten, IsWritten}
 use Rattle.runner.specs.Writes.{AreWritesPlaced}
 
@@ -34,7 +37,7 @@ IsEndNow tells mark reply (IsOutside outside) = tells → reply.end ≡ mark
 pub record IsReplied {B : Type 0} (setting : Setting) (old new : State B) (numbered : Numbered) (reply : LineReply) (refused : Bool) : Type 0 where
   pub turn : IsTurn setting old new numbered.line reply.what
   pub line : reply.line ≡ numbered.number
-  pub lane : reply.lane ≡ InScript
+  pub lane : reply.lane ≡ numbered.lane
   pub end : IsEnd (histories_in new) reply reply.what
   pub at_end : IsEndNow setting.tells (length setting.tape) reply reply.what
   pub refusal : refused ≡ is_refusal (histories_in new) numbered.line reply.what
@@ -82,19 +85,6 @@ IsStep tells setting old new numbered old_taken new_taken None = IsShownWhole te
 IsStep tells setting old new numbered old_taken new_taken (Some WriteFault) = IsShownInPart tells setting old new numbered old_taken new_taken
 IsStep tells setting old new numbered old_taken new_taken (Some WantsMemory) = IsUnshown tells setting old new numbered old_taken new_taken
 
--- ---- several lines
-
--- where the run stands once some calls of the first of these lines were made, which is a wait
-abbrev pub IsCourseBehind : List History → List Numbered → Course → Course → Type 0
-IsCourseBehind histories [] told course = ⊥
-IsCourseBehind histories (line ∷ lines) told course = IsCutShort histories told line.line course
-
--- where it stands after these replies: no line was performed without its reply, but where memory was short in a wait, its first calls
-abbrev pub IsCourse : Option Stop → List History → List Numbered → Course → Course → Type 0
-IsCourse None histories behind told course = course ≡ told
-IsCourse (Some WriteFault) histories behind told course = course ≡ told
-IsCourse (Some WantsMemory) histories behind told course = (course ≡ told) ⊎ IsCourseBehind histories behind told course
-
 -- the replies that the sink took whole: where it failed, all but the last
 abbrev pub taken_whole : Option Stop → List LineReply → List LineReply
 taken_whole None replies = replies
@@ -107,19 +97,45 @@ IsTaken None old new text = new ≡ old ++ text
 IsTaken (Some WriteFault) old new text = (n : ℕ) × (new ≡ old ++ take n text)
 IsTaken (Some WantsMemory) old new text = new ≡ old ++ text
 
+-- ---- several lines
+
+-- where the run stands once some calls of the first of these lines were made, which is a wait, or of a block
+abbrev pub IsCutIn : Lane → List History → Course → Line → Course → Type 0
+IsCutIn InScript histories told line course = IsCutShort histories told line course
+IsCutIn lane histories told line course = IsBeside told course
+
+abbrev pub IsCourseBehind : List History → List Numbered → Course → Course → Type 0
+IsCourseBehind histories [] told course = ⊥
+IsCourseBehind histories (line ∷ lines) told course = IsCutIn line.lane histories told line.line course
+
+-- within a block, all of whose calls were made
+abbrev pub IsInBlock : List Numbered → Course → Course → Type 0
+IsInBlock [] told course = ⊥
+IsInBlock (line ∷ lines) told course = (line.lane ≢ InScript) × IsBeside told course
+
+-- Where it stands after these replies: no line was performed without its reply, but where memory was short in a wait, its first calls, and those of a block
+-- not all of whose replies are there.
+abbrev pub IsCourse : Option Stop → List History → List Numbered → Course → Course → Type 0
+IsCourse None histories behind told course = course ≡ told
+IsCourse (Some WriteFault) histories behind told course = (course ≡ told) ⊎ IsInBlock behind told course
+IsCourse (Some WantsMemory) histories behind told course = (course ≡ told) ⊎ IsCourseBehind histories behind told course
+
 -- a sink that is called failed has failed since
 abbrev pub IsStopCause : Option Stop → ℕ → ℕ → Type 0
 IsStopCause None before now = ⊤
 IsStopCause (Some WriteFault) before now = HasRisen before now
 IsStopCause (Some WantsMemory) before now = ⊤
 
--- The first lines were performed, from a bank without an array on, and each got its reply.
+-- The first lines were performed, from a bank without an array on, and each got its reply; there is a record of the array that runs from line to line, the last of which is what it is now.
 pub record IsPerformed {B : Type 0} (setting : Setting) (lines : List Numbered) (session : Session B) : Type 0 where
   pub own : RunsOwn session.state
   pub few : length session.replies.items ≤ length lines
   pub replies : AreReplies setting (histories_in session.state) (at_rest 0) (take (length session.replies.items) lines) session.replies.items
   pub course : IsCourse session.stopped (histories_in session.state) (drop (length session.replies.items) lines)
       (course_of (histories_in session.state) (at_rest 0) (take (length session.replies.items) lines) session.replies.items) (course_in session.state)
+  pub last : Option Record
+  pub recorded : AreRecorded setting (histories_in session.state) None (take (length session.replies.items) lines) session.replies.items last
+  pub recorded_now : session.stopped ≡ None → last ≡ record_in session.state
   pub losses : AreLossesFrom setting [] (histories_in session.state)
   pub ends : setting.tells → AreInOrder setting.began (length setting.tape) session.replies.items
   pub refused : session.refused ≡ has_refusal (histories_in session.state) lines session.replies.items

@@ -12,6 +12,7 @@ use Rattle.runner.specs.declared.sessions.Stop.{Stop}
 use Rattle.runner.specs.declared.sessions.Stop.TheVariants.{NoMemory as WantsMemory}
 use Rattle.line_answers.specs.run_laws_Histories.{History}
 use Rattle.line_answers.specs.run_laws_Making.{Setting}
+use Rattle.line_answers.specs.run_laws_Replies.{mark_shown}
 use Rattle.line_answers.specs.run_laws_Written.{IsInEpoch, MayWrite, HasWritten, AreSpans}
 
 -- The write at this mark, to this slot, is of one of these create lines, the first of which was begun at `low`: it stands between the reply
@@ -20,7 +21,7 @@ abbrev pub IsOfCreate : Given → Option ℕ → Option Stop → ℕ → List Nu
 IsOfCreate given backup stopped low [] replies mark slot = ⊥
 IsOfCreate given backup stopped low (line ∷ lines) [] mark slot = (stopped ≡ Some WantsMemory) × (low ≤ mark) × MayWrite given backup line.line slot
 IsOfCreate given backup stopped low (line ∷ lines) (reply ∷ replies) mark slot =
-    ((low ≤ mark) × (mark < reply.end) × HasWritten given backup line.line reply.what slot) ⊎ IsOfCreate given backup stopped reply.end lines replies mark slot
+    ((low ≤ mark) × (mark < reply.end) × HasWritten given backup line.line reply.what slot) ⊎ IsOfCreate given backup stopped (mark_shown low reply) lines replies mark slot
 
 -- The epochs begin in the run, and each write of the run stands inside one, or is of a create line.
 pub record AreWritesPlaced (setting : Setting) (histories : List History) (stopped : Option Stop) (asked : List Numbered) (lines : List LineReply) : Type 0 where

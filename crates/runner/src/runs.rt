@@ -1,11 +1,12 @@
 //! A whole run, from the words and the script's text to the replies' text.
 
 ghost use Rattle.std.specs.Prelude.{◌≡◌, ◌≢◌, ◌⊎◌, ◌<◌, ◌≤◌, ◌+◌, ◌-◌, ◌^◌, ℕ, true, List, [], length, map, string_bytes, Option, Some, None, Ok, IfOk, IfSome, IsTrue, vec_len, vec_capacity};
-ghost use Rattle.std.specs.List.{AllPass};
+ghost use Rattle.std.specs.List.{All, AllPass};
 ghost use Rattle.bank.specs.Given.{NeverFalls};
 ghost use Rattle.views.specs.Moving.{Grows};
 ghost use Rattle.text_io.specs.Causes.{HasRisen};
 ghost use Rattle.script.specs.Script.{script_of, is_within_limits};
+ghost use Rattle.script.specs.declared.reply.Lane.TheVariants.{Script as InScript};
 ghost use Rattle.command_words.specs.Words.{asked_by as asked_of, command_in, is_run, slots_for, backup_in};
 ghost use Rattle.runner.specs.Pace.{AnswersSteps, asked_by};
 ghost use Rattle.line_answers.specs.run_laws_Ended.{IsRunKept, AreLegal, AreRight, AreRising, AreFormer};
@@ -154,6 +155,7 @@ fn run_lines<B: Bank, K: Sink>(
     out: &mut K,
 ) -> Report<B>
     requires limits { AllPass (λ numbered. is_within_limits numbered.line) lines.now }
+    requires scripts { All (λ numbered. numbered.lane ≡ InScript) lines.now }
     requires bank { IsFitBank (B.given bank) backup }
     ensures status { result.status ≡ status_for (stop_of result.status) (has_refusal (histories_of result.epochs.items) lines.now result.lines.items) }
     ensures performed { AreLinesPerformed (setting_of B.tells (B.given bank) (B.tape bank) (B.tape result.bank) backup (B.faults_of bank) (B.faults_of result.bank)) lines.now (stop_of result.status) result.epochs.items result.lines.items }

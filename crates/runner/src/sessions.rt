@@ -1,11 +1,12 @@
 //! The lines of a script performed one after another, each reply shown before the next line.
 
-ghost use Rattle.std.specs.Prelude.{◌≡◌, ◌≤◌, ◌||◌, ℕ, [], ◌++◌, length, slice_index, vec_capacity, Some, None, IsTrue, IsSome};
-ghost use Rattle.std.specs.List.{AllPass};
+ghost use Rattle.std.specs.Prelude.{◌≡◌, ◌≤◌, if◌then◌else◌, length, vec_capacity, None, IsTrue};
+ghost use Rattle.std.specs.List.{All, AllPass};
 ghost use Rattle.bank.specs.Given.{NeverFalls};
 ghost use Rattle.views.specs.Moving.{Grows};
 ghost use Rattle.text_io.specs.Causes.{HasRisen};
-ghost use Rattle.script.specs.Script.{is_within_limits};
+ghost use Rattle.script.specs.Script.{is_within_limits, is_of_worker};
+ghost use Rattle.script.specs.Texts.{refusal_text, waited_text, worker_text, worker_refusal_text};
 ghost use Rattle.script.specs.Appends.{Appends, AppendsFew};
 ghost use Rattle.runner.specs.Shown.{longest_answer, longest_reply, IsShort, IsAnswerShort, outside_text, entry_text, answer_text, reply_text, is_refused_outside, is_refusal, tells_refusal};
 ghost use Rattle.line_answers.specs.run_laws_States.{histories_in, bank_in, RunsOwn, IsFitBank, IsNamed};
@@ -21,7 +22,7 @@ use line_answers::{Answered, LineReply, Outside, State, answer, entry_of};
 use md_base::{NoMemory, Refusal};
 use script::{
     Lane, Line, Numbered, push_assembled, push_created, push_event, push_lane, push_refusal,
-    push_waited,
+    push_waited, push_worker, push_worker_refusal,
 };
 use status_text::{push_detail, push_examined, push_mdstat};
 use std::alloc::{AllocError, Global};
@@ -73,29 +74,51 @@ fn is_refused(line: Line, event: &Event) -> bool
     }
 }
 
+// Appends the text of an entry that answers a wait, or the worker's line.
+fn push_wait(text: &mut Vec<u8>, lane: Lane, event: &Event) -> Result<(), AllocError>
+    ensures appended { Appends text.old text.new result (if is_of_worker lane then worker_text event.now else waited_text event.now) }
+    ensures short { AppendsFew 200 text.old text.new result }
+{
+    match lane {
+        Lane::Worker => push_worker(text, event),
+        _ => push_waited(text, event),
+    }
+}
+
 // Appends the text of an entry that answers a line.
-fn push_entry(text: &mut Vec<u8>, line: Line, event: &Event) -> Result<(), AllocError>
+fn push_entry(text: &mut Vec<u8>, lane: Lane, line: Line, event: &Event) -> Result<(), AllocError>
     requires { IsShort event.now }
-    ensures appended { Appends text.old text.new result (entry_text line event.now) }
+    ensures appended { Appends text.old text.new result (entry_text lane line event.now) }
     ensures short { AppendsFew longest_answer text.old text.new result }
 {
     match (line, event) {
-        (Line::Wait, _) => push_waited(text, event),
+        (Line::Wait, _) => push_wait(text, lane, event),
         (Line::Detail, Event::Shown { status }) => push_detail(text, status),
         (Line::Mdstat, Event::Shown { status }) => push_mdstat(text, status),
         _ => push_event(text, event),
     }
 }
 
-fn push_outside(text: &mut Vec<u8>, outside: &Outside) -> Result<(), AllocError>
-    ensures appended { Appends text.old text.new result (outside_text outside.now) }
+// Appends the text of a refusal that no entry gives.
+fn push_refused(text: &mut Vec<u8>, lane: Lane, refusal: &Refusal) -> Result<(), AllocError>
+    ensures appended { Appends text.old text.new result (if is_of_worker lane then worker_refusal_text refusal.now else refusal_text refusal.now) }
+    ensures short { AppendsFew 200 text.old text.new result }
+{
+    match lane {
+        Lane::Worker => push_worker_refusal(text, refusal),
+        _ => push_refusal(text, refusal),
+    }
+}
+
+fn push_outside(text: &mut Vec<u8>, lane: Lane, outside: &Outside) -> Result<(), AllocError>
+    ensures appended { Appends text.old text.new result (outside_text lane outside.now) }
     ensures short { AppendsFew 500 text.old text.new result }
 {
     match outside {
         Outside::Created => push_created(text),
         Outside::Assembled { status, .. } => push_assembled(text, status),
         Outside::Examined { slot, found } => push_examined(text, *slot, found),
-        Outside::Refused { refusal } => push_refusal(text, refusal),
+        Outside::Refused { refusal } => push_refused(text, lane, refusal),
     }
 }
 
@@ -103,19 +126,20 @@ fn push_outside(text: &mut Vec<u8>, outside: &Outside) -> Result<(), AllocError>
 fn push_answer<B: Bank>(
     text: &mut Vec<u8>,
     state: &State<B>,
+    lane: Lane,
     line: Line,
     what: &Answered,
 ) -> Result<(), AllocError>
     requires named { IsNamed (histories_in state.now) what.now }
     requires short { IsAnswerShort (histories_in state.now) what.now }
-    ensures appended { Appends text.old text.new result (answer_text (histories_in state.now) line what.now) }
+    ensures appended { Appends text.old text.new result (answer_text (histories_in state.now) lane line what.now) }
     ensures short { AppendsFew longest_answer text.old text.new result }
 {
     match what {
         Answered::Inside { epoch, at } => {
-            push_entry(text, line, &entry_of(state, *epoch, *at).event)
+            push_entry(text, lane, line, &entry_of(state, *epoch, *at).event)
         }
-        Answered::Outside(outside) => push_outside(text, outside),
+        Answered::Outside(outside) => push_outside(text, lane, outside),
     }
 }
 
@@ -132,10 +156,10 @@ fn is_answer_refused<B: Bank>(state: &State<B>, line: Line, what: &Answered) -> 
 }
 
 // The reply of this answer to a line of the script.
-fn reply_of<B: Bank>(state: &State<B>, line: u64, what: Answered) -> LineReply
+fn reply_of<B: Bank>(state: &State<B>, line: u64, lane: Lane, what: Answered) -> LineReply
     requires named { IsNamed (histories_in state.now) what }
     ensures line { result.line ≡ line }
-    ensures lane { result.lane ≡ InScript }
+    ensures lane { result.lane ≡ lane }
     ensures what { result.what ≡ what }
     ensures end { IsEnd (histories_in state.now) result what }
     ensures at_end { IsEndNow B.tells (length (B.tape (bank_in state.now))) result what }
@@ -147,7 +171,7 @@ fn reply_of<B: Bank>(state: &State<B>, line: u64, what: Answered) -> LineReply
     };
     LineReply {
         line,
-        lane: Lane::Script,
+        lane,
         end,
         what,
     }
@@ -166,7 +190,7 @@ fn push_reply<B: Bank>(
     ensures short { AppendsFew longest_reply text.old text.new result }
 {
     push_lane(text, reply.lane)?;
-    push_answer(text, state, line, &reply.what)?;
+    push_answer(text, state, reply.lane, line, &reply.what)?;
     text.extend_from_slice(b"\n")
 }
 
@@ -210,7 +234,7 @@ fn reply_to<B: Bank>(
         Err(fault) => return (state, Err(fault)),
     };
     let refused = is_answer_refused(&state, numbered.line, &what);
-    let reply = reply_of(&state, numbered.number, what);
+    let reply = reply_of(&state, numbered.number, numbered.lane, what);
     put_text(text, &state, numbered.line, &reply);
     (state, Ok(Made { reply, refused }))
 }
@@ -274,6 +298,7 @@ pub fn perform<B: Bank, K: Sink>(
     out: &mut K,
 ) -> Session<B>
     requires limits { AllPass (λ numbered. is_within_limits numbered.line) lines.now }
+    requires scripts { All (λ numbered. numbered.lane ≡ InScript) lines.now }
     requires bank { IsFitBank (B.given bank) backup }
     ensures former { IsRunKept B.tells (B.given bank) (B.tape (bank_in result.state)) backup result.state }
     ensures performed { IsPerformed (setting_of B.tells (B.given bank) (B.tape bank) (B.tape (bank_in result.state)) backup (B.faults_of bank) (B.faults_of (bank_in result.state))) lines.now result }

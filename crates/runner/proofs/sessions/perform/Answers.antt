@@ -1,5 +1,6 @@
 use Rattle.std.proofs.Common.{rules, ◌≡◌, ◌+◌, ℕ, false, List, [], length, None, refl, sym, ◌∙◌, ap, subst, arith}
 use Rattle.std.proofs.Math.ListN.{get_or}
+use Rattle.std.proofs.lemmas.List.Elements.{All-get_or}
 use Rattle.bank.specs.Given.{Given}
 use Rattle.script.specs.declared.lines.Numbered.{Numbered}
 use Rattle.script.specs.declared.lines.Line.TheVariants.{Create}
@@ -26,7 +27,7 @@ returns-then-is_some-clause-performed g c =
     let was = c.loop-i.invariant in
     let did = c.perform_line-session.ensures in
     let each = subst (λ (given : Given). IsStep g.K.Sink.tells (setting_of g.B.Bank.tells given (g.B.Bank.tape (bank_in c.loop-i.session.state)) (g.B.Bank.tape (bank_in c.perform_line-session.result.state)) c.args.backup (g.B.Bank.faults_of (bank_in c.loop-i.session.state)) (g.B.Bank.faults_of (bank_in c.perform_line-session.result.state))) c.loop-i.session c.perform_line-session.result line (g.K.Sink.taken c.loop-i.out) (g.K.Sink.taken c.perform_line-session.new.out) c.perform_line-session.result.stopped) was.given did.step in
-    (step c.perform_line-session.result nothing line was.never_falls did.never_falls was.grows did.grows was.going was.performed (omega (arith, was.count, c.loop-i-test.true)) (ap (λ (k : ℕ). get_or c.args.lines.now k nothing) was.count)
+    (step c.perform_line-session.result was.never_falls did.never_falls was.grows did.grows was.going was.performed nothing line (All-get_or (λ (l : Numbered). l.lane ≡ InScript) c.args.lines.now c.loop-i.i nothing c.loop-i-test.true c.requires.scripts) (omega (arith, was.count, c.loop-i-test.true)) (ap (λ (k : ℕ). get_or c.args.lines.now k nothing) was.count)
     (g.K.Sink.taken c.perform_line-session.new.out) (g.K.Sink.faults_of c.perform_line-session.new.out) was.shown c.perform_line-session.result.stopped refl each did.cause did.sink_never_falls).0
 
 pub returns-then-is_some-clause-shown : goal.returns-then-is_some-clause-shown
@@ -35,7 +36,7 @@ returns-then-is_some-clause-shown g c =
     let was = c.loop-i.invariant in
     let did = c.perform_line-session.ensures in
     let each = subst (λ (given : Given). IsStep g.K.Sink.tells (setting_of g.B.Bank.tells given (g.B.Bank.tape (bank_in c.loop-i.session.state)) (g.B.Bank.tape (bank_in c.perform_line-session.result.state)) c.args.backup (g.B.Bank.faults_of (bank_in c.loop-i.session.state)) (g.B.Bank.faults_of (bank_in c.perform_line-session.result.state))) c.loop-i.session c.perform_line-session.result line (g.K.Sink.taken c.loop-i.out) (g.K.Sink.taken c.perform_line-session.new.out) c.perform_line-session.result.stopped) was.given did.step in
-    (step c.perform_line-session.result nothing line was.never_falls did.never_falls was.grows did.grows was.going was.performed (omega (arith, was.count, c.loop-i-test.true)) (ap (λ (k : ℕ). get_or c.args.lines.now k nothing) was.count)
+    (step c.perform_line-session.result was.never_falls did.never_falls was.grows did.grows was.going was.performed nothing line (All-get_or (λ (l : Numbered). l.lane ≡ InScript) c.args.lines.now c.loop-i.i nothing c.loop-i-test.true c.requires.scripts) (omega (arith, was.count, c.loop-i-test.true)) (ap (λ (k : ℕ). get_or c.args.lines.now k nothing) was.count)
     (g.K.Sink.taken c.perform_line-session.new.out) (g.K.Sink.faults_of c.perform_line-session.new.out) was.shown c.perform_line-session.result.stopped refl each did.cause did.sink_never_falls).1
 
 pub loop-i-init : goal.loop-i-init
@@ -59,7 +60,7 @@ loop-i-preserved g c =
     let was = c.loop-i.invariant in
     let did = c.perform_line-session.ensures in
     let each = subst (λ (given : Given). IsStep g.K.Sink.tells (setting_of g.B.Bank.tells given (g.B.Bank.tape (bank_in c.loop-i.session.state)) (g.B.Bank.tape (bank_in c.perform_line-session.result.state)) c.args.backup (g.B.Bank.faults_of (bank_in c.loop-i.session.state)) (g.B.Bank.faults_of (bank_in c.perform_line-session.result.state))) c.loop-i.session c.perform_line-session.result line (g.K.Sink.taken c.loop-i.out) (g.K.Sink.taken c.perform_line-session.new.out) c.perform_line-session.result.stopped) was.given did.step in
-    let now = step c.perform_line-session.result nothing line was.never_falls did.never_falls was.grows did.grows was.going was.performed (omega (arith, was.count, c.loop-i-test.true)) (ap (λ (k : ℕ). get_or c.args.lines.now k nothing) was.count)
+    let now = step c.perform_line-session.result was.never_falls did.never_falls was.grows did.grows was.going was.performed nothing line (All-get_or (λ (l : Numbered). l.lane ≡ InScript) c.args.lines.now c.loop-i.i nothing c.loop-i-test.true c.requires.scripts) (omega (arith, was.count, c.loop-i-test.true)) (ap (λ (k : ℕ). get_or c.args.lines.now k nothing) was.count)
     (g.K.Sink.taken c.perform_line-session.new.out) (g.K.Sink.faults_of c.perform_line-session.new.out) was.shown c.perform_line-session.result.stopped refl each did.cause did.sink_never_falls in
     let going : c.perform_line-session.result.stopped ≡ None = search rules in
     record {
