@@ -22,16 +22,16 @@ IsPlain line = line.lane ≡ InScript
 fails : (n : ℕ) (test : ℕ → Bool) → least_below n test ≡ None → (k : ℕ) → k < n → test k ≡ false
 unfolding least_below
 fails zero test none k lt = absurd (omega (arith, lt))
-fails (suc n) test none k lt = by_first (least_below n test) refl (test n) refl none
+fails (suc n) test none k lt = by_first (least_below n test) refl (test n) refl none (λ found low. fails n test found k low)
   where
-    by_first : (o : Option ℕ) → least_below n test ≡ o → (b : Bool) → test n ≡ b → option_or o (cond b (Some n) None) ≡ None → test k ≡ false
-    by_first (Some j) found b last is = absurd (cc)
-    by_first None found true last is = absurd (cc)
-    by_first None found false last is = by_place (cases_lt k n)
-      where
-        by_place : (k < n) ⊎ (n ≤ k) → test k ≡ false
-        by_place (inl low) = fails n test found k low
-        by_place (inr high) = ap test {y = n} (omega (arith, lt, high)) ∙ last
+    by_place : (k < n) ⊎ (n ≤ k) → (k < n → test k ≡ false) → test n ≡ false → test k ≡ false
+    by_place (inl low) earlier last = earlier low
+    by_place (inr high) earlier last = ap test {y = n} (omega (arith, lt, high)) ∙ last
+
+    by_first : (o : Option ℕ) → least_below n test ≡ o → (b : Bool) → test n ≡ b → option_or o (cond b (Some n) None) ≡ None → (least_below n test ≡ None → k < n → test k ≡ false) → test k ≡ false
+    by_first (Some j) found b last is earlier = absurd (cc)
+    by_first None found true last is earlier = absurd (cc)
+    by_first None found false last is earlier = by_place (cases_lt k n) (earlier found) last
 
 -- outside a block, a line that opens none leaves the text outside
 outside_behind : (text : List ℕ) → meaning_of false text ≢ Opens → is_inside_next false text ≡ false
@@ -54,24 +54,24 @@ asked_plain (text ∷ others) n none =
     let rest : All IsPlain (filter_map (λ p. numbered p.0 p.1) (enumerate_from (n + 1) (scan is_inside_next meaning_of (is_inside_next false text) others))) =
     subst (λ (i : Bool). All IsPlain (filter_map (λ p. numbered p.0 p.1) (enumerate_from (n + 1) (scan is_inside_next meaning_of i others)))) (sym out)
     (asked_plain others (n + 1) (λ k lt opens. none (suc k) (omega (arith, lt)) (subst (λ (i : Bool). meaning_of (fold is_inside_next i (take k others)) (slice_index_or others k []) ≡ Opens) (sym out) opens))) in
-    by_meaning (meaning_of false text) refl rest
+    by_meaning (filter_map (λ p. numbered p.0 p.1) (enumerate_from (n + 1) (scan is_inside_next meaning_of (is_inside_next false text) others))) (meaning_of false text) refl rest
   where
-    by_meaning : {rest : List Numbered} (m : Meaning) → meaning_of false text ≡ m → All IsPlain rest → All IsPlain (cons_option (numbered n m) rest)
-    by_meaning PassedOver is rest = rest
-    by_meaning Opens is rest = rest
-    by_meaning {rest = rest} (Asks lane line) is each = All-cons IsPlain (record { number = n; lane = lane; line = line }) rest (outside_lane text lane line is) each
-    by_meaning Bad is rest = rest
+    by_meaning : (rest : List Numbered) (m : Meaning) → meaning_of false text ≡ m → All IsPlain rest → All IsPlain (cons_option (numbered n m) rest)
+    by_meaning rest PassedOver is each = each
+    by_meaning rest Opens is each = each
+    by_meaning rest (Asks lane line) is each = All-cons IsPlain (record { number = n; lane = lane; line = line }) rest (outside_lane text lane line is) each
+    by_meaning rest Bad is each = each
 
 -- in their turn, such lines stand as they were
 turn_plain : (lines : List Numbered) → All IsPlain lines → in_turn [] lines ≡ lines
 turn_plain [] each = refl
-turn_plain (first ∷ others) each = by_lane first.lane (All-head IsPlain first others each)
+turn_plain (first ∷ others) each = by_lane first.lane (All-head IsPlain first others each) (turn_plain others (All-tail IsPlain first others each))
   where
-    by_lane : (lane : Lane) → lane ≡ InScript → in_turn [] (record { number = first.number; lane = lane; line = first.line } ∷ others) ≡ record { number = first.number; lane = lane; line = first.line } ∷ others
-    by_lane InScript is = ap (λ (ls : List Numbered). record { number = first.number; lane = InScript; line = first.line } ∷ ls) (turn_plain others (All-tail IsPlain first others each))
-    by_lane InA is = absurd (cc)
-    by_lane InB is = absurd (cc)
-    by_lane InWorker is = absurd (cc)
+    by_lane : (lane : Lane) → lane ≡ InScript → in_turn [] others ≡ others → in_turn [] (record { number = first.number; lane = lane; line = first.line } ∷ others) ≡ record { number = first.number; lane = lane; line = first.line } ∷ others
+    by_lane InScript is same = ap (λ (ls : List Numbered). record { number = first.number; lane = InScript; line = first.line } ∷ ls) same
+    by_lane InA is same = absurd (cc)
+    by_lane InB is same = absurd (cc)
+    by_lane InWorker is same = absurd (cc)
 
 pub plain_lines : (text : List ℕ) (lines : List Numbered) → script_of text ≡ Ok lines → All (λ (numbered : Numbered). numbered.lane ≡ InScript) lines
 unfolding script_with

@@ -1,5 +1,5 @@
 -- How long the text of an answer may be.
-use Rattle.std.proofs.Common.{ℕ, ◌+◌, ◌≤◌, Option, List, [], ◌∷◌, refl, sym, ap, subst, arith}
+use Rattle.std.proofs.Common.{ℕ, ◌+◌, ◌≤◌, Option, List, take, [], ◌∷◌, refl, sym, ap, subst, arith}
 use Rattle.std.proofs.lemmas.Bool.Decides.{nat_tests}
 use Rattle.std.specs.Prelude.{slice_get, MatchOption, IsTrue}
 use Rattle.std.specs.Option.{option_and_then}
@@ -136,7 +136,7 @@ short_asked size before e line limits is = short_flush size before (call_before 
 
 short_worked : (size : ℕ) (entries : List Entry) (earlier : List ℕ) (place number : ℕ) → IsWorkedAt size entries earlier place number → IsShortAt entries place
 short_worked size entries [] place number (most, reply) =
-    subst (λ (o : Option Entry). MatchOption o ⊥ (λ e. IsShort e.event)) (sym reply.there) (short_steps size _ (call_before _ reply.entry) most reply.entry.event reply.fits.answers)
+    subst (λ (o : Option Entry). MatchOption o ⊥ (λ e. IsShort e.event)) (sym reply.there) (short_steps size (take place entries) (call_before (take place entries) reply.entry) most reply.entry.event reply.fits.answers)
 short_worked size entries (first ∷ others) place number was = short_worked size entries others place (number + 1) was.2
 
 short_lane : (size : ℕ) (entries : List Entry) (caller number place : ℕ) (line : Line) → IsTrue (is_within_limits line) → IsCallersReply size entries caller number place (request_of line) → IsShortAt entries place
