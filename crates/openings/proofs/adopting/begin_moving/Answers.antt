@@ -14,6 +14,7 @@ use Rattle.moving_opens.specs.Opening.{AreOpenedMoving, opening_entries}
 use Rattle.moving_opens.proofs.Members.{placed-here}
 use Rattle.openings.specs.Adopted.{moving_work}
 use Rattle.openings.proofs.Ready.{ready-by}
+use Rattle.openings.proofs.Told.{adopted-as}
 use Rattle.openings.proofs.adopting.begin_moving.Goals as goal
 
 placed-by : {tells : Type 0} {bank : Given} {tape : List _} {given backup : ℕ} {former : Members} → AreOpenedMoving tells bank tape given backup former → IsPlaced bank former
@@ -80,7 +81,7 @@ returns-clause-adopted g c =
     let did = c.enter_all_absent.ensures in
     let epoch = c.enter_all_absent.new.epoch in
     let placed = placed-by c.requires.opened.members_are in
-    rw c.of_pieces.ensures.same (record {
+    adopted-as (g.B.Bank.given c.args.bank) (g.B.Bank.tape c.args.bank) c.args.given c.args.backup former c.of_pieces.result _ c.of_pieces.ensures.same (record {
       uuid = did.same.uuid ∙ ap (λ (m : Members). m.newest.set_uuid) members_are;
       given = did.same.given;
       first = λ t. did.same.first ∙ c.requires.first t;
