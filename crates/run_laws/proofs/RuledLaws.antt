@@ -1,9 +1,9 @@
 -- What the records of a run rule out.
-use Rattle.std.proofs.Common.{◌≡◌, ◌≢◌, inl, inr, ℕ, ◌+◌, ◌<◌, ◌≤◌, ◌==◌, not, Bool, true, false, is_some, get_or, Option, Some, None, List, length, refl, sym, ◌∙◌, ap, subst, arith}
+use Rattle.std.proofs.Common.{◌≡◌, ◌≢◌, inl, inr, ℕ, ◌+◌, ◌<◌, ◌≤◌, ◌==◌, not, Bool, true, false, is_some, get_or, Option, Some, None, List, refl, sym, ◌∙◌, ap, subst, arith}
 use Rattle.std.proofs.lemmas.Bool.{cases_lt}
 use Rattle.std.proofs.lemmas.Bool.Decides.{nat_tests}
 use Rattle.std.proofs.lemmas.List.{get_or_past}
-use Rattle.std.specs.Prelude.{if◌then◌else◌, MatchOption, IsTrue}
+use Rattle.std.specs.Prelude.{if◌then◌else◌, MatchOption}
 use Rattle.md_base.specs.Search.{tabulate}
 use Rattle.md_base.specs.declared.answers.BusyKind.TheVariants.{Reshape}
 use Rattle.md_base.specs.declared.answers.Refusal.{Refusal}
