@@ -1,4 +1,4 @@
-use Rattle.std.proofs.Common.{◌≡◌, true, length, Result, refl, sym, ◌∙◌, subst, arith}
+use Rattle.std.proofs.Common.{true, length, Result, refl, sym, ◌∙◌, subst, arith}
 use Rattle.bank.specs.Given.{NeverFalls}
 use Rattle.md_base.specs.declared.answers.NoMemory.{NoMemory}
 use Rattle.script.specs.declared.lines.Line.{Line}
