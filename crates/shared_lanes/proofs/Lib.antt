@@ -1,4 +1,3 @@
 mod Answered
 mod Carried
-mod Served
 pub use Rattle.seen_laws.proofs.PlaceLaws as seen_laws_PlaceLaws
